@@ -1,0 +1,356 @@
+-- Laws of what the services accept: tests in a row, the longest job, and read and write one after the other.
+-- Assumes nothing.
+use Prim.Native.Nat.{ℕ, zero, suc, _+_, _≤_, _<_}
+use mathlib.Core.Path.{_≡_, refl, sym, _∙_, ap}
+use mathlib.Core.List.{List, [], _∷_, _++_, map}
+use mathlib.Core.Bool.{Bool, true, false, cond}
+use native.Mathlib.Nat.{zero-add}
+use native.Mathlib.Omega.{arith}
+use borrow.Author.Tests.{ltb-true, leb-true, le-leb, eq-eqb, ne-eqb}
+use lib.Dec.{T, leb, ltb, lit<}
+use lib.ListN.{length, getD, take, drop, length-append, length-map, List·getD-append, List·getD-map}
+use lib.Seq.{ext-getD, take-append-seam, length-take-le}
+use Rattle.records.specs.Bytes.{upFrom, all, flat, tabulate, bytePair, placed, field, nth}
+use Rattle.records.specs.Gate.{Gate, gateOf, arity, operands, unused, disj}
+use Rattle.records.specs.Netlist.{Netlist, netAt, extended, markOf, fanout}
+use Rattle.records.specs.Job.{Candidate, Job, gateAt, gatesOf, netlistOf, jobTags, jobOf, gateBytes, candidateBytes, jobBytes}
+use Rattle.records.specs.Refusal.{sideCountsGood, countsGood, gateGood, gatesGood, netlistsGood, oldNets, goldenNets, outputsGood, ascending, candidateGood, candidatesGood, longestJob, Test, firstFailing, partTests, jobTests, partsRefusal, jobRefusal}
+use Rattle.records.specs.Sheet.{sheetTests}
+use Rattle.records.specs.Service.{SidePlaces, Places, sideCountsOf, countsOf, slotOf, filledSide, filled, gatesFrom, netlistFrom, candidatesFrom, jobFrom, sideHeld, held, readNumber, readReply, readPlaces, writeNumber, writeReply, writtenBytes, sheetNumber, sheetReply}
+use Rattle.records.specs.Inner.{startOf, Within}
+use Rattle.records.specs.Claims.{Below, PartsGood, First, ReadAccepts, WriteAccepts, SheetAccepts, ReadRefuses, WriteRefuses, SheetRefuses, ReadWrite, WriteRead, LongestJob, LongestJobMet}
+use Rattle.records.specs.declared.job.SideCounts.{SideCounts}
+use Rattle.records.specs.declared.job.Counts.{Counts}
+use Rattle.records.proofs.Laws.Bytes.{and-left, and-right, and-both, row-at, length-tabulate, getD-tabulate}
+use Rattle.records.proofs.Laws.Counts.{countsWithin-facts, countsWithin-countsOf}
+use Rattle.records.proofs.Laws.Field.{whole-end, startOf-suc, startOf-position}
+use Rattle.records.proofs.Laws.Shape.{JobWhole, jobWhole-facts, length-gatesOf, length-netsOf, length-candidatesOf}
+use Rattle.records.proofs.Laws.RoundTrip.{All, all-tabulate, Two, TwoEach, two-slots, two-jobFrom, read-write, write-read, jobRefusal-jobBytes}
+
+-- ---- tests in a row
+
+pub pick-zero : (b : Bool) (m n : ℕ) → 0 < n → cond b m n ≡ 0 → (b ≡ true) × (m ≡ 0)
+pick-zero true m n h e = (refl, e)
+pick-zero false m n h e = let f : ⊥ = omega arith in absurd f
+
+abbrev Passes : Test → Type 0
+Passes t = t .passes ≡ true
+
+-- where no test fails, each passes, if each has a number above 0
+passes-of-none : (ts : List Test) → All (λ (t : Test). 0 < t .number) ts → firstFailing ts ≡ 0 → All Passes ts
+unfolding firstFailing
+passes-of-none [] n e = tt
+passes-of-none (t ∷ ts) n e =
+    let u = pick-zero (t .passes) (firstFailing ts) (t .number) (n .0) e in
+    (u .0, passes-of-none ts (n .1) (u .1))
+
+none-of-passes : (ts : List Test) → All Passes ts → firstFailing ts ≡ 0
+unfolding firstFailing
+none-of-passes [] p = refl
+none-of-passes (t ∷ ts) p = rw (p .0) (none-of-passes ts (p .1))
+
+pub first : First
+unfolding firstFailing all
+first [] us t p f = rw f
+first (x ∷ ts) us t p f = rw (and-left (x .passes) _ p) (first ts us t (and-right (x .passes) _ p) f)
+
+-- the tests of the parts
+module _ (j : Job) where
+  parts-tests : All (λ (t : Test). 0 < t .number) (partTests j)
+  unfolding partTests
+  parts-tests = (omega arith, (omega arith, (omega arith, (omega arith, tt))))
+
+  parts-good : All Passes (partTests j) → PartsGood j
+  unfolding partTests
+  parts-good p = record { counts = p .0; gates = p .1 .0; outputs = p .1 .1 .0; candidates = p .1 .1 .1 .0 }
+
+  parts-pass : PartsGood j → All Passes (partTests j)
+  unfolding partTests
+  parts-pass g = (g .counts, (g .gates, (g .outputs, (g .candidates, tt))))
+
+pub read-accepts : ReadAccepts
+unfolding readNumber jobTests
+read-accepts p s = (
+  λ e.
+      let u = passes-of-none _ (omega arith, (omega arith, parts-tests (jobOf s))) e in
+      (u .0, u .1 .0, parts-good (jobOf s) (u .1 .1)),
+  λ h. none-of-passes _ (h .0, (h .1, parts-pass (jobOf s) (h .2))),
+)
+
+pub write-accepts : WriteAccepts
+unfolding writeNumber
+write-accepts c p d = (
+  λ e.
+      let u = passes-of-none _ (omega arith, (omega arith, parts-tests (jobFrom c p))) e in
+      (leb-true _ _ (u .0), u .1 .0, parts-good (jobFrom c p) (u .1 .1)),
+  λ h. none-of-passes _ (le-leb _ _ (h .0), (h .1, parts-pass (jobFrom c p) (h .2))),
+)
+
+pub sheet-accepts : SheetAccepts
+unfolding sheetNumber sheetTests
+sheet-accepts m k nets weights s = (
+  λ e.
+      let u = passes-of-none _ (omega arith, (omega arith, (omega arith, tt))) e in
+      (u .0, u .1 .0, u .1 .1 .0),
+  λ h. none-of-passes _ (h .0, (h .1, (h .2, tt))),
+)
+
+pub read-refuses : ReadRefuses
+unfolding readReply readPlaces
+read-refuses p s h = let e = ne-eqb (readNumber p s) 0 h in (rw e, rw e)
+
+pub write-refuses : WriteRefuses
+unfolding writeReply writtenBytes
+write-refuses c p d h = let e = ne-eqb (writeNumber c p d) 0 h in (rw e, rw e)
+
+pub sheet-refuses : SheetRefuses
+unfolding sheetReply
+sheet-refuses m k nets weights s h = let e = ne-eqb (sheetNumber m k nets weights s) 0 h in (rw e, rw e)
+
+-- ---- the longest job
+
+module _ (s : List ℕ) (w : JobWhole s) where
+  -- where field k + 1 starts, by field k
+  start : (k : ℕ) → T (ltb k 6) → startOf (suc k) s ≡ startOf k s + length (nth k s) + 3
+  start k h = startOf-suc jobTags s (w .fields) k (lit< h)
+
+  length-job : length s ≡ 20 + length (nth 1 s) + length (nth 2 s) + length (nth 3 s) + length (nth 4 s) + length (nth 5 s)
+  unfolding startOf
+  length-job =
+      let e : startOf 6 s ≡ length s + 3 = startOf-position 6 s ∙ rw (whole-end jobTags s (w .fields)) in
+      omega (arith, start 0 tt, start 1 tt, start 2 tt, start 3 tt, start 4 tt, start 5 tt)
+
+  length-within : Within (countsOf (jobOf s)) → length s ≤ longestJob
+  unfolding countsOf sideCountsOf jobOf netlistOf
+  length-within c =
+      let o = length-netsOf (nth 2 s) in
+      let g = length-netsOf (nth 4 s) in
+      let k = length-candidatesOf (nth 5 s) in
+      omega (arith, length-job, length-gatesOf (nth 1 s), length-gatesOf (nth 3 s))
+
+pub longest : LongestJob
+unfolding jobRefusal jobTests
+longest s e =
+    let u = passes-of-none _ (omega arith, parts-tests (jobOf s)) e in
+    let c = parts-good (jobOf s) (u .1) .counts in
+    length-within s (jobWhole-facts s (u .0))
+    (countsWithin-facts (countsOf (jobOf s)) (countsWithin-countsOf (jobOf s) ∙ c))
+
+-- every count at its range's end: gates are constant zeros, outputs net 0, candidates the first nets
+longestSide : Netlist
+longestSide = record { gates = tabulate 400 (λ i. gateOf 0 0 0); outputs = tabulate 32 (λ i. 0) }
+
+longestParts : Job
+longestParts =
+    record {
+      inputs = 20;
+      targets = 4;
+      old = longestSide;
+      golden = longestSide;
+      candidates = tabulate 10 (λ i. record { net = i; weight = 0 });
+    }
+
+two-longest : TwoEach longestParts
+unfolding longestParts longestSide gateOf
+two-longest = record { old = all-tabulate Two _ (λ i. refl) 400; golden = all-tabulate Two _ (λ i. refl) 400 }
+
+partsRefusal-longest : partsRefusal longestParts ≡ 0
+unfolding partsRefusal partTests firstFailing longestParts longestSide tabulate upFrom all
+    countsGood sideCountsGood netlistsGood gatesGood gateGood gateOf operands unused arity outputsGood oldNets goldenNets
+    candidatesGood candidateGood ascending netAt fanout extended markOf disj
+partsRefusal-longest = refl
+
+bytes-longest : (all (λ x. ltb x 256) (jobBytes longestParts) ≡ true) × (length (jobBytes longestParts) ≡ 4188)
+unfolding all jobBytes field flat bytePair gateBytes candidateBytes gateOf longestParts longestSide tabulate upFrom
+bytes-longest = (refl, refl)
+
+below-of-all : (n : ℕ) → 0 < n → (xs : List ℕ) → all (λ x. ltb x n) xs ≡ true → Below n xs
+unfolding all
+below-of-all n h [] p i = h
+below-of-all n h (x ∷ xs) p zero = ltb-true x n (and-left (ltb x n) _ p)
+below-of-all n h (x ∷ xs) p (suc i) = below-of-all n h xs (and-right (ltb x n) _ p) i
+
+pub longest-met : LongestJobMet
+longest-met =
+    let s = jobBytes longestParts in (
+      s,
+      below-of-all 256 (omega arith) s (bytes-longest .0),
+      jobRefusal-jobBytes longestParts two-longest ∙ partsRefusal-longest,
+      bytes-longest .1,
+    )
+
+-- ---- places that hold the parts
+
+module _ (d xs : List ℕ) where
+  placed-front : placed d 0 xs ≡ xs ++ drop (length xs) d
+  unfolding placed
+  placed-front = rw zero-add
+
+  length-placed-front : length xs ≤ length (placed d 0 xs)
+  length-placed-front = rw placed-front (omega (arith, length-append xs (drop (length xs) d)))
+
+  take-placed-front : take (length xs) (placed d 0 xs) ≡ xs
+  take-placed-front = rw placed-front (take-append-seam xs (drop (length xs) d))
+
+-- a part of each record, in places of its own
+module _ {A : Type 0} (f : A → ℕ) (d : A) (ps : List ℕ) (xs : List A) where
+  getD-column : f d ≡ 0 → (i : ℕ) → i < length xs → getD (placed ps 0 (map f xs)) i 0 ≡ f (getD xs i d)
+  getD-column z i h =
+      ap (λ (l : List ℕ). getD l i 0) (placed-front ps (map f xs))
+      ∙ List·getD-append (map f xs) _ 0 i (omega (arith, length-map xs f))
+      ∙ ap (getD (map f xs) i) (sym z)
+      ∙ List·getD-map f xs i d
+
+  column-room : leb (length xs) (length (placed ps 0 (map f xs))) ≡ true
+  column-room =
+      let n = length-placed-front ps (map f xs) in
+      le-leb (length xs) (length (placed ps 0 (map f xs))) (omega (arith, length-map xs f))
+
+tabulate-list : {A : Type 0} (d : A) (xs : List A) (f : ℕ → A) → ((i : ℕ) → i < length xs → f i ≡ getD xs i d)
+    → tabulate (length xs) f ≡ xs
+tabulate-list d xs f h =
+    let n = length-tabulate (length xs) f in
+    ext-getD d (tabulate (length xs) f) xs n (λ i l. getD-tabulate (length xs) f i d (omega arith) ∙ h i (omega arith))
+
+all-getD : {A : Type 0} (P : A → Type 0) (d : A) → P d → (xs : List A) → All P xs → (i : ℕ) → P (getD xs i d)
+all-getD P d z [] a i = z
+all-getD P d z (x ∷ xs) a zero = a .0
+all-getD P d z (x ∷ xs) a (suc i) = all-getD P d z xs (a .1) i
+
+gatesFrom-filled : (ks xs ys : List ℕ) (gs : List Gate) → All Two gs
+    → gatesFrom (length gs)
+    (placed ks 0 (map (λ (g : Gate). g .kind) gs)) (placed xs 0 (map (slotOf 0) gs)) (placed ys 0 (map (slotOf 1) gs))
+    ≡ gs
+unfolding gatesFrom gateOf slotOf
+gatesFrom-filled ks xs ys gs w =
+    let none : Gate = gateOf 0 0 0 in
+    tabulate-list none gs _
+    (λ i h.
+    rw (
+      getD-column (λ (g : Gate). g .kind) none ks gs refl i h,
+      getD-column (slotOf 0) none xs gs refl i h,
+      getD-column (slotOf 1) none ys gs refl i h,
+    )
+    (sym (two-slots (getD gs i none) (all-getD Two none refl gs w i))))
+
+netlistFrom-filled : (p : SidePlaces) (l : Netlist) → All Two (l .gates)
+    → netlistFrom (sideCountsOf l) (filledSide p l) ≡ l
+unfolding netlistFrom sideCountsOf filledSide
+netlistFrom-filled p l w =
+    rw (gatesFrom-filled (p .kinds) (p .firsts) (p .seconds) (l .gates) w, take-placed-front (p .outputs) (l .outputs))
+
+candidatesFrom-filled : (ns ws : List ℕ) (cs : List Candidate)
+    → candidatesFrom (length cs)
+    (placed ns 0 (map (λ (c : Candidate). c .net) cs)) (placed ws 0 (map (λ (c : Candidate). c .weight) cs))
+    ≡ cs
+unfolding candidatesFrom
+candidatesFrom-filled ns ws cs =
+    let none : Candidate = record { net = 0; weight = 0 } in
+    tabulate-list none cs _
+    (λ i h.
+    rw (
+      getD-column (λ (c : Candidate). c .net) none ns cs refl i h,
+      getD-column (λ (c : Candidate). c .weight) none ws cs refl i h,
+    ))
+
+-- the places of a read job hold its parts
+pub jobFrom-filled : (p : Places) (j : Job) → TwoEach j → jobFrom (countsOf j) (filled p j) ≡ j
+unfolding jobFrom countsOf filled
+jobFrom-filled p j w =
+    rw (
+      netlistFrom-filled (p .old) (j .old) (w .old),
+      netlistFrom-filled (p .golden) (j .golden) (w .golden),
+      candidatesFrom-filled (p .nets) (p .weights) (j .candidates),
+    )
+
+sideHeld-filled : (p : SidePlaces) (l : Netlist) → sideHeld (sideCountsOf l) (filledSide p l) ≡ true
+unfolding sideHeld sideCountsOf filledSide
+sideHeld-filled p l =
+    and-both _ _
+    (and-both _ _
+    (and-both _ _
+    (column-room (λ (g : Gate). g .kind) (gateOf 0 0 0) (p .kinds) (l .gates))
+    (column-room (slotOf 0) (gateOf 0 0 0) (p .firsts) (l .gates)))
+    (column-room (slotOf 1) (gateOf 0 0 0) (p .seconds) (l .gates)))
+    (le-leb _ _ (length-placed-front (p .outputs) (l .outputs)))
+
+held-filled : (p : Places) (j : Job) → held (countsOf j) (filled p j) ≡ true
+unfolding held countsOf filled
+held-filled p j =
+    let none : Candidate = record { net = 0; weight = 0 } in
+    and-both _ _
+    (and-both _ _
+    (and-both _ _ (sideHeld-filled (p .old) (j .old)) (sideHeld-filled (p .golden) (j .golden)))
+    (column-room (λ (c : Candidate). c .net) none (p .nets) (j .candidates)))
+    (column-room (λ (c : Candidate). c .weight) none (p .weights) (j .candidates))
+
+held-outputs : (c : SideCounts) (p : SidePlaces) → sideHeld c p ≡ true → length (take (c .outputs) (p .outputs)) ≡ c .outputs
+unfolding sideHeld
+held-outputs c p h =
+    let n = c .gates in
+    let t =
+    row-at (leb n (length (p .kinds)))
+    (leb n (length (p .firsts)) ∷ leb n (length (p .seconds)) ∷ leb (c .outputs) (length (p .outputs)) ∷ [])
+    h in
+    length-take-le (c .outputs) (p .outputs) (leb-true _ _ (t 3))
+
+-- places that hold the counts have parts of these counts
+pub countsOf-jobFrom : (c : Counts) (p : Places) → held c p ≡ true → countsOf (jobFrom c p) ≡ c
+unfolding held countsOf sideCountsOf jobFrom netlistFrom gatesFrom candidatesFrom
+countsOf-jobFrom c p h =
+    let n = c .candidates in
+    let t =
+    row-at (sideHeld (c .old) (p .old))
+    (sideHeld (c .golden) (p .golden) ∷ leb n (length (p .nets)) ∷ leb n (length (p .weights)) ∷ [])
+    h in
+    simp (length-tabulate, held-outputs (c .old) (p .old) (t 0), held-outputs (c .golden) (p .golden) (t 1))
+
+-- ---- read, then write; write, then read
+
+two-jobOf : (s : List ℕ) → TwoEach (jobOf s)
+unfolding jobOf netlistOf gatesOf gateAt gateOf
+two-jobOf s = record { old = all-tabulate Two _ (λ i. refl) _; golden = all-tabulate Two _ (λ i. refl) _ }
+
+module _ (p : Places) (s : List ℕ) (e : readNumber p s ≡ 0) where
+  read-counts : readReply p s .counts ≡ countsOf (jobOf s)
+  unfolding readReply
+  read-counts = rw (eq-eqb (readNumber p s) 0 e)
+
+  read-places : readPlaces p s ≡ filled p (jobOf s)
+  unfolding readPlaces
+  read-places = rw (eq-eqb (readNumber p s) 0 e)
+
+module _ (c : Counts) (p : Places) (d : List ℕ) (e : writeNumber c p d ≡ 0) where
+  write-len : writeReply c p d .len ≡ length (jobBytes (jobFrom c p))
+  unfolding writeReply
+  write-len = rw (eq-eqb (writeNumber c p d) 0 e)
+
+  write-bytes : writtenBytes c p d ≡ placed d 0 (jobBytes (jobFrom c p))
+  unfolding writtenBytes
+  write-bytes = rw (eq-eqb (writeNumber c p d) 0 e)
+
+pub rewritten : WriteRead
+rewritten p s b e d h =
+    let u = read-accepts p s .0 e in
+    let j = jobOf s in
+    let c = countsOf j in
+    let q = filled p j in
+    let f : jobFrom c q ≡ j = jobFrom-filled p j (two-jobOf s) in
+    let r : jobBytes (jobFrom c q) ≡ s = ap jobBytes f ∙ write-read s b (u .1) in
+    let n : writeNumber c q d ≡ 0 = write-accepts c q d .1 (h, held-filled p j, rw f (u .2)) in
+    rw (read-counts p s e, read-places p s e)
+    (n, write-len c q d n ∙ ap length r, write-bytes c q d n ∙ ap (placed d 0) r)
+
+pub reread : ReadWrite
+reread c p d e q h =
+    let u = write-accepts c p d .0 e in
+    let j = jobFrom c p in
+    let s = jobBytes j in
+    let w = read-write j (two-jobFrom c p) in
+    let n : readNumber q s ≡ 0 = read-accepts q s .1 (h, w .0, rw (w .1) (u .2)) in
+    let k : countsOf j ≡ c = countsOf-jobFrom c p (u .1) in
+    let f : jobFrom c (filled q j) ≡ j =
+    ap (λ (x : Counts). jobFrom x (filled q j)) (sym k) ∙ jobFrom-filled q j (two-jobFrom c p) in
+    let m : writeReply c p d .len ≡ length s = write-len c p d e in
+    let b : writtenBytes c p d ≡ placed d 0 s = write-bytes c p d e in
+    rw (m, b, take-placed-front d s) (n, read-counts q s n ∙ ap countsOf (w .1) ∙ k, rw (read-places q s n, w .1) f)

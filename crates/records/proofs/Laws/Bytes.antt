@@ -1,0 +1,197 @@
+-- Laws of specs/Bytes: numbered lists, tests over lists, and a list placed in another. Assumes nothing.
+use Prim.Native.Nat.{ℕ, zero, suc, _+_, _*_, _/_, _%_, _-_, _≤_, _<_}
+use mathlib.Core.Path.{_≡_, refl, sym, _∙_, ap, subst}
+use mathlib.Core.List.{List, [], _∷_, _++_, map, append-assoc, append-nil}
+use mathlib.Core.Bool.{Bool, true, false, _&&_}
+use native.Mathlib.Nat.{add-zero, zero-add, add-suc, suc-add, add-assoc}
+use native.Mathlib.Numerals.{add-one}
+use native.Mathlib.Omega.{arith}
+use lib.ListN.{length, getD, take, drop, set, length-append, length-take, length-drop, length-map, take-append-drop, drop-of-length-le}
+use lib.Seq.{drop-cons, drop-length, ext-getD, length-take-le, take-at, drop-at, set-at, append-snoc, drop-drop, drop-append-add}
+use Rattle.records.specs.Bytes.{upFrom, tabulate, all, flat, bytePair, word, placed}
+
+-- ---- tests
+
+pub and-left : (a b : Bool) → a && b ≡ true → a ≡ true
+and-left true b e = refl
+and-left false b e = e
+
+pub and-right : (a b : Bool) → a && b ≡ true → b ≡ true
+and-right true b e = e
+and-right false true e = refl
+and-right false false e = e
+
+pub and-both : (a b : Bool) → a ≡ true → b ≡ true → a && b ≡ true
+and-both a b p q = rw (p, q)
+
+pub and-false-left : (a b : Bool) → a ≡ false → a && b ≡ false
+and-false-left a b p = rw p
+
+pub and-false-right : (a b : Bool) → b ≡ false → a && b ≡ false
+and-false-right true b p = p
+and-false-right false b p = refl
+
+pub all-ext : {A : Type 0} (p q : A → Bool) → ((x : A) → p x ≡ q x) → (xs : List A) → all p xs ≡ all q xs
+unfolding all
+all-ext p q h [] = refl
+all-ext p q h (x ∷ xs) = rw (h x, all-ext p q h xs)
+
+-- a row of tests, a && b && c .., whose first is a
+abbrev pub row : Bool → List Bool → Bool
+row a [] = a
+row a (b ∷ bs) = row (a && b) bs
+
+row-left : (a : Bool) (bs : List Bool) → row a bs ≡ true → a ≡ true
+row-left a [] h = h
+row-left a (b ∷ bs) h = and-left a b (row-left (a && b) bs h)
+
+-- where a row passes, each of its tests does
+pub row-at : (a : Bool) (bs : List Bool) → row a bs ≡ true → (i : ℕ) → getD (a ∷ bs) i true ≡ true
+row-at a bs h zero = row-left a bs h
+row-at a [] h (suc i) = refl
+row-at a (b ∷ bs) h (suc zero) = and-right a b (row-left (a && b) bs h)
+row-at a (b ∷ bs) h (suc (suc i)) = row-at (a && b) bs h (suc i)
+
+pub false-of : (b : Bool) → (b ≡ true → ⊥) → b ≡ false
+false-of true h = absurd (h refl)
+false-of false h = refl
+
+pub all-cons : {A : Type 0} (p : A → Bool) (x : A) (xs : List A) → all p (x ∷ xs) ≡ true
+    → (p x ≡ true) × (all p xs ≡ true)
+unfolding all
+all-cons p x xs e = (and-left (p x) (all p xs) e, and-right (p x) (all p xs) e)
+
+-- ---- upFrom, tabulate
+
+pub length-upFrom : (a n : ℕ) → length (upFrom a n) ≡ n
+unfolding upFrom
+length-upFrom a zero = refl
+length-upFrom a (suc n) = ap suc (length-upFrom (suc a) n)
+
+pub getD-upFrom : (a n i d : ℕ) → i < n → getD (upFrom a n) i d ≡ a + i
+unfolding upFrom
+getD-upFrom a (suc n) zero d h = sym (add-zero a)
+getD-upFrom a (suc n) (suc i) d h =
+    getD-upFrom (suc a) n i d (omega arith) ∙ suc-add a i ∙ sym (add-suc a i)
+getD-upFrom a zero i d h = let f : ⊥ = omega arith in absurd f
+
+module _ {A : Type 0} where
+  getD-map : {B : Type 0} (g : B → A) (xs : List B) (i : ℕ) (e : B) (d : A) → i < length xs → getD (map g xs) i d ≡ g (getD xs i e)
+  getD-map g [] i e d h = let f : ⊥ = omega arith in absurd f
+  getD-map g (x ∷ xs) zero e d h = refl
+  getD-map g (x ∷ xs) (suc i) e d h = getD-map g xs i e d (omega arith)
+
+  pub length-tabulate : (n : ℕ) (f : ℕ → A) → length (tabulate n f) ≡ n
+  unfolding tabulate
+  length-tabulate n f = length-map (upFrom 0 n) f ∙ length-upFrom 0 n
+
+  pub getD-tabulate : (n : ℕ) (f : ℕ → A) (i : ℕ) (d : A) → i < n → getD (tabulate n f) i d ≡ f i
+  unfolding tabulate
+  getD-tabulate n f i d h =
+      getD-map f (upFrom 0 n) i 0 d (omega (arith, length-upFrom 0 n)) ∙ ap f (getD-upFrom 0 n i 0 h ∙ zero-add i)
+
+  -- a turn of a loop over a numbered list: what is left from i on starts with its i-th element
+  pub drop-tabulate : (n : ℕ) (f : ℕ → A) (i : ℕ) → i < n → drop i (tabulate n f) ≡ f i ∷ drop (i + 1) (tabulate n f)
+  drop-tabulate n f i h =
+      drop-cons (tabulate n f) i (f i) (omega (arith, length-tabulate n f))
+      ∙ ap (λ (x : A). x ∷ drop (suc i) (tabulate n f)) (getD-tabulate n f i (f i) h)
+      ∙ ap (λ (k : ℕ). f i ∷ drop k (tabulate n f)) (sym (add-one i))
+
+  -- .. and at the end nothing is left
+  pub drop-tabulate-end : (n : ℕ) (f : ℕ → A) → drop n (tabulate n f) ≡ []
+  drop-tabulate-end n f = ap (λ (k : ℕ). drop k (tabulate n f)) (sym (length-tabulate n f)) ∙ drop-length (tabulate n f)
+
+  -- the same where the loop's test only says that i has passed the end
+  pub drop-tabulate-past : (n : ℕ) (f : ℕ → A) (i : ℕ) → n ≤ i → drop i (tabulate n f) ≡ []
+  drop-tabulate-past n f i h = drop-of-length-le (tabulate n f) {i = i} (omega (arith, length-tabulate n f))
+
+  -- a turn of a loop that tests each element
+  pub all-drop : (p : A → Bool) (n : ℕ) (f : ℕ → A) (i : ℕ) → i < n
+      → all p (drop i (tabulate n f)) ≡ (p (f i) && all p (drop (i + 1) (tabulate n f)))
+  unfolding all
+  all-drop p n f i h = ap (all p) (drop-tabulate n f i h)
+
+  cons-cong : {x y : A} {xs ys : List A} → x ≡ y → xs ≡ ys → x ∷ xs ≡ y ∷ ys
+  cons-cong p q = cc
+
+  map-ext : (f g : ℕ → A) (a k : ℕ) → ((i : ℕ) → i < a + k → f i ≡ g i) → map f (upFrom a k) ≡ map g (upFrom a k)
+  unfolding upFrom
+  map-ext f g a zero e = refl
+  map-ext f g a (suc k) e = cons-cong (e a (omega arith)) (map-ext f g (suc a) k (λ i l. e i (omega arith)))
+
+  pub tabulate-ext : (n : ℕ) (f g : ℕ → A) → ((i : ℕ) → i < n → f i ≡ g i) → tabulate n f ≡ tabulate n g
+  unfolding tabulate
+  tabulate-ext n f g h = map-ext f g 0 n (λ i l. h i (omega arith))
+
+  map-upFrom-snoc : (f : ℕ → A) (a n : ℕ) → map f (upFrom a (suc n)) ≡ map f (upFrom a n) ++ (f (a + n) ∷ [])
+  unfolding upFrom
+  map-upFrom-snoc f a zero = rw add-zero
+  map-upFrom-snoc f a (suc n) =
+      let e : suc a + n ≡ a + suc n = omega arith in
+      ap (λ (l : List A). f a ∷ l) (map-upFrom-snoc f (suc a) n)
+      ∙ ap (λ (k : ℕ). f a ∷ map f (upFrom (suc a) n) ++ (f k ∷ [])) e
+
+  -- one element more
+  pub tabulate-snoc : (n : ℕ) (f : ℕ → A) → tabulate (n + 1) f ≡ tabulate n f ++ (f n ∷ [])
+  unfolding tabulate
+  tabulate-snoc n f =
+      ap (λ (k : ℕ). map f (upFrom 0 k)) (add-one n)
+      ∙ map-upFrom-snoc f 0 n
+      ∙ ap (λ (k : ℕ). map f (upFrom 0 n) ++ (f k ∷ [])) (zero-add n)
+
+-- ---- placed
+
+pub placed-nil : (d : List ℕ) (at : ℕ) → placed d at [] ≡ d
+unfolding placed
+placed-nil d at =
+    ap (λ (k : ℕ). take at d ++ [] ++ drop k d) (add-zero at)
+    ∙ ap (λ (r : List ℕ). r ++ drop at d) (append-nil (take at d))
+    ∙ take-append-drop at d
+
+module _ (d : List ℕ) (at : ℕ) (xs : List ℕ) (h : at + length xs ≤ length d) where
+  length-front : length (take at d ++ xs) ≡ at + length xs
+  length-front = length-append (take at d) xs ∙ ap (λ (k : ℕ). k + length xs) (length-take-le at d (omega arith))
+
+  pub length-placed : length (placed d at xs) ≡ length d
+  unfolding placed
+  length-placed =
+      length-append (take at d ++ xs) (drop (at + length xs) d)
+      ∙ omega (arith, length-front, length-drop (at + length xs) d)
+
+  pub drop-placed : drop (at + length xs) (placed d at xs) ≡ drop (at + length xs) d
+  unfolding placed
+  drop-placed = drop-at (take at d ++ xs) (drop (at + length xs) d) (at + length xs) length-front
+
+  pub take-placed : take (at + length xs) (placed d at xs) ≡ take at d ++ xs
+  unfolding placed
+  take-placed = take-at (take at d ++ xs) (drop (at + length xs) d) (at + length xs) length-front
+
+-- one list placed after another is the two placed together
+pub placed-placed : (d : List ℕ) (at : ℕ) (xs ys : List ℕ) → at + length xs + length ys ≤ length d
+    → placed (placed d at xs) (at + length xs) ys ≡ placed d at (xs ++ ys)
+unfolding placed
+placed-placed d at xs ys h =
+    let f : at + length xs ≤ length d = omega arith in
+    let n : at + length xs + length ys ≡ at + length (xs ++ ys) = omega (arith, length-append xs ys) in
+    let e : drop (at + length xs + length ys) (placed d at xs) ≡ drop (at + length (xs ++ ys)) d =
+      sym (drop-drop (length ys) (at + length xs) (placed d at xs))
+      ∙ ap (λ (l : List ℕ). drop (length ys) l) (drop-placed d at xs f)
+      ∙ drop-drop (length ys) (at + length xs) d
+      ∙ ap (λ (k : ℕ). drop k d) n in
+    ap (λ (l : List ℕ). l ++ ys ++ drop (at + length xs + length ys) (placed d at xs)) (take-placed d at xs f)
+    ∙ ap (λ (l : List ℕ). take at d ++ xs ++ ys ++ l) e
+    ∙ ap (λ (l : List ℕ). l ++ drop (at + length (xs ++ ys)) d) (append-assoc (take at d) xs ys)
+
+-- a store just behind what is placed adds one element
+pub set-placed : (d : List ℕ) (at : ℕ) (xs : List ℕ) (x : ℕ) → at + length xs < length d
+    → set (placed d at xs) (at + length xs) x ≡ placed d at (xs ++ (x ∷ []))
+unfolding placed
+set-placed d at xs x h =
+    let p : List ℕ = take at d ++ xs in
+    let q : List ℕ = drop (suc (at + length xs)) d in
+    let n : suc (at + length xs) ≡ at + length (xs ++ (x ∷ [])) = omega (arith, length-append xs (x ∷ [])) in
+    ap (λ (l : List ℕ). set (p ++ l) (at + length xs) x) (drop-cons d (at + length xs) 0 h)
+    ∙ set-at p (getD d (at + length xs) 0) q x (at + length xs) (length-front d at xs (omega arith))
+    ∙ sym (append-snoc p x q)
+    ∙ ap (λ (l : List ℕ). l ++ q) (append-assoc (take at d) xs (x ∷ []))
+    ∙ ap (λ (k : ℕ). take at d ++ (xs ++ (x ∷ [])) ++ drop k d) n

@@ -1,0 +1,36 @@
+-- What specs/Claims.antt promises of the record library, each by one citation. Assumes nothing.
+use Rattle.records.specs.Claims.{First, ReadAccepts, WriteAccepts, SheetAccepts, ReadRefuses, WriteRefuses, SheetRefuses, ReadWrite, WriteRead, LongestJob, LongestJobMet}
+use Rattle.records.proofs.Laws.Accepted as accepted
+
+pub first : First
+first = accepted.first
+
+pub read-accepts : ReadAccepts
+read-accepts = accepted.read-accepts
+
+pub write-accepts : WriteAccepts
+write-accepts = accepted.write-accepts
+
+pub sheet-accepts : SheetAccepts
+sheet-accepts = accepted.sheet-accepts
+
+pub read-refuses : ReadRefuses
+read-refuses = accepted.read-refuses
+
+pub write-refuses : WriteRefuses
+write-refuses = accepted.write-refuses
+
+pub sheet-refuses : SheetRefuses
+sheet-refuses = accepted.sheet-refuses
+
+pub read-write : ReadWrite
+read-write = accepted.reread
+
+pub write-read : WriteRead
+write-read = accepted.rewritten
+
+pub longest-job : LongestJob
+longest-job = accepted.longest
+
+pub longest-job-met : LongestJobMet
+longest-job-met = accepted.longest-met

@@ -1,0 +1,104 @@
+-- `records::netlist::check_gates` meets its contract. The loop's invariant: the gates from i on are good exactly when
+-- all are. Assumes nothing.
+use borrow.Author.Tests.{not-true, not-false}
+use denote.Ref.{now}
+use lib.ListN.{drop}
+use mathlib.Core.Bool.{Bool, _&&_}
+use mathlib.Core.List.{List}
+use mathlib.Core.Path.{_≡_, _∙_, sym}
+use native.Mathlib.Nat.{add-zero}
+use native.Mathlib.Omega.{arith}
+use Prim.Native.Nat.{ℕ, _+_, _-_}
+use Rattle.records.specs.Job.{gateAt, gatesOf}
+use Rattle.records.specs.Refusal.{gatesGood}
+use Rattle.records.specs.Inner.{checkOf}
+use Rattle.records.proofs.Laws.Netlist.{gatesGood-drop, drop-gates-past}
+use Rattle.records.proofs.netlist.check_gates.Statement.{statement}
+use Rattle.records.proofs.netlist.check_gates.Tie as tie
+
+-- the gates from i on are good
+abbrev good : ℕ → List ℕ → ℕ → Bool
+good base s i = gatesGood (base + i) (drop i (gatesOf s))
+
+abbrev Inv-loop : tie.InvT-loop
+Inv-loop s base count i₀ i = good base s i ≡ gatesGood base (gatesOf s)
+
+abbrev μ-loop : tie.MeasureT-loop
+μ-loop s base count i₀ i = count - i
+
+loop-holds : tie.Need-loop-holds Inv-loop μ-loop
+loop-holds c = rw add-zero
+
+mul-at : tie.Need-mul-at Inv-loop μ-loop
+mul-at c = omega arith
+
+shared-slice-read-kind : tie.Need-shared-slice-read-kind Inv-loop μ-loop
+shared-slice-read-kind c = omega arith
+
+add-word-at : tie.Need-add-word-at Inv-loop μ-loop
+add-word-at c = omega arith
+
+word-at-requires : tie.Need-word-at-requires Inv-loop μ-loop
+word-at-requires c κs = omega arith
+
+add-word-at-2 : tie.Need-add-word-at-2 Inv-loop μ-loop
+add-word-at-2 c = omega arith
+
+word-at-requires-2 : tie.Need-word-at-requires-2 Inv-loop μ-loop
+word-at-requires-2 c κs = omega arith
+
+add-gate-good : tie.Need-add-gate-good Inv-loop μ-loop
+add-gate-good c = omega arith
+
+gate-good-requires : tie.Need-gate-good-requires Inv-loop μ-loop
+gate-good-requires c κs = tt
+
+-- all are good where gate i is, and those after it
+turn : (c : tie.After-gate-good Inv-loop μ-loop) → let l = c .before .before .before .before .before in
+    let x = l .before .before .args in
+    gatesGood (x .base) (gatesOf (now (x .s))) ≡ (c .gate-good .result && good (x .base) (now (x .s)) (l .loop .i + 1))
+unfolding gateAt
+turn c =
+    let l = c .before .before .before .before .before in
+    let x = l .before .before .args in
+    sym (l .loop .inv)
+    ∙ gatesGood-drop (now (x .s)) (l .loop .i) (c .before .before .before .before .loop-test .taken) (x .base)
+    ∙ rw (c .gate-good .ensures, c .before .word-at2 .ensures, c .before .before .word-at .ensures)
+
+returns : tie.Need-returns Inv-loop μ-loop
+unfolding checkOf
+returns c = rw (turn (c .before), not-true (c .before .gate-good .result) (c .if1 .taken))
+
+add-i : tie.Need-add-i Inv-loop μ-loop
+add-i c = omega arith
+
+loop-less : tie.Need-loop-less Inv-loop μ-loop
+loop-less c = omega arith
+
+loop-again : tie.Need-loop-again Inv-loop μ-loop
+loop-again c = sym (turn (c .before) ∙ rw (not-false (c .before .gate-good .result) (c .if1 .left)))
+
+returns-2 : tie.Need-returns-2 Inv-loop μ-loop
+unfolding checkOf gatesGood
+returns-2 c = rw (← (c .before .loop .inv), drop-gates-past _ _ (c .loop-test .left))
+
+pub check-gates-spec : {M : Type 1} → statement M
+check-gates-spec =
+    tie.close
+    (tie.spec
+    Inv-loop
+    μ-loop
+    loop-holds
+    mul-at
+    shared-slice-read-kind
+    add-word-at
+    word-at-requires
+    add-word-at-2
+    word-at-requires-2
+    add-gate-good
+    gate-good-requires
+    returns
+    add-i
+    loop-less
+    loop-again
+    returns-2)

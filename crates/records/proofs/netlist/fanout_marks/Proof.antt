@@ -1,0 +1,134 @@
+-- `records::netlist::fanout_marks` meets its contract. The loop's invariant: the marks so far, extended by the gates
+-- from i on, are the fanout, and those gates are good, so that gate i's operands have their marks. Assumes nothing.
+use denote.Ref.{now}
+use lib.ListN.{length, getD, take, drop, length-set}
+use mathlib.Core.Bool.{true}
+use mathlib.Core.Path.{_≡_, _∙_, sym}
+use native.Mathlib.Nat.{add-zero}
+use native.Mathlib.Omega.{arith}
+use Prim.Native.Nat.{_+_, _-_, _*_, _/_, _≤_}
+use Rattle.records.specs.Bytes.{word}
+use Rattle.records.specs.Netlist.{extended, markOf, fanout}
+use Rattle.records.specs.Job.{gateAt, gatesOf}
+use Rattle.records.specs.Refusal.{gateGood, gatesGood}
+use Rattle.records.specs.Inner.{leafMarks}
+use Rattle.records.proofs.Laws.Gate.{slots-le}
+use Rattle.records.proofs.Laws.Netlist.{gatesGood-both, drop-gates-past, extended-drop}
+use Rattle.records.proofs.netlist.fanout_marks.Statement.{statement}
+use Rattle.records.proofs.netlist.fanout_marks.Tie as tie
+
+abbrev Inv-loop : tie.InvT-loop
+Inv-loop s inputs targets marks₀ count base i₀ marks i =
+    (i ≤ count)
+    × (length marks ≡ 424)
+    × (gatesGood (base + i) (drop i (gatesOf s)) ≡ true)
+    × (extended markOf (take (base + i) marks) (drop i (gatesOf s)) ≡ fanout inputs targets (gatesOf s))
+
+abbrev μ-loop : tie.MeasureT-loop
+μ-loop s inputs targets marks₀ count base i₀ marks i = count - i
+
+leaf-marks-requires : tie.Need-leaf-marks-requires Inv-loop μ-loop
+leaf-marks-requires c κs = omega arith
+
+add-base : tie.Need-add-base Inv-loop μ-loop
+add-base c = omega arith
+
+loop-holds : tie.Need-loop-holds Inv-loop μ-loop
+unfolding fanout leafMarks
+loop-holds c =
+    let e = c .leaf-marks .ensures in
+    (omega arith, e .0, rw add-zero (c .before .before .pre .1), rw (add-zero, e .1))
+
+mul-at : tie.Need-mul-at Inv-loop μ-loop
+mul-at c = omega arith
+
+shared-slice-read-kind : tie.Need-shared-slice-read-kind Inv-loop μ-loop
+shared-slice-read-kind c = omega arith
+
+add-word-at : tie.Need-add-word-at Inv-loop μ-loop
+add-word-at c = omega arith
+
+word-at-requires : tie.Need-word-at-requires Inv-loop μ-loop
+word-at-requires c κs = omega arith
+
+add-word-at-2 : tie.Need-add-word-at-2 Inv-loop μ-loop
+add-word-at-2 c = omega arith
+
+word-at-requires-2 : tie.Need-word-at-requires-2 Inv-loop μ-loop
+word-at-requires-2 c κs = omega arith
+
+-- gate i is good, and so are those after it
+good : (c : tie.In-loop Inv-loop μ-loop) → let x = c .before .before .before .before .args in
+    let i = c .before .loop .i in
+    (gateGood (x .inputs + x .targets + i) (gateAt (now (x .s)) i) ≡ true)
+    × (gatesGood (x .inputs + x .targets + (i + 1)) (drop (i + 1) (gatesOf (now (x .s)))) ≡ true)
+good c =
+    let x = c .before .before .before .before .args in
+    let l = c .before .loop in
+    gatesGood-both (now (x .s)) (l .i) (c .loop-test .taken) (x .inputs + x .targets) (l .inv .2)
+
+gate-mark-requires : tie.Need-gate-mark-requires Inv-loop μ-loop
+unfolding gateAt
+gate-mark-requires c κs =
+    let t = c .before .before .before .before in
+    let x = t .before .before .before .before .args in
+    let i = t .before .loop .i in
+    let s = now (x .s) in
+    let net = x .inputs + x .targets + i in
+    let le = slots-le net (getD s (5 * i) 0) (word s (5 * i + 1)) (word s (5 * i + 3)) (good t .0) in
+    omega (arith, le, c .before .before .word-at .ensures, c .before .word-at2 .ensures)
+
+add-marks : tie.Need-add-marks Inv-loop μ-loop
+add-marks c = omega arith
+
+array-write-marks : tie.Need-array-write-marks Inv-loop μ-loop
+array-write-marks c = omega arith
+
+add-i : tie.Need-add-i Inv-loop μ-loop
+add-i c = omega arith
+
+loop-less : tie.Need-loop-less Inv-loop μ-loop
+loop-less c = omega arith
+
+loop-again : tie.Need-loop-again Inv-loop μ-loop
+unfolding gateAt
+loop-again c =
+    let t = c .before .before .before .before .before in
+    let x = t .before .before .before .before .args in
+    let l = t .before .loop in
+    let s = now (x .s) in
+    let e : c .gate-mark .result ≡ markOf (l .marks) (gateAt s (l .i)) =
+    c .gate-mark .ensures ∙ rw (c .before .before .before .word-at .ensures, c .before .before .word-at2 .ensures) in
+    let more = extended-drop s (l .i) (t .loop-test .taken) (x .inputs + x .targets) (l .marks) (omega arith) (good t .0) in
+    (omega arith, length-set (l .marks) _ _ ∙ l .inv .1, good t .1, rw e (sym more ∙ l .inv .3))
+
+returns : tie.Need-returns Inv-loop μ-loop
+unfolding extended
+returns c =
+    let s = now (c .before .before .before .before .args .s) in
+    let l = c .before .loop in
+    let e : length s / 5 ≡ l .i = omega arith in
+    rw e (rw (drop-gates-past s (l .i) (c .loop-test .left)) at (l .inv .3))
+
+pub fanout-marks-spec : {M : Type 1} → statement M
+fanout-marks-spec =
+    tie.close
+    (tie.spec
+    Inv-loop
+    μ-loop
+    leaf-marks-requires
+    add-base
+    loop-holds
+    mul-at
+    shared-slice-read-kind
+    add-word-at
+    word-at-requires
+    add-word-at-2
+    word-at-requires-2
+    gate-mark-requires
+    add-marks
+    array-write-marks
+    add-i
+    loop-less
+    loop-again
+    returns)

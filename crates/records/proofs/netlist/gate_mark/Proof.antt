@@ -1,0 +1,66 @@
+-- `records::netlist::gate_mark` meets its contract: each arm of the match is the gate's mark at that arity.
+-- Assumes nothing.
+use borrow.Author.Needs.{needs}
+use denote.Ref.{now}
+use lib.ListN.{getD}
+use mathlib.Core.Path.{_≡_, _∙_, sym}
+use native.Mathlib.Omega.{arith}
+use Prim.Native.Nat.{max}
+use Rattle.records.specs.Gate.{arity, gateOf}
+use Rattle.records.specs.Netlist.{markOf}
+use Rattle.records.proofs.Laws.Gate.{arity-le}
+use Rattle.records.proofs.Laws.Netlist.{markOf-none, markOf-one, markOf-two}
+use Rattle.records.proofs.netlist.gate_mark.Statement.{statement}
+use Rattle.records.proofs.netlist.gate_mark.Tie as tie
+
+operand-count-requires : tie.Need-operand-count-requires
+operand-count-requires c κs = search needs
+
+element-copy-out-result : tie.Need-element-copy-out-result
+element-copy-out-result c = search needs
+
+element-copy-out-x : tie.Need-element-copy-out-x
+element-copy-out-x c = search needs
+
+element-copy-out-y : tie.Need-element-copy-out-y
+element-copy-out-y c = search needs
+
+returns : tie.Need-returns
+returns c =
+    let x = c .before .before .args in
+    let e : arity (x .kind) ≡ 0 = cc in
+    sym (markOf-none (now (x .marks)) (x .kind) (x .a) (x .b) e)
+
+returns-2 : tie.Need-returns-2
+returns-2 c =
+    let x = c .before .before .before .args in
+    let e : arity (x .kind) ≡ 1 = cc in
+    sym (markOf-one (now (x .marks)) (x .kind) (x .a) (x .b) e)
+
+-- the last arm
+two : (c : tie.At-match-rest) → let x = c .before .before .args in
+    let marks = now (x .marks) in
+    markOf marks (gateOf (x .kind) (x .a) (x .b)) ≡ max (getD marks (x .a) 0) (getD marks (x .b) 0)
+two c =
+    let x = c .before .before .args in
+    let e : arity (x .kind) ≡ 2 = omega (arith, arity-le (x .kind)) in
+    markOf-two (now (x .marks)) (x .kind) (x .a) (x .b) e
+
+returns-3 : tie.Need-returns-3
+returns-3 c = sym (two (c .before .before .before) ∙ omega arith)
+
+returns-4 : tie.Need-returns-4
+returns-4 c = sym (two (c .before .before .before) ∙ omega arith)
+
+pub gate-mark-spec : {M : Type 1} → statement M
+gate-mark-spec =
+    tie.close
+    (tie.spec
+    operand-count-requires
+    element-copy-out-result
+    element-copy-out-x
+    element-copy-out-y
+    returns
+    returns-2
+    returns-3
+    returns-4)

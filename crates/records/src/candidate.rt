@@ -1,0 +1,32 @@
+// Candidates in a job's bytes.
+ghost use mathlib.Core.Path.{_≡_};
+ghost use Prim.Native.Nat.{_≤_};
+ghost use Rattle.records.specs.Job.{candidatesOf};
+ghost use Rattle.records.specs.Inner.{checkOf, unmarkedAscending};
+use super::field::Check;
+use super::field::word_at;
+
+// Whether the candidates ascend, are below nets and have no mark.
+pub fn check_candidates(s: &[u8], nets: usize, marks: &[u8; 424]) -> Check
+    requires { ⌜ nets ≤ 424 ⌝ }
+    ensures { λ r. ⌜ r ≡ checkOf (unmarkedAscending nets (now (marks .entry)) (candidatesOf (now (s .entry)))) ⌝ }
+{
+    let count = s.len() / 4;
+    let mut least = 0usize;
+    let mut i = 0usize;
+    while i < count {
+        let net = word_at(s, 4 * i);
+        if net < least {
+            return Check::Failed;
+        }
+        if nets <= net {
+            return Check::Failed;
+        }
+        if marks[net] != 0 {
+            return Check::Failed;
+        }
+        least = net + 1;
+        i += 1;
+    }
+    Check::Passed
+}

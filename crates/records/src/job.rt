@@ -1,0 +1,245 @@
+// A job's bytes: its shape, its counts, and the first number that applies.
+ghost use mathlib.Core.Path.{_≡_};
+ghost use lib.ListN.{length};
+ghost use Rattle.records.specs.Job.{jobOf};
+ghost use Rattle.records.specs.Refusal.{netlistsGood, outputsGood, candidatesGood};
+ghost use Rattle.records.specs.Inner.{checkOf, lengthsGood, countsWithin, Within, shapeOf, startsOf, Laid, LaidGates, checkedOf};
+use super::candidate::check_candidates;
+use super::field::Check;
+use super::field::walked;
+use super::field::wide;
+use super::netlist::check_gates;
+use super::netlist::check_outputs;
+use super::netlist::fanout_marks;
+
+// How many gates and outputs a netlist has.
+pub struct SideCounts {
+    pub gates: usize,
+    pub outputs: usize,
+}
+
+// The counts of a job.
+pub struct Counts {
+    pub inputs: usize,
+    pub targets: usize,
+    pub old: SideCounts,
+    pub golden: SideCounts,
+    pub candidates: usize,
+}
+
+// Where the bytes of fields 2 to 6 start, and where the last one's end.
+pub struct Starts {
+    pub old: usize,
+    pub outputs: usize,
+    pub golden: usize,
+    pub goldens: usize,
+    pub candidates: usize,
+    pub end: usize,
+}
+
+// The fields of a job's bytes: the counts that they give, or that they are not a whole job.
+pub enum Shape {
+    Whole(Counts),
+    Broken,
+}
+
+// What the check of a whole job finds.
+pub enum Checked {
+    Accepted(Counts),
+    Refused(u8),
+}
+
+// Whether fields of these lengths hold two counts and whole gates, nets and candidates.
+fn check_lengths(lens: [usize; 6]) -> Check
+    requires { ⌜ length lens ≡ 6 ⌝ }
+    ensures { λ r. ⌜ r ≡ checkOf (lengthsGood lens) ⌝ }
+{
+    if lens[0] != 2 {
+        return Check::Failed;
+    }
+    if lens[1] % 5 != 0 {
+        return Check::Failed;
+    }
+    if lens[2] % 2 != 0 {
+        return Check::Failed;
+    }
+    if lens[3] % 5 != 0 {
+        return Check::Failed;
+    }
+    if lens[4] % 2 != 0 {
+        return Check::Failed;
+    }
+    if lens[5] % 4 != 0 {
+        return Check::Failed;
+    }
+    Check::Passed
+}
+
+// The six fields, and that each has a length that its records allow.
+pub fn shaped(job: &[u8]) -> Shape
+    ensures { λ r. ⌜ r ≡ shapeOf (now (job .entry)) ⌝ }
+{
+    let w = walked(job, 1, 6);
+    let check = w.check;
+    let Check::Passed = check else {
+        return Shape::Broken;
+    };
+    let lens = w.lens;
+    let second = check_lengths(lens);
+    let Check::Passed = second else {
+        return Shape::Broken;
+    };
+    Shape::Whole(Counts {
+        inputs: wide(job[3]),
+        targets: wide(job[4]),
+        old: SideCounts {
+            gates: lens[1] / 5,
+            outputs: lens[2] / 2,
+        },
+        golden: SideCounts {
+            gates: lens[3] / 5,
+            outputs: lens[4] / 2,
+        },
+        candidates: lens[5] / 4,
+    })
+}
+
+// Whether every count is within its range.
+pub fn check_counts(c: Counts) -> Check
+    ensures { λ r. ⌜ r ≡ checkOf (countsWithin c) ⌝ }
+{
+    if 20 < c.inputs {
+        return Check::Failed;
+    }
+    if 4 < c.targets {
+        return Check::Failed;
+    }
+    let old = c.old;
+    let golden = c.golden;
+    if 400 < old.gates {
+        return Check::Failed;
+    }
+    if old.outputs < 1 {
+        return Check::Failed;
+    }
+    if 32 < old.outputs {
+        return Check::Failed;
+    }
+    if 400 < golden.gates {
+        return Check::Failed;
+    }
+    if golden.outputs < 1 {
+        return Check::Failed;
+    }
+    if 32 < golden.outputs {
+        return Check::Failed;
+    }
+    if 10 < c.candidates {
+        return Check::Failed;
+    }
+    Check::Passed
+}
+
+// Where the fields of a job with these counts stand.
+pub fn starts_of(c: Counts) -> Starts
+    requires { ⌜ Within c ⌝ }
+    ensures { λ r. ⌜ r ≡ startsOf c ⌝ }
+{
+    let old = c.old;
+    let golden = c.golden;
+    let outputs = 8 + 5 * old.gates + 3;
+    let third = outputs + 2 * old.outputs + 3;
+    let goldens = third + 5 * golden.gates + 3;
+    let candidates = goldens + 2 * golden.outputs + 3;
+    Starts {
+        old: 8,
+        outputs,
+        golden: third,
+        goldens,
+        candidates,
+        end: candidates + 4 * c.candidates,
+    }
+}
+
+fn check_netlists(job: &[u8], c: Counts) -> Check
+    requires { ⌜ Laid (now job) c ⌝ }
+    ensures { λ r. ⌜ r ≡ checkOf (netlistsGood (jobOf (now (job .entry)))) ⌝ }
+{
+    let at = starts_of(c);
+    let a = at.old;
+    let b = at.outputs - 3;
+    let first = check_gates(&job[a..b], c.inputs + c.targets);
+    let Check::Passed = first else {
+        return Check::Failed;
+    };
+    let d = at.golden;
+    let e = at.goldens - 3;
+    check_gates(&job[d..e], c.inputs)
+}
+
+fn check_all_outputs(job: &[u8], c: Counts) -> Check
+    requires { ⌜ Laid (now job) c ⌝ }
+    ensures { λ r. ⌜ r ≡ checkOf (outputsGood (jobOf (now (job .entry)))) ⌝ }
+{
+    let at = starts_of(c);
+    let old = c.old;
+    let golden = c.golden;
+    let a = at.outputs;
+    let b = at.golden - 3;
+    let first = check_outputs(&job[a..b], c.inputs + c.targets + old.gates);
+    let Check::Passed = first else {
+        return Check::Failed;
+    };
+    let d = at.goldens;
+    let e = at.candidates - 3;
+    let second = check_outputs(&job[d..e], c.inputs + golden.gates);
+    let Check::Passed = second else {
+        return Check::Failed;
+    };
+    if old.outputs == golden.outputs {
+        Check::Passed
+    } else {
+        Check::Failed
+    }
+}
+
+fn check_all_candidates(job: &[u8], c: Counts) -> Check
+    requires { ⌜ LaidGates (now job) c ⌝ }
+    ensures { λ r. ⌜ r ≡ checkOf (candidatesGood (jobOf (now (job .entry)))) ⌝ }
+{
+    let at = starts_of(c);
+    let old = c.old;
+    let a = at.old;
+    let b = at.outputs - 3;
+    let marks = fanout_marks(&job[a..b], c.inputs, c.targets);
+    let d = at.candidates;
+    let e = at.end;
+    check_candidates(&job[d..e], c.inputs + c.targets + old.gates, &marks)
+}
+
+// The counts of an accepted job, or the first number that applies, each tested over the whole job before the next.
+pub fn check_job(job: &[u8]) -> Checked
+    ensures { λ r. ⌜ r ≡ checkedOf (now (job .entry)) ⌝ }
+{
+    let found = shaped(job);
+    let Shape::Whole(counts) = found else {
+        return Checked::Refused(2);
+    };
+    let third = check_counts(counts);
+    let Check::Passed = third else {
+        return Checked::Refused(3);
+    };
+    let fourth = check_netlists(job, counts);
+    let Check::Passed = fourth else {
+        return Checked::Refused(4);
+    };
+    let fifth = check_all_outputs(job, counts);
+    let Check::Passed = fifth else {
+        return Checked::Refused(5);
+    };
+    let sixth = check_all_candidates(job, counts);
+    let Check::Passed = sixth else {
+        return Checked::Refused(6);
+    };
+    Checked::Accepted(counts)
+}

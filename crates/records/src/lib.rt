@@ -1,0 +1,24 @@
+// The record library: a job's bytes read into lent places, parts written as a job's bytes, a patch sheet read against
+// a job's candidates, and the gates' values. Every service answers with a number of document 01, 0 where it accepts,
+// and leaves every lent place as it was where it does not.
+mod candidate;
+mod field;
+mod fill;
+mod gate;
+mod job;
+mod netlist;
+mod put;
+mod reading;
+mod sheet;
+mod writing;
+
+pub use gate::value;
+pub use job::Counts;
+pub use job::SideCounts;
+pub use reading::ReadReply;
+pub use reading::read;
+pub use sheet::SheetReply;
+pub use sheet::Support;
+pub use sheet::read_sheet;
+pub use writing::WriteReply;
+pub use writing::write;

@@ -1,0 +1,494 @@
+#!/usr/bin/env python3
+"""Makes again, from a fixed seed, what the programs of this repository are run on and must write:
+
+    python3 tools/reference/make_samples.py
+
+    crates/run_records/stdin, stdout   calls of the record library, and the lines that this reference gives
+    crates/run_gates/stdout            the rows of its stdin (the simulator's table) over 0 and 1 with one or two operands
+    crates/show_job/stdin, stdout      job A of document 01, and what it says
+    tools/bench/longest.job            one accepted job of 4,188 bytes
+
+It prints how often each service gives each number. With --try FILE, a file of lines that run_records wrote, it
+compares them with its own and prints each line that differs with its call.
+"""
+
+import os
+import random
+import sys
+from collections import Counter
+
+import gates
+import job as jobs
+import random_jobs as rj
+import random_sheets as rs
+import sheet as sheets
+from calls import LARGEST, after_call, again_call, columns, counts, read_call, sheet_call, write_call
+from job import Candidate, Gate, Job, Netlist, encode
+
+SEED = 1364
+TOP = os.path.dirname(os.path.dirname(os.path.dirname(os.path.abspath(__file__))))
+
+
+# ---- jobs chosen by hand
+
+
+def constants(k):
+    return [Gate(0, 0, 0)] * k
+
+
+def chain(leaf, first_net, k):
+    """k buffers in a row behind a net."""
+    return [Gate(2, leaf if i == 0 else first_net + i - 1, 0) for i in range(k)]
+
+
+def shaped(n, m, old, outputs, golden, goldens, candidates):
+    return Job(n, m, Netlist(old, outputs), Netlist(golden, goldens), candidates)
+
+
+def limit_jobs():
+    """Counts at and one past each limit, and the smallest jobs."""
+    one = constants(1)
+    found = []
+    for n in (0, 1, 19, 20, 21, 255):
+        found.append(shaped(n, 0, one, [n], one, [n], []))
+    for m in (0, 1, 3, 4, 5, 255):
+        found.append(shaped(1, m, [], [0], [], [0], [Candidate(0, 65535)]))
+    for k in (0, 1, 399, 400, 401):
+        found.append(shaped(1, 1, constants(k), [0], [], [0], []))
+        found.append(shaped(1, 1, [], [0], constants(k), [0], []))
+    for k in (0, 1, 31, 32, 33):
+        found.append(shaped(1, 1, [], [1] * k, [], [0] * k, []))
+        found.append(shaped(1, 1, [], [1], [], [0] * k, []))
+        found.append(shaped(1, 1, [], [1] * k, [], [0], []))
+    for k in (0, 1, 9, 10, 11):
+        found.append(shaped(12, 1, [], [0], [], [0], [Candidate(i, 65535 * (i % 2)) for i in range(k)]))
+    return found
+
+
+def gate_jobs():
+    """Kinds 9 and 10, operands at and past the gate's own net on each side, unused operands that are not 0."""
+    found = []
+    for kind in range(12):
+        for first, second in [(0, 0), (1, 0), (0, 1), (1, 1), (2, 0), (0, 2), (3, 0), (0, 3), (2, 2), (3, 3), (65535, 0)]:
+            gate = Gate(kind, first, second)
+            found.append(shaped(2, 1, [gate], [0], [], [0], []))
+            found.append(shaped(2, 1, [], [0], [gate], [0], []))
+    return found
+
+
+def output_jobs():
+    """Output nets at and past the last net of each side, which has no targets in the golden netlist."""
+    found = []
+    for net in range(7):
+        found.append(shaped(2, 2, constants(1), [net], constants(2), [0], []))
+        found.append(shaped(2, 2, constants(1), [0], constants(2), [net], []))
+        found.append(shaped(2, 2, constants(1), [0, net], constants(2), [net, 0], []))
+    return found
+
+
+def candidate_jobs():
+    """Each net and each pair of nets priced, over gates of which some are reached from a target."""
+    found = []
+    old = [
+        Gate(4, 0, 1),  # net 4: of inputs
+        Gate(0, 0, 0),  # net 5: a constant
+        Gate(4, 5, 2),  # net 6: and (constant 0, target), still reached
+        Gate(3, 6, 0),  # net 7: behind net 6
+        Gate(6, 4, 5),  # net 8: not reached
+        Gate(8, 8, 7),  # net 9: reached by its second operand
+    ]
+    for net in list(range(12)) + [65535]:
+        found.append(shaped(2, 2, old, [9], [], [1], [Candidate(net, 7)]))
+    for a in (0, 1, 2, 4, 5, 6, 8):
+        for b in (0, 1, 3, 4, 5, 8, 9, 10):
+            found.append(shaped(2, 2, old, [9], [], [1], [Candidate(a, 65535), Candidate(b, 0)]))
+    return found
+
+
+def filler_jobs():
+    """With no input and a target, net 0 is a target and the filler of unused operands, which is no path."""
+    found = []
+    for m in (1, 2, 4):
+        for gate in (Gate(0, 0, 0), Gate(1, 0, 0), Gate(2, 0, 0), Gate(3, m - 1, 0), Gate(8, 0, 0)):
+            found.append(shaped(0, m, [gate], [0], constants(1), [0], [Candidate(m, 9)]))
+        found.append(shaped(0, m, constants(2) + [Gate(3, m, 0)], [0], constants(1), [0], [Candidate(m + 2, 9)]))
+    return found
+
+
+def chain_jobs():
+    """Long paths: the last of 400 gates behind a target, behind an input, and behind both."""
+    found = []
+    for n, m, leaf in [(1, 1, 0), (1, 1, 1), (20, 4, 19), (20, 4, 20), (20, 4, 23)]:
+        first = n + m
+        for k in (1, 2, 400):
+            old = chain(leaf, first, k)
+            found.append(shaped(n, m, old, [first + k - 1], [], [0], [Candidate(first + k - 1, 1)]))
+    old = chain(0, 2, 399) + [Gate(4, 400, 1)]
+    found.append(shaped(1, 1, old, [0], [], [0], [Candidate(400, 1)]))
+    found.append(shaped(1, 1, old, [0], [], [0], [Candidate(401, 1)]))
+    return found
+
+
+def order_jobs():
+    """Several things wrong at once, on one side or both: the smallest number wins."""
+    bad_gate = Gate(10, 0, 0)
+    return [
+        shaped(21, 1, [bad_gate], [0], [], [0], []),
+        shaped(1, 5, [], [0], [bad_gate], [0], []),
+        shaped(1, 1, [bad_gate], [0], [], [], []),
+        shaped(1, 1, [bad_gate], [0], constants(401), [0], []),
+        shaped(1, 1, [bad_gate], [9], [], [0], []),
+        shaped(1, 1, [], [9], [bad_gate], [0], []),
+        shaped(1, 1, [], [9], [], [0], [Candidate(1, 0)]),
+        shaped(1, 1, [], [0], [], [0, 0], [Candidate(1, 0)]),
+        shaped(1, 1, [], [0, 0], [], [9], [Candidate(9, 0)]),
+        shaped(1, 1, [], [0], [bad_gate], [0], [Candidate(1, 0)]),
+        shaped(1, 1, [], [0], [], [0] * 33, [Candidate(1, 0)]),
+        shaped(1, 1, [bad_gate], [9], [bad_gate], [9, 9], [Candidate(9, 0), Candidate(1, 0)]),
+        shaped(1, 1, [bad_gate], [9], [bad_gate], [9] * 33, [Candidate(9, 0), Candidate(1, 0)]),
+        shaped(1, 1, [], [0], [], [0], [Candidate(i, 0) for i in range(11)]),
+    ]
+
+
+def hand_jobs():
+    return (
+        [rj.job_a()]
+        + limit_jobs()
+        + gate_jobs()
+        + output_jobs()
+        + candidate_jobs()
+        + filler_jobs()
+        + chain_jobs()
+        + order_jobs()
+    )
+
+
+# ---- calls of read
+
+
+def a_good_job(rng):
+    """Mostly small; some shapes of their own."""
+    return rng.choice(
+        [
+            lambda: rj.good_job(rng),
+            lambda: rj.good_job(rng),
+            lambda: rj.good_job(rng, n=0),
+            lambda: rj.good_job(rng, m=0),
+            lambda: rj.good_job(rng, m=4, priced=10),
+            lambda: rj.good_job(rng, n=20, priced=10),
+            lambda: rj.good_job(rng, old_gates=0),
+            lambda: rj.good_job(rng, golden_gates=0),
+            lambda: rj.good_job(rng, old_gates=30, golden_gates=25),
+            lambda: rj.good_job(rng, outputs=32),
+            lambda: rj.good_job(rng, priced=0),
+        ]
+    )()
+
+
+def a_damaged_job(rng, most=4):
+    damages = rng.sample(rj.ALL_DAMAGES, rng.randrange(1, most + 1))
+    return rj.damaged(rng, a_good_job(rng), damages)
+
+
+def noise(rng):
+    return bytes(rng.randrange(256) for _ in range(rng.choice([0, 1, 2, 3, 4, 5, 9, 20, 60, 200])))
+
+
+def some_bytes(rng):
+    """A job's bytes, of any kind."""
+    data = encode(rng.choice([a_good_job, a_good_job, a_damaged_job])(rng))
+    return rng.choice(rj.BYTE_DAMAGES)(rng, data) if rng.random() < 0.3 else data
+
+
+def read_calls(rng):
+    for job in hand_jobs():
+        yield read_call(encode(job))
+    # the sizes of the paper's line "Run"
+    for gate_count in (400, 401):
+        for _ in range(3):
+            yield read_call(encode(rj.longest_job(rng, gate_count)))
+    longest = rj.longest_job(rng)
+    for k in (32, 33):
+        longest.old.outputs = longest.golden.outputs = [rng.randrange(420) for _ in range(k)]
+        yield read_call(encode(longest))
+    # bytes: cut at every place, each byte changed, noise
+    for data in (encode(rj.job_a()), encode(rj.good_job(rng, 2, 1, 2, 1, 2, 2))):
+        for at in range(len(data)):
+            yield read_call(data[:at])
+            for x in (0, 255, (data[at] + 1) % 256):
+                yield read_call(data[:at] + bytes([x]) + data[at + 1 :])
+        for extra in (b"\0", b"\6\0\0", b"\7\0\0", data):
+            yield read_call(data + extra)
+    for _ in range(40):
+        yield read_call(noise(rng))
+    # random ones
+    for _ in range(250):
+        yield read_call(encode(a_good_job(rng)))
+    for damage in rj.ALL_DAMAGES:
+        for _ in range(12):
+            yield read_call(encode(rj.damaged(rng, a_good_job(rng), [damage])))
+    for _ in range(250):
+        yield read_call(encode(a_damaged_job(rng)))
+    for damage in rj.BYTE_DAMAGES:
+        for _ in range(15):
+            yield read_call(damage(rng, encode(a_good_job(rng))))
+        for _ in range(5):
+            yield read_call(damage(rng, encode(a_damaged_job(rng))))
+    # fields that fill what two bytes can say
+    yield read_call(encode(shaped(1, 1, constants(13000), [0], [], [0], [])))
+    yield read_call(encode(shaped(1, 1, [Gate(77, 0, 0)], [0], [], [0] * 32000, [])))
+    yield read_call(encode(shaped(1, 1, [], [0], [], [0], []))[:-3] + b"\6\377\377" + bytes(9000))
+    # lent places: one too short, all longer than asked; 1 comes before every other number
+    for short in range(1, 12):
+        for _ in range(6):
+            yield read_call(some_bytes(rng), short)
+        yield read_call(encode(rj.job_a()), short)
+        yield read_call(b"", short)
+    yield read_call(encode(rj.longest_job(rng)), 11)
+    yield read_call(encode(rj.longest_job(rng)), 1)
+
+
+def again_and_after_calls(rng):
+    for _ in range(150):
+        yield again_call(encode(a_good_job(rng)))
+    for _ in range(30):
+        yield again_call(some_bytes(rng))
+    for _ in range(3):
+        yield again_call(encode(rj.longest_job(rng)))
+    for _ in range(120):
+        yield after_call(some_bytes(rng), some_bytes(rng))
+    longest = encode(rj.longest_job(rng))
+    other = encode(rj.longest_job(rng))
+    for first, second in [(longest, encode(rj.job_a())), (encode(rj.job_a()), longest), (longest, other), (other, longest)]:
+        yield after_call(first, second)
+    yield after_call(longest, b"")
+
+
+# ---- calls of write
+
+
+def spare_places(rng, job):
+    """A job's lists, some with places behind those that count."""
+    lists = columns(job)
+    for k, values in enumerate(lists):
+        if rng.random() < 0.5:
+            room = 420 - len(values)
+            width = 256 if k in (0, 4) else 65536
+            values += [rng.randrange(width) for _ in range(min(room, rng.randrange(6)))]
+    return lists
+
+
+def write_job(rng, job, buffer_length=jobs.LONGEST_JOB):
+    return write_call(buffer_length, counts(job), [values[:420] for values in spare_places(rng, job)])
+
+
+def write_calls(rng):
+    for job in hand_jobs():
+        if rng.random() < 0.5 or jobs.number_of_parts(job) != 4:
+            yield write_job(rng, job)
+    for _ in range(200):
+        yield write_job(rng, a_good_job(rng), rng.choice([4188, 4188, 4189, 4200]))
+    for damage in rj.ALL_DAMAGES:
+        for _ in range(8):
+            yield write_job(rng, rj.damaged(rng, a_good_job(rng), [damage]))
+    for _ in range(120):
+        yield write_job(rng, a_damaged_job(rng))
+    for gate_count in (400, 400, 401):
+        yield write_job(rng, rj.longest_job(rng, gate_count))
+    # 1 comes before every other number
+    for length in (0, 1, 37, 4187, 4188):
+        yield write_job(rng, rj.job_a(), length)
+        yield write_job(rng, rj.longest_job(rng), length)
+        for _ in range(6):
+            yield write_job(rng, a_damaged_job(rng), length)
+    # counts above their places, and counts that wrap in a byte, a half-word or a word
+    for k in range(7):
+        for count in (11, 21, 33, 255, 256, 258, 401, 419, 1000, 32768, 65534, LARGEST):
+            job = rj.good_job(rng, 2, 1, 3, 3, 2, 2)
+            asked = counts(job)
+            asked[k] = count
+            yield write_call(jobs.LONGEST_JOB, asked, columns(job))
+    for k in range(10):
+        for missing in (1, 2):
+            for job in (rj.good_job(rng, 3, 1, 4, 4, 3, 2), a_damaged_job(rng)):
+                lists = [values[:14] for values in columns(job)]
+                lists[k] = lists[k][: max(0, len(lists[k]) - missing)]
+                yield write_call(jobs.LONGEST_JOB, counts(job), lists)
+
+
+# ---- calls of read_sheet
+
+
+def sheet_for(job, data):
+    return sheet_call(job.targets, len(job.candidates), *columns(job)[8:], data)
+
+
+def long_sheets(rng, job):
+    """Many support nets: up to 15 have a table that a field can hold; 2^16 is 0 in two bytes."""
+    for k, table in [(10, 1024), (11, 2048), (12, 4096), (15, 32768), (15, 32767), (16, 0), (16, 1), (16, 65), (17, 0)]:
+        patch = sheets.Patch(list(range(k)), [0] * table, 0, [0])
+        yield sheet_for(job, sheets.encode(patch))
+    for k, table in [(31, 0), (32, 1), (32, 0), (33, 2), (63, 0), (64, 1), (64, 0), (65, 2), (256, 1), (300, 0), (8000, 1)]:
+        patch = sheets.Patch([i % 65536 for i in range(k)], [0] * table, 0, [0])
+        yield sheet_for(job, sheets.encode(patch))
+
+
+def sheet_calls(rng):
+    sheet_a = sheets.Patch([0, 1], [0, 0, 0, 1], 7, [0, 1])
+    data = sheets.encode(sheet_a)
+    job_a = rj.job_a()
+    yield sheet_for(job_a, data)
+    for at in range(len(data)):
+        yield sheet_for(job_a, data[:at])
+        for x in (0, 255, (data[at] + 1) % 256, (data[at] - 1) % 256):
+            yield sheet_for(job_a, data[:at] + bytes([x]) + data[at + 1 :])
+    for extra in (b"\0", b"\23\0\0", b"\24\0\4\0\0\0\0", data):
+        yield sheet_for(job_a, data + extra)
+    for m in range(5):
+        for size in (0, 1, 2**m - 1, 2**m, 2**m + 1, 255, 256, 257):
+            patch = sheets.Patch([], [0], 0, [0] * size)
+            yield sheet_call(m, 0, [], [], sheets.encode(patch))
+        for entry in (2**m - 1, 2**m, 255):
+            yield sheet_call(m, 0, [], [], sheets.encode(sheets.Patch([], [entry], 0, [0])))
+            yield sheet_call(m, 0, [], [], sheets.encode(sheets.Patch([], [0], 0, [entry])))
+    # an odd number of support bytes, with each table that the pairs among them could ask for
+    for k in range(8):
+        for table in (2 ** (k // 2), 2 ** ((k + 1) // 2), 2 ** ((k + 1) // 2 + 1)):
+            body = b"".join(i.to_bytes(2, "big") for i in range(4))[:k]
+            whole = jobs.field(16, body) + jobs.field(17, bytes(table)) + jobs.field(18, bytes(4)) + jobs.field(19, b"\0")
+            yield sheet_call(1, 4, [0, 1, 2, 3], [0, 0, 0, 0], whole)
+    for length in (0, 3, 5, 8):
+        body = data.split(b"\22\0\4\0\0\0\7")
+        yield sheet_for(job_a, body[0] + jobs.field(18, bytes(length)) + body[1])
+    for _ in range(200):
+        job = a_good_job(rng)
+        yield sheet_for(job, sheets.encode(rs.good_patch(rng, job)))
+    for damage in rs.ALL_SHEET_DAMAGES:
+        for _ in range(25):
+            job = rj.good_job(rng, n=6, priced=rng.randrange(1, 6))
+            patch = rs.damaged_patch(rng, job, rs.good_patch(rng, job), [damage])
+            yield sheet_for(job, sheets.encode(patch))
+    for _ in range(120):
+        job = rj.good_job(rng, n=6, priced=rng.randrange(1, 6))
+        damages = rng.sample(rs.ALL_SHEET_DAMAGES, rng.randrange(2, 5))
+        data = sheets.encode(rs.damaged_patch(rng, job, rs.good_patch(rng, job), damages))
+        yield sheet_for(job, rng.choice(rj.BYTE_DAMAGES)(rng, data) if rng.random() < 0.3 else data)
+    for damage in rj.BYTE_DAMAGES:
+        for _ in range(12):
+            job = a_good_job(rng)
+            yield sheet_for(job, damage(rng, sheets.encode(rs.good_patch(rng, job))))
+    for _ in range(20):
+        yield sheet_for(a_good_job(rng), noise(rng))
+    # the dearest sheet, and the longest: ten nets at 65,535 each
+    dear = rj.good_job(rng, 20, 4, 0, 0, 1, 10)
+    for candidate in dear.candidates:
+        candidate.weight = 65535
+    for nets in (9, 10):
+        patch = rs.good_patch(rng, dear, nets)
+        patch.vectors = list(range(16))
+        yield sheet_for(dear, sheets.encode(patch))
+        patch.cost %= 65536
+        yield sheet_for(dear, sheets.encode(patch))
+    yield from long_sheets(rng, dear)
+    yield from long_sheets(rng, job_a)
+    # counts outside their ranges or above their places
+    data = sheets.encode(sheet_a)
+    for targets in (0, 1, 2, 5, 64, 65534, LARGEST):
+        yield sheet_call(targets, 2, [0, 1], [3, 4], data)
+    for priced in (0, 1, 2, 3, 10, 11, LARGEST):
+        yield sheet_call(1, priced, [0, 1], [3, 4], data)
+        yield sheet_call(1, priced, [0, 1, 5], [3, 4, 6], data)
+        yield sheet_call(1, priced, [0, 1, 5], [3, 4], data)
+        yield sheet_call(1, priced, [0, 1], [3, 4, 6], data)
+        yield sheet_call(1, priced, [0, 1], [3], data)
+        yield sheet_call(1, priced, [0], [3, 4], data)
+        yield sheet_call(1, priced, [], [], b"")
+    for priced in (10, 11):
+        nets, weights = columns(dear)[8:]
+        yield sheet_call(4, priced, nets + [40], weights + [1], sheets.encode(rs.good_patch(rng, dear)))
+
+
+# ---- the other programs' files
+
+
+def described(job):
+    """What show_job says of an accepted job: each count, and under it the nets, gates or candidates."""
+    rows = [f"inputs {job.inputs}", f"targets {job.targets}"]
+    for name, side in (("old", job.old), ("golden", job.golden)):
+        rows.append(f"{name} gates {len(side.gates)}")
+        for k, gate in enumerate(side.gates):
+            words = [gates.NAMES[gate.kind]] + [str(net) for net in gate.operands()]
+            rows.append(f"  net {job.first_gate_net(side) + k} " + " ".join(words))
+        rows.append(f"{name} outputs {len(side.outputs)}")
+        rows += [f"  net {net}" for net in side.outputs]
+    rows.append(f"candidates {len(job.candidates)}")
+    rows += [f"  net {c.net} weight {c.weight}" for c in job.candidates]
+    return "".join(row + "\n" for row in rows)
+
+
+def plain_rows(table):
+    """The rows of the simulator's table that this stage covers: 0 and 1 alone, one or two operands."""
+    rows = []
+    for row in table.splitlines(keepends=True):
+        words = row.split()
+        if words[0] != "#" and "x" not in words and len(words) <= 5:
+            rows.append(row)
+    return "".join(rows)
+
+
+# ---- making and comparing
+
+
+def made():
+    rng = random.Random(SEED)
+    found = []
+    for calls in (read_calls, again_and_after_calls, write_calls, sheet_calls):
+        found += list(calls(rng))
+    # mixed, so that calls of every kind follow each other
+    rng.shuffle(found)
+    return found
+
+
+def store(path, content):
+    path = os.path.join(TOP, path)
+    os.makedirs(os.path.dirname(path), exist_ok=True)
+    with open(path, "wb") as file:
+        file.write(content if isinstance(content, bytes) else content.encode())
+
+
+def report(calls):
+    tally = Counter(tuple(text.split()[:2]) for _, text in calls)
+    for name in ("read", "again", "after", "write", "sheet"):
+        print(name, " ".join(f"{n}:{tally[(name, str(n))]}" for n in range(9) if tally[(name, str(n))]))
+    print(len(calls), "calls,", sum(len(data) for data, _ in calls), "bytes")
+
+
+def compare(calls, path):
+    with open(path, encoding="ascii") as file:
+        lines = file.readlines()
+    wrong = 0
+    for k, (data, text) in enumerate(calls):
+        got = lines[k] if k < len(lines) else "nothing\n"
+        if got != text:
+            wrong += 1
+            print(f"call {k}: expected {text.strip()}, got {got.strip()}: {data[:200].hex()}")
+    print(wrong, "lines differ,", len(lines) - len(calls), "lines too many")
+
+
+def main():
+    calls = made()
+    if sys.argv[1:2] == ["--try"]:
+        compare(calls, sys.argv[2])
+        return
+    store("crates/run_records/stdin", b"".join(data for data, _ in calls))
+    store("crates/run_records/stdout", "".join(text for _, text in calls))
+    with open(os.path.join(TOP, "crates/run_gates/stdin"), encoding="ascii") as file:
+        store("crates/run_gates/stdout", plain_rows(file.read()))
+    store("crates/show_job/stdin", encode(rj.job_a()))
+    store("crates/show_job/stdout", described(rj.job_a()))
+    store("tools/bench/longest.job", encode(rj.longest_job(random.Random(SEED))))
+    report(calls)
+
+
+if __name__ == "__main__":
+    main()
