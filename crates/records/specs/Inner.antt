@@ -109,7 +109,8 @@ startsOf c =
       golden = golden;
       goldens = goldens;
       candidates = candidates;
-      end = candidates + 4 * c .candidates }
+      end = candidates + 4 * c .candidates;
+    }
 
 -- s is a whole job with the counts c, all within their ranges
 pub record Laid (s : List ℕ) (c : Counts) : Type 0 where

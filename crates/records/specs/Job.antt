@@ -80,7 +80,8 @@ jobOf s =
       targets = getD (nth 0 s) 1 0;
       old = netlistOf (nth 1 s) (nth 2 s);
       golden = netlistOf (nth 3 s) (nth 4 s);
-      candidates = candidatesOf (nth 5 s) }
+      candidates = candidatesOf (nth 5 s);
+    }
 
 -- ---- to bytes
 

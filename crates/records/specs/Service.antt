@@ -59,7 +59,8 @@ countsOf j =
       targets = j .targets;
       old = sideCountsOf (j .old);
       golden = sideCountsOf (j .golden);
-      candidates = length (j .candidates) }
+      candidates = length (j .candidates);
+    }
 
 unfoldable pub sideRoomy : SidePlaces → Bool
 sideRoomy p =
@@ -85,7 +86,8 @@ filledSide p l =
       kinds = placed (p .kinds) 0 (map (λ (g : Gate). g .kind) (l .gates));
       firsts = placed (p .firsts) 0 (map (slotOf 0) (l .gates));
       seconds = placed (p .seconds) 0 (map (slotOf 1) (l .gates));
-      outputs = placed (p .outputs) 0 (l .outputs) }
+      outputs = placed (p .outputs) 0 (l .outputs);
+    }
 
 unfoldable pub filled : Places → Job → Places
 filled p j =
@@ -93,7 +95,8 @@ filled p j =
       old = filledSide (p .old) (j .old);
       golden = filledSide (p .golden) (j .golden);
       nets = placed (p .nets) 0 (map (λ (c : Candidate). c .net) (j .candidates));
-      weights = placed (p .weights) 0 (map (λ (c : Candidate). c .weight) (j .candidates)) }
+      weights = placed (p .weights) 0 (map (λ (c : Candidate). c .weight) (j .candidates));
+    }
 
 unfoldable pub readNumber : Places → List ℕ → ℕ
 readNumber p s = firstFailing (record { number = 1; passes = roomy p } ∷ jobTests s)
@@ -105,7 +108,8 @@ noCounts =
       targets = 0;
       old = record { gates = 0; outputs = 0 };
       golden = record { gates = 0; outputs = 0 };
-      candidates = 0 }
+      candidates = 0;
+    }
 
 unfoldable pub readReply : Places → List ℕ → ReadReply
 readReply p s =
@@ -123,7 +127,8 @@ unfoldable pub netlistFrom : SideCounts → SidePlaces → Netlist
 netlistFrom c p =
     record {
       gates = gatesFrom (c .gates) (p .kinds) (p .firsts) (p .seconds);
-      outputs = take (c .outputs) (p .outputs) }
+      outputs = take (c .outputs) (p .outputs);
+    }
 
 unfoldable pub candidatesFrom : ℕ → List ℕ → List ℕ → List Candidate
 candidatesFrom k nets weights = tabulate k (λ i. record { net = getD nets i 0; weight = getD weights i 0 })
@@ -135,7 +140,8 @@ jobFrom c p =
       targets = c .targets;
       old = netlistFrom (c .old) (p .old);
       golden = netlistFrom (c .golden) (p .golden);
-      candidates = candidatesFrom (c .candidates) (p .nets) (p .weights) }
+      candidates = candidatesFrom (c .candidates) (p .nets) (p .weights);
+    }
 
 unfoldable pub sideHeld : SideCounts → SidePlaces → Bool
 sideHeld c p =
@@ -185,5 +191,6 @@ sheetReply m k nets weights s =
       number = 0;
       support = record { nets = is ++ replicate (maxCandidates - length is) 0; len = length is };
       table = headSize + length (nth 0 s) + headSize;
-      cost = patchOf s .cost })
+      cost = patchOf s .cost;
+    })
     (record { number = number; support = record { nets = replicate maxCandidates 0; len = 0 }; table = 0; cost = 0 })

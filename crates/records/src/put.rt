@@ -44,7 +44,14 @@ pub fn put_words(buf: &mut [u8], at: usize, xs: &[u16], count: usize) -> usize
 }
 
 // The first count gates.
-fn put_gates(buf: &mut [u8], at: usize, kinds: &[u8], firsts: &[u16], seconds: &[u16], count: usize) -> usize
+fn put_gates(
+    buf: &mut [u8],
+    at: usize,
+    kinds: &[u8],
+    firsts: &[u16],
+    seconds: &[u16],
+    count: usize,
+) -> usize
     requires { ⌜ (at + 5 * count ≤ length (now buf)) × (count ≤ length (now kinds)) × (count ≤ length (now firsts)) × (count ≤ length (now seconds)) ⌝ }
     ensures { λ r. ⌜ (r ≡ at + 5 * count) × (now (buf .exit) ≡ placed (now (buf .entry)) at
         (flat gateBytes (gatesFrom count (now (kinds .entry)) (now (firsts .entry)) (now (seconds .entry))))) ⌝ }
@@ -90,7 +97,7 @@ fn put_side(
     requires { ⌜ SidePut (length (now buf)) at tag counts (sidePlaces (now kinds) (now firsts) (now seconds) (now outputs)) ⌝ }
     ensures { λ r. ⌜ (r ≡ at + 6 + 5 * counts .gates + 2 * counts .outputs) × (now (buf .exit) ≡ placed (now (buf .entry)) at
         (sideBytes tag (netlistFrom counts
-            (sidePlaces (now (kinds .entry)) (now (firsts .entry)) (now (seconds .entry)) (now (outputs .entry)))))) ⌝ }
+        (sidePlaces (now (kinds .entry)) (now (firsts .entry)) (now (seconds .entry)) (now (outputs .entry)))))) ⌝ }
 {
     let gates = counts.gates;
     let outs = counts.outputs;
@@ -117,14 +124,14 @@ pub fn put_job(
 ) -> usize
     requires { ⌜ JobPut (length (now buf)) counts
         (places
-            (sidePlaces (now «old_kinds») (now «old_firsts») (now «old_seconds») (now «old_outputs»))
-            (sidePlaces (now «golden_kinds») (now «golden_firsts») (now «golden_seconds») (now «golden_outputs»))
-            (now nets) (now weights)) ⌝ }
+        (sidePlaces (now «old_kinds») (now «old_firsts») (now «old_seconds») (now «old_outputs»))
+        (sidePlaces (now «golden_kinds») (now «golden_firsts») (now «golden_seconds») (now «golden_outputs»))
+        (now nets) (now weights)) ⌝ }
     ensures { λ r. ⌜ JobBytesPut (now (buf .entry)) counts
         (places
-            (sidePlaces (now («old_kinds» .entry)) (now («old_firsts» .entry)) (now («old_seconds» .entry)) (now («old_outputs» .entry)))
-            (sidePlaces (now («golden_kinds» .entry)) (now («golden_firsts» .entry)) (now («golden_seconds» .entry)) (now («golden_outputs» .entry)))
-            (now (nets .entry)) (now (weights .entry)))
+        (sidePlaces (now («old_kinds» .entry)) (now («old_firsts» .entry)) (now («old_seconds» .entry)) (now («old_outputs» .entry)))
+        (sidePlaces (now («golden_kinds» .entry)) (now («golden_firsts» .entry)) (now («golden_seconds» .entry)) (now («golden_outputs» .entry)))
+        (now (nets .entry)) (now (weights .entry)))
         r (now (buf .exit)) ⌝ }
 {
     let a = put_head(buf, 0, 1, 2);
@@ -133,8 +140,26 @@ pub fn put_job(
     let old = counts.old;
     let golden = counts.golden;
     let priced = counts.candidates;
-    let b = put_side(buf, 5, 2, old_kinds, old_firsts, old_seconds, old_outputs, old);
-    let c = put_side(buf, b, 4, golden_kinds, golden_firsts, golden_seconds, golden_outputs, golden);
+    let b = put_side(
+        buf,
+        5,
+        2,
+        old_kinds,
+        old_firsts,
+        old_seconds,
+        old_outputs,
+        old,
+    );
+    let c = put_side(
+        buf,
+        b,
+        4,
+        golden_kinds,
+        golden_firsts,
+        golden_seconds,
+        golden_outputs,
+        golden,
+    );
     let d = put_head(buf, c, 6, 4 * priced);
     put_candidates(buf, d, nets, weights, priced)
 }

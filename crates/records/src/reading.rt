@@ -82,7 +82,7 @@ fn fill_side(
     requires { ⌜ SideFits (now gates) (now outs) (sidePlaces (now kinds) (now firsts) (now seconds) (now outputs)) ⌝ }
     ensures { λ _. ⌜ sidePlaces (now (kinds .exit)) (now (firsts .exit)) (now (seconds .exit)) (now (outputs .exit))
         ≡ filledSide (sidePlaces (now (kinds .entry)) (now (firsts .entry)) (now (seconds .entry)) (now (outputs .entry)))
-            (netlistOf (now (gates .entry)) (now (outs .entry))) ⌝ }
+        (netlistOf (now (gates .entry)) (now (outs .entry))) ⌝ }
 {
     let count = gates.len() / 5;
     fill_bytes(gates, 5, count, kinds);
@@ -109,19 +109,19 @@ fn fill_job(
     requires { ⌜ Laid (now job) counts ⌝ }
     requires { ⌜ roomy
         (places
-            (sidePlaces (now («old_kinds»)) (now («old_firsts»)) (now («old_seconds»)) (now («old_outputs»)))
-            (sidePlaces (now («golden_kinds»)) (now («golden_firsts»)) (now («golden_seconds»)) (now («golden_outputs»)))
-            (now nets) (now weights)) ≡ true ⌝ }
+        (sidePlaces (now («old_kinds»)) (now («old_firsts»)) (now («old_seconds»)) (now («old_outputs»)))
+        (sidePlaces (now («golden_kinds»)) (now («golden_firsts»)) (now («golden_seconds»)) (now («golden_outputs»)))
+        (now nets) (now weights)) ≡ true ⌝ }
     ensures { λ _. ⌜
         places
-            (sidePlaces (now («old_kinds» .exit)) (now («old_firsts» .exit)) (now («old_seconds» .exit)) (now («old_outputs» .exit)))
-            (sidePlaces (now («golden_kinds» .exit)) (now («golden_firsts» .exit)) (now («golden_seconds» .exit)) (now («golden_outputs» .exit)))
-            (now (nets .exit)) (now (weights .exit))
+        (sidePlaces (now («old_kinds» .exit)) (now («old_firsts» .exit)) (now («old_seconds» .exit)) (now («old_outputs» .exit)))
+        (sidePlaces (now («golden_kinds» .exit)) (now («golden_firsts» .exit)) (now («golden_seconds» .exit)) (now («golden_outputs» .exit)))
+        (now (nets .exit)) (now (weights .exit))
         ≡ filled
         (places
-            (sidePlaces (now («old_kinds» .entry)) (now («old_firsts» .entry)) (now («old_seconds» .entry)) (now («old_outputs» .entry)))
-            (sidePlaces (now («golden_kinds» .entry)) (now («golden_firsts» .entry)) (now («golden_seconds» .entry)) (now («golden_outputs» .entry)))
-            (now (nets .entry)) (now (weights .entry)))
+        (sidePlaces (now («old_kinds» .entry)) (now («old_firsts» .entry)) (now («old_seconds» .entry)) (now («old_outputs» .entry)))
+        (sidePlaces (now («golden_kinds» .entry)) (now («golden_firsts» .entry)) (now («golden_seconds» .entry)) (now («golden_outputs» .entry)))
+        (now (nets .entry)) (now (weights .entry)))
         (jobOf (now (job .entry))) ⌝ }
 {
     let at = starts_of(counts);
@@ -131,8 +131,22 @@ fn fill_job(
     let d = at.goldens;
     let e = at.candidates;
     let f = at.end;
-    fill_side(&job[a..b - 3], &job[b..c - 3], old_kinds, old_firsts, old_seconds, old_outputs);
-    fill_side(&job[c..d - 3], &job[d..e - 3], golden_kinds, golden_firsts, golden_seconds, golden_outputs);
+    fill_side(
+        &job[a..b - 3],
+        &job[b..c - 3],
+        old_kinds,
+        old_firsts,
+        old_seconds,
+        old_outputs,
+    );
+    fill_side(
+        &job[c..d - 3],
+        &job[d..e - 3],
+        golden_kinds,
+        golden_firsts,
+        golden_seconds,
+        golden_outputs,
+    );
     let priced = counts.candidates;
     fill_words(&job[e..f], 4, 0, priced, nets);
     fill_words(&job[e..f], 4, 2, priced, weights);
@@ -155,27 +169,37 @@ pub fn read(
 ) -> ReadReply
     ensures reply { λ r. ⌜ r ≡ readReply
         (places
-            (sidePlaces (now («old_kinds» .entry)) (now («old_firsts» .entry)) (now («old_seconds» .entry)) (now («old_outputs» .entry)))
-            (sidePlaces (now («golden_kinds» .entry)) (now («golden_firsts» .entry)) (now («golden_seconds» .entry)) (now («golden_outputs» .entry)))
-            (now (nets .entry)) (now (weights .entry)))
+        (sidePlaces (now («old_kinds» .entry)) (now («old_firsts» .entry)) (now («old_seconds» .entry)) (now («old_outputs» .entry)))
+        (sidePlaces (now («golden_kinds» .entry)) (now («golden_firsts» .entry)) (now («golden_seconds» .entry)) (now («golden_outputs» .entry)))
+        (now (nets .entry)) (now (weights .entry)))
         (now (job .entry)) ⌝ }
     ensures lent { λ r. ⌜
         places
-            (sidePlaces (now («old_kinds» .exit)) (now («old_firsts» .exit)) (now («old_seconds» .exit)) (now («old_outputs» .exit)))
-            (sidePlaces (now («golden_kinds» .exit)) (now («golden_firsts» .exit)) (now («golden_seconds» .exit)) (now («golden_outputs» .exit)))
-            (now (nets .exit)) (now (weights .exit))
+        (sidePlaces (now («old_kinds» .exit)) (now («old_firsts» .exit)) (now («old_seconds» .exit)) (now («old_outputs» .exit)))
+        (sidePlaces (now («golden_kinds» .exit)) (now («golden_firsts» .exit)) (now («golden_seconds» .exit)) (now («golden_outputs» .exit)))
+        (now (nets .exit)) (now (weights .exit))
         ≡ readPlaces
         (places
-            (sidePlaces (now («old_kinds» .entry)) (now («old_firsts» .entry)) (now («old_seconds» .entry)) (now («old_outputs» .entry)))
-            (sidePlaces (now («golden_kinds» .entry)) (now («golden_firsts» .entry)) (now («golden_seconds» .entry)) (now («golden_outputs» .entry)))
-            (now (nets .entry)) (now (weights .entry)))
+        (sidePlaces (now («old_kinds» .entry)) (now («old_firsts» .entry)) (now («old_seconds» .entry)) (now («old_outputs» .entry)))
+        (sidePlaces (now («golden_kinds» .entry)) (now («golden_firsts» .entry)) (now («golden_seconds» .entry)) (now («golden_outputs» .entry)))
+        (now (nets .entry)) (now (weights .entry)))
         (now (job .entry)) ⌝ }
 {
-    let first = check_side_room(old_kinds.len(), old_firsts.len(), old_seconds.len(), old_outputs.len());
+    let first = check_side_room(
+        old_kinds.len(),
+        old_firsts.len(),
+        old_seconds.len(),
+        old_outputs.len(),
+    );
     let Check::Passed = first else {
         return refused(1);
     };
-    let second = check_side_room(golden_kinds.len(), golden_firsts.len(), golden_seconds.len(), golden_outputs.len());
+    let second = check_side_room(
+        golden_kinds.len(),
+        golden_firsts.len(),
+        golden_seconds.len(),
+        golden_outputs.len(),
+    );
     let Check::Passed = second else {
         return refused(1);
     };
@@ -201,10 +225,7 @@ pub fn read(
                 nets,
                 weights,
             );
-            ReadReply {
-                number: 0,
-                counts,
-            }
+            ReadReply { number: 0, counts }
         }
     }
 }

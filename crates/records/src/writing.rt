@@ -20,7 +20,13 @@ pub struct WriteReply {
 }
 
 // Whether a netlist's counts are at most these numbers of places.
-fn check_side_held(c: SideCounts, kinds: usize, firsts: usize, seconds: usize, outputs: usize) -> Check
+fn check_side_held(
+    c: SideCounts,
+    kinds: usize,
+    firsts: usize,
+    seconds: usize,
+    outputs: usize,
+) -> Check
     ensures { λ r. ⌜ r ≡ checkOf (sideHolds c kinds firsts seconds outputs) ⌝ }
 {
     if kinds < c.gates {
@@ -83,15 +89,15 @@ pub fn write(
 ) -> WriteReply
     ensures reply { λ r. ⌜ r ≡ writeReply counts
         (places
-            (sidePlaces (now («old_kinds» .entry)) (now («old_firsts» .entry)) (now («old_seconds» .entry)) (now («old_outputs» .entry)))
-            (sidePlaces (now («golden_kinds» .entry)) (now («golden_firsts» .entry)) (now («golden_seconds» .entry)) (now («golden_outputs» .entry)))
-            (now (nets .entry)) (now (weights .entry)))
+        (sidePlaces (now («old_kinds» .entry)) (now («old_firsts» .entry)) (now («old_seconds» .entry)) (now («old_outputs» .entry)))
+        (sidePlaces (now («golden_kinds» .entry)) (now («golden_firsts» .entry)) (now («golden_seconds» .entry)) (now («golden_outputs» .entry)))
+        (now (nets .entry)) (now (weights .entry)))
         (now (buf .entry)) ⌝ }
     ensures lent { λ r. ⌜ now (buf .exit) ≡ writtenBytes counts
         (places
-            (sidePlaces (now («old_kinds» .entry)) (now («old_firsts» .entry)) (now («old_seconds» .entry)) (now («old_outputs» .entry)))
-            (sidePlaces (now («golden_kinds» .entry)) (now («golden_firsts» .entry)) (now («golden_seconds» .entry)) (now («golden_outputs» .entry)))
-            (now (nets .entry)) (now (weights .entry)))
+        (sidePlaces (now («old_kinds» .entry)) (now («old_firsts» .entry)) (now («old_seconds» .entry)) (now («old_outputs» .entry)))
+        (sidePlaces (now («golden_kinds» .entry)) (now («golden_firsts» .entry)) (now («golden_seconds» .entry)) (now («golden_outputs» .entry)))
+        (now (nets .entry)) (now (weights .entry)))
         (now (buf .entry)) ⌝ }
 {
     if buf.len() < 4188 {
@@ -102,13 +108,24 @@ pub fn write(
         return WriteReply { number: 3, len: 0 };
     };
     let old = counts.old;
-    let second = check_side_held(old, old_kinds.len(), old_firsts.len(), old_seconds.len(), old_outputs.len());
+    let second = check_side_held(
+        old,
+        old_kinds.len(),
+        old_firsts.len(),
+        old_seconds.len(),
+        old_outputs.len(),
+    );
     let Check::Passed = second else {
         return WriteReply { number: 3, len: 0 };
     };
     let golden = counts.golden;
-    let third =
-        check_side_held(golden, golden_kinds.len(), golden_firsts.len(), golden_seconds.len(), golden_outputs.len());
+    let third = check_side_held(
+        golden,
+        golden_kinds.len(),
+        golden_firsts.len(),
+        golden_seconds.len(),
+        golden_outputs.len(),
+    );
     let Check::Passed = third else {
         return WriteReply { number: 3, len: 0 };
     };

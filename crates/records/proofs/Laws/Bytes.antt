@@ -174,10 +174,10 @@ placed-placed d at xs ys h =
     let f : at + length xs ≤ length d = omega arith in
     let n : at + length xs + length ys ≡ at + length (xs ++ ys) = omega (arith, length-append xs ys) in
     let e : drop (at + length xs + length ys) (placed d at xs) ≡ drop (at + length (xs ++ ys)) d =
-      sym (drop-drop (length ys) (at + length xs) (placed d at xs))
-      ∙ ap (λ (l : List ℕ). drop (length ys) l) (drop-placed d at xs f)
-      ∙ drop-drop (length ys) (at + length xs) d
-      ∙ ap (λ (k : ℕ). drop k d) n in
+    sym (drop-drop (length ys) (at + length xs) (placed d at xs))
+    ∙ ap (λ (l : List ℕ). drop (length ys) l) (drop-placed d at xs f)
+    ∙ drop-drop (length ys) (at + length xs) d
+    ∙ ap (λ (k : ℕ). drop k d) n in
     ap (λ (l : List ℕ). l ++ ys ++ drop (at + length xs + length ys) (placed d at xs)) (take-placed d at xs f)
     ∙ ap (λ (l : List ℕ). take at d ++ xs ++ ys ++ l) e
     ∙ ap (λ (l : List ℕ). l ++ drop (at + length (xs ++ ys)) d) (append-assoc (take at d) xs ys)

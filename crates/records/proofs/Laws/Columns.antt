@@ -77,7 +77,7 @@ pub roomy-facts : (p : Places) → roomy p ≡ true
 unfolding roomy
 roomy-facts p h =
     let t =
-      row-at (sideRoomy (p .old)) (sideRoomy (p .golden) ∷ leb 10 (length (p .nets)) ∷ leb 10 (length (p .weights)) ∷ []) h in
+    row-at (sideRoomy (p .old)) (sideRoomy (p .golden) ∷ leb 10 (length (p .nets)) ∷ leb 10 (length (p .weights)) ∷ []) h in
     (t 0, t 1, leb-true _ _ (t 2), leb-true _ _ (t 3))
 
 side-fits : (p : SidePlaces) → sideRoomy p ≡ true → (gs os : List ℕ) → length gs / 5 ≤ 400 → length os / 2 ≤ 32 → SideFits gs os p
@@ -92,8 +92,8 @@ module _ (s : List ℕ) (c : Counts) (l : Laid s c) (p : Places) (h : roomy p �
       let n = laid-counts s c l in
       rw (g, o)
       (side-fits (p .old) (roomy-facts p h .0) (nth 1 s) (nth 2 s)
-        (omega (arith, ap (λ (x : Counts). x .old .gates) n))
-        (omega (arith, ap (λ (x : Counts). x .old .outputs) n)))
+      (omega (arith, ap (λ (x : Counts). x .old .gates) n))
+      (omega (arith, ap (λ (x : Counts). x .old .outputs) n)))
 
   pub golden-fits : gs ≡ nth 3 s → os ≡ nth 4 s → SideFits gs os (p .golden)
   golden-fits g o =
@@ -101,8 +101,8 @@ module _ (s : List ℕ) (c : Counts) (l : Laid s c) (p : Places) (h : roomy p �
       let n = laid-counts s c l in
       rw (g, o)
       (side-fits (p .golden) (roomy-facts p h .1) (nth 3 s) (nth 4 s)
-        (omega (arith, ap (λ (x : Counts). x .golden .gates) n))
-        (omega (arith, ap (λ (x : Counts). x .golden .outputs) n)))
+      (omega (arith, ap (λ (x : Counts). x .golden .gates) n))
+      (omega (arith, ap (λ (x : Counts). x .golden .outputs) n)))
 
 module _ (s : List ℕ) (c : Counts) (l : Laid s c) (p : Places) (h : roomy p ≡ true) (cs : List ℕ) (e : cs ≡ nth 5 s) where
   pub candidates-fit : (4 * c .candidates ≤ length cs) × (c .candidates ≤ length (p .nets)) × (c .candidates ≤ length (p .weights))

@@ -58,25 +58,26 @@ pub countsWithin-facts : (c : Counts) → countsWithin c ≡ true → Within c
 unfolding countsWithin
 countsWithin-facts c h =
     let t =
-      row-at (leb (c .inputs) 20)
-      (leb (c .targets) 4 ∷ sideWithin (c .old) ∷ sideWithin (c .golden) ∷ leb (c .candidates) 10 ∷ [])
-      h in
+    row-at (leb (c .inputs) 20)
+    (leb (c .targets) 4 ∷ sideWithin (c .old) ∷ sideWithin (c .golden) ∷ leb (c .candidates) 10 ∷ [])
+    h in
     record {
       inputs = leb-true _ _ (t 0);
       targets = leb-true _ _ (t 1);
       old = sideWithin-facts (c .old) (t 2);
       golden = sideWithin-facts (c .golden) (t 3);
-      candidates = leb-true _ _ (t 4) }
+      candidates = leb-true _ _ (t 4);
+    }
 
 pub countsWithin-true : (c : Counts) → Within c → countsWithin c ≡ true
 unfolding countsWithin
 countsWithin-true c h =
     and-both _ _
     (and-both _ _
-      (and-both _ _
-        (and-both _ _ (le-leb _ _ (h .inputs)) (le-leb _ _ (h .targets)))
-        (sideWithin-true (c .old) (h .old)))
-      (sideWithin-true (c .golden) (h .golden)))
+    (and-both _ _
+    (and-both _ _ (le-leb _ _ (h .inputs)) (le-leb _ _ (h .targets)))
+    (sideWithin-true (c .old) (h .old)))
+    (sideWithin-true (c .golden) (h .golden)))
     (le-leb _ _ (h .candidates))
 
 pub countsWithin-countsOf : (j : Job) → countsWithin (countsOf j) ≡ countsGood j
@@ -97,31 +98,32 @@ pub lengthsGood-facts : (ns : List ℕ) → lengthsGood ns ≡ true → LengthsG
 unfolding lengthsGood
 lengthsGood-facts ns h =
     let t =
-      row-at (eqb (getD ns 0 0) 2)
-      (eqb (getD ns 1 0 % 5) 0
-      ∷ eqb (getD ns 2 0 % 2) 0
-      ∷ eqb (getD ns 3 0 % 5) 0
-      ∷ eqb (getD ns 4 0 % 2) 0
-      ∷ eqb (getD ns 5 0 % 4) 0
-      ∷ [])
-      h in
+    row-at (eqb (getD ns 0 0) 2)
+    (eqb (getD ns 1 0 % 5) 0
+    ∷ eqb (getD ns 2 0 % 2) 0
+    ∷ eqb (getD ns 3 0 % 5) 0
+    ∷ eqb (getD ns 4 0 % 2) 0
+    ∷ eqb (getD ns 5 0 % 4) 0
+    ∷ [])
+    h in
     record {
       sizes = eqb-true _ _ (t 0);
       old = eqb-true _ _ (t 1);
       outputs = eqb-true _ _ (t 2);
       golden = eqb-true _ _ (t 3);
       goldens = eqb-true _ _ (t 4);
-      candidates = eqb-true _ _ (t 5) }
+      candidates = eqb-true _ _ (t 5);
+    }
 
 pub lengthsGood-true : (ns : List ℕ) → LengthsGood ns → lengthsGood ns ≡ true
 unfolding lengthsGood
 lengthsGood-true ns h =
     and-both _ _
     (and-both _ _
-      (and-both _ _
-        (and-both _ _ (and-both _ _ (eq-eqb _ _ (h .sizes)) (eq-eqb _ _ (h .old))) (eq-eqb _ _ (h .outputs)))
-        (eq-eqb _ _ (h .golden)))
-      (eq-eqb _ _ (h .goldens)))
+    (and-both _ _
+    (and-both _ _ (and-both _ _ (eq-eqb _ _ (h .sizes)) (eq-eqb _ _ (h .old))) (eq-eqb _ _ (h .outputs)))
+    (eq-eqb _ _ (h .golden)))
+    (eq-eqb _ _ (h .goldens)))
     (eq-eqb _ _ (h .candidates))
 
 -- ---- places enough

@@ -35,26 +35,26 @@ module _ (s : List ℕ) (at t : ℕ) where
   fits-short h =
       fits-drop
       ∙ and-false-left _ (leb (3 + word s (at + 1)) (length s - at))
-        (and-false-left _ (eqb (getD s at 0) t) (lt-leb 3 (length s - at) (omega arith)))
+      (and-false-left _ (eqb (getD s at 0) t) (lt-leb 3 (length s - at) (omega arith)))
 
   pub fits-other-tag : (getD s at 0 ≡ t → ⊥) → fits t (drop at s) ≡ false
   fits-other-tag h =
       fits-drop
       ∙ and-false-left _ (leb (3 + word s (at + 1)) (length s - at))
-        (and-false-right (leb 3 (length s - at)) _ (ne-eqb (getD s at 0) t h))
+      (and-false-right (leb 3 (length s - at)) _ (ne-eqb (getD s at 0) t h))
 
   pub fits-long : length s < at + 3 + word s (at + 1) → fits t (drop at s) ≡ false
   fits-long h =
       fits-drop
       ∙ and-false-right (leb 3 (length s - at) && eqb (getD s at 0) t) _
-        (lt-leb (3 + word s (at + 1)) (length s - at) (omega arith))
+      (lt-leb (3 + word s (at + 1)) (length s - at) (omega arith))
 
   pub fits-whole : getD s at 0 ≡ t → at + 3 + word s (at + 1) ≤ length s → fits t (drop at s) ≡ true
   fits-whole e h =
       fits-drop
       ∙ and-both _ _
-        (and-both _ _ (le-leb 3 (length s - at) (omega arith)) (eq-eqb (getD s at 0) t e))
-        (le-leb (3 + word s (at + 1)) (length s - at) (omega arith))
+      (and-both _ _ (le-leb 3 (length s - at) (omega arith)) (eq-eqb (getD s at 0) t e))
+      (le-leb (3 + word s (at + 1)) (length s - at) (omega arith))
 
 -- ---- the fields of a walk
 
@@ -186,7 +186,8 @@ bounds-turn s starts lens k at t b hs hl p f =
     let n : bodyLength (drop at s) ≡ length (nth k s) = ap bodyLength d ∙ sym (length-nth k t s (rw d at f)) in
     record {
       starts = store-more (λ i. startOf i s) starts k (at + 3) hs e (b .starts);
-      lens = store-more (λ i. length (nth i s)) lens k (bodyLength (drop at s)) hl n (b .lens) }
+      lens = store-more (λ i. length (nth i s)) lens k (bodyLength (drop at s)) hl n (b .lens);
+    }
 
 pub position-turn : (s : List ℕ) (k at : ℕ) → at ≡ positionOf k s → at + 3 + bodyLength (drop at s) ≡ positionOf (k + 1) s
 position-turn s k at p =

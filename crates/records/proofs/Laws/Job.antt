@@ -136,9 +136,9 @@ module _ (d₀ : List ℕ) (g : ℕ → ℕ) where
   filled-next d i x h e w =
       let n : i ≡ 0 + length (tabulate i g) = omega (arith, length-tabulate i g) in
       let s : set (placed d₀ 0 (tabulate i g)) i (g i) ≡ placed d₀ 0 (tabulate (i + 1) g) =
-        ap (λ (j : ℕ). set (placed d₀ 0 (tabulate i g)) j (g i)) n
-        ∙ set-placed d₀ 0 (tabulate i g) (g i) (omega arith)
-        ∙ ap (placed d₀ 0) (sym (tabulate-snoc i g)) in
+      ap (λ (j : ℕ). set (placed d₀ 0 (tabulate i g)) j (g i)) n
+      ∙ set-placed d₀ 0 (tabulate i g) (g i) (omega arith)
+      ∙ ap (placed d₀ 0) (sym (tabulate-snoc i g)) in
       (length-set d i x ∙ w .0, rw (w .1, e) s)
 
 -- from position at on stand the pieces f (g i) for each i below n
@@ -156,10 +156,11 @@ module _ {A : Type 0} (f : A → List ℕ) (g : ℕ → A) (d₀ : List ℕ) (at
   put-next k e d d′ i p q h r w =
       let xs : List ℕ = flat f (tabulate i g) in
       let n : p ≡ at + length xs = omega (arith, length-flat-tabulate f k g e i) in
-      let m : length (placed d p (f (g i))) ≡ length d = length-placed d p (f (g i)) (omega (arith, e i)) in
-      (ap length r ∙ m ∙ w .0,
-       placed-then d₀ at xs (f (g i)) p n (omega (arith, e i)) (w .1) r
-       ∙ ap (placed d₀ at) (sym (flat-snoc f (tabulate i g) (g i)) ∙ ap (flat f) (sym (tabulate-snoc i g))))
+      let m : length (placed d p (f (g i))) ≡ length d = length-placed d p (f (g i)) (omega (arith, e i)) in (
+        ap length r ∙ m ∙ w .0,
+        placed-then d₀ at xs (f (g i)) p n (omega (arith, e i)) (w .1) r
+            ∙ ap (placed d₀ at) (sym (flat-snoc f (tabulate i g) (g i)) ∙ ap (flat f) (sym (tabulate-snoc i g))),
+      )
 
 -- ---- how many bytes
 
@@ -203,15 +204,15 @@ length-sideBytes t l e = simp (length-append, length-field) (omega (arith, lengt
 -- a job's bytes by its netlists'
 pub jobBytes-sides : (j : Job)
     → jobBytes j
-      ≡ field 1 (j .inputs ∷ j .targets ∷ []) ++ sideBytes 2 (j .old) ++ sideBytes 4 (j .golden)
-        ++ field 6 (flat candidateBytes (j .candidates))
+    ≡ field 1 (j .inputs ∷ j .targets ∷ []) ++ sideBytes 2 (j .old) ++ sideBytes 4 (j .golden)
+    ++ field 6 (flat candidateBytes (j .candidates))
 unfolding jobBytes sideBytes
 jobBytes-sides j = simp append-assoc
 
 pub length-jobBytes : (j : Job) → FiveEach (j .old .gates) → FiveEach (j .golden .gates)
     → length (jobBytes j)
-      ≡ 20 + 5 * length (j .old .gates) + 2 * length (j .old .outputs)
-        + 5 * length (j .golden .gates) + 2 * length (j .golden .outputs) + 4 * length (j .candidates)
+    ≡ 20 + 5 * length (j .old .gates) + 2 * length (j .old .outputs)
+    + 5 * length (j .golden .gates) + 2 * length (j .golden .outputs) + 4 * length (j .candidates)
 length-jobBytes j e e′ =
     rw jobBytes-sides
     (simp (length-append, length-field)
@@ -230,15 +231,16 @@ pub side-bounds : (c : SideCounts) (p : SidePlaces) → sideWithin c ≡ true �
 unfolding sideHeld
 side-bounds c p w h =
     let t =
-      row-at (leb (c .gates) (length (p .kinds)))
-      (leb (c .gates) (length (p .firsts)) ∷ leb (c .gates) (length (p .seconds)) ∷ leb (c .outputs) (length (p .outputs)) ∷ [])
-      h in
+    row-at (leb (c .gates) (length (p .kinds)))
+    (leb (c .gates) (length (p .firsts)) ∷ leb (c .gates) (length (p .seconds)) ∷ leb (c .outputs) (length (p .outputs)) ∷ [])
+    h in
     record {
       within = sideWithin-facts c w;
       kinds = leb-true _ _ (t 0);
       firsts = leb-true _ _ (t 1);
       seconds = leb-true _ _ (t 2);
-      outputs = leb-true _ _ (t 3) }
+      outputs = leb-true _ _ (t 3);
+    }
 
 pub record JobBounds (c : Counts) (p : Places) : Type 0 where
   pub within : Within c
@@ -253,19 +255,20 @@ unfolding held
 job-bounds {c} {p} j =
     let w = countsWithin-facts c (j .within) in
     let t =
-      row-at (sideHeld (c .old) (p .old))
-      (sideHeld (c .golden) (p .golden)
-      ∷ leb (c .candidates) (length (p .nets))
-      ∷ leb (c .candidates) (length (p .weights))
-      ∷ [])
-      (j .held) in
+    row-at (sideHeld (c .old) (p .old))
+    (sideHeld (c .golden) (p .golden)
+    ∷ leb (c .candidates) (length (p .nets))
+    ∷ leb (c .candidates) (length (p .weights))
+    ∷ [])
+    (j .held) in
     record {
       within = w;
       sides = (t 0, t 1);
       old = side-bounds (c .old) (p .old) (sideWithin-true (c .old) (w .old)) (t 0);
       golden = side-bounds (c .golden) (p .golden) (sideWithin-true (c .golden) (w .golden)) (t 1);
       nets = leb-true _ _ (t 2);
-      weights = leb-true _ _ (t 3) }
+      weights = leb-true _ _ (t 3);
+    }
 
 -- ---- what stands in places: how many bytes it takes
 
@@ -292,13 +295,17 @@ length-candidatesFrom k ns ws = length-tabulate k _
 
 pub length-jobFrom : {c : Counts} {p : Places} → JobBounds c p
     → length (jobBytes (jobFrom c p))
-      ≡ 20 + 5 * c .old .gates + 2 * c .old .outputs + 5 * c .golden .gates + 2 * c .golden .outputs + 4 * c .candidates
+    ≡ 20 + 5 * c .old .gates + 2 * c .old .outputs + 5 * c .golden .gates + 2 * c .golden .outputs + 4 * c .candidates
 unfolding jobFrom
 length-jobFrom {c} {p} b =
     length-jobBytes (jobFrom c p) (five-from (c .old) (p .old)) (five-from (c .golden) (p .golden))
-    ∙ rw (length-gatesFrom (c .old) (p .old), length-outputsFrom (c .old) (p .old) (b .old .outputs),
-        length-gatesFrom (c .golden) (p .golden), length-outputsFrom (c .golden) (p .golden) (b .golden .outputs),
-        length-candidatesFrom (c .candidates) (p .nets) (p .weights))
+    ∙ rw (
+      length-gatesFrom (c .old) (p .old),
+      length-outputsFrom (c .old) (p .old) (b .old .outputs),
+      length-gatesFrom (c .golden) (p .golden),
+      length-outputsFrom (c .golden) (p .golden) (b .golden .outputs),
+      length-candidatesFrom (c .candidates) (p .nets) (p .weights),
+    )
 
 -- ---- .. and put step by step: the positions a, b, .. are those that the code has
 
@@ -314,7 +321,7 @@ side-placed d {d₂} at t {a} {b} {e} {c} {p} o h pa pb pe e₁ e₂ e₃ e₄ =
     let ys : List ℕ = flat bytePair (netlistFrom c p .outputs) in
     let m : length xs ≡ 5 * c .gates = five-from c p ∙ rw length-gatesFrom in
     let n : length ys ≡ 2 * c .outputs =
-      length-outputs (netlistFrom c p .outputs) ∙ rw (length-outputsFrom c p (o .outputs)) in
+    length-outputs (netlistFrom c p .outputs) ∙ rw (length-outputsFrom c p (o .outputs)) in
     let m′ = length-field t xs in
     let n′ = length-field (suc t) ys in
     let f : d₂ ≡ placed d at (field t xs) = field-placed d at t (5 * c .gates) xs a (sym m) pa (omega arith) e₁ e₂ in
@@ -346,10 +353,10 @@ job-placed d {d₄} {a} {b} {e} {r} {c} {p} o h pa pb pe pr e₁ e₂ e₃ e₄ 
     let n12 = length-append f1 s2 in
     let n14 = length-append (f1 ++ s2) s4 in
     let w : d₄ ≡ placed d 0 (f1 ++ s2 ++ s4) =
-      placed-then d 0 (f1 ++ s2) s4 b (omega arith) (omega arith)
-      (placed-then d 0 f1 s2 5 (omega arith) (omega arith)
-        (field-placed d 0 1 2 (c .inputs ∷ c .targets ∷ []) a refl pa (omega arith) e₁ e₂) e₃)
-      e₄ in
+    placed-then d 0 (f1 ++ s2) s4 b (omega arith) (omega arith)
+    (placed-then d 0 f1 s2 5 (omega arith) (omega arith)
+    (field-placed d 0 1 2 (c .inputs ∷ c .targets ∷ []) a refl pa (omega arith) e₁ e₂) e₃)
+    e₄ in
     let k : length d₄ ≡ length d = ap length w ∙ length-placed d 0 (f1 ++ s2 ++ s4) (omega arith) in
     placed-then d 0 (f1 ++ s2 ++ s4) (field 6 cs) e (omega arith) (omega arith) w
     (field-placed d₄ e 6 (4 * c .candidates) cs r (sym nc) pr (omega arith) e₅ e₆)

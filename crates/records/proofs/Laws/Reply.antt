@@ -55,7 +55,8 @@ module _ (s : List ℕ) where
       record {
         whole = g .0;
         counts = a .1;
-        within = countsWithin-facts c (ap countsWithin (a .1) ∙ countsWithin-countsOf (jobOf s) ∙ g .1) }
+        within = countsWithin-facts c (ap countsWithin (a .1) ∙ countsWithin-countsOf (jobOf s) ∙ g .1);
+      }
 
 -- ---- read
 
@@ -65,7 +66,7 @@ module _ (p : Places) where
   unfolding roomy candidateRoom
   roomy-rows h =
       let t =
-        row-at (sideRoomy (p .old)) (sideRoomy (p .golden) ∷ leb 10 (length (p .nets)) ∷ leb 10 (length (p .weights)) ∷ []) h in
+      row-at (sideRoomy (p .old)) (sideRoomy (p .golden) ∷ leb 10 (length (p .nets)) ∷ leb 10 (length (p .weights)) ∷ []) h in
       (t 0, t 1, and-both _ _ (t 2) (t 3))
 
   pub roomy-true : sideRoomy (p .old) ≡ true → sideRoomy (p .golden) ≡ true
@@ -116,9 +117,9 @@ module _ (c : Counts) (p : Places) where
   unfolding held candidatesHold
   held-rows h =
       let t =
-        row-at (sideHeld (c .old) (p .old))
-        (sideHeld (c .golden) (p .golden) ∷ leb (c .candidates) (length (p .nets)) ∷ leb (c .candidates) (length (p .weights)) ∷ [])
-        h in
+      row-at (sideHeld (c .old) (p .old))
+      (sideHeld (c .golden) (p .golden) ∷ leb (c .candidates) (length (p .nets)) ∷ leb (c .candidates) (length (p .weights)) ∷ [])
+      h in
       (t 0, t 1, and-both _ _ (t 2) (t 3))
 
   pub held-true : sideHeld (c .old) (p .old) ≡ true → sideHeld (c .golden) (p .golden) ≡ true
@@ -153,7 +154,7 @@ module _ (c : Counts) (p : Places) where
           pick false k = unheld k
           pick true k =
               let g : countsGood (jobFrom c p) ≡ false =
-                sym (countsWithin-countsOf (jobFrom c p)) ∙ ap countsWithin (countsOf-jobFrom c p k) ∙ e in
+              sym (countsWithin-countsOf (jobFrom c p)) ∙ ap countsWithin (countsOf-jobFrom c p k) ∙ e in
               write-other 3 (rw (le-leb 4188 (length d) h, k, g)) (λ z. omega arith)
 
       pub unheld-old : sideHeld (c .old) (p .old) ≡ false
@@ -215,4 +216,5 @@ stored c p d d′ r n j e =
       part = ap (λ (k : ℕ). take k d′) z ∙ ap (λ (q : List ℕ). take (0 + length xs) q) (e .bytes) ∙ take-placed d 0 xs h;
       within = omega (arith, e .len);
       len = e .len;
-      short = omega (arith, e .len) }
+      short = omega (arith, e .len);
+    }

@@ -38,15 +38,15 @@ pub jobWhole-facts : (s : List ℕ) → jobWhole s ≡ true → JobWhole s
 unfolding jobWhole
 jobWhole-facts s h =
     let t =
-      row-at (whole jobTags s)
-      (eqb (length (nth 0 s)) 2
-      ∷ eqb (length (nth 1 s) % 5) 0
-      ∷ eqb (length (nth 2 s) % 2) 0
-      ∷ eqb (length (nth 3 s) % 5) 0
-      ∷ eqb (length (nth 4 s) % 2) 0
-      ∷ eqb (length (nth 5 s) % 4) 0
-      ∷ [])
-      h in
+    row-at (whole jobTags s)
+    (eqb (length (nth 0 s)) 2
+    ∷ eqb (length (nth 1 s) % 5) 0
+    ∷ eqb (length (nth 2 s) % 2) 0
+    ∷ eqb (length (nth 3 s) % 5) 0
+    ∷ eqb (length (nth 4 s) % 2) 0
+    ∷ eqb (length (nth 5 s) % 4) 0
+    ∷ [])
+    h in
     record {
       fields = t 0;
       sizes = eqb-true _ _ (t 1);
@@ -54,19 +54,20 @@ jobWhole-facts s h =
       outputs = eqb-true _ _ (t 3);
       golden = eqb-true _ _ (t 4);
       goldens = eqb-true _ _ (t 5);
-      candidates = eqb-true _ _ (t 6) }
+      candidates = eqb-true _ _ (t 6);
+    }
 
 pub jobWhole-true : (s : List ℕ) → JobWhole s → jobWhole s ≡ true
 unfolding jobWhole
 jobWhole-true s h =
     and-both _ _
     (and-both _ _
-      (and-both _ _
-        (and-both _ _
-          (and-both _ _ (and-both _ _ (h .fields) (eq-eqb _ _ (h .sizes))) (eq-eqb _ _ (h .old)))
-          (eq-eqb _ _ (h .outputs)))
-        (eq-eqb _ _ (h .golden)))
-      (eq-eqb _ _ (h .goldens)))
+    (and-both _ _
+    (and-both _ _
+    (and-both _ _ (and-both _ _ (h .fields) (eq-eqb _ _ (h .sizes))) (eq-eqb _ _ (h .old)))
+    (eq-eqb _ _ (h .outputs)))
+    (eq-eqb _ _ (h .golden)))
+    (eq-eqb _ _ (h .goldens)))
     (eq-eqb _ _ (h .candidates))
 
 -- ---- counts
@@ -102,7 +103,8 @@ module _ (s : List ℕ) (w : JobWhole s) where
         targets = getD s 4 0;
         old = record { gates = length (nth 1 s) / 5; outputs = length (nth 2 s) / 2 };
         golden = record { gates = length (nth 3 s) / 5; outputs = length (nth 4 s) / 2 };
-        candidates = length (nth 5 s) / 4 }
+        candidates = length (nth 5 s) / 4;
+      }
   unfolding countsOf sideCountsOf jobOf netlistOf
   counts-at =
       rw
@@ -128,7 +130,8 @@ module _ (s : List ℕ) (w : Walk) (h : Walks s 1 6 w) where
         outputs = ap (λ (x : ℕ). x % 2) (n 2 (omega arith)) ∙ j .outputs;
         golden = ap (λ (x : ℕ). x % 5) (n 3 (omega arith)) ∙ j .golden;
         goldens = ap (λ (x : ℕ). x % 2) (n 4 (omega arith)) ∙ j .goldens;
-        candidates = ap (λ (x : ℕ). x % 4) (n 5 (omega arith)) ∙ j .candidates }
+        candidates = ap (λ (x : ℕ). x % 4) (n 5 (omega arith)) ∙ j .candidates;
+      }
 
   pub whole-of-lengths : w .check ≡ Passed → LengthsGood (w .lens) → JobWhole s
   whole-of-lengths p g =
@@ -141,7 +144,8 @@ module _ (s : List ℕ) (w : Walk) (h : Walks s 1 6 w) where
         outputs = ap (λ (x : ℕ). x % 2) (sym (n 2 (omega arith))) ∙ g .outputs;
         golden = ap (λ (x : ℕ). x % 5) (sym (n 3 (omega arith))) ∙ g .golden;
         goldens = ap (λ (x : ℕ). x % 2) (sym (n 4 (omega arith))) ∙ g .goldens;
-        candidates = ap (λ (x : ℕ). x % 4) (sym (n 5 (omega arith))) ∙ g .candidates }
+        candidates = ap (λ (x : ℕ). x % 4) (sym (n 5 (omega arith))) ∙ g .candidates;
+      }
 
   pub broken-of-walk : w .check ≡ Failed → jobWhole s ≡ false
   broken-of-walk p =
@@ -155,12 +159,13 @@ module _ (s : List ℕ) (w : Walk) (h : Walks s 1 6 w) where
   -- the counts of a whole job, from the walk
   pub walk-counts : JobWhole s → (n m : ℕ) → n ≡ getD s 3 0 → m ≡ getD s 4 0
       → Shape.Whole
-        (record {
-          inputs = n;
-          targets = m;
-          old = record { gates = getD (w .lens) 1 0 / 5; outputs = getD (w .lens) 2 0 / 2 };
-          golden = record { gates = getD (w .lens) 3 0 / 5; outputs = getD (w .lens) 4 0 / 2 };
-          candidates = getD (w .lens) 5 0 / 4 })
+      (record {
+        inputs = n;
+        targets = m;
+        old = record { gates = getD (w .lens) 1 0 / 5; outputs = getD (w .lens) 2 0 / 2 };
+        golden = record { gates = getD (w .lens) 3 0 / 5; outputs = getD (w .lens) 4 0 / 2 };
+        candidates = getD (w .lens) 5 0 / 4;
+      })
       ≡ shapeOf s
   unfolding shapeOf
   walk-counts j n m en em =
@@ -211,7 +216,8 @@ module _ (s : List ℕ) (c : Counts) (l : Laid s c) where
         targets = getD s 4 0;
         old = record { gates = length (nth 1 s) / 5; outputs = length (nth 2 s) / 2 };
         golden = record { gates = length (nth 3 s) / 5; outputs = length (nth 4 s) / 2 };
-        candidates = length (nth 5 s) / 4 }
+        candidates = length (nth 5 s) / 4;
+      }
   laid-counts = l .counts ∙ counts-at s laid-whole
 
   old-bytes : 5 * c .old .gates ≡ length (nth 1 s)
@@ -258,7 +264,8 @@ module _ (s : List ℕ) (c : Counts) (l : Laid s c) where
         goldens-end = omega arith;
         candidates = omega arith;
         candidates-end = omega arith;
-        room = omega arith }
+        room = omega arith;
+      }
 
   pub stands : (r : Starts) → r ≡ startsOf c → Stands s r
   stands r e = rw e starts-stand
@@ -288,8 +295,8 @@ module _ (s : List ℕ) (c : Counts) (l : Laid s c) where
   -- the checks of the two output fields, and of their counts
   pub outputs-checks : outputsGood (jobOf s)
       ≡ (all (λ i. ltb i (c .inputs + c .targets + c .old .gates)) (netsOf (nth 2 s))
-        && all (λ i. ltb i (c .inputs + c .golden .gates)) (netsOf (nth 4 s))
-        && eqb (c .old .outputs) (c .golden .outputs))
+      && all (λ i. ltb i (c .inputs + c .golden .gates)) (netsOf (nth 4 s))
+      && eqb (c .old .outputs) (c .golden .outputs))
   unfolding outputsGood oldNets goldenNets countsOf sideCountsOf netlistOf jobOf
   outputs-checks =
       rw
@@ -379,7 +386,8 @@ module _ (s : List ℕ) (c : Counts) (l : Laid s c) where
       record {
         ordered = omega arith;
         within = omega (arith, startOf-le jobTags s (laid-whole s c l .fields) k h);
-        is = part s c l k a b h p q }
+        is = part s c l k a b h p q;
+      }
 
   pub parts : (r : Starts) → r ≡ startsOf c → Parts s r
   parts r e =
@@ -393,4 +401,5 @@ module _ (s : List ℕ) (c : Counts) (l : Laid s c) where
         old-head = omega arith;
         outputs-head = omega arith;
         golden-head = omega arith;
-        goldens-head = omega arith }
+        goldens-head = omega arith;
+      }

@@ -45,13 +45,14 @@ module _ (s : List ℕ) (first count : ℕ) (starts lens : List ℕ) (at tag k :
         starts-length = length-set starts k a ∙ w .starts-length;
         lens-length = length-set lens k b ∙ w .lens-length;
         bounds =
-          rw (f .1, f .2)
-          (bounds-turn s starts lens k at tag (w .bounds) (omega (arith, w .starts-length)) (omega (arith, w .lens-length)) (w .place) (f .0));
+            rw (f .1, f .2)
+            (bounds-turn s starts lens k at tag (w .bounds) (omega (arith, w .starts-length)) (omega (arith, w .lens-length)) (w .place) (f .0));
         left =
-          ap (λ (z : ℕ). whole (upFrom (tag + 1) (count - (k + 1))) (drop z s)) q
-          ∙ sym (whole-turn s at tag (count - (k + 1)) (f .0))
-          ∙ ap (λ (z : ℕ). whole (upFrom tag z) (drop at s)) (sym n)
-          ∙ w .left }
+            ap (λ (z : ℕ). whole (upFrom (tag + 1) (count - (k + 1))) (drop z s)) q
+            ∙ sym (whole-turn s at tag (count - (k + 1)) (f .0))
+            ∙ ap (λ (z : ℕ). whole (upFrom tag z) (drop at s)) (sym n)
+            ∙ w .left;
+      }
 
   -- the answer where the walk ends, from whether what is left is whole
   ended : (b : Bool) → whole (upFrom tag (count - k)) (drop at s) ≡ b → (b ≡ true → k ≡ count)
@@ -61,7 +62,8 @@ module _ (s : List ℕ) (first count : ℕ) (starts lens : List ℕ) (at tag k :
         check = ap checkOf (sym e ∙ w .left);
         sizes = (w .starts-length, w .lens-length);
         starts = λ t i l. w .bounds .starts i (below t i l);
-        lens = λ t i l. w .bounds .lens i (below t i l) }
+        lens = λ t i l. w .bounds .lens i (below t i l);
+      }
     where
       below : whole (upFrom first count) s ≡ true → (i : ℕ) → i < count → i < k
       below t i l = let q = last (sym e ∙ w .left ∙ t) in omega arith
@@ -88,7 +90,8 @@ loop-holds c =
       starts-length = refl;
       lens-length = refl;
       bounds = record { starts = λ i l. let f : ⊥ = omega arith in absurd f; lens = λ i l. let f : ⊥ = omega arith in absurd f };
-      left = ap (λ (z : ℕ). whole (upFrom (a .first) z) (now (a .s))) (sub-zero (a .count)) }
+      left = ap (λ (z : ℕ). whole (upFrom (a .first) z) (now (a .s))) (sub-zero (a .count));
+    }
 
 field-requires : tie.Need-field-requires Inv-loop μ-loop
 field-requires c κs = search needs
@@ -108,7 +111,7 @@ returns c =
     let n : a .count - o .k ≡ suc (a .count - (o .k + 1)) = omega arith in
     ended (now (a .s)) (a .first) (a .count) (o .starts) (o .lens) (o .at) (o .tag) (o .k) (o .inv) false
     (ap (λ (z : ℕ). whole (upFrom (o .tag) z) (drop (o .at) (now (a .s)))) n
-      ∙ whole-missing (o .tag) (a .count - (o .k + 1)) (drop (o .at) (now (a .s))) f)
+    ∙ whole-missing (o .tag) (a .count - (o .k + 1)) (drop (o .at) (now (a .s))) f)
     (λ t. let z = false≢true t in absurd z)
 
 mul-starts : tie.Need-mul-starts Inv-loop μ-loop
@@ -149,8 +152,8 @@ returns-2 c =
     let o = c .before .before .loop in
     let a = c .before .before .before .before .args in
     ended (now (a .s)) (a .first) (a .count) (o .starts) (o .lens) (o .at) (o .tag) (o .k) (o .inv) true
-    (none-left (now (a .s)) (o .at) (o .tag) (a .count - o .k) (omega arith) 
-      ∙ eq-eqb (length (drop (o .at) (now (a .s)))) 0 (omega (arith, length-drop (o .at) (now (a .s)))))
+    (none-left (now (a .s)) (o .at) (o .tag) (a .count - o .k) (omega arith)
+    ∙ eq-eqb (length (drop (o .at) (now (a .s)))) 0 (omega (arith, length-drop (o .at) (now (a .s)))))
     (λ t. omega arith)
 
 returns-3 : tie.Need-returns-3 Inv-loop μ-loop
@@ -160,8 +163,8 @@ returns-3 c =
     let a = c .before .before .before .before .args in
     let ne = c .if1 .left in
     ended (now (a .s)) (a .first) (a .count) (o .starts) (o .lens) (o .at) (o .tag) (o .k) (o .inv) false
-    (none-left (now (a .s)) (o .at) (o .tag) (a .count - o .k) (omega arith) 
-      ∙ ne-eqb (length (drop (o .at) (now (a .s)))) 0 (λ z. ne (omega (arith, length-drop (o .at) (now (a .s))))))
+    (none-left (now (a .s)) (o .at) (o .tag) (a .count - o .k) (omega arith)
+    ∙ ne-eqb (length (drop (o .at) (now (a .s)))) 0 (λ z. ne (omega (arith, length-drop (o .at) (now (a .s))))))
     (λ t. omega arith)
 
 pub walked-spec : {M : Type 1} → statement M

@@ -46,10 +46,12 @@ loop-less c = omega arith
 loop-again : tie.Need-loop-again Inv-loop μ-loop
 loop-again c =
     let l = c .before .before .loop in
-    let a = c .before .before .before .args in
-    (omega arith, omega (arith, next-record (a .size) (l .i)),
-     filled-next (a .places .now) (λ k. getD (a .s .now) (a .size * k) 0) (l .places) (l .i) _ (omega arith)
-       (ap (λ (k : ℕ). getD (a .s .now) k 0) (l .inv .1)) (l .inv .2))
+    let a = c .before .before .before .args in (
+      omega arith,
+      omega (arith, next-record (a .size) (l .i)),
+      filled-next (a .places .now) (λ k. getD (a .s .now) (a .size * k) 0) (l .places) (l .i) _ (omega arith)
+          (ap (λ (k : ℕ). getD (a .s .now) k 0) (l .inv .1)) (l .inv .2),
+    )
 
 same-length : tie.Need-same-length Inv-loop μ-loop
 same-length c = c .before .loop .inv .2 .0

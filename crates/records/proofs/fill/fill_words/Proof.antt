@@ -19,9 +19,11 @@ abbrev μ-loop : tie.MeasureT-loop
 
 loop-holds : tie.Need-loop-holds Inv-loop μ-loop
 loop-holds c =
-    let a = c .before .before .args in
-    (omega arith, omega (arith, mul-zero (a .size)),
-     filled-none (a .places .now) (λ k. word (a .s .now) (a .size * k + a .offset)))
+    let a = c .before .before .args in (
+      omega arith,
+      omega (arith, mul-zero (a .size)),
+      filled-none (a .places .now) (λ k. word (a .s .now) (a .size * k + a .offset)),
+    )
 
 word-at-requires : tie.Need-word-at-requires Inv-loop μ-loop
 word-at-requires c κs =
@@ -59,10 +61,12 @@ loop-again c =
     let s = a .s .now in
     let byte = t .before .before .shared-slice-known .given in
     let e : c .word-at .result % 65536 ≡ word s (a .size * l .i + a .offset) =
-      rw (c .word-at .ensures) (omega (arith, byte (l .at), byte (l .at + 1)))
-      ∙ ap (word s) (l .inv .1) in
-    (omega arith, omega (arith, next-record (a .size) (l .i)),
-     filled-next (a .places .now) (λ k. word s (a .size * k + a .offset)) (l .places) (l .i) _ (omega arith) e (l .inv .2))
+    rw (c .word-at .ensures) (omega (arith, byte (l .at), byte (l .at + 1)))
+    ∙ ap (word s) (l .inv .1) in (
+      omega arith,
+      omega (arith, next-record (a .size) (l .i)),
+      filled-next (a .places .now) (λ k. word s (a .size * k + a .offset)) (l .places) (l .i) _ (omega arith) e (l .inv .2),
+    )
 
 same-length : tie.Need-same-length Inv-loop μ-loop
 same-length c = c .before .loop .inv .2 .0

@@ -48,7 +48,7 @@ part-fanout-marks-end : tie.Need-part-fanout-marks-end
 part-fanout-marks-end c = let t = at (c .before .before) in omega arith
 
 fanout-marks-requires : tie.Need-fanout-marks-requires
-fanout-marks-requires c κs = 
+fanout-marks-requires c κs =
     let s = now (c .before .before .before .before .before .args .job) in
     let k = c .before .before .before .before .before .args .c in
     let p = c .before .before .before .before .before .pre in
@@ -56,7 +56,7 @@ fanout-marks-requires c κs =
     let w = p .laid .within in
     let n : k .inputs + k .targets + length (nth 1 s) / 5 ≤ 424 = omega (arith, laid-old s k (p .laid), w .inputs, w .targets, w .old .gates) in
     let g : gatesGood (k .inputs + k .targets) (gatesOf (nth 1 s)) ≡ true =
-      and-left _ (gatesGood (k .inputs) (gatesOf (nth 3 s))) (sym (netlists-checks s k (p .laid)) ∙ p .good) in
+    and-left _ (gatesGood (k .inputs) (gatesOf (nth 3 s))) (sym (netlists-checks s k (p .laid)) ∙ p .good) in
     (rw e n, rw e g)
 
 sub-check-candidates : tie.Need-sub-check-candidates
@@ -78,7 +78,7 @@ check-candidates-requires : tie.Need-check-candidates-requires
 check-candidates-requires c κs = search needs
 
 returns : tie.Need-returns
-returns c = 
+returns c =
     let s = now (c .before .before .before .before .before .before .before .before .before .before .before .args .job) in
     let k = c .before .before .before .before .before .before .before .before .before .before .before .args .c in
     let p = c .before .before .before .before .before .before .before .before .before .before .before .pre in
@@ -88,10 +88,10 @@ returns c =
     let m = c .before .before .before .before .before .fanout-marks .result in
     let n = k .inputs + k .targets + k .old .gates in
     let q : take (r .end - r .candidates) (drop (r .candidates) s) ≡ nth 5 s =
-      part s k (p .laid) 5 (r .candidates) (r .end) (omega arith) (t .candidates) (t .candidates-end) in
+    part s k (p .laid) 5 (r .candidates) (r .end) (omega arith) (t .candidates) (t .candidates-end) in
     let o : k .inputs + k .targets + length (nth 1 s) / 5 ≡ n = omega (arith, laid-old s k (p .laid)) in
     let f : take (k .inputs + k .targets + length (nth 1 s) / 5) m ≡ fanout (k .inputs) (k .targets) (gatesOf (nth 1 s)) =
-      rw (old-part v) at (c .before .before .before .before .before .fanout-marks .ensures) in
+    rw (old-part v) at (c .before .before .before .before .before .fanout-marks .ensures) in
     c .check-candidates .ensures
     ∙ ap (λ (l : List ℕ). checkOf (unmarkedAscending n m (candidatesOf l))) q
     ∙ ap checkOf (candidates-check s k (p .laid) m n refl (ap (λ (x : ℕ). take x m) (sym o) ∙ f))

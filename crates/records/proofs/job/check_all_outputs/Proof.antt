@@ -63,11 +63,11 @@ first c =
     let v = c .before .before .before .before .before .before .before in
     let t = at v in
     let p =
-      part (now (a .job)) (a .c) (c .before .before .before .before .before .before .before .before .before .pre) 2 (v .starts-of .result .outputs) (v .starts-of .result .golden - 3) (omega arith) (t .outputs) (omega arith) in
+    part (now (a .job)) (a .c) (c .before .before .before .before .before .before .before .before .before .pre) 2 (v .starts-of .result .outputs) (v .starts-of .result .golden - 3) (omega arith) (t .outputs) (omega arith) in
     c .check-outputs .ensures ∙ ap (λ (l : List ℕ). checkOf (all (λ i. ltb i (a .c .inputs + a .c .targets + a .c .old .gates)) (netsOf l))) p
 
 returns : tie.Need-returns
-returns c = 
+returns c =
     let a = c .before .before .before .before .before .before .before .before .before .before .before .args in
     let e = fails _ (sym (first (c .before .before)) ∙ c .enum-told2 .given .1) in
     failed-of _ (outputs-checks (now (a .job)) (a .c) (c .before .before .before .before .before .before .before .before .before .before .before .pre) ∙ ap (λ (x : Bool). x && all (λ i. ltb i (a .c .inputs + a .c .golden .gates)) (netsOf (nth 4 (now (a .job)))) && eqb (a .c .old .outputs) (a .c .golden .outputs)) e)
@@ -105,11 +105,11 @@ second c =
     let v = c .before .before .before .before .before .before .before .before .before .before .before .before .before .before in
     let t = at v in
     let p =
-      part (now (a .job)) (a .c) (c .before .before .before .before .before .before .before .before .before .before .before .before .before .before .before .before .pre) 4 (v .starts-of .result .goldens) (v .starts-of .result .candidates - 3) (omega arith) (t .goldens) (omega arith) in
+    part (now (a .job)) (a .c) (c .before .before .before .before .before .before .before .before .before .before .before .before .before .before .before .before .pre) 4 (v .starts-of .result .goldens) (v .starts-of .result .candidates - 3) (omega arith) (t .goldens) (omega arith) in
     c .check-outputs2 .ensures ∙ ap (λ (l : List ℕ). checkOf (all (λ i. ltb i (a .c .inputs + a .c .golden .gates)) (netsOf l))) p
 
 returns-2 : tie.Need-returns-2
-returns-2 c = 
+returns-2 c =
     let a = c .before .before .before .before .before .before .before .before .before .before .before .before .before .before .before .before .before .before .args in
     let p = passes _ (sym (first (c .before .before .before .before .before .before .before .before .before)) ∙ c .before .before .before .before .before .before .before .enum-told .given .1) in
     let e = fails _ (sym (second (c .before .before)) ∙ c .enum-told4 .given .1) in
@@ -120,7 +120,7 @@ returns-2 c =
 both : (c : tie.After-enum-told3) (x : Bool)
     → let a = c .before .before .before .before .before .before .before .before .before .before .before .before .before .before .before .before .before .before .args in
     (all (λ i. ltb i (a .c .inputs + a .c .targets + a .c .old .gates)) (netsOf (nth 2 (now (a .job))))
-      && all (λ i. ltb i (a .c .inputs + a .c .golden .gates)) (netsOf (nth 4 (now (a .job)))) && x)
+    && all (λ i. ltb i (a .c .inputs + a .c .golden .gates)) (netsOf (nth 4 (now (a .job)))) && x)
     ≡ x
 both c x =
     let p = passes _ (sym (first (c .before .before .before .before .before .before .before .before .before)) ∙ c .before .before .before .before .before .before .before .enum-told .given .1) in
@@ -128,12 +128,12 @@ both c x =
     rw (p, q)
 
 returns-3 : tie.Need-returns-3
-returns-3 c = 
+returns-3 c =
     let a = c .before .before .before .before .before .before .before .before .before .before .before .before .before .before .before .before .before .before .before .before .before .args in
     passed _ (outputs-checks (now (a .job)) (a .c) (c .before .before .before .before .before .before .before .before .before .before .before .before .before .before .before .before .before .before .before .before .before .pre) ∙ both (c .before .before .before) (eqb (a .c .old .outputs) (a .c .golden .outputs)) ∙ eq-eqb _ _ (c .if1 .taken))
 
 returns-4 : tie.Need-returns-4
-returns-4 c = 
+returns-4 c =
     let a = c .before .before .before .before .before .before .before .before .before .before .before .before .before .before .before .before .before .before .before .before .before .args in
     failed-of _ (outputs-checks (now (a .job)) (a .c) (c .before .before .before .before .before .before .before .before .before .before .before .before .before .before .before .before .before .before .before .before .before .pre) ∙ both (c .before .before .before) (eqb (a .c .old .outputs) (a .c .golden .outputs)) ∙ ne-eqb _ _ (c .if1 .left))
 

@@ -53,7 +53,7 @@ counts c =
     sym (countsWithin-countsOf _) ∙ ap countsWithin (sym (l .counts)) ∙ countsWithin-true _ (l .within)
 
 returns-2 : tie.Need-returns-2
-returns-2 c = 
+returns-2 c =
     let h = shape (c .before .before .before) in
     let f = fails _ (sym (c .before .before .check-counts .ensures) ∙ c .enum-told3 .given .1) in
     refused-three _ (h .0) (sym (countsWithin-countsOf _) ∙ ap countsWithin (sym (h .1)) ∙ f)
@@ -72,7 +72,7 @@ gates : (c : tie.After-enum-told4) → netlistsGood (jobOf (now (c .before .befo
 gates c = passes _ (sym (c .before .before .check-netlists .ensures) ∙ c .enum-told4 .given .1)
 
 returns-3 : tie.Need-returns-3
-returns-3 c = 
+returns-3 c =
     let t = c .before .before .before in
     refused-four _ (laid t .whole) (counts t) (fails _ (sym (c .before .before .check-netlists .ensures) ∙ c .enum-told5 .given .1))
 
@@ -90,7 +90,7 @@ outputs : (c : tie.After-enum-told6) → outputsGood (jobOf (now (c .before .bef
 outputs c = passes _ (sym (c .before .before .check-all-outputs .ensures) ∙ c .enum-told6 .given .1)
 
 returns-4 : tie.Need-returns-4
-returns-4 c = 
+returns-4 c =
     let t = c .before .before .before .before .before .before in
     refused-five _ (laid t .whole) (counts t) (gates (c .before .before .before)) (fails _ (sym (c .before .before .check-all-outputs .ensures) ∙ c .enum-told7 .given .1))
 
@@ -104,17 +104,17 @@ enum-told-9 : tie.Need-enum-told-9
 enum-told-9 c = search needs
 
 returns-5 : tie.Need-returns-5
-returns-5 c = 
+returns-5 c =
     let t = c .before .before .before .before .before .before .before .before .before in
     refused-six _ (laid t .whole) (counts t) (gates (c .before .before .before .before .before .before)) (outputs (c .before .before .before))
     (fails _ (sym (c .before .before .check-all-candidates .ensures) ∙ c .enum-told9 .given .1))
 
 returns-6 : tie.Need-returns-6
-returns-6 c = 
+returns-6 c =
     let t = c .before .before .before .before .before .before .before .before .before in
     ap Accepted (laid t .counts)
     ∙ accepted _ (laid t .whole) (counts t) (gates (c .before .before .before .before .before .before)) (outputs (c .before .before .before))
-      (passes _ (sym (c .before .before .check-all-candidates .ensures) ∙ c .enum-told8 .given .1))
+    (passes _ (sym (c .before .before .check-all-candidates .ensures) ∙ c .enum-told8 .given .1))
 
 pub check-job-spec : {M : Type 1} → statement M
 check-job-spec =

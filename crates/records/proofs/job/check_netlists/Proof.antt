@@ -54,22 +54,22 @@ enum-told-2 c = search needs
 first : (c : tie.After-check-gates)
     → c .check-gates .result
     ≡ checkOf
-      (gatesGood
-        (c .before .before .before .before .before .before .args .c .inputs + c .before .before .before .before .before .before .args .c .targets)
-        (gatesOf (nth 1 (now (c .before .before .before .before .before .before .args .job)))))
+    (gatesGood
+    (c .before .before .before .before .before .before .args .c .inputs + c .before .before .before .before .before .before .args .c .targets)
+    (gatesOf (nth 1 (now (c .before .before .before .before .before .before .args .job)))))
 first c =
     let a = c .before .before .before .before .before .before .args in
     let v = c .before .before .before .before in
     let t = at v in
     let p =
-      part (now (a .job)) (a .c) (c .before .before .before .before .before .before .pre) 1 (v .starts-of .result .old) (v .starts-of .result .outputs - 3)
-      (omega arith)
-      (t .old)
-      (omega arith) in
+    part (now (a .job)) (a .c) (c .before .before .before .before .before .before .pre) 1 (v .starts-of .result .old) (v .starts-of .result .outputs - 3)
+    (omega arith)
+    (t .old)
+    (omega arith) in
     c .check-gates .ensures ∙ ap (λ (l : List ℕ). checkOf (gatesGood (a .c .inputs + a .c .targets) (gatesOf l))) p
 
 returns : tie.Need-returns
-returns c = 
+returns c =
     let a = c .before .before .before .before .before .before .before .before .args in
     let e = fails _ (sym (first (c .before .before)) ∙ c .enum-told2 .given .1) in
     failed-of _ (netlists-checks (now (a .job)) (a .c) (c .before .before .before .before .before .before .before .before .pre) ∙ and-false-left _ _ e)
@@ -90,13 +90,13 @@ check-gates-requires-2 : tie.Need-check-gates-requires-2
 check-gates-requires-2 c κs = search needs
 
 returns-2 : tie.Need-returns-2
-returns-2 c = 
+returns-2 c =
     let a = c .before .before .before .before .before .before .before .before .before .before .before .args in
     let v = c .before .before .before .before .before .before .before .before .before in
     let t = at v in
     let e = passes _ (sym (first (c .before .before .before .before .before)) ∙ c .before .before .before .enum-told .given .1) in
     let p =
-      part (now (a .job)) (a .c) (c .before .before .before .before .before .before .before .before .before .before .before .pre) 3 (v .starts-of .result .golden) (v .starts-of .result .goldens - 3) (omega arith) (t .golden) (omega arith) in
+    part (now (a .job)) (a .c) (c .before .before .before .before .before .before .before .before .before .before .before .pre) 3 (v .starts-of .result .golden) (v .starts-of .result .goldens - 3) (omega arith) (t .golden) (omega arith) in
     c .check-gates2 .ensures
     ∙ ap (λ (l : List ℕ). checkOf (gatesGood (a .c .inputs) (gatesOf l))) p
     ∙ sym (ap checkOf (netlists-checks (now (a .job)) (a .c) (c .before .before .before .before .before .before .before .before .before .before .before .pre) ∙ ap (λ (x : Bool). x && gatesGood (a .c .inputs) (gatesOf (nth 3 (now (a .job))))) e))

@@ -70,10 +70,11 @@ loop-again c =
     let g = candidate (a .nets .now) (a .weights .now) in
     let h : p + 4 ≤ length (l .buf) = omega arith in
     let e : v .put-word2 .last .0 ≡ placed (l .buf) p (candidateBytes (g (l .i))) =
-      candidate-placed (l .buf) p (g (l .i)) h (w .put-word .ensures) (v .put-word2 .ensures) in
-    (omega arith,
-     put-next candidateBytes g (a .buf .now) (a .at) 4 (λ i. length-candidateBytes _)
-       (l .buf) (v .put-word2 .last .0) (l .i) p refl (omega arith) e (l .inv .1))
+    candidate-placed (l .buf) p (g (l .i)) h (w .put-word .ensures) (v .put-word2 .ensures) in (
+      omega arith,
+      put-next candidateBytes g (a .buf .now) (a .at) 4 (λ i. length-candidateBytes _)
+          (l .buf) (v .put-word2 .last .0) (l .i) p refl (omega arith) e (l .inv .1),
+    )
 
 mul-result : tie.Need-mul-result Inv-loop μ-loop
 mul-result c = omega arith

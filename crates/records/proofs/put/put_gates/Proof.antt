@@ -80,10 +80,11 @@ loop-again c =
     let g = gate (a .kinds .now) (a .firsts .now) (a .seconds .now) in
     let h : p + 5 ≤ length (l .buf) = omega arith in
     let e : v .put-word2 .last .0 ≡ placed (l .buf) p (gateBytes (g (l .i))) =
-      gate-placed (l .buf) p _ _ _ h (w .put-word .ensures) (v .put-word2 .ensures) in
-    (omega arith,
-     put-next gateBytes g (a .buf .now) (a .at) 5 (λ i. length-gateBytes _ _ _)
-       (l .buf) (v .put-word2 .last .0) (l .i) p refl (omega arith) e (l .inv .1))
+    gate-placed (l .buf) p _ _ _ h (w .put-word .ensures) (v .put-word2 .ensures) in (
+      omega arith,
+      put-next gateBytes g (a .buf .now) (a .at) 5 (λ i. length-gateBytes _ _ _)
+          (l .buf) (v .put-word2 .last .0) (l .i) p refl (omega arith) e (l .inv .1),
+    )
 
 mul-result : tie.Need-mul-result Inv-loop μ-loop
 mul-result c = omega arith

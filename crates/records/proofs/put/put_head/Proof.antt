@@ -42,9 +42,11 @@ returns : tie.Need-returns
 unfolding bytePair
 returns c =
     let n = c .args .len in
-    let e : c .args .at + 2 ≡ suc (suc (c .args .at)) = omega arith in
-    (refl, rw (high-byte n (omega arith), add-one, e)
-    (sets-placed (c .args .buf .now) (c .args .at) (c .args .tag ∷ n / 256 ∷ n % 256 ∷ []) (omega arith)))
+    let e : c .args .at + 2 ≡ suc (suc (c .args .at)) = omega arith in (
+      refl,
+      rw (high-byte n (omega arith), add-one, e)
+          (sets-placed (c .args .buf .now) (c .args .at) (c .args .tag ∷ n / 256 ∷ n % 256 ∷ []) (omega arith)),
+    )
 
 pub put-head-spec : {M : Type 1} → statement M
 put-head-spec =

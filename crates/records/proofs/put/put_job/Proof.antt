@@ -21,7 +21,7 @@ side w = w .before .before .before .before .before .before .before .before
 -- the buffer keeps its length, which is enough
 kept : (w : tie.After-put-side)
     → let s = start (head (w .before)) in
-      (length (w .put-side .last .0) ≡ length (s .args .buf .now)) × (4188 ≤ length (s .args .buf .now))
+    (length (w .put-side .last .0) ≡ length (s .args .buf .now)) × (4188 ≤ length (s .args .buf .now))
 kept w =
     let h = head (w .before) in
     ((simp length-set at (w .put-side .kept .0)) ∙ h .put-head .kept .0, start h .pre .room)
@@ -51,7 +51,8 @@ put-side-requires c κs =
       tag = omega arith;
       within = sideWithin-true _ (b .within .old);
       held = b .sides .0;
-      room = simp length-set (omega arith) }
+      room = simp length-set (omega arith);
+    }
 
 put-side-requires-2 : tie.Need-put-side-requires-2
 put-side-requires-2 c κs =
@@ -61,7 +62,8 @@ put-side-requires-2 c κs =
       tag = omega arith;
       within = sideWithin-true _ (b .within .golden);
       held = b .sides .1;
-      room = omega (arith, kept w) }
+      room = omega (arith, kept w);
+    }
 
 mul-put-head : tie.Need-mul-put-head
 mul-put-head c =
@@ -97,11 +99,12 @@ returns c =
     record {
       len = omega (arith, kept w₂, length-jobFrom b);
       bytes =
-        job-placed (a .buf .now) b (omega (arith, kept w₂))
+          job-placed (a .buf .now) b (omega (arith, kept w₂))
           (w₁ .put-head .ensures .0) (w₂ .put-side .ensures .0) (w₃ .put-side2 .ensures .0) (w₄ .put-head2 .ensures .0)
           (w₁ .put-head .ensures .1) (two-bytes (w₁ .put-head .last .0) _ _ _ (omega arith) (omega arith) (omega arith))
           (w₂ .put-side .ensures .1) (w₃ .put-side2 .ensures .1) (w₄ .put-head2 .ensures .1)
-          (w₅ .put-candidates .ensures .1) }
+          (w₅ .put-candidates .ensures .1);
+    }
 
 pub put-job-spec : {M : Type 1} → statement M
 put-job-spec =

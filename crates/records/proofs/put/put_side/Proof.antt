@@ -12,7 +12,7 @@ start w = w .before .before .before .before .before .before .before
 
 bounds : (s : tie.Start)
     → let a = s .args in
-      SideBounds (a .counts) (sidePlaces (a .kinds .now) (a .firsts .now) (a .seconds .now) (a .outputs .now))
+    SideBounds (a .counts) (sidePlaces (a .kinds .now) (a .firsts .now) (a .seconds .now) (a .outputs .now))
 bounds s = side-bounds _ _ (s .pre .within) (s .pre .held)
 
 mul-put-head : tie.Need-mul-put-head
@@ -52,11 +52,12 @@ returns c =
     let w₁ = w₂ .before .before .before .before in
     let s = start w₁ in
     let a = s .args in
-    let b = bounds s in
-    (omega arith,
-     side-placed (a .buf .now) (a .at) (a .tag) b (s .pre .room)
-       (w₁ .put-head .ensures .0) (w₂ .put-gates .ensures .0) (w₃ .put-head2 .ensures .0)
-       (w₁ .put-head .ensures .1) (w₂ .put-gates .ensures .1) (w₃ .put-head2 .ensures .1) (w₄ .put-words .ensures .1))
+    let b = bounds s in (
+      omega arith,
+      side-placed (a .buf .now) (a .at) (a .tag) b (s .pre .room)
+          (w₁ .put-head .ensures .0) (w₂ .put-gates .ensures .0) (w₃ .put-head2 .ensures .0)
+          (w₁ .put-head .ensures .1) (w₂ .put-gates .ensures .1) (w₃ .put-head2 .ensures .1) (w₄ .put-words .ensures .1),
+    )
 
 pub put-side-spec : {M : Type 1} → statement M
 put-side-spec =

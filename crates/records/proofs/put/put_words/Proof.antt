@@ -47,10 +47,11 @@ loop-again c =
     let w = c .before .before in
     let t = w .before .before .before .before in
     let l = t .loop in
-    let a = t .before .before .before .args in
-    (omega arith,
-     put-next bytePair (λ k. getD (a .xs .now) k 0) (a .buf .now) (a .at) 2 (λ i. length-bytePair _)
-       (l .buf) (w .put-word .last .0) (l .i) (a .at + 2 * l .i) refl (omega arith) (w .put-word .ensures) (l .inv .1))
+    let a = t .before .before .before .args in (
+      omega arith,
+      put-next bytePair (λ k. getD (a .xs .now) k 0) (a .buf .now) (a .at) 2 (λ i. length-bytePair _)
+          (l .buf) (w .put-word .last .0) (l .i) (a .at + 2 * l .i) refl (omega arith) (w .put-word .ensures) (l .inv .1),
+    )
 
 mul-result : tie.Need-mul-result Inv-loop μ-loop
 mul-result c = omega arith

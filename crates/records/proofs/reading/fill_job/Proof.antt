@@ -53,7 +53,7 @@ part-fill-side-end-2 : tie.Need-part-fill-side-end-2
 part-fill-side-end-2 c = at (c .before) .outputs .within
 
 fill-side-requires : tie.Need-fill-side-requires
-fill-side-requires c κs = 
+fill-side-requires c κs =
     let e = c .before .before .before .before .before .before .before .before .before .before .before .before .before .before .before .before .before .before in
     let a = e .args in
     let h = e .pre in
@@ -85,7 +85,7 @@ part-fill-side-end-4 : tie.Need-part-fill-side-end-4
 part-fill-side-end-4 c = at (c .before .before .before .before .before .before .before .before .before .before .before .before .before .before .before .before) .goldens .within
 
 fill-side-requires-2 : tie.Need-fill-side-requires-2
-fill-side-requires-2 c κs = 
+fill-side-requires-2 c κs =
     let e = c .before .before .before .before .before .before .before .before .before .before .before .before .before .before .before .before .before .before .before .before .before .before .before .before .before .before .before .before .before .before .before .before .before in
     let a = e .args in
     let h = e .pre in
@@ -102,7 +102,7 @@ part-fill-words-end : tie.Need-part-fill-words-end
 part-fill-words-end c = at (c .before .before .before .before .before .before .before .before .before .before .before .before .before .before .before .before .before .before .before .before .before .before .before .before .before .before .before .before .before .before) .candidates .within
 
 fill-words-requires : tie.Need-fill-words-requires
-fill-words-requires c κs = 
+fill-words-requires c κs =
     let e = c .before .before .before .before .before .before .before .before .before .before .before .before .before .before .before .before .before .before .before .before .before .before .before .before .before .before .before .before .before .before .before .before .before .before .before .before .before .before .before .before .before .before .before .before in
     let a = e .args in
     let h = e .pre in
@@ -120,7 +120,7 @@ part-fill-words-end-2 : tie.Need-part-fill-words-end-2
 part-fill-words-end-2 c = at (c .before .before .before .before .before .before .before .before .before .before .before .before .before .before .before .before .before .before .before .before .before .before .before .before .before .before .before .before .before .before .before .before .before .before .before) .candidates .within
 
 fill-words-requires-2 : tie.Need-fill-words-requires-2
-fill-words-requires-2 c κs = 
+fill-words-requires-2 c κs =
     let e = c .before .before .before .before .before .before .before .before .before .before .before .before .before .before .before .before .before .before .before .before .before .before .before .before .before .before .before .before .before .before .before .before .before .before .before .before .before .before .before .before .before .before .before .before .before .before .before .before .before in
     let a = e .args in
     let h = e .pre in
@@ -159,7 +159,7 @@ same-length-10 : tie.Need-same-length-10
 same-length-10 c = search needs
 
 returns : tie.Need-returns
-returns c = 
+returns c =
     let e = c .before .before .before .before .before .before .before .before .before .before .before .before .before .before .before .before .before .before .before .before .before .before .before .before .before .before .before .before .before .before .before .before .before .before .before .before .before .before .before .before .before .before .before .before .before .before .before .before .before .before .before .before in
     let a = e .args in
     let h = e .pre in

@@ -56,7 +56,7 @@ refused-requires : tie.Need-refused-requires
 refused-requires c κs = search needs
 
 returns : tie.Need-returns
-returns c = 
+returns c =
     let e = c .before .before .before .before .before .before .before .before .before .before .before .before .before .before .before in
     let f = fails _ (sym (room-old (c .before .before .before)) ∙ c .before .enum-told2 .given .1) in
     let r = read-small (lent e) (now (e .args .job)) (small-old (lent e) f) in
@@ -75,7 +75,7 @@ refused-requires-2 : tie.Need-refused-requires-2
 refused-requires-2 c κs = search needs
 
 returns-2 : tie.Need-returns-2
-returns-2 c = 
+returns-2 c =
     let e = c .before .before .before .before .before .before .before .before .before .before .before .before .before .before .before .before .before .before in
     let f = fails _ (sym (room-golden (c .before .before .before)) ∙ c .before .enum-told4 .given .1) in
     let r = read-small (lent e) (now (e .args .job)) (small-golden (lent e) f) in
@@ -94,7 +94,7 @@ refused-requires-3 : tie.Need-refused-requires-3
 refused-requires-3 c κs = search needs
 
 returns-3 : tie.Need-returns-3
-returns-3 c = 
+returns-3 c =
     let e = c .before .before .before .before .before .before .before .before .before .before .before .before .before .before .before .before .before .before .before .before .before in
     let f = fails _ (sym (c .before .before .before .check-candidate-room .ensures) ∙ c .before .enum-told6 .given .1) in
     let r = read-small (lent e) (now (e .args .job)) (small-candidates (lent e) f) in
@@ -116,7 +116,7 @@ fill-job-requires : tie.Need-fill-job-requires
 fill-job-requires c κs = (accepted-laid _ _ (answer (c .before .before .before .before .before .before .before .before .before .before .before)), room (c .before .before .before .before .before .before .before .before .before .before .before .before .before .before))
 
 returns-4 : tie.Need-returns-4
-returns-4 c = 
+returns-4 c =
     let e = c .before .before .before .before .before .before .before .before .before .before .before .before .before .before .before .before .before .before .before .before .before .before .before .before .before in
     let g = c .before .before .answer .given in
     let r = read-refused (lent e) (now (e .args .job)) (room (c .before .before .before .before .before)) (g .0 .0) (sym (c .before .before .before .before .check-job .ensures) ∙ g .1) in
@@ -153,7 +153,7 @@ same-length-10 : tie.Need-same-length-10
 same-length-10 c = search needs
 
 returns-5 : tie.Need-returns-5
-returns-5 c = 
+returns-5 c =
     let e = c .before .before .before .before .before .before .before .before .before .before .before .before .before .before .before .before .before .before .before .before .before .before .before .before .before .before .before .before .before .before .before .before .before .before .before .before .before .before .before .before .before .before .before .before .before .before .before .before .before .before .before .before .before .before .before in
     let a = c .before .before .before .before .before .before .before .before .before .before .before .before .before .before .before .before .before .before .before .before .before .before .before .before .before .before .before .before .before .before .before .before in
     let r = read-accepted (lent e) (now (e .args .job)) (room (c .before .before .before .before .before .before .before .before .before .before .before .before .before .before .before .before .before .before .before .before .before .before .before .before .before .before .before .before .before .before .before .before .before .before .before)) (a .answer2 .given .0 .0) (answer a) in

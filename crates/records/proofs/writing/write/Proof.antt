@@ -50,11 +50,12 @@ ready c =
     record {
       within = passes _ (sym (c .before .before .before .before .before .before .before .before .before .before .before .before .before .check-counts .ensures) ∙ c .before .before .before .before .before .before .before .before .before .before .before .enum-told .given .1);
       held =
-        held-true _ _
-        (passes _ (sym (held-old (c .before .before .before .before .before .before .before .before .before)) ∙ c .before .before .before .before .before .before .before .enum-told3 .given .1))
-        (passes _ (sym (held-golden (c .before .before .before .before .before)) ∙ c .before .before .before .enum-told5 .given .1))
-        (passes _ (sym (c .before .before .check-candidates-held .ensures) ∙ c .enum-told7 .given .1));
-      room = omega arith }
+          held-true _ _
+          (passes _ (sym (held-old (c .before .before .before .before .before .before .before .before .before)) ∙ c .before .before .before .before .before .before .before .enum-told3 .given .1))
+          (passes _ (sym (held-golden (c .before .before .before .before .before)) ∙ c .before .before .before .enum-told5 .given .1))
+          (passes _ (sym (c .before .before .check-candidates-held .ensures) ∙ c .enum-told7 .given .1));
+      room = omega arith;
+    }
 
 -- the job stands in the function's own buffer
 own : (c : tie.After-put-job)
@@ -78,7 +79,7 @@ enum-told-2 : tie.Need-enum-told-2
 enum-told-2 c = search needs
 
 returns-2 : tie.Need-returns-2
-returns-2 c = 
+returns-2 c =
     let e = c .before .before .before .before .before .before .before .before .before .before .before .before .before .before .before in
     let f = fails _ (sym (c .before .before .check-counts .ensures) ∙ c .enum-told2 .given .1) in
     write-counts (e .args .counts) (lent e) (now (e .args .buf)) (long (c .before .before .before)) f
@@ -93,7 +94,7 @@ enum-told-4 : tie.Need-enum-told-4
 enum-told-4 c = search needs
 
 returns-3 : tie.Need-returns-3
-returns-3 c = 
+returns-3 c =
     let e = c .before .before .before .before .before .before .before .before .before .before .before .before .before .before .before .before .before .before .before in
     let f = fails _ (sym (held-old (c .before .before)) ∙ c .enum-told4 .given .1) in
     unheld-old (e .args .counts) (lent e) (now (e .args .buf)) (long (c .before .before .before .before .before .before .before)) f
@@ -108,7 +109,7 @@ enum-told-6 : tie.Need-enum-told-6
 enum-told-6 c = search needs
 
 returns-4 : tie.Need-returns-4
-returns-4 c = 
+returns-4 c =
     let e = c .before .before .before .before .before .before .before .before .before .before .before .before .before .before .before .before .before .before .before .before .before .before .before in
     let f = fails _ (sym (held-golden (c .before .before)) ∙ c .enum-told6 .given .1) in
     unheld-golden (e .args .counts) (lent e) (now (e .args .buf)) (long (c .before .before .before .before .before .before .before .before .before .before .before)) f
@@ -123,7 +124,7 @@ enum-told-8 : tie.Need-enum-told-8
 enum-told-8 c = search needs
 
 returns-5 : tie.Need-returns-5
-returns-5 c = 
+returns-5 c =
     let e = c .before .before .before .before .before .before .before .before .before .before .before .before .before .before .before .before .before .before .before .before .before .before .before .before .before .before in
     let f = fails _ (sym (c .before .before .check-candidates-held .ensures) ∙ c .enum-told8 .given .1) in
     unheld-candidates (e .args .counts) (lent e) (now (e .args .buf)) (long (c .before .before .before .before .before .before .before .before .before .before .before .before .before .before)) f
@@ -156,13 +157,13 @@ slice-aggregate-copy : tie.Need-slice-aggregate-copy
 slice-aggregate-copy c = sym (length-take-le _ _ (own (c .before .before .before .before .before .before) .within))
 
 copy-requires : tie.Need-copy-requires
-copy-requires c κs = 
+copy-requires c κs =
     let o = own (c .before .before .before .before .before .before .before) in
     let h = long (c .before .before .before .before .before .before .before .before .before .before .before .before .before .before .before .before .before .before .before .before .before .before .before) in
     le-trans (le-of-eq (length-take-le _ _ (o .within))) (le-trans (o .short) h)
 
 returns-6 : tie.Need-returns-6
-returns-6 c = 
+returns-6 c =
     let e = c .before .before .before .before .before .before .before .before .before .before .before .before .before .before .before .before .before .before .before .before .before .before .before .before .before .before .before .before .before .before .before .before .before .before in
     let g = c .before .answer .given in
     write-refused (e .args .counts) (lent e) (now (e .args .buf)) (long (c .before .before .before .before .before .before .before .before .before .before .before .before .before .before .before .before .before .before .before .before .before .before)) (ready (c .before .before .before .before .before .before .before .before) .held) (g .0 .0)
@@ -172,13 +173,13 @@ same-length : tie.Need-same-length
 same-length c = search needs
 
 returns-7 : tie.Need-returns-7
-returns-7 c = 
+returns-7 c =
     let e = c .before .before .before .before .before .before .before .before .before .before .before .before .before .before .before .before .before .before .before .before .before .before .before .before .before .before .before .before .before .before .before .before .before .before .before .before .before .before in
     let o = own (c .before .before .before .before .before .before .before .before .before .before) in
     let g = c .before .before .before .before .before .enum-told9 .given in
     let r =
-      write-accepted (e .args .counts) (lent e) (now (e .args .buf)) (long (c .before .before .before .before .before .before .before .before .before .before .before .before .before .before .before .before .before .before .before .before .before .before .before .before .before .before)) (ready (c .before .before .before .before .before .before .before .before .before .before .before .before) .held) _
-      (sym (answer (c .before .before .before .before .before .before .before)) ∙ g .1) _ (o .len) in
+    write-accepted (e .args .counts) (lent e) (now (e .args .buf)) (long (c .before .before .before .before .before .before .before .before .before .before .before .before .before .before .before .before .before .before .before .before .before .before .before .before .before .before)) (ready (c .before .before .before .before .before .before .before .before .before .before .before .before) .held) _
+    (sym (answer (c .before .before .before .before .before .before .before)) ∙ g .1) _ (o .len) in
     (r .0, c .before .before .copy .ensures ∙ ap (placed (now (e .args .buf)) 0) (o .part) ∙ r .1)
 
 pub write-spec : {M : Type 1} → statement M
