@@ -1,0 +1,130 @@
+// The record library's read and write for a C program: tools/bench measures them there. The seven counts of a job go in
+// a row: inputs, targets, old gates and outputs, golden gates and outputs, candidates.
+ghost use mathlib.Core.Path.{_≡_};
+ghost use Rattle.records.specs.Service.{sidePlaces, places, readReply, readPlaces, writeReply, writtenBytes};
+ghost use Rattle.records_c.specs.Row.{rowOf, rowCounts};
+
+// records::read: the reply's number is returned, and its counts are left in counts.
+#[no_mangle]
+pub extern "C" fn records_read(
+    job: &[u8],
+    old_kinds: &mut [u8],
+    old_firsts: &mut [u16],
+    old_seconds: &mut [u16],
+    old_outputs: &mut [u16],
+    golden_kinds: &mut [u8],
+    golden_firsts: &mut [u16],
+    golden_seconds: &mut [u16],
+    golden_outputs: &mut [u16],
+    nets: &mut [u16],
+    weights: &mut [u16],
+    counts: &mut [usize; 7],
+) -> u8
+    ensures number { λ r. ⌜ r ≡ readReply
+        (places
+        (sidePlaces (now («old_kinds» .entry)) (now («old_firsts» .entry)) (now («old_seconds» .entry)) (now («old_outputs» .entry)))
+        (sidePlaces (now («golden_kinds» .entry)) (now («golden_firsts» .entry)) (now («golden_seconds» .entry)) (now («golden_outputs» .entry)))
+        (now (nets .entry)) (now (weights .entry)))
+        (now (job .entry)) .number ⌝ }
+    ensures counted { λ _. ⌜ now (counts .exit) ≡ rowOf (readReply
+        (places
+        (sidePlaces (now («old_kinds» .entry)) (now («old_firsts» .entry)) (now («old_seconds» .entry)) (now («old_outputs» .entry)))
+        (sidePlaces (now («golden_kinds» .entry)) (now («golden_firsts» .entry)) (now («golden_seconds» .entry)) (now («golden_outputs» .entry)))
+        (now (nets .entry)) (now (weights .entry)))
+        (now (job .entry)) .counts) ⌝ }
+    ensures lent { λ _. ⌜
+        places
+        (sidePlaces (now («old_kinds» .exit)) (now («old_firsts» .exit)) (now («old_seconds» .exit)) (now («old_outputs» .exit)))
+        (sidePlaces (now («golden_kinds» .exit)) (now («golden_firsts» .exit)) (now («golden_seconds» .exit)) (now («golden_outputs» .exit)))
+        (now (nets .exit)) (now (weights .exit))
+        ≡ readPlaces
+        (places
+        (sidePlaces (now («old_kinds» .entry)) (now («old_firsts» .entry)) (now («old_seconds» .entry)) (now («old_outputs» .entry)))
+        (sidePlaces (now («golden_kinds» .entry)) (now («golden_firsts» .entry)) (now («golden_seconds» .entry)) (now («golden_outputs» .entry)))
+        (now (nets .entry)) (now (weights .entry)))
+        (now (job .entry)) ⌝ }
+{
+    let reply = records::read(
+        job,
+        old_kinds,
+        old_firsts,
+        old_seconds,
+        old_outputs,
+        golden_kinds,
+        golden_firsts,
+        golden_seconds,
+        golden_outputs,
+        nets,
+        weights,
+    );
+    let c = reply.counts;
+    *counts = [
+        c.inputs,
+        c.targets,
+        c.old.gates,
+        c.old.outputs,
+        c.golden.gates,
+        c.golden.outputs,
+        c.candidates,
+    ];
+    reply.number
+}
+
+// records::write of as many parts as counts says: the length of the job is returned, 0 on refusal.
+#[no_mangle]
+pub extern "C" fn records_write(
+    counts: &[usize; 7],
+    old_kinds: &[u8],
+    old_firsts: &[u16],
+    old_seconds: &[u16],
+    old_outputs: &[u16],
+    golden_kinds: &[u8],
+    golden_firsts: &[u16],
+    golden_seconds: &[u16],
+    golden_outputs: &[u16],
+    nets: &[u16],
+    weights: &[u16],
+    buf: &mut [u8],
+) -> usize
+    ensures reply { λ r. ⌜ r ≡ writeReply (rowCounts (now (counts .entry)))
+        (places
+        (sidePlaces (now («old_kinds» .entry)) (now («old_firsts» .entry)) (now («old_seconds» .entry)) (now («old_outputs» .entry)))
+        (sidePlaces (now («golden_kinds» .entry)) (now («golden_firsts» .entry)) (now («golden_seconds» .entry)) (now («golden_outputs» .entry)))
+        (now (nets .entry)) (now (weights .entry)))
+        (now (buf .entry)) .len ⌝ }
+    ensures lent { λ _. ⌜ now (buf .exit) ≡ writtenBytes (rowCounts (now (counts .entry)))
+        (places
+        (sidePlaces (now («old_kinds» .entry)) (now («old_firsts» .entry)) (now («old_seconds» .entry)) (now («old_outputs» .entry)))
+        (sidePlaces (now («golden_kinds» .entry)) (now («golden_firsts» .entry)) (now («golden_seconds» .entry)) (now («golden_outputs» .entry)))
+        (now (nets .entry)) (now (weights .entry)))
+        (now (buf .entry)) ⌝ }
+{
+    let all = records::Counts {
+        inputs: counts[0],
+        targets: counts[1],
+        old: records::SideCounts {
+            gates: counts[2],
+            outputs: counts[3],
+        },
+        golden: records::SideCounts {
+            gates: counts[4],
+            outputs: counts[5],
+        },
+        candidates: counts[6],
+    };
+    let reply = records::write(
+        all,
+        old_kinds,
+        old_firsts,
+        old_seconds,
+        old_outputs,
+        golden_kinds,
+        golden_firsts,
+        golden_seconds,
+        golden_outputs,
+        nets,
+        weights,
+        buf,
+    );
+    reply.len
+}
