@@ -1,0 +1,31 @@
+-- Gates on 0, 1 and not yet known (document 01, "Nets and gates": the three by three tables). Assumes nothing.
+--
+--   unknown                2 stands for not yet known
+--   completions x          the values that x may turn out to have
+--   agreed vs              the value that all of vs have, or unknown
+--   ternaryValue k x y     kind k, of two operands, on x and y: known exactly when every completion of the operands, each taken
+--                          on its own, gives the same value
+--   ternaryTable k         the three by three table of kind k
+use Prim.Native.Nat.{ℕ, zero, suc, _+_}
+use mathlib.Core.List.{List, [], _∷_, _++_, map}
+use mathlib.Core.Bool.{Bool, cond}
+use lib.Dec.{eqb}
+use Rattle.records.specs.Bytes.{all, flat}
+use Rattle.records.specs.Gate.{gateValue}
+
+abbrev pub unknown : ℕ
+unknown = 2
+
+unfoldable pub completions : ℕ → List ℕ
+completions x = cond (eqb x unknown) (0 ∷ 1 ∷ []) (x ∷ [])
+
+unfoldable pub agreed : List ℕ → ℕ
+agreed [] = unknown
+agreed (v ∷ vs) = cond (all (eqb v) vs) v unknown
+
+unfoldable pub ternaryValue : ℕ → ℕ → ℕ → ℕ
+ternaryValue k x y =
+    agreed (flat (λ a. map (λ b. gateValue k (a ∷ b ∷ [])) (completions y)) (completions x))
+
+unfoldable pub ternaryTable : ℕ → List (List ℕ)
+ternaryTable k = map (λ x. map (ternaryValue k x) (0 ∷ 1 ∷ 2 ∷ [])) (0 ∷ 1 ∷ 2 ∷ [])
