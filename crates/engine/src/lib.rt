@@ -1,1 +1,2 @@
-// The engine.
+// The engine: gate values in many scenarios at once.
+mod word;
