@@ -9,3 +9,4 @@ pub mod Compare
 pub mod Tree
 pub mod Fit
 pub mod Cases
+pub mod Inner

@@ -2,9 +2,11 @@
 ghost use mathlib.Core.Path.{_≡_};
 ghost use mathlib.Core.List.{[], _∷_};
 ghost use Prim.Native.Nat.{ℕ, _<_};
-ghost use lib.ListN.{take};
+ghost use lib.ListN.{length, take};
 ghost use Rattle.records.specs.Gate.{arity, gateValue};
+ghost use Rattle.records.specs.Service.{gatesFrom};
 ghost use Rattle.engine.specs.Eval.{bit};
+ghost use Rattle.engine.specs.Inner.{Evaluable, Evaluated};
 
 // The word of a gate of this kind on the words of its operands.
 pub fn gate_word(kind: u8, a: u64, b: u64) -> u64
@@ -21,5 +23,20 @@ pub fn gate_word(kind: u8, a: u64, b: u64) -> u64
         8 => a ^ b,
         9 => !(a ^ b),
         _ => 0,
+    }
+}
+
+// The words of all nets: those of the inputs and targets, nets 0 to base - 1, stand in nets already; one gate after the
+// other adds its own. It costs one gate evaluation a gate, whatever the number of scenarios.
+pub fn eval_words(kinds: &[u8], firsts: &[u16], seconds: &[u16], count: usize, base: usize, nets: &mut [u64])
+    requires { ⌜ Evaluable (now kinds) (now firsts) (now seconds) count base (length (now nets)) ⌝ }
+    ensures { λ _. ⌜ Evaluated (gatesFrom count (now (kinds .entry)) (now (firsts .entry)) (now (seconds .entry))) base (now (nets .entry)) (now (nets .exit)) ⌝ }
+{
+    let mut i = 0usize;
+    while i < count {
+        let a = firsts[i] as usize;
+        let b = seconds[i] as usize;
+        nets[base + i] = gate_word(kinds[i], nets[a], nets[b]);
+        i += 1;
     }
 }
