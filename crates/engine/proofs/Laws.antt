@@ -1,3 +1,4 @@
 -- Laws of the definitions.
+pub mod Block
 pub mod Eval
 pub mod Word

@@ -1,2 +1,3 @@
 // The engine: gate values in many scenarios at once.
+mod block;
 mod word;
