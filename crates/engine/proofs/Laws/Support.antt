@@ -1,0 +1,1 @@
+-- Laws of specs/Support. Assumes nothing.
