@@ -174,6 +174,13 @@ mem-upFrom a (suc n) x = (
       (eq-or-above a x (r .0)),
 )
 
+-- the members of the numbers below n
+pub mem-below : (n x : ℕ) → Mem x (upFrom 0 n) ↔ (x < n)
+mem-below n x = (
+  λ m. omega (arith, mem-upFrom 0 n x .0 m .1),
+  λ h. mem-upFrom 0 n x .1 (omega arith, omega arith),
+)
+
 -- no number below the first with p has it
 first-smaller : (p : ℕ → Bool) (a n x : ℕ) → first p (upFrom a n) ≡ some x → (y : ℕ) → a ≤ y → y < x → p y ≡ false
 unfolding upFrom
@@ -197,25 +204,19 @@ pub record Least (p : ℕ → Bool) (n x : ℕ) : Type 0 where
   pub smaller : (y : ℕ) → y < x → p y ≡ false
 
 module _ (p : ℕ → Bool) (n : ℕ) where
-  mem-below : (x : ℕ) → x < n → Mem x (upFrom 0 n)
-  mem-below x h = mem-upFrom 0 n x .1 (omega arith, omega arith)
-
-  below-mem : (x : ℕ) → Mem x (upFrom 0 n) → x < n
-  below-mem x m = omega (arith, mem-upFrom 0 n x .0 m .1)
-
   pub all-iff-below : (all p (upFrom 0 n) ≡ true) ↔ ((x : ℕ) → x < n → p x ≡ true)
   all-iff-below = (
-    λ e x h. all-true p (upFrom 0 n) e x (mem-below x h),
-    λ f. all-of-members p (upFrom 0 n) (λ x m. f x (below-mem x m)),
+    λ e x h. all-true p (upFrom 0 n) e x (mem-below n x .1 h),
+    λ f. all-of-members p (upFrom 0 n) (λ x m. f x (mem-below n x .0 m)),
   )
 
   pub first-least : (x : ℕ) → first p (upFrom 0 n) ≡ some x → Least p n x
   first-least x e =
       let r = first-some p (upFrom 0 n) x e in
-      record { below = below-mem x (r .0); holds = r .1; smaller = λ y h. first-smaller p 0 n x e y (omega arith) h }
+      record { below = mem-below n x .0 (r .0); holds = r .1; smaller = λ y h. first-smaller p 0 n x e y (omega arith) h }
 
   pub first-none-below : first p (upFrom 0 n) ≡ none → (x : ℕ) → x < n → p x ≡ false
-  first-none-below e x h = first-none p (upFrom 0 n) e x (mem-below x h)
+  first-none-below e x h = first-none p (upFrom 0 n) e x (mem-below n x .1 h)
 
 -- ---- found
 

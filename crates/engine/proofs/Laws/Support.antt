@@ -1,1 +1,116 @@
--- Laws of specs/Support. Assumes nothing.
+-- Laws of specs/Support: what a golden table holds, what a shared vector is, and that the nets that carry a table are the
+-- sound ones. Assumes nothing.
+use Prim.Native.Nat.{ℕ, zero, suc, _+_, _*_, _^_, _≤_, _<_}
+use mathlib.Core.Path.{_≡_, refl, sym, _∙_, ap, subst}
+use mathlib.Core.Logic.{_↔_, _⊎_, inl, inr, ⊎-elim}
+use mathlib.Core.List.{List, [], _∷_, _++_, map, List·Memᴰ as Mem}
+use mathlib.Core.Bool.{Bool, true, false}
+use mathlib.Core.Option.{Option, none, some}
+use native.Mathlib.Omega.{arith}
+use borrow.Author.Tests.{eqb-true, eq-eqb}
+use lib.Dec.{eqb}
+use lib.ListN.{length, getD}
+use Rattle.records.specs.Bytes.{upFrom, tabulate, all}
+use Rattle.records.specs.Netlist.{netAt}
+use Rattle.records.specs.Job.{Job}
+use Rattle.records.proofs.Laws.Bytes.{length-tabulate, getD-tabulate}
+use Rattle.engine.specs.Choice.{keep, first, found, orZero}
+use Rattle.engine.specs.Eval.{numberOf, allInputs, allVectors, oldValues, oldOutputs, goldenOutputs}
+use Rattle.engine.specs.Rectify.{rectifies}
+use Rattle.engine.specs.Support.{reading, giving, drivenBy, golden, Carries, shared, sound, tableOf, subsets}
+use Rattle.engine.proofs.Laws.Choice.{all-iff-below, all-true, all-of-members, all-false, mem-keep, mem-below, Least, first-least, first-none-below, found-some, found-none, found-first, same-iff-equal}
+
+module _ (j : Job) where
+  pub rectifies-iff-outputs : (x v : ℕ) → (rectifies j x v ≡ true) ↔ (oldOutputs j x v ≡ goldenOutputs j x)
+  unfolding rectifies
+  rectifies-iff-outputs x v = same-iff-equal (oldOutputs j x v) (goldenOutputs j x)
+
+  -- what holds of every input
+  pub all-inputs : (p : ℕ → Bool) → (all p (allInputs j) ≡ true) ↔ ((x : ℕ) → x < 2 ^ j .inputs → p x ≡ true)
+  unfolding allInputs
+  all-inputs p = all-iff-below p (2 ^ j .inputs)
+
+-- ---- golden tables
+
+module _ (j : Job) (is t : List ℕ) where
+  golden-rectifies : (golden j is t ≡ true) ↔ ((x : ℕ) → x < 2 ^ j .inputs → rectifies j x (drivenBy j is t x) ≡ true)
+  unfolding golden
+  golden-rectifies = all-inputs j (λ x. rectifies j x (drivenBy j is t x))
+
+  -- a table is golden where the driven old outputs are the golden ones at every input
+  pub golden-iff : (golden j is t ≡ true)
+      ↔ ((x : ℕ) → x < 2 ^ j .inputs → oldOutputs j x (drivenBy j is t x) ≡ goldenOutputs j x)
+  golden-iff = (
+    λ g x h. rectifies-iff-outputs j x (drivenBy j is t x) .0 (golden-rectifies .0 g x h),
+    λ f. golden-rectifies .1 (λ x h. rectifies-iff-outputs j x (drivenBy j is t x) .1 (f x h)),
+  )
+
+  -- .. where it holds, at each reading that some input gives, a vector that rectifies every input giving it
+  pub golden-iff-readings : (golden j is t ≡ true)
+      ↔ ((r y : ℕ) → y < 2 ^ j .inputs → reading j is y ≡ r
+      → (x : ℕ) → x < 2 ^ j .inputs → reading j is x ≡ r → rectifies j x (getD t r 0) ≡ true)
+  unfolding drivenBy
+  golden-iff-readings = (
+    λ g r y l q x h e. subst (λ (k : ℕ). rectifies j x (getD t k 0) ≡ true) e (golden-rectifies .0 g x h),
+    λ f. golden-rectifies .1 (λ x h. f (reading j is x) x h refl x h refl),
+  )
+
+-- ---- shared vectors
+
+-- vector v rectifies every input that gives reading r; some input giving it is not rectified by v
+abbrev pub RectifiesAll : Job → List ℕ → ℕ → ℕ → Type 0
+RectifiesAll j is r v = (x : ℕ) → x < 2 ^ j .inputs → reading j is x ≡ r → rectifies j x v ≡ true
+
+abbrev pub FailsSome : Job → List ℕ → ℕ → ℕ → Type 0
+FailsSome j is r v = (x : ℕ) × (x < 2 ^ j .inputs) × (reading j is x ≡ r) × (rectifies j x v ≡ false)
+
+-- v is the least vector that rectifies every input giving reading r
+pub record LeastShared (j : Job) (is : List ℕ) (r v : ℕ) : Type 0 where
+  pub below : v < 2 ^ j .targets
+  pub rectifies : RectifiesAll j is r v
+  pub smaller : (u : ℕ) → u < v → FailsSome j is r u
+
+module _ (j : Job) (is : List ℕ) (r : ℕ) where
+  pub mem-giving : (x : ℕ) → Mem x (giving j is r) ↔ ((x < 2 ^ j .inputs) × (reading j is x ≡ r))
+  unfolding giving allInputs
+  mem-giving x =
+      let k = mem-keep (λ y. eqb (reading j is y) r) (upFrom 0 (2 ^ j .inputs)) x in
+      let b = mem-below (2 ^ j .inputs) x in (
+        λ m. (b .0 (k .0 m .0), eqb-true (reading j is x) r (k .0 m .1)),
+        λ h. k .1 (b .1 (h .0), eq-eqb (reading j is x) r (h .1)),
+      )
+
+  rectifiesGiving : ℕ → Bool
+  rectifiesGiving v = all (λ x. rectifies j x v) (giving j is r)
+
+  rectifies-all : (v : ℕ) → rectifiesGiving v ≡ true → RectifiesAll j is r v
+  unfolding rectifiesGiving
+  rectifies-all v e x h q = all-true (λ y. rectifies j y v) (giving j is r) e x (mem-giving x .1 (h, q))
+
+  all-rectifies : (v : ℕ) → RectifiesAll j is r v → rectifiesGiving v ≡ true
+  unfolding rectifiesGiving
+  all-rectifies v f =
+      all-of-members (λ y. rectifies j y v) (giving j is r)
+      (λ x m. let k = mem-giving x .0 m in f x (k .0) (k .1))
+
+  fails-some : (v : ℕ) → rectifiesGiving v ≡ false → FailsSome j is r v
+  unfolding rectifiesGiving
+  fails-some v e =
+      let a = all-false (λ y. rectifies j y v) (giving j is r) e in
+      let k = mem-giving (a .0) .0 (a .1) in
+      (a .0, k .0, k .1, a .2)
+
+  pub shared-least : (v : ℕ) → shared j is r ≡ some v → LeastShared j is r v
+  unfolding shared allVectors rectifiesGiving
+  shared-least v e =
+      let l = first-least rectifiesGiving (2 ^ j .targets) v e in
+      record { below = l .below; rectifies = rectifies-all v (l .holds); smaller = λ u h. fails-some u (l .smaller u h) }
+
+  pub shared-none : shared j is r ≡ none → (v : ℕ) → v < 2 ^ j .targets → FailsSome j is r v
+  unfolding shared allVectors rectifiesGiving
+  shared-none e v h = fails-some v (first-none-below rectifiesGiving (2 ^ j .targets) e v h)
+
+  -- there is one where some vector rectifies every input giving the reading
+  pub found-shared : (v : ℕ) → v < 2 ^ j .targets → RectifiesAll j is r v → found (shared j is r) ≡ true
+  unfolding shared allVectors rectifiesGiving
+  found-shared v h f = found-first rectifiesGiving (2 ^ j .targets) v h (all-rectifies v f)
