@@ -9,7 +9,7 @@ use mathlib.Core.Option.{Option, none, some}
 use native.Mathlib.Omega.{arith}
 use borrow.Author.Tests.{eqb-true, eq-eqb}
 use lib.Dec.{eqb}
-use lib.ListN.{length, getD}
+use lib.ListN.{length, getD, length-map}
 use Rattle.records.specs.Bytes.{upFrom, tabulate, all}
 use Rattle.records.specs.Netlist.{netAt}
 use Rattle.records.specs.Job.{Job}
@@ -18,6 +18,7 @@ use Rattle.engine.specs.Choice.{keep, first, found, orZero}
 use Rattle.engine.specs.Eval.{numberOf, allInputs, allVectors, oldValues, oldOutputs, goldenOutputs}
 use Rattle.engine.specs.Rectify.{rectifies}
 use Rattle.engine.specs.Support.{reading, giving, drivenBy, golden, Carries, shared, sound, tableOf, subsets}
+use Rattle.engine.proofs.Laws.Eval.{bits-map, netAt-lt, oldValues-bits, numberOf-lt}
 use Rattle.engine.proofs.Laws.Choice.{all-iff-below, all-true, all-of-members, all-false, mem-keep, mem-below, Least, first-least, first-none-below, found-some, found-none, found-first, same-iff-equal}
 
 module _ (j : Job) where
@@ -29,6 +30,15 @@ module _ (j : Job) where
   pub all-inputs : (p : ℕ → Bool) → (all p (allInputs j) ≡ true) ↔ ((x : ℕ) → x < 2 ^ j .inputs → p x ≡ true)
   unfolding allInputs
   all-inputs p = all-iff-below p (2 ^ j .inputs)
+
+-- ---- readings
+
+pub reading-lt : (j : Job) (is : List ℕ) (x : ℕ) → reading j is x < 2 ^ length is
+unfolding reading
+reading-lt j is x =
+    let f : ℕ → ℕ = netAt (oldValues j x 0) in
+    subst (λ (k : ℕ). numberOf (map f is) < 2 ^ k) (length-map is f)
+    (numberOf-lt (bits-map f (netAt-lt (oldValues-bits j x 0)) is))
 
 -- ---- golden tables
 
@@ -114,3 +124,37 @@ module _ (j : Job) (is : List ℕ) (r : ℕ) where
   pub found-shared : (v : ℕ) → v < 2 ^ j .targets → RectifiesAll j is r v → found (shared j is r) ≡ true
   unfolding shared allVectors rectifiesGiving
   found-shared v h f = found-first rectifiesGiving (2 ^ j .targets) v h (all-rectifies v f)
+
+-- ---- sound supports
+
+module _ (j : Job) (is : List ℕ) where
+  pub sound-iff-found : (sound j is ≡ true) ↔ ((r : ℕ) → r < 2 ^ length is → found (shared j is r) ≡ true)
+  unfolding sound
+  sound-iff-found = all-iff-below (λ r. found (shared j is r)) (2 ^ length is)
+
+  length-tableOf : length (tableOf j is) ≡ 2 ^ length is
+  unfolding tableOf
+  length-tableOf = length-tabulate (2 ^ length is) (λ r. orZero (shared j is r))
+
+  getD-tableOf : (r : ℕ) → r < 2 ^ length is → getD (tableOf j is) r 0 ≡ orZero (shared j is r)
+  unfolding tableOf
+  getD-tableOf r h = getD-tabulate (2 ^ length is) (λ k. orZero (shared j is k)) r 0 h
+
+  -- the table of a sound support has at each reading the least vector that rectifies every input giving it
+  pub tableOf-least : sound j is ≡ true → (r : ℕ) → r < 2 ^ length is → LeastShared j is r (getD (tableOf j is) r 0)
+  tableOf-least s r h =
+      rw (getD-tableOf r h) (shared-least j is r (orZero (shared j is r)) (found-some (shared j is r) (sound-iff-found .0 s r h)))
+
+  pub golden-of-sound : sound j is ≡ true → golden j is (tableOf j is) ≡ true
+  golden-of-sound s =
+      golden-iff-readings j is (tableOf j is) .1
+      (λ r y l q. tableOf-least s r (subst (λ (k : ℕ). k < 2 ^ length is) q (reading-lt j is y)) .rectifies)
+
+  pub carries-of-sound : sound j is ≡ true → Carries j is
+  carries-of-sound s =
+      record {
+        table = tableOf j is;
+        entries = length-tableOf;
+        below = λ r h. tableOf-least s r (omega (arith, length-tableOf)) .below;
+        equal = golden-of-sound s;
+      }
