@@ -2,7 +2,7 @@
 use Prim.Native.Nat.{ℕ, zero, suc, _+_, _≤_, _<_}
 use mathlib.Core.Path.{_≡_, refl, sym, _∙_, ap, subst}
 use mathlib.Core.Logic.{_↔_, _⊎_, inl, inr, ⊎-elim}
-use mathlib.Core.List.{List, [], _∷_, List·Memᴰ as Mem, List·Memᴰ·head as here, List·Memᴰ·tail as there, List·Memᴰ·not-nil as not-nil, List·Memᴰ·cases-cons as cases-cons}
+use mathlib.Core.List.{List, [], _∷_, map, List·Memᴰ as Mem, List·Memᴰ·head as here, List·Memᴰ·tail as there, List·Memᴰ·not-nil as not-nil, List·Memᴰ·cases-cons as cases-cons}
 use mathlib.Core.Bool.{Bool, true, false, cond, _&&_, _||_, true≢false, false≢true}
 use mathlib.Core.Option.{Option, none, some, Option·some-injective as some-injective, Option·none-ne-some as none-ne-some, Option·some-ne-none as some-ne-none}
 use native.Mathlib.Omega.{arith}
@@ -149,6 +149,15 @@ module _ {A : Type 0} (p : A → Bool) where
       (λ (n : Mem x ys). first-none ys (sym (first-there y ys q) ∙ e) x n)
       (cases-cons m))
       (true-or-false (p y))
+
+-- ---- map
+
+pub map-agree : {A B : Type 0} (f g : A → B) (xs : List A) → ((x : A) → Mem x xs → f x ≡ g x) → map f xs ≡ map g xs
+map-agree f g [] h = refl
+map-agree f g (x ∷ xs) h =
+    let p : f x ≡ g x = h x (here refl) in
+    let q : map f xs ≡ map g xs = map-agree f g xs (λ y m. h y (there m)) in
+    cc
 
 -- ---- numbers from a up
 

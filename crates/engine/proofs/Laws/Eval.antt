@@ -1,6 +1,8 @@
 -- Laws of specs/Eval: the values of nets are 0 or 1, so a number made of k of them is below 2 ^ k. Assumes nothing.
 use Prim.Native.Nat.{ℕ, zero, suc, _+_, _*_, _^_, _<_}
-use mathlib.Core.List.{List, [], _∷_, _++_, map}
+use mathlib.Core.Path.{_≡_, sym, _∙_, ap}
+use mathlib.Core.Logic.{⊎-elim}
+use mathlib.Core.List.{List, [], _∷_, _++_, map, List·Memᴰ as Mem, List·Memᴰ·not-nil as not-nil, List·Memᴰ·cases-cons as cases-cons}
 use native.Mathlib.Nat.{pow-suc}
 use native.Mathlib.Omega.{arith}
 use lib.Dec.{lit<}
@@ -111,3 +113,14 @@ pub numberOf-lt : {bs : List ℕ} → Bits bs → numberOf bs < 2 ^ length bs
 unfolding numberOf
 numberOf-lt empty = omega arith
 numberOf-lt (more {v} {vs} h b) = omega (arith, numberOf-lt b, pow-suc 2 (length vs))
+
+-- two rows of bits with the same number are the same
+pub numberOf-agree : (f g : ℕ → ℕ) → ((i : ℕ) → f i < 2) → ((i : ℕ) → g i < 2) → (is : List ℕ)
+    → numberOf (map f is) ≡ numberOf (map g is) → (i : ℕ) → Mem i is → f i ≡ g i
+unfolding numberOf
+numberOf-agree f g l h [] e i m = absurd (not-nil m)
+numberOf-agree f g l h (k ∷ is) e i m =
+    ⊎-elim
+    (λ (q : i ≡ k). let p : f k ≡ g k = omega (arith, l k, h k) in ap f q ∙ p ∙ ap g (sym q))
+    (λ (n : Mem i is). numberOf-agree f g l h is (omega (arith, l k, h k)) i n)
+    (cases-cons m)

@@ -9,6 +9,7 @@ use mathlib.Core.Option.{Option, none, some}
 use native.Mathlib.Omega.{arith}
 use borrow.Author.Tests.{eqb-true, eq-eqb}
 use lib.Dec.{eqb}
+use lib.Pow.{pow-pos}
 use lib.ListN.{length, getD, length-map}
 use Rattle.records.specs.Bytes.{upFrom, tabulate, all}
 use Rattle.records.specs.Netlist.{netAt}
@@ -18,8 +19,8 @@ use Rattle.engine.specs.Choice.{keep, first, found, orZero}
 use Rattle.engine.specs.Eval.{numberOf, allInputs, allVectors, oldValues, oldOutputs, goldenOutputs}
 use Rattle.engine.specs.Rectify.{rectifies}
 use Rattle.engine.specs.Support.{reading, giving, drivenBy, golden, Carries, shared, sound, tableOf, subsets}
-use Rattle.engine.proofs.Laws.Eval.{bits-map, netAt-lt, oldValues-bits, numberOf-lt}
-use Rattle.engine.proofs.Laws.Choice.{all-iff-below, all-true, all-of-members, all-false, mem-keep, mem-below, Least, first-least, first-none-below, found-some, found-none, found-first, same-iff-equal}
+use Rattle.engine.proofs.Laws.Eval.{bits-map, netAt-lt, oldValues-bits, numberOf-lt, numberOf-agree}
+use Rattle.engine.proofs.Laws.Choice.{all-iff-below, all-true, all-of-members, all-false, mem-keep, mem-below, Least, first-least, first-none-below, found-some, found-none, found-first, same-iff-equal, map-agree, not-both, true-or-false}
 
 module _ (j : Job) where
   pub rectifies-iff-outputs : (x v : ℕ) → (rectifies j x v ≡ true) ↔ (oldOutputs j x v ≡ goldenOutputs j x)
@@ -39,6 +40,18 @@ reading-lt j is x =
     let f : ℕ → ℕ = netAt (oldValues j x 0) in
     subst (λ (k : ℕ). numberOf (map f is) < 2 ^ k) (length-map is f)
     (numberOf-lt (bits-map f (netAt-lt (oldValues-bits j x 0)) is))
+
+-- inputs that give the same reading of some nets give the same of the nets among them
+pub reading-among : (j : Job) (is ks : List ℕ) → ((i : ℕ) → Mem i is → Mem i ks) → (x y : ℕ)
+    → reading j ks x ≡ reading j ks y → reading j is x ≡ reading j is y
+unfolding reading
+reading-among j is ks s x y e =
+    let f : ℕ → ℕ = netAt (oldValues j x 0) in
+    let g : ℕ → ℕ = netAt (oldValues j y 0) in
+    ap numberOf
+    (map-agree f g is
+    (λ i m.
+    numberOf-agree f g (netAt-lt (oldValues-bits j x 0)) (netAt-lt (oldValues-bits j y 0)) ks e i (s i m)))
 
 -- ---- golden tables
 
@@ -158,3 +171,26 @@ module _ (j : Job) (is : List ℕ) where
         below = λ r h. tableOf-least s r (omega (arith, length-tableOf)) .below;
         equal = golden-of-sound s;
       }
+
+  pub sound-of-carries : Carries j is → sound j is ≡ true
+  sound-of-carries c =
+      sound-iff-found .1
+      (λ r h.
+      found-shared j is r (getD (c .table) r 0) (c .below r (omega (arith, c .entries)))
+      (λ x l q. golden-iff-readings j is (c .table) .0 (c .equal) r x l q x l q))
+
+  pub carries-iff-sound : Carries j is ↔ (sound j is ≡ true)
+  carries-iff-sound = (sound-of-carries, carries-of-sound)
+
+-- more nets are sound where some of them are
+pub sound-mono : (j : Job) (is ks : List ℕ) → ((i : ℕ) → Mem i is → Mem i ks) → sound j is ≡ true → sound j ks ≡ true
+sound-mono j is ks s e = sound-iff-found j ks .1 (λ r h. ⊎-elim (λ q. q) (λ q. absurd (clash r q)) (true-or-false (found (shared j ks r))))
+  where
+    clash : (r : ℕ) → found (shared j ks r) ≡ false → ⊥
+    clash r q =
+        let fails = shared-none j ks r (found-none (shared j ks r) q) in
+        let a = fails 0 (pow-pos (j .targets)) in
+        let y : ℕ = a .0 in
+        let t = tableOf-least j is e (reading j is y) (reading-lt j is y) in
+        let b = fails (getD (tableOf j is) (reading j is y) 0) (t .below) in
+        not-both (t .rectifies (b .0) (b .1) (reading-among j is ks s (b .0) y (b .2 ∙ sym (a .2)))) (b .3)
