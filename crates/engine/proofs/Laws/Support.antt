@@ -3,7 +3,7 @@
 use Prim.Native.Nat.{ℕ, zero, suc, _+_, _*_, _^_, _≤_, _<_}
 use mathlib.Core.Path.{_≡_, refl, sym, _∙_, ap, subst}
 use mathlib.Core.Logic.{_↔_, _⊎_, inl, inr, ⊎-elim}
-use mathlib.Core.List.{List, [], _∷_, _++_, map, List·Memᴰ as Mem}
+use mathlib.Core.List.{List, [], _∷_, _++_, map, List·Memᴰ as Mem, List·Memᴰ·head as here, List·Memᴰ·tail as there, List·Memᴰ·cases-cons as cases-cons, List·Memᴰ·append-cases as append-cases, List·Memᴰ·eq-of-singleton as eq-of-singleton, Memᴰ·append-left as mem-append-left, Memᴰ·map as mem-map, Memᴰ·of-map as mem-of-map}
 use mathlib.Core.Bool.{Bool, true, false}
 use mathlib.Core.Option.{Option, none, some}
 use native.Mathlib.Omega.{arith}
@@ -194,3 +194,32 @@ sound-mono j is ks s e = sound-iff-found j ks .1 (λ r h. ⊎-elim (λ q. q) (λ
         let t = tableOf-least j is e (reading j is y) (reading-lt j is y) in
         let b = fails (getD (tableOf j is) (reading j is y) 0) (t .below) in
         not-both (t .rectifies (b .0) (b .1) (reading-among j is ks s (b .0) y (b .2 ∙ sym (a .2)))) (b .3)
+
+-- ---- subsets
+
+pub subsets-among : (ks is : List ℕ) → Mem is (subsets ks) → (i : ℕ) → Mem i is → Mem i ks
+unfolding subsets
+subsets-among [] is m i n = subst (Mem i) (eq-of-singleton m) n
+subsets-among (k ∷ ks) is m i n =
+    ⊎-elim
+    (λ (a : Mem is (map (λ (ls : List ℕ). k ∷ ls) (subsets ks))).
+    let r = mem-of-map (λ (ls : List ℕ). k ∷ ls) (subsets ks) a in
+    ⊎-elim
+    (λ (q : i ≡ k). here q)
+    (λ (b : Mem i (r .0)). there (subsets-among ks (r .0) (r .1) i b))
+    (cases-cons (subst (Mem i) (sym (r .2)) n)))
+    (λ (a : Mem is (subsets ks)). there (subsets-among ks is a i n))
+    (append-cases (map (λ (ls : List ℕ). k ∷ ls) (subsets ks)) m)
+
+pub subsets-self : (ks : List ℕ) → Mem ks (subsets ks)
+unfolding subsets
+subsets-self [] = here refl
+subsets-self (k ∷ ks) = mem-append-left (subsets ks) (mem-map (λ (ls : List ℕ). k ∷ ls) (subsets-self ks))
+
+-- all candidates together are sound exactly where some set of them carries a table
+pub sound-iff-subset-carries : (j : Job) (ks : List ℕ)
+    → (sound j ks ≡ true) ↔ ((is : List ℕ) × Mem is (subsets ks) × Carries j is)
+sound-iff-subset-carries j ks = (
+  λ s. (ks, subsets-self ks, carries-of-sound j ks s),
+  λ c. sound-mono j (c .0) ks (subsets-among ks (c .0) (c .1)) (sound-of-carries j (c .0) (c .2)),
+)
