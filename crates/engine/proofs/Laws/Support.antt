@@ -8,18 +8,19 @@ use mathlib.Core.Bool.{Bool, true, false}
 use mathlib.Core.Option.{Option, none, some}
 use native.Mathlib.Omega.{arith}
 use borrow.Author.Tests.{eqb-true, eq-eqb}
-use lib.Dec.{eqb}
+use lib.Dec.{ltb, eqb}
 use lib.Pow.{pow-pos}
 use lib.ListN.{length, getD, length-map}
 use Rattle.records.specs.Bytes.{upFrom, tabulate, all}
-use Rattle.records.specs.Netlist.{netAt}
-use Rattle.records.specs.Job.{Job}
-use Rattle.records.proofs.Laws.Bytes.{length-tabulate, getD-tabulate}
+use Rattle.records.specs.Netlist.{netAt, fanout}
+use Rattle.records.specs.Job.{Job, Candidate}
+use Rattle.records.specs.Refusal.{oldNets, ascending, candidateGood, candidatesGood}
+use Rattle.records.proofs.Laws.Bytes.{and-right, length-tabulate, getD-tabulate}
 use Rattle.engine.specs.Choice.{keep, first, found, orZero}
 use Rattle.engine.specs.Eval.{numberOf, allInputs, allVectors, oldValues, oldOutputs, goldenOutputs}
 use Rattle.engine.specs.Rectify.{rectifies}
-use Rattle.engine.specs.Support.{reading, giving, drivenBy, golden, Carries, shared, sound, tableOf, subsets}
-use Rattle.engine.proofs.Laws.Eval.{bits-map, netAt-lt, oldValues-bits, numberOf-lt, numberOf-agree}
+use Rattle.engine.specs.Support.{reading, giving, drivenBy, golden, Carries, shared, sound, tableOf, subsets, candidateNets}
+use Rattle.engine.proofs.Laws.Eval.{bits-map, netAt-lt, oldValues-bits, numberOf-lt, numberOf-agree, oldValues-agree}
 use Rattle.engine.proofs.Laws.Choice.{all-iff-below, all-true, all-of-members, all-false, mem-keep, mem-below, Least, first-least, first-none-below, found-some, found-none, found-first, same-iff-equal, map-agree, not-both, true-or-false}
 
 module _ (j : Job) where
@@ -223,3 +224,37 @@ sound-iff-subset-carries j ks = (
   λ s. (ks, subsets-self ks, carries-of-sound j ks s),
   λ c. sound-mono j (c .0) ks (subsets-among ks (c .0) (c .1)) (sound-of-carries j (c .0) (c .2)),
 )
+
+-- ---- candidates
+
+module _ (j : Job) where
+  abbrev marks : List ℕ
+  marks = fanout (j .inputs) (j .targets) (j .old .gates)
+
+  candidateGood-unmarked : (i : ℕ) → candidateGood j i ≡ true → netAt marks i ≡ 0
+  unfolding candidateGood
+  candidateGood-unmarked i e = eqb-true (netAt marks i) 0 (and-right (ltb i (oldNets j)) (eqb (netAt marks i) 0) e)
+
+module _ (j : Job) (h : candidatesGood j ≡ true) where
+  -- no target leads to a candidate
+  pub candidate-unmarked : (i : ℕ) → Mem i (candidateNets j) → netAt (marks j) i ≡ 0
+  unfolding candidatesGood candidateNets
+  candidate-unmarked i m =
+      let p : Candidate → Bool = λ c. candidateGood j (c .net) in
+      let r = mem-of-map (λ (c : Candidate). c .net) (j .candidates) m in
+      let g = and-right (ascending (candidateNets j)) (all p (j .candidates)) h in
+      subst (λ (k : ℕ). netAt (marks j) k ≡ 0) (r .2)
+      (candidateGood-unmarked j (r .0 .net) (all-true p (j .candidates) g (r .0) (r .1)))
+
+  -- so the vector has no say on a candidate's value
+  pub candidate-value : (x v i : ℕ) → Mem i (candidateNets j) → netAt (oldValues j x v) i ≡ netAt (oldValues j x 0) i
+  candidate-value x v i m = oldValues-agree j x v 0 i (candidate-unmarked i m)
+
+  -- .. and none on the reading of a support
+  pub reading-vector : (is : List ℕ) → Mem is (subsets (candidateNets j)) → (x v : ℕ)
+      → numberOf (map (netAt (oldValues j x v)) is) ≡ reading j is x
+  unfolding reading
+  reading-vector is s x v =
+      ap numberOf
+      (map-agree (netAt (oldValues j x v)) (netAt (oldValues j x 0)) is
+      (λ i m. candidate-value x v i (subsets-among (candidateNets j) is s i m)))
