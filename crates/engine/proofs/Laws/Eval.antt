@@ -1,5 +1,6 @@
--- Laws of specs/Eval: the values of nets are 0 or 1, so a number made of k of them is below 2 ^ k. Assumes nothing.
-use Prim.Native.Nat.{ℕ, zero, suc, _+_, _*_, _^_, _<_}
+-- Laws of specs/Eval: the values of nets are 0 or 1, so a number made of k of them is below 2 ^ k; and the vector has no say
+-- on a net that no target leads to. Assumes nothing.
+use Prim.Native.Nat.{ℕ, zero, suc, _^_, _<_}
 use mathlib.Core.Path.{_≡_, refl, sym, _∙_, ap}
 use mathlib.Core.Logic.{⊎-elim}
 use mathlib.Core.List.{List, [], _∷_, _++_, map, List·Memᴰ as Mem, List·Memᴰ·not-nil as not-nil, List·Memᴰ·cases-cons as cases-cons}
@@ -115,7 +116,7 @@ unfolding numberOf
 numberOf-lt bits-nil = omega arith
 numberOf-lt (bits-cons {v} {vs} h b) = omega (arith, numberOf-lt b, pow-suc 2 (length vs))
 
--- two rows of bits with the same number are the same
+-- where two rows of bits make the same number, they agree at each place
 pub numberOf-agree : (f g : ℕ → ℕ) → ((i : ℕ) → f i < 2) → ((i : ℕ) → g i < 2) → (is : List ℕ)
     → numberOf (map f is) ≡ numberOf (map g is) → (i : ℕ) → Mem i is → f i ≡ g i
 unfolding numberOf
@@ -187,4 +188,7 @@ oldValues-agree j x v w i e =
     agree-append
     (leaves-agree 0 (λ k. bit k x) (λ k. bit k x) (λ k z. refl) 0 n)
     (leaves-agree 1 (λ k. bit k v) (λ k. bit k w) (λ k z. let f : ⊥ = omega arith in absurd f) 0 m) in
-    netAt-agree (extended-agree (replicate n 0 ++ replicate m 1) (bits n x ++ bits m v) (bits n x ++ bits m w) a (j .old .gates)) i e
+    netAt-agree
+    (extended-agree (replicate n 0 ++ replicate m 1) (bits n x ++ bits m v) (bits n x ++ bits m w) a (j .old .gates))
+    i
+    e

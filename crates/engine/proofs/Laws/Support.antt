@@ -1,27 +1,27 @@
--- Laws of specs/Support: what a golden table holds, what a shared vector is, and that the nets that carry a table are the
--- sound ones. Assumes nothing.
-use Prim.Native.Nat.{ℕ, zero, suc, _+_, _*_, _^_, _≤_, _<_}
+-- Laws of specs/Support: what a golden table holds, what a shared vector is, that the nets that carry a table are the sound
+-- ones, and that the vector has no say on a reading of candidates. Assumes nothing.
+use Prim.Native.Nat.{ℕ, _^_, _<_}
 use mathlib.Core.Path.{_≡_, refl, sym, _∙_, ap, subst}
-use mathlib.Core.Logic.{_↔_, _⊎_, inl, inr, ⊎-elim}
-use mathlib.Core.List.{List, [], _∷_, _++_, map, List·Memᴰ as Mem, List·Memᴰ·head as here, List·Memᴰ·tail as there, List·Memᴰ·cases-cons as cases-cons, List·Memᴰ·append-cases as append-cases, List·Memᴰ·eq-of-singleton as eq-of-singleton, Memᴰ·append-left as mem-append-left, Memᴰ·map as mem-map, Memᴰ·of-map as mem-of-map}
+use mathlib.Core.Logic.{_↔_, ⊎-elim}
+use mathlib.Core.List.{List, [], _∷_, map, List·Memᴰ as Mem, List·Memᴰ·head as here, List·Memᴰ·tail as there, List·Memᴰ·cases-cons as cases-cons, List·Memᴰ·append-cases as append-cases, List·Memᴰ·eq-of-singleton as eq-of-singleton, Memᴰ·append-left as mem-append-left, Memᴰ·map as mem-map, Memᴰ·of-map as mem-of-map}
 use mathlib.Core.Bool.{Bool, true, false}
-use mathlib.Core.Option.{Option, none, some}
+use mathlib.Core.Option.{none, some}
 use native.Mathlib.Omega.{arith}
 use borrow.Author.Tests.{eqb-true, eq-eqb}
 use lib.Dec.{ltb, eqb}
 use lib.Pow.{pow-pos}
 use lib.ListN.{length, getD, length-map}
-use Rattle.records.specs.Bytes.{upFrom, tabulate, all}
+use Rattle.records.specs.Bytes.{upFrom, all}
 use Rattle.records.specs.Netlist.{netAt, fanout}
 use Rattle.records.specs.Job.{Job, Candidate}
 use Rattle.records.specs.Refusal.{oldNets, ascending, candidateGood, candidatesGood}
 use Rattle.records.proofs.Laws.Bytes.{and-right, length-tabulate, getD-tabulate}
-use Rattle.engine.specs.Choice.{keep, first, found, orZero}
+use Rattle.engine.specs.Choice.{found, orZero}
 use Rattle.engine.specs.Eval.{numberOf, allInputs, allVectors, oldValues, oldOutputs, goldenOutputs}
 use Rattle.engine.specs.Rectify.{rectifies}
 use Rattle.engine.specs.Support.{reading, giving, drivenBy, golden, Carries, shared, sound, tableOf, subsets, candidateNets}
 use Rattle.engine.proofs.Laws.Eval.{bits-map, netAt-lt, oldValues-bits, numberOf-lt, numberOf-agree, oldValues-agree}
-use Rattle.engine.proofs.Laws.Choice.{all-iff-below, all-true, all-of-members, all-false, mem-keep, mem-below, Least, first-least, first-none-below, found-some, found-none, found-first, same-iff-equal, map-agree, not-both, true-or-false}
+use Rattle.engine.proofs.Laws.Choice.{all-iff-below, all-true, all-of-members, all-false, mem-keep, mem-below, first-least, first-none-below, found-some, found-none, found-first, same-iff-equal, map-agree, not-both, true-or-false}
 
 module _ (j : Job) where
   pub rectifies-iff-outputs : (x v : ℕ) → (rectifies j x v ≡ true) ↔ (oldOutputs j x v ≡ goldenOutputs j x)
@@ -146,18 +146,19 @@ module _ (j : Job) (is : List ℕ) where
   unfolding sound
   sound-iff-found = all-iff-below (λ r. found (shared j is r)) (2 ^ length is)
 
-  length-tableOf : length (tableOf j is) ≡ 2 ^ length is
+  pub length-tableOf : length (tableOf j is) ≡ 2 ^ length is
   unfolding tableOf
   length-tableOf = length-tabulate (2 ^ length is) (λ r. orZero (shared j is r))
 
-  getD-tableOf : (r : ℕ) → r < 2 ^ length is → getD (tableOf j is) r 0 ≡ orZero (shared j is r)
+  pub getD-tableOf : (r : ℕ) → r < 2 ^ length is → getD (tableOf j is) r 0 ≡ orZero (shared j is r)
   unfolding tableOf
   getD-tableOf r h = getD-tabulate (2 ^ length is) (λ k. orZero (shared j is k)) r 0 h
 
   -- the table of a sound support has at each reading the least vector that rectifies every input giving it
   pub tableOf-least : sound j is ≡ true → (r : ℕ) → r < 2 ^ length is → LeastShared j is r (getD (tableOf j is) r 0)
   tableOf-least s r h =
-      rw (getD-tableOf r h) (shared-least j is r (orZero (shared j is r)) (found-some (shared j is r) (sound-iff-found .0 s r h)))
+      let o = shared j is r in
+      rw (getD-tableOf r h) (shared-least j is r (orZero o) (found-some o (sound-iff-found .0 s r h)))
 
   pub golden-of-sound : sound j is ≡ true → golden j is (tableOf j is) ≡ true
   golden-of-sound s =
@@ -185,7 +186,9 @@ module _ (j : Job) (is : List ℕ) where
 
 -- more nets are sound where some of them are
 pub sound-mono : (j : Job) (is ks : List ℕ) → ((i : ℕ) → Mem i is → Mem i ks) → sound j is ≡ true → sound j ks ≡ true
-sound-mono j is ks s e = sound-iff-found j ks .1 (λ r h. ⊎-elim (λ q. q) (λ q. absurd (clash r q)) (true-or-false (found (shared j ks r))))
+sound-mono j is ks s e =
+    sound-iff-found j ks .1
+    (λ r h. ⊎-elim (λ q. q) (λ q. absurd (clash r q)) (true-or-false (found (shared j ks r))))
   where
     clash : (r : ℕ) → found (shared j ks r) ≡ false → ⊥
     clash r q =
@@ -217,7 +220,7 @@ unfolding subsets
 subsets-self [] = here refl
 subsets-self (k ∷ ks) = mem-append-left (subsets ks) (mem-map (λ (ls : List ℕ). k ∷ ls) (subsets-self ks))
 
--- all candidates together are sound exactly where some set of them carries a table
+-- nets, as all candidates together, are sound exactly where some set of them carries a table
 pub sound-iff-subset-carries : (j : Job) (ks : List ℕ)
     → (sound j ks ≡ true) ↔ ((is : List ℕ) × Mem is (subsets ks) × Carries j is)
 sound-iff-subset-carries j ks = (
