@@ -1,4 +1,7 @@
--- Laws of the definitions.
+-- Laws of the definitions, a file for each notion.
 pub mod Block
+pub mod Choice
 pub mod Eval
+pub mod EvalWords
+pub mod Support
 pub mod Word

@@ -1,3 +1,3 @@
--- The theorems about the definitions.
+-- The laws of the definitions, and the theorems about them.
 pub mod Cases
 pub mod Laws

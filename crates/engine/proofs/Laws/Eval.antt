@@ -1,90 +1,194 @@
--- Laws of evaluation on words: a turn of the loop over gates. Assumes nothing.
-use Prim.Native.Nat.{ℕ, zero, suc, _+_, _≤_, _<_}
+-- Laws of specs/Eval: the values of nets are 0 or 1, so a number made of k of them is below 2 ^ k; and the vector has no say
+-- on a net that no target leads to. Assumes nothing.
+use Prim.Native.Nat.{ℕ, zero, suc, _^_, _<_}
 use mathlib.Core.Path.{_≡_, refl, sym, _∙_, ap}
-use mathlib.Core.List.{List, [], _∷_, _++_, map}
-use mathlib.Core.Bool.{Bool, true, _&&_}
+use mathlib.Core.Logic.{⊎-elim}
+use mathlib.Core.List.{List, [], _∷_, _++_, map, List·Memᴰ as Mem, List·Memᴰ·not-nil as not-nil, List·Memᴰ·cases-cons as cases-cons}
+use native.Mathlib.Nat.{pow-suc}
 use native.Mathlib.Omega.{arith}
-use borrow.Author.Tests.{ltb-true}
-use lib.Dec.{ltb}
-use lib.ListN.{length, getD, take, drop, set, List·getD-map}
-use lib.Seq.{getD-take, take-suc-set, take-set-le, drop-set-lt}
-use Rattle.records.specs.Bytes.{tabulate, all}
-use Rattle.records.specs.Gate.{Gate, gateOf, arity, operands, gateValue}
-use Rattle.records.specs.Netlist.{netAt, extended, valueOf}
-use Rattle.records.specs.Refusal.{gateGood, gatesGood}
-use Rattle.records.proofs.Laws.Bytes.{and-left, and-right, all-cons, drop-tabulate}
-use Rattle.records.proofs.Laws.Gate.{gateGood-parts}
-use Rattle.engine.specs.Eval.{bit}
-use Rattle.engine.proofs.Laws.Word.{bit-zero}
+use lib.Dec.{lit<}
+use lib.ListN.{length, getD, replicate}
+use Rattle.records.specs.Bytes.{upFrom, tabulate}
+use Rattle.records.specs.Gate.{Gate, operands, conj, disj, parity, inverted, gateValue}
+use Rattle.records.specs.Netlist.{netAt, extended, valueOf, values, markOf, fanout}
+use Rattle.records.specs.Job.{Job}
+use Rattle.engine.specs.Eval.{bit, bits, numberOf, oldValues}
+use Rattle.engine.proofs.Laws.Choice.{map-agree}
 
-map-append : (f : ℕ → ℕ) (xs ys : List ℕ) → map f (xs ++ ys) ≡ map f xs ++ map f ys
-map-append f [] ys = refl
-map-append f (x ∷ xs) ys = ap (λ (l : List ℕ). f x ∷ l) (map-append f xs ys)
+-- ---- lists of 0 and 1
 
-map-take : (f : ℕ → ℕ) (n : ℕ) (xs : List ℕ) → map f (take n xs) ≡ take n (map f xs)
-map-take f zero xs = refl
-map-take f (suc n) [] = refl
-map-take f (suc n) (x ∷ xs) = ap (λ (l : List ℕ). f x ∷ l) (map-take f n xs)
+pub data Bits : List ℕ → Type 0 where
+  bits-nil : Bits []
+  bits-cons : {v : ℕ} {vs : List ℕ} → v < 2 → Bits vs → Bits (v ∷ vs)
 
--- ---- gates in a row
+pub getD-bits : {vs : List ℕ} → Bits vs → (i : ℕ) → getD vs i 0 < 2
+getD-bits bits-nil i = omega arith
+getD-bits (bits-cons h b) zero = h
+getD-bits (bits-cons h b) (suc i) = getD-bits b i
 
-module _ (n : ℕ) (g : ℕ → Gate) (i : ℕ) (h : i < n) where
-  pub good-both : (base : ℕ) → gatesGood (base + i) (drop i (tabulate n g)) ≡ true
-      → (gateGood (base + i) (g i) ≡ true) × (gatesGood (base + (i + 1)) (drop (i + 1) (tabulate n g)) ≡ true)
-  unfolding gatesGood
-  good-both base e =
-      let m : suc (base + i) ≡ base + (i + 1) = omega arith in
-      let rest = drop (i + 1) (tabulate n g) in
-      let q : (gateGood (base + i) (g i) && gatesGood (suc (base + i)) rest) ≡ true =
-        rw (drop-tabulate n g i h) at e in
-      (and-left (gateGood (base + i) (g i)) (gatesGood (suc (base + i)) rest) q,
-        ap (λ (k : ℕ). gatesGood k rest) (sym m) ∙ and-right (gateGood (base + i) (g i)) (gatesGood (suc (base + i)) rest) q)
+pub bits-append : {vs ws : List ℕ} → Bits vs → Bits ws → Bits (vs ++ ws)
+bits-append bits-nil c = c
+bits-append (bits-cons h b) c = bits-cons h (bits-append b c)
 
-  extended-step : (known : List ℕ)
-      → extended valueOf known (drop i (tabulate n g))
-      ≡ extended valueOf (known ++ (valueOf known (g i) ∷ [])) (drop (i + 1) (tabulate n g))
-  unfolding extended
-  extended-step known = rw (drop-tabulate n g i h)
+pub bits-map : {A : Type 0} (f : A → ℕ) → ((a : A) → f a < 2) → (xs : List A) → Bits (map f xs)
+bits-map f l [] = bits-nil
+bits-map f l (x ∷ xs) = bits-cons (l x) (bits-map f l xs)
 
--- ---- a gate's value from words
+-- ---- gates
 
-module _ (j net : ℕ) (nets : List ℕ) where
-  known-net : (x : ℕ) → x < net → netAt (map (bit j) (take net nets)) x ≡ bit j (getD nets x 0)
-  unfolding netAt
-  known-net x h =
-      ap (λ (d : ℕ). getD (map (bit j) (take net nets)) x d) (sym (bit-zero j))
-      ∙ List·getD-map (bit j) (take net nets) x 0
-      ∙ ap (bit j) (getD-take net nets x 0 h)
+conj-lt : (vs : List ℕ) → conj vs < 2
+unfolding conj
+conj-lt [] = omega arith
+conj-lt (v ∷ vs) = omega (arith, conj-lt vs)
 
-  known-nets : (is : List ℕ) → all (λ x. ltb x net) is ≡ true
-      → map (netAt (map (bit j) (take net nets))) is ≡ map (λ x. bit j (getD nets x 0)) is
-  known-nets [] e = refl
-  known-nets (x ∷ is) e =
-      let p = all-cons (λ x. ltb x net) x is e in
-      rw (known-net x (ltb-true x net (p .0)), known-nets is (p .1))
+disj-lt : {vs : List ℕ} → Bits vs → disj vs < 2
+unfolding disj
+disj-lt bits-nil = omega arith
+disj-lt (bits-cons h b) = omega (arith, disj-lt b)
 
-  -- the value of a good gate on the words' bits is the value that the definition gives it
-  pub word-value : (k a b : ℕ) → gateGood net (gateOf k a b) ≡ true
-      → gateValue k (take (arity k) (bit j (getD nets a 0) ∷ bit j (getD nets b 0) ∷ []))
-      ≡ valueOf (map (bit j) (take net nets)) (gateOf k a b)
-  unfolding valueOf operands gateOf
-  word-value k a b e =
-      ap (gateValue k)
-      (sym (map-take (λ x. bit j (getD nets x 0)) (arity k) (a ∷ b ∷ []))
-        ∙ sym (known-nets (take (arity k) (a ∷ b ∷ [])) (gateGood-parts net (gateOf k a b) e .0)))
+parity-lt : (vs : List ℕ) → parity vs < 2
+unfolding parity
+parity-lt [] = omega arith
+parity-lt (v ∷ vs) = omega arith
 
--- ---- a turn of the loop
+inverted-lt : (v : ℕ) → inverted v < 2
+unfolding inverted
+inverted-lt v = omega arith
 
-pub eval-turn : (n : ℕ) (g : ℕ → Gate) (i : ℕ) → i < n → (j base w : ℕ) (nets : List ℕ) → base + i < length nets
-    → bit j w ≡ valueOf (map (bit j) (take (base + i) nets)) (g i)
-    → extended valueOf (map (bit j) (take (base + (i + 1)) (set nets (base + i) w))) (drop (i + 1) (tabulate n g))
-    ≡ extended valueOf (map (bit j) (take (base + i) nets)) (drop i (tabulate n g))
-eval-turn n g i h j base w nets l e =
-    let m : base + (i + 1) ≡ suc (base + i) = omega arith in
-    let known = map (bit j) (take (base + i) nets) in
-    let p : map (bit j) (take (base + (i + 1)) (set nets (base + i) w)) ≡ known ++ (valueOf known (g i) ∷ []) =
-      ap (λ (k : ℕ). map (bit j) (take k (set nets (base + i) w))) m
-      ∙ ap (map (bit j)) (take-suc-set nets (base + i) w l)
-      ∙ map-append (bit j) (take (base + i) nets) (w ∷ [])
-      ∙ ap (λ (v : ℕ). known ++ (v ∷ [])) e in
-    ap (λ (l : List ℕ). extended valueOf l (drop (i + 1) (tabulate n g))) p ∙ sym (extended-step n g i h known)
+zero-lt : 0 < 2
+zero-lt = lit< tt
+
+one-lt : 1 < 2
+one-lt = lit< tt
+
+pub gateValue-lt : (k : ℕ) {vs : List ℕ} → Bits vs → gateValue k vs < 2
+unfolding gateValue
+gateValue-lt k {vs} b =
+    let v : ℕ = getD vs 0 0 in
+    getD-bits
+    (bits-cons zero-lt
+    (bits-cons one-lt
+    (bits-cons (getD-bits b 0)
+    (bits-cons (inverted-lt v)
+    (bits-cons (conj-lt vs)
+    (bits-cons (inverted-lt (conj vs))
+    (bits-cons (disj-lt b)
+    (bits-cons (inverted-lt (disj vs))
+    (bits-cons (parity-lt vs)
+    (bits-cons (inverted-lt (parity vs)) bits-nil))))))))))
+    k
+
+-- ---- values
+
+pub netAt-lt : {known : List ℕ} → Bits known → (i : ℕ) → netAt known i < 2
+unfolding netAt
+netAt-lt b i = getD-bits b i
+
+pub valueOf-lt : {known : List ℕ} → Bits known → (g : Gate) → valueOf known g < 2
+unfolding valueOf
+valueOf-lt {known} b g = gateValue-lt (g .kind) (bits-map (netAt known) (netAt-lt b) (operands g))
+
+pub values-bits : (leaves : List ℕ) → Bits leaves → (gs : List Gate) → Bits (values leaves gs)
+unfolding values extended
+values-bits leaves b [] = b
+values-bits leaves b (g ∷ gs) =
+    values-bits (leaves ++ (valueOf leaves g ∷ [])) (bits-append b (bits-cons (valueOf-lt b g) bits-nil)) gs
+
+pub bit-lt : (i x : ℕ) → bit i x < 2
+unfolding bit
+bit-lt i x = omega arith
+
+pub bits-bits : (k x : ℕ) → Bits (bits k x)
+unfolding bits tabulate
+bits-bits k x = bits-map (λ i. bit i x) (λ i. bit-lt i x) (upFrom 0 k)
+
+pub oldValues-bits : (j : Job) (x v : ℕ) → Bits (oldValues j x v)
+unfolding oldValues
+oldValues-bits j x v =
+    values-bits (bits (j .inputs) x ++ bits (j .targets) v)
+    (bits-append (bits-bits (j .inputs) x) (bits-bits (j .targets) v))
+    (j .old .gates)
+
+-- ---- numbers
+
+pub numberOf-lt : {bs : List ℕ} → Bits bs → numberOf bs < 2 ^ length bs
+unfolding numberOf
+numberOf-lt bits-nil = omega arith
+numberOf-lt (bits-cons {v} {vs} h b) = omega (arith, numberOf-lt b, pow-suc 2 (length vs))
+
+-- where two rows of bits make the same number, they agree at each place
+pub numberOf-agree : (f g : ℕ → ℕ) → ((i : ℕ) → f i < 2) → ((i : ℕ) → g i < 2) → (is : List ℕ)
+    → numberOf (map f is) ≡ numberOf (map g is) → (i : ℕ) → Mem i is → f i ≡ g i
+unfolding numberOf
+numberOf-agree f g l h [] e i m = absurd (not-nil m)
+numberOf-agree f g l h (k ∷ is) e i m =
+    ⊎-elim
+    (λ (q : i ≡ k). let p : f k ≡ g k = omega (arith, l k, h k) in ap f q ∙ p ∙ ap g (sym q))
+    (λ (n : Mem i is). numberOf-agree f g l h is (omega (arith, l k, h k)) i n)
+    (cases-cons m)
+
+-- ---- nets that no target leads to
+
+-- two lists of values have the same entry wherever the marks, the first list, have 0
+pub data Agree : List ℕ → List ℕ → List ℕ → Type 0 where
+  agree-nil : Agree [] [] []
+  agree-cons : {m v w : ℕ} {ms vs ws : List ℕ} → (m ≡ 0 → v ≡ w) → Agree ms vs ws → Agree (m ∷ ms) (v ∷ vs) (w ∷ ws)
+
+agree-append : {ms vs ws ms′ vs′ ws′ : List ℕ} → Agree ms vs ws → Agree ms′ vs′ ws′
+    → Agree (ms ++ ms′) (vs ++ vs′) (ws ++ ws′)
+agree-append agree-nil b = b
+agree-append (agree-cons h a) b = agree-cons h (agree-append a b)
+
+pub netAt-agree : {ms vs ws : List ℕ} → Agree ms vs ws → (i : ℕ) → netAt ms i ≡ 0 → netAt vs i ≡ netAt ws i
+unfolding netAt
+netAt-agree agree-nil i e = refl
+netAt-agree (agree-cons h a) zero e = h e
+netAt-agree (agree-cons h a) (suc i) e = netAt-agree a i e
+
+disj-zero : (f : ℕ → ℕ) (is : List ℕ) → disj (map f is) ≡ 0 → (i : ℕ) → Mem i is → f i ≡ 0
+unfolding disj
+disj-zero f [] e i m = absurd (not-nil m)
+disj-zero f (k ∷ is) e i m =
+    ⊎-elim
+    (λ (q : i ≡ k). let z : f k ≡ 0 = omega arith in ap f q ∙ z)
+    (λ (n : Mem i is). disj-zero f is (omega arith) i n)
+    (cases-cons m)
+
+-- a gate with mark 0 reads only nets with mark 0
+valueOf-agree : {ms vs ws : List ℕ} → Agree ms vs ws → (g : Gate) → markOf ms g ≡ 0 → valueOf vs g ≡ valueOf ws g
+unfolding markOf valueOf
+valueOf-agree {ms} {vs} {ws} a g e =
+    ap (gateValue (g .kind))
+    (map-agree (netAt vs) (netAt ws) (operands g) (λ i m. netAt-agree a i (disj-zero (netAt ms) (operands g) e i m)))
+
+extended-agree : (ms vs ws : List ℕ) → Agree ms vs ws → (gs : List Gate)
+    → Agree (extended markOf ms gs) (extended valueOf vs gs) (extended valueOf ws gs)
+unfolding extended
+extended-agree ms vs ws a [] = a
+extended-agree ms vs ws a (g ∷ gs) =
+    extended-agree (ms ++ (markOf ms g ∷ [])) (vs ++ (valueOf vs g ∷ [])) (ws ++ (valueOf ws g ∷ []))
+    (agree-append a (agree-cons (valueOf-agree a g) agree-nil))
+    gs
+
+-- leaves with the mark c: inputs have 0 and one value, targets have 1
+leaves-agree : (c : ℕ) (f g : ℕ → ℕ) → ((i : ℕ) → c ≡ 0 → f i ≡ g i) → (a n : ℕ)
+    → Agree (replicate n c) (map f (upFrom a n)) (map g (upFrom a n))
+unfolding upFrom
+leaves-agree c f g h a zero = agree-nil
+leaves-agree c f g h a (suc n) = agree-cons (h a) (leaves-agree c f g h (suc a) n)
+
+-- the vector has no say on a net that no target leads to
+pub oldValues-agree : (j : Job) (x v w i : ℕ) → netAt (fanout (j .inputs) (j .targets) (j .old .gates)) i ≡ 0
+    → netAt (oldValues j x v) i ≡ netAt (oldValues j x w) i
+unfolding oldValues values fanout bits tabulate
+oldValues-agree j x v w i e =
+    let n : ℕ = j .inputs in
+    let m : ℕ = j .targets in
+    let a =
+    agree-append
+    (leaves-agree 0 (λ k. bit k x) (λ k. bit k x) (λ k z. refl) 0 n)
+    (leaves-agree 1 (λ k. bit k v) (λ k. bit k w) (λ k z. let f : ⊥ = omega arith in absurd f) 0 m) in
+    netAt-agree
+    (extended-agree (replicate n 0 ++ replicate m 1) (bits n x ++ bits m v) (bits n x ++ bits m w) a (j .old .gates))
+    i
+    e

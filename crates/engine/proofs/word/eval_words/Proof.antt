@@ -20,7 +20,7 @@ use Rattle.records.proofs.Laws.Bytes.{length-tabulate, drop-tabulate-end}
 use Rattle.records.proofs.Laws.Gate.{slots-le}
 use Rattle.engine.specs.Eval.{bit}
 use Rattle.engine.specs.Inner.{Evaluable, Evaluated}
-use Rattle.engine.proofs.Laws.Eval.{good-both, word-value, eval-turn}
+use Rattle.engine.proofs.Laws.EvalWords.{good-both, word-value, eval-turn}
 use Rattle.engine.proofs.word.eval_words.Statement.{statement}
 use Rattle.engine.proofs.word.eval_words.Tie as tie
 
