@@ -8,5 +8,6 @@ pub mod Verdict
 pub mod Compare
 pub mod Tree
 pub mod Fit
+pub mod Claims
 pub mod Cases
 pub mod Inner
