@@ -4,4 +4,5 @@ pub mod Choice
 pub mod Eval
 pub mod EvalWords
 pub mod Support
+pub mod Verdict
 pub mod Word
