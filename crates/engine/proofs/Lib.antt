@@ -1,2 +1,3 @@
 -- The theorems about the definitions.
 pub mod Cases
+pub mod Laws

@@ -1,0 +1,3 @@
+-- Laws of the definitions, a file for each notion.
+pub mod Best
+pub mod Loop

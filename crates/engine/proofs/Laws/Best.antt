@@ -1,0 +1,1 @@
+-- Laws of the choice in specs/Support. Assumes nothing.
