@@ -7,9 +7,10 @@ use mathlib.Core.List.{List, [], _∷_, _++_, List·Memᴰ, List·Memᴰ·head, 
 use mathlib.Core.Bool.{Bool, true, false, not, _&&_, _||_, cond, true≢false}
 use mathlib.Core.Option.{Option, none, some}
 use native.Mathlib.Omega.{arith}
-use lib.Dec.{eqb}
+use lib.Dec.{eqb, ltb}
+use lib.Pow.{pow-pos}
 use lib.ListN.{length, length-append}
-use borrow.Author.Tests.{eqb-true, eqb-false, eq-eqb, not-true, not-false}
+use borrow.Author.Tests.{ltb-true, ltb-false, eqb-true, eqb-false, eq-eqb, not-true, not-false}
 use Rattle.records.specs.Bytes.{upFrom}
 use Rattle.records.specs.Job.{Job}
 use Rattle.records.proofs.Laws.Bytes.{and-left, and-right, and-both, false-of, length-upFrom}
@@ -124,6 +125,14 @@ first-some p a (suc n) x e =
     (bool-cases (eqb a y))))
     (bool-cases (p a))
 
+-- x is at most any number of which p fails, where p holds of each below x
+smallest-le : (p : ℕ → Bool) (x z : ℕ) → ((y : ℕ) → y < x → p y ≡ true) → p z ≡ false → x ≤ z
+smallest-le p x z h e =
+    ⊎-elim
+    (λ t. absurd (true≢false (sym (h z (ltb-true z x t)) ∙ e)))
+    (λ t. ltb-false z x t)
+    (bool-cases (ltb z x))
+
 -- ---- lists of distinct numbers
 
 abbrev pub Distinct : List ℕ → Type 0
@@ -210,3 +219,172 @@ rectifiable-iff j x =
     (rectifies j x)
     (upFrom-mem (r .0) 0 n (omega arith) (omega (arith, r .1)))
     (same-true (oldOutputs j x (r .0)) (goldenOutputs j x) .1 (r .2)))
+
+-- ---- rounds
+
+module _ (j : Job) (k : ℕ) (vs : List ℕ) where
+  pub rounds-done : first (unlisted j vs) (allInputs j) ≡ none → rounds j (suc k) vs ≡ record { vectors = vs; stuck = none }
+  unfolding rounds
+  rounds-done e = rw (e, rounds)
+
+  pub rounds-stuck : (x : ℕ) → first (unlisted j vs) (allInputs j) ≡ some x → first (rectifies j x) (allVectors j) ≡ none
+      → rounds j (suc k) vs ≡ record { vectors = vs; stuck = some x }
+  unfolding rounds
+  rounds-stuck x e f = rw (e, f, rounds)
+
+  pub rounds-again : (x v : ℕ) → first (unlisted j vs) (allInputs j) ≡ some x
+      → first (rectifies j x) (allVectors j) ≡ some v → rounds j (suc k) vs ≡ rounds j k (vs ++ (v ∷ []))
+  unfolding rounds
+  rounds-again x v e f = rw (e, f, rounds)
+
+-- what holds of the list in each round
+pub record Listing (j : Job) (vs : List ℕ) : Type 0 where
+  pub below : (v : ℕ) → List·Memᴰ v vs → v < 2 ^ j .targets
+  pub distinct : Distinct vs
+
+pub listing-start : (j : Job) → Listing j (0 ∷ [])
+listing-start j =
+    record {
+      below = λ v m. omega (arith, List·Memᴰ·eq-of-singleton m, pow-pos (j .targets));
+      distinct = (List·Memᴰ·not-nil, tt) }
+
+-- an input that no listed vector rectifies
+unlisted-not : (j : Job) (vs : List ℕ) (x v : ℕ) → unlisted j vs x ≡ true → List·Memᴰ v vs → rectifies j x v ≡ true → ⊥
+unfolding unlisted
+unlisted-not j vs x v u m r =
+    true≢false (sym (mem-any (rectifies j x) m r) ∙ not-true (any (rectifies j x) vs) u)
+
+-- the vector that a round appends is new: it rectifies an input that no listed one rectifies
+pub listing-round : (j : Job) (vs : List ℕ) (x v : ℕ) → Listing j vs
+    → first (unlisted j vs) (allInputs j) ≡ some x → first (rectifies j x) (allVectors j) ≡ some v
+    → Listing j (vs ++ (v ∷ []))
+unfolding allInputs allVectors
+listing-round j vs x v h e f =
+    let a = first-some (unlisted j vs) 0 (2 ^ j .inputs) x e in
+    let b = first-some (rectifies j x) 0 (2 ^ j .targets) v f in
+    record {
+      below = λ w m.
+      ⊎-elim (h .below w) (λ s. omega (arith, List·Memᴰ·eq-of-singleton s, b .1)) (List·Memᴰ·append-cases vs m);
+      distinct = distinct-snoc vs v (h .distinct) (λ m. unlisted-not j vs x v (a .2) m (b .2)) }
+
+pub listing-length : (j : Job) (vs : List ℕ) → Listing j vs → length vs ≤ 2 ^ j .targets
+listing-length j vs h = distinct-length (2 ^ j .targets) vs (h .distinct) (h .below)
+
+-- how the loop ends: stuck is the smallest input that no listed vector rectifies, and no vector at all rectifies it
+pub record Finished (j : Job) (l : Listed) : Type 0 where
+  pub listing : Listing j (l .vectors)
+  pub earliest : first (unlisted j (l .vectors)) (allInputs j) ≡ l .stuck
+  pub hopeless : (x : ℕ) → l .stuck ≡ some x → rectifiable j x ≡ false
+
+some-inj : {x y : ℕ} → some x ≡ some y → x ≡ y
+some-inj e = cc
+
+-- rounds are enough, where they are more than the vectors not listed yet
+pub rounds-finished : (j : Job) (k : ℕ) (vs : List ℕ) → Listing j vs → 2 ^ j .targets < k + length vs
+    → Finished j (rounds j k vs)
+unfolding rectifiable
+rounds-finished j zero vs h l = let f : ⊥ = omega (arith, listing-length j vs h) in absurd f
+rounds-finished j (suc k) vs h l =
+    ⊎-elim
+    (λ e.
+    subst (Finished j) (sym (rounds-done j k vs e)) (record {
+      listing = h;
+      earliest = e;
+      hopeless = λ y q. absurd (none-some q) }))
+    (λ s.
+    let x = s .0 in
+    ⊎-elim
+    (λ n.
+    subst (Finished j) (sym (rounds-stuck j k vs x (s .1) n)) (record {
+      listing = h;
+      earliest = s .1;
+      hopeless = λ y q. rw (← some-inj q) (first-none (rectifies j x) (allVectors j) n) }))
+    (λ t.
+    let v = t .0 in
+    subst (Finished j) (sym (rounds-again j k vs x v (s .1) (t .1)))
+    (rounds-finished j k (vs ++ (v ∷ [])) (listing-round j vs x v h (s .1) (t .1)) (omega (arith, length-append vs (v ∷ [])))))
+    (option-cases (first (rectifies j x) (allVectors j))))
+    (option-cases (first (unlisted j vs) (allInputs j)))
+
+pub loop-finished : (j : Job) → Finished j (vectorLoop j)
+unfolding vectorLoop
+loop-finished j = rounds-finished j (2 ^ j .targets) (0 ∷ []) (listing-start j) (omega arith)
+
+-- ---- the loop
+
+-- each vector is listed once
+pub vectors-distinct : (j : Job) → Distinct (vectorLoop j .vectors)
+vectors-distinct j = loop-finished j .listing .distinct
+
+pub vectors-below : (j : Job) (v : ℕ) → List·Memᴰ v (vectorLoop j .vectors) → v < 2 ^ j .targets
+vectors-below j = loop-finished j .listing .below
+
+pub vectors-length : (j : Job) → length (vectorLoop j .vectors) ≤ 2 ^ j .targets
+vectors-length j = listing-length j (vectorLoop j .vectors) (loop-finished j .listing)
+
+module _ (j : Job) where
+  abbrev Rectified : ℕ → Type 0
+  Rectified x = (v : ℕ) × List·Memᴰ v (vectorLoop j .vectors) × (rectifies j x v ≡ true)
+
+  listed-of : (x : ℕ) → unlisted j (vectorLoop j .vectors) x ≡ false → Rectified x
+  unfolding unlisted
+  listed-of x u = any-mem (rectifies j x) (vectorLoop j .vectors) (not-false (any (rectifies j x) (vectorLoop j .vectors)) u)
+
+  -- where the loop is not stuck, each input has a listed vector that rectifies it
+  pub listed-of-none : vectorLoop j .stuck ≡ none → (x : ℕ) → x < 2 ^ j .inputs
+      → (v : ℕ) × List·Memᴰ v (vectorLoop j .vectors) × (rectifies j x v ≡ true)
+  unfolding allInputs
+  listed-of-none e x l =
+      let n = first-none (unlisted j (vectorLoop j .vectors)) (allInputs j) (loop-finished j .earliest ∙ e) in
+      listed-of x (false-of (unlisted j (vectorLoop j .vectors) x) (λ u.
+      true≢false
+      (sym (mem-any (unlisted j (vectorLoop j .vectors)) (upFrom-mem x 0 (2 ^ j .inputs) (omega arith) (omega arith)) u) ∙ n)))
+
+  -- where it is stuck at x, each input below x has one
+  pub listed-of-some : (x : ℕ) → vectorLoop j .stuck ≡ some x → (y : ℕ) → y < x
+      → (v : ℕ) × List·Memᴰ v (vectorLoop j .vectors) × (rectifies j y v ≡ true)
+  unfolding allInputs
+  listed-of-some x e y l =
+      let r = first-some (unlisted j (vectorLoop j .vectors)) 0 (2 ^ j .inputs) x (loop-finished j .earliest ∙ e) in
+      listed-of y (r .3 y (omega arith) l)
+
+  rectifiable-of-listed : (x : ℕ) → Rectified x → rectifiable j x ≡ true
+  unfolding rectifiable allVectors
+  rectifiable-of-listed x r =
+      mem-any
+      (rectifies j x)
+      (upFrom-mem (r .0) 0 (2 ^ j .targets) (omega arith) (omega (arith, vectors-below j (r .0) (r .1))))
+      (r .2)
+
+  smallest-of-stuck : (x : ℕ) → vectorLoop j .stuck ≡ some x
+      → (x < 2 ^ j .inputs) × (rectifiable j x ≡ false) × ((y : ℕ) → y < x → rectifiable j y ≡ true)
+  unfolding allInputs
+  smallest-of-stuck x e =
+      let r = first-some (unlisted j (vectorLoop j .vectors)) 0 (2 ^ j .inputs) x (loop-finished j .earliest ∙ e) in
+      (omega (arith, r .1), loop-finished j .hopeless x e, λ y l. rectifiable-of-listed y (listed-of-some x e y l))
+
+  -- the input at which the loop is stuck is the smallest that no vector rectifies ..
+  pub stuck-iff : (x : ℕ)
+      → (vectorLoop j .stuck ≡ some x)
+      ↔ ((x < 2 ^ j .inputs) × (rectifiable j x ≡ false) × ((y : ℕ) → y < x → rectifiable j y ≡ true))
+  stuck-iff x = (smallest-of-stuck x, λ h.
+      ⊎-elim
+      (λ e. absurd (true≢false (sym (rectifiable-of-listed x (listed-of-none e x (h .0))) ∙ h .1)))
+      (λ s.
+      let z = s .0 in
+      let r = smallest-of-stuck z (s .1) in
+      let a = smallest-le (rectifiable j) z x (r .2) (h .1) in
+      let b = smallest-le (rectifiable j) x z (h .2) (r .1) in
+      let q : z ≡ x = omega arith in
+      s .1 ∙ ap some q)
+      (option-cases (vectorLoop j .stuck)))
+
+  -- .. and it is not stuck exactly where each input has such a vector
+  pub stuck-none-iff : (vectorLoop j .stuck ≡ none) ↔ ((x : ℕ) → x < 2 ^ j .inputs → rectifiable j x ≡ true)
+  stuck-none-iff = (λ e x l. rectifiable-of-listed x (listed-of-none e x l), λ h.
+      ⊎-elim
+      (λ e. e)
+      (λ s.
+      let r = smallest-of-stuck (s .0) (s .1) in
+      absurd (true≢false (sym (h (s .0) (r .0)) ∙ r .1)))
+      (option-cases (vectorLoop j .stuck)))
