@@ -117,12 +117,16 @@ first-some p a (suc n) x e =
     let q : a ≡ x = (let r : some a ≡ some x = sym (first-hit p a (upFrom (suc a) n) h) ∙ e in cc) in
     (omega arith, omega arith, rw (← q) h, λ y l m. let f : ⊥ = omega arith in absurd f))
     (λ h.
-    let r = first-some p (suc a) n x (sym (first-miss p a (upFrom (suc a) n) h) ∙ e) in
-    (omega (arith, r .0), omega (arith, r .1), r .2, λ y l m.
-    ⊎-elim
-    (λ q. rw (← eqb-true a y q) h)
-    (λ q. let d = eqb-false a y q in r .3 y (omega arith) m)
-    (bool-cases (eqb a y))))
+    let r = first-some p (suc a) n x (sym (first-miss p a (upFrom (suc a) n) h) ∙ e) in (
+      omega (arith, r .0),
+      omega (arith, r .1),
+      r .2,
+      λ y l m.
+          ⊎-elim
+          (λ q. rw (← eqb-true a y q) h)
+          (λ q. let d = eqb-false a y q in r .3 y (omega arith) m)
+          (bool-cases (eqb a y)),
+    ))
     (bool-cases (p a))
 
 -- x is at most any number of which p fails, where p holds of each below x
@@ -141,12 +145,14 @@ Distinct (x ∷ xs) = (List·Memᴰ x xs → ⊥) × Distinct xs
 
 distinct-snoc : (xs : List ℕ) (v : ℕ) → Distinct xs → (List·Memᴰ v xs → ⊥) → Distinct (xs ++ (v ∷ []))
 distinct-snoc [] v d h = (List·Memᴰ·not-nil, tt)
-distinct-snoc (x ∷ xs) v d h =
-    (λ m.
-    ⊎-elim
-    (d .0)
-    (λ s. h (List·Memᴰ·head (sym (List·Memᴰ·eq-of-singleton s))))
-    (List·Memᴰ·append-cases xs m), distinct-snoc xs v (d .1) (λ m. h (List·Memᴰ·tail m)))
+distinct-snoc (x ∷ xs) v d h = (
+  λ m.
+      ⊎-elim
+      (d .0)
+      (λ s. h (List·Memᴰ·head (sym (List·Memᴰ·eq-of-singleton s))))
+      (List·Memᴰ·append-cases xs m),
+  distinct-snoc xs v (d .1) (λ m. h (List·Memᴰ·tail m)),
+)
 
 -- how many numbers below n are not in xs
 unfoldable missing : ℕ → List ℕ → ℕ
@@ -210,15 +216,16 @@ pub rectifiable-iff : (j : Job) (x : ℕ)
     → (rectifiable j x ≡ true) ↔ ((v : ℕ) × (v < 2 ^ j .targets) × (oldOutputs j x v ≡ goldenOutputs j x))
 unfolding rectifiable rectifies allVectors
 rectifiable-iff j x =
-    let n : ℕ = 2 ^ j .targets in
-    (λ e.
-    let r = any-mem (rectifies j x) (upFrom 0 n) e in
-    (r .0, omega (arith, upFrom-bounds (r .0) 0 n (r .1) .1), same-true (oldOutputs j x (r .0)) (goldenOutputs j x) .0 (r .2)),
-    λ r.
-    mem-any
-    (rectifies j x)
-    (upFrom-mem (r .0) 0 n (omega arith) (omega (arith, r .1)))
-    (same-true (oldOutputs j x (r .0)) (goldenOutputs j x) .1 (r .2)))
+    let n : ℕ = 2 ^ j .targets in (
+      λ e.
+          let r = any-mem (rectifies j x) (upFrom 0 n) e in
+          (r .0, omega (arith, upFrom-bounds (r .0) 0 n (r .1) .1), same-true (oldOutputs j x (r .0)) (goldenOutputs j x) .0 (r .2)),
+      λ r.
+          mem-any
+          (rectifies j x)
+          (upFrom-mem (r .0) 0 n (omega arith) (omega (arith, r .1)))
+          (same-true (oldOutputs j x (r .0)) (goldenOutputs j x) .1 (r .2)),
+    )
 
 -- ---- rounds
 
@@ -246,7 +253,8 @@ pub listing-start : (j : Job) → Listing j (0 ∷ [])
 listing-start j =
     record {
       below = λ v m. omega (arith, List·Memᴰ·eq-of-singleton m, pow-pos (j .targets));
-      distinct = (List·Memᴰ·not-nil, tt) }
+      distinct = (List·Memᴰ·not-nil, tt);
+    }
 
 -- an input that no listed vector rectifies
 unlisted-not : (j : Job) (vs : List ℕ) (x v : ℕ) → unlisted j vs x ≡ true → List·Memᴰ v vs → rectifies j x v ≡ true → ⊥
@@ -264,8 +272,9 @@ listing-round j vs x v h e f =
     let b = first-some (rectifies j x) 0 (2 ^ j .targets) v f in
     record {
       below = λ w m.
-      ⊎-elim (h .below w) (λ s. omega (arith, List·Memᴰ·eq-of-singleton s, b .1)) (List·Memᴰ·append-cases vs m);
-      distinct = distinct-snoc vs v (h .distinct) (λ m. unlisted-not j vs x v (a .2) m (b .2)) }
+          ⊎-elim (h .below w) (λ s. omega (arith, List·Memᴰ·eq-of-singleton s, b .1)) (List·Memᴰ·append-cases vs m);
+      distinct = distinct-snoc vs v (h .distinct) (λ m. unlisted-not j vs x v (a .2) m (b .2));
+    }
 
 pub listing-length : (j : Job) (vs : List ℕ) → Listing j vs → length vs ≤ 2 ^ j .targets
 listing-length j vs h = distinct-length (2 ^ j .targets) vs (h .distinct) (h .below)
@@ -290,7 +299,8 @@ rounds-finished j (suc k) vs h l =
     subst (Finished j) (sym (rounds-done j k vs e)) (record {
       listing = h;
       earliest = e;
-      hopeless = λ y q. absurd (none-some q) }))
+      hopeless = λ y q. absurd (none-some q);
+    }))
     (λ s.
     let x = s .0 in
     ⊎-elim
@@ -298,7 +308,8 @@ rounds-finished j (suc k) vs h l =
     subst (Finished j) (sym (rounds-stuck j k vs x (s .1) n)) (record {
       listing = h;
       earliest = s .1;
-      hopeless = λ y q. rw (← some-inj q) (first-none (rectifies j x) (allVectors j) n) }))
+      hopeless = λ y q. rw (← some-inj q) (first-none (rectifies j x) (allVectors j) n);
+    }))
     (λ t.
     let v = t .0 in
     subst (Finished j) (sym (rounds-again j k vs x v (s .1) (t .1)))
@@ -367,24 +378,30 @@ module _ (j : Job) where
   pub stuck-iff : (x : ℕ)
       → (vectorLoop j .stuck ≡ some x)
       ↔ ((x < 2 ^ j .inputs) × (rectifiable j x ≡ false) × ((y : ℕ) → y < x → rectifiable j y ≡ true))
-  stuck-iff x = (smallest-of-stuck x, λ h.
-      ⊎-elim
-      (λ e. absurd (true≢false (sym (rectifiable-of-listed x (listed-of-none e x (h .0))) ∙ h .1)))
-      (λ s.
-      let z = s .0 in
-      let r = smallest-of-stuck z (s .1) in
-      let a = smallest-le (rectifiable j) z x (r .2) (h .1) in
-      let b = smallest-le (rectifiable j) x z (h .2) (r .1) in
-      let q : z ≡ x = omega arith in
-      s .1 ∙ ap some q)
-      (option-cases (vectorLoop j .stuck)))
+  stuck-iff x = (
+    smallest-of-stuck x,
+    λ h.
+        ⊎-elim
+        (λ e. absurd (true≢false (sym (rectifiable-of-listed x (listed-of-none e x (h .0))) ∙ h .1)))
+        (λ s.
+        let z = s .0 in
+        let r = smallest-of-stuck z (s .1) in
+        let a = smallest-le (rectifiable j) z x (r .2) (h .1) in
+        let b = smallest-le (rectifiable j) x z (h .2) (r .1) in
+        let q : z ≡ x = omega arith in
+        s .1 ∙ ap some q)
+        (option-cases (vectorLoop j .stuck)),
+  )
 
   -- .. and it is not stuck exactly where each input has such a vector
   pub stuck-none-iff : (vectorLoop j .stuck ≡ none) ↔ ((x : ℕ) → x < 2 ^ j .inputs → rectifiable j x ≡ true)
-  stuck-none-iff = (λ e x l. rectifiable-of-listed x (listed-of-none e x l), λ h.
-      ⊎-elim
-      (λ e. e)
-      (λ s.
-      let r = smallest-of-stuck (s .0) (s .1) in
-      absurd (true≢false (sym (h (s .0) (r .0)) ∙ r .1)))
-      (option-cases (vectorLoop j .stuck)))
+  stuck-none-iff = (
+    λ e x l. rectifiable-of-listed x (listed-of-none e x l),
+    λ h.
+        ⊎-elim
+        (λ e. e)
+        (λ s.
+        let r = smallest-of-stuck (s .0) (s .1) in
+        absurd (true≢false (sym (h (s .0) (r .0)) ∙ r .1)))
+        (option-cases (vectorLoop j .stuck)),
+  )
