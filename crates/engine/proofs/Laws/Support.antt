@@ -18,10 +18,10 @@ use Rattle.records.specs.Refusal.{oldNets, ascending, candidateGood, candidates
 use Rattle.records.proofs.Laws.Bytes.{and-right, length-tabulate, getD-tabulate}
 use Rattle.engine.specs.Choice.{found, orZero}
 use Rattle.engine.specs.Eval.{numberOf, allInputs, allVectors, oldValues, oldOutputs, goldenOutputs}
-use Rattle.engine.specs.Rectify.{rectifies}
+use Rattle.engine.specs.Rectify.{rectifies, rectifiable}
 use Rattle.engine.specs.Support.{reading, giving, drivenBy, golden, Carries, shared, sound, tableOf, subsets, candidateNets}
 use Rattle.engine.proofs.Laws.Eval.{bits-map, netAt-lt, oldValues-bits, numberOf-lt, numberOf-agree, oldValues-agree}
-use Rattle.engine.proofs.Laws.Choice.{all-iff-below, all-true, all-of-members, all-false, mem-keep, mem-below, first-least, first-none-below, found-some, found-none, found-first, same-iff-equal, map-agree, not-both, true-or-false}
+use Rattle.engine.proofs.Laws.Choice.{any-of-member, all-iff-below, all-true, all-of-members, all-false, mem-keep, mem-below, first-least, first-none-below, found-some, found-none, found-first, same-iff-equal, map-agree, not-both, true-or-false}
 
 module _ (j : Job) where
   pub rectifies-iff-outputs : (x v : ℕ) → (rectifies j x v ≡ true) ↔ (oldOutputs j x v ≡ goldenOutputs j x)
@@ -261,3 +261,13 @@ module _ (j : Job) (h : candidatesGood j ≡ true) where
       ap numberOf
       (map-agree (netAt (oldValues j x v)) (netAt (oldValues j x 0)) is
       (λ i m. candidate-value x v i (subsets-among (candidateNets j) is s i m)))
+
+-- where the nets carry a table, every input is rectifiable
+pub rectifiable-of-carries : (j : Job) (is : List ℕ) → Carries j is → (x : ℕ) → x < 2 ^ j .inputs → rectifiable j x ≡ true
+unfolding rectifiable allVectors drivenBy
+rectifiable-of-carries j is c x h =
+    let t = c .table in
+    let r = reading j is x in
+    let e = golden-iff-readings j is t .0 (c .equal) r x h refl x h refl in
+    let l : r < length t = subst (λ (k : ℕ). r < k) (sym (c .entries)) (reading-lt j is x) in
+    any-of-member (rectifies j x) (upFrom 0 (2 ^ j .targets)) (getD t r 0) (mem-below (2 ^ j .targets) (getD t r 0) .1 (c .below r l)) e
