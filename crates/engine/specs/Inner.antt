@@ -1,18 +1,19 @@
 -- What the engine's private functions require and give. No public contract cites this file. Assumes nothing.
 --
 --   Evaluable ..     the places hold count gates, good from net base on, and there are words for all nets
+--   Loaded ..        leaves in words
 --   Evaluated ..     in each of 64 scenarios the words of the nets are the values that the leaves' words give; words beyond the
 --                    nets are as before
 use Prim.Native.Nat.{ℕ, _+_, _≤_, _<_}
 use mathlib.Core.Path.{_≡_}
-use mathlib.Core.List.{List, map}
+use mathlib.Core.List.{List, _++_, map}
 use mathlib.Core.Bool.{true}
 use lib.ListN.{length, take, drop}
 use Rattle.records.specs.Gate.{Gate}
 use Rattle.records.specs.Netlist.{values}
 use Rattle.records.specs.Refusal.{gatesGood}
 use Rattle.records.specs.Service.{gatesFrom}
-use Rattle.engine.specs.Eval.{bit}
+use Rattle.engine.specs.Eval.{bit, bits}
 
 pub record Evaluable (kinds firsts seconds : List ℕ) (count base words : ℕ) : Type 0 where
   pub kinds-held : count ≤ length kinds
@@ -27,3 +28,10 @@ pub record Evaluated (gs : List Gate) (base : ℕ) (before after : List ℕ) : T
   pub beyond : drop (base + length gs) after ≡ drop (base + length gs) before
   pub words : (i : ℕ) → i < 64
       → map (bit i) (take (base + length gs) after) ≡ values (map (bit i) (take base before)) gs
+
+-- from net at on, the words of k nets hold the bits of x j in scenario j; the words beyond them are as before
+pub record Loaded (at k : ℕ) (x : ℕ → ℕ) (before after : List ℕ) : Type 0 where
+  pub long : length after ≡ length before
+  pub beyond : drop (at + k) after ≡ drop (at + k) before
+  pub words : (j : ℕ) → j < 64
+      → map (bit j) (take (at + k) after) ≡ map (bit j) (take at before) ++ bits k (x j)

@@ -1,7 +1,9 @@
 // Blocks of 64 inputs: scenario j of block b is input 64 * b + j.
 ghost use mathlib.Core.Path.{_≡_};
-ghost use Prim.Native.Nat.{ℕ, _+_, _*_, _<_};
+ghost use Prim.Native.Nat.{ℕ, _+_, _*_, _≤_, _<_};
+ghost use lib.ListN.{length};
 ghost use Rattle.engine.specs.Eval.{bit};
+ghost use Rattle.engine.specs.Inner.{Loaded};
 
 // The word of a value that is the same in every scenario: the lowest bit of x.
 pub fn broadcast(x: usize) -> u64
@@ -25,5 +27,29 @@ pub fn input_word(i: usize, b: usize) -> u64
         3 => 0xff00_ff00_ff00_ff00,
         4 => 0xffff_0000_ffff_0000,
         _ => 0xffff_ffff_0000_0000,
+    }
+}
+
+// The words of the inputs in block b, from net 0 on.
+pub fn load_inputs(inputs: usize, b: usize, nets: &mut [u64])
+    requires { ⌜ (inputs < 64) × (inputs ≤ length (now nets)) ⌝ }
+    ensures { λ _. ⌜ Loaded 0 inputs (λ j. 64 * b + j) (now (nets .entry)) (now (nets .exit)) ⌝ }
+{
+    let mut i = 0usize;
+    while i < inputs {
+        nets[i] = input_word(i, b);
+        i += 1;
+    }
+}
+
+// The words of the targets at vector v, the same in every scenario, from net at on.
+pub fn load_targets(at: usize, targets: usize, v: usize, nets: &mut [u64])
+    requires { ⌜ (targets < 64) × (at + targets ≤ length (now nets)) ⌝ }
+    ensures { λ _. ⌜ Loaded at targets (λ j. v) (now (nets .entry)) (now (nets .exit)) ⌝ }
+{
+    let mut i = 0usize;
+    while i < targets {
+        nets[at + i] = broadcast(v >> i);
+        i += 1;
     }
 }

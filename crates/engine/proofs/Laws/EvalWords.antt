@@ -1,20 +1,22 @@
 -- Laws of evaluation on words: a turn of the loop over gates. Assumes nothing.
 use Prim.Native.Nat.{ℕ, zero, suc, _+_, _≤_, _<_}
 use mathlib.Core.Path.{_≡_, refl, sym, _∙_, ap}
-use mathlib.Core.List.{List, [], _∷_, _++_, map}
+use mathlib.Core.List.{List, [], _∷_, _++_, map, append-assoc, append-nil}
+use native.Mathlib.Nat.{add-zero}
 use mathlib.Core.Bool.{Bool, true, _&&_}
 use native.Mathlib.Omega.{arith}
 use borrow.Author.Tests.{ltb-true}
 use lib.Dec.{ltb}
-use lib.ListN.{length, getD, take, drop, set, List·getD-map}
+use lib.ListN.{length, getD, take, drop, set, length-set, List·getD-map}
 use lib.Seq.{getD-take, take-suc-set, take-set-le, drop-set-lt}
-use Rattle.records.specs.Bytes.{tabulate, all}
+use Rattle.records.specs.Bytes.{upFrom, tabulate, all}
 use Rattle.records.specs.Gate.{Gate, gateOf, arity, operands, gateValue}
 use Rattle.records.specs.Netlist.{netAt, extended, valueOf}
 use Rattle.records.specs.Refusal.{gateGood, gatesGood}
-use Rattle.records.proofs.Laws.Bytes.{and-left, and-right, all-cons, drop-tabulate}
+use Rattle.records.proofs.Laws.Bytes.{and-left, and-right, all-cons, drop-tabulate, tabulate-snoc}
 use Rattle.records.proofs.Laws.Gate.{gateGood-parts}
-use Rattle.engine.specs.Eval.{bit}
+use Rattle.engine.specs.Eval.{bit, bits}
+use Rattle.engine.specs.Inner.{Loaded}
 use Rattle.engine.proofs.Laws.Word.{bit-zero}
 
 map-append : (f : ℕ → ℕ) (xs ys : List ℕ) → map f (xs ++ ys) ≡ map f xs ++ map f ys
@@ -88,3 +90,40 @@ eval-turn n g i h j base w nets l e =
       ∙ map-append (bit j) (take (base + i) nets) (w ∷ [])
       ∙ ap (λ (v : ℕ). known ++ (v ∷ [])) e in
     ap (λ (l : List ℕ). extended valueOf l (drop (i + 1) (tabulate n g))) p ∙ sym (extended-step n g i h known)
+
+-- ---- leaves: k words so far from net at on, whose bits are those of x j
+
+pub record Loading (at k size : ℕ) (x : ℕ → ℕ) (before after : List ℕ) : Type 0 where
+  pub long : length after ≡ length before
+  pub beyond : drop (at + size) after ≡ drop (at + size) before
+  pub words : (j : ℕ) → j < 64
+      → map (bit j) (take (at + k) after) ≡ map (bit j) (take at before) ++ bits k (x j)
+
+pub loading-none : (at size : ℕ) (x : ℕ → ℕ) (d : List ℕ) → Loading at 0 size x d d
+unfolding bits tabulate upFrom
+loading-none at size x d =
+    record { long = refl; beyond = refl; words = λ j h. rw add-zero (sym (append-nil (map (bit j) (take at d)))) }
+
+-- a store of the next word
+pub loading-next : (at k size : ℕ) (x : ℕ → ℕ) (before after : List ℕ) (w : ℕ) → Loading at k size x before after
+    → k < size → at + size ≤ length before → ((j : ℕ) → j < 64 → bit j w ≡ bit k (x j))
+    → Loading at (k + 1) size x before (set after (at + k) w)
+unfolding bits
+loading-next at k size x before after w l h r e =
+    let m : at + (k + 1) ≡ suc (at + k) = omega arith in
+    record {
+      long = length-set after (at + k) w ∙ l .long;
+      beyond = drop-set-lt (at + size) after (at + k) w (omega arith) ∙ l .beyond;
+      words =
+        λ j q.
+        ap (λ (n : ℕ). map (bit j) (take n (set after (at + k) w))) m
+        ∙ ap (map (bit j)) (take-suc-set after (at + k) w (omega (arith, l .long)))
+        ∙ map-append (bit j) (take (at + k) after) (w ∷ [])
+        ∙ ap (λ (v : ℕ). map (bit j) (take (at + k) after) ++ (v ∷ [])) (e j q)
+        ∙ ap (λ (xs : List ℕ). xs ++ (bit k (x j) ∷ [])) (l .words j q)
+        ∙ append-assoc (map (bit j) (take at before)) (tabulate k (λ i. bit i (x j))) (bit k (x j) ∷ [])
+        ∙ ap (λ (xs : List ℕ). map (bit j) (take at before) ++ xs) (sym (tabulate-snoc k (λ i. bit i (x j)))) }
+
+pub loading-all : (at k size : ℕ) (x : ℕ → ℕ) (before after : List ℕ) → k ≡ size → Loading at k size x before after
+    → Loaded at size x before after
+loading-all at k size x before after e l = record { long = l .long; beyond = l .beyond; words = rw e at (l .words) }

@@ -5,7 +5,7 @@ use native.Mathlib.Omega.{arith}
 use lib.Arith.{digits-div}
 use lib.Bits.{bitAnd, bitOr, bitXor, differ, and-step, or-step, xor-step, and-shr, or-shr, xor-shr}
 use lib.Pow.{pow-pos, pow-add, split, shr-lt, ones-split}
-use native.Mathlib.Nat.{add-mul, mod-lt, zero-div}
+use native.Mathlib.Nat.{add-mul, mod-lt, zero-div, div-one}
 use mathlib.Core.List.{List, [], _∷_}
 use mathlib.Core.Logic.{_⊎_, inl, inr}
 use lib.ListN.{take}
@@ -80,6 +80,11 @@ pub bit-not : (i x : ℕ) → i < 64 → x < 2 ^ 64 → bit i ((2 ^ 64 - 1) - x)
 bit-not i x h l =
     let n : 1 + (63 - i) + i ≡ 64 = omega arith in
     rw n at (bit-complement (63 - i) i x (rw n l))
+
+-- the lowest bit after a shift
+pub bit-shift : (i x : ℕ) → bit 0 (x / 2 ^ i) ≡ bit i x
+unfolding bit
+bit-shift i x = ap (λ (y : ℕ). y % 2) (div-one (x / 2 ^ i))
 
 pub bit-zero : (i : ℕ) → bit i 0 ≡ 0
 unfolding bit
