@@ -5,6 +5,7 @@ pub mod Choice
 pub mod Eval
 pub mod EvalWords
 pub mod Loop
+pub mod Outputs
 pub mod Support
 pub mod Verdict
 pub mod Word

@@ -7,12 +7,15 @@
 use Prim.Native.Nat.{ℕ, _+_, _≤_, _<_}
 use mathlib.Core.Path.{_≡_}
 use mathlib.Core.List.{List, _++_, map}
-use mathlib.Core.Bool.{true}
-use lib.ListN.{length, take, drop}
+use mathlib.Core.Bool.{true, cond}
+use lib.Dec.{ltb}
+use lib.ListN.{length, getD, take, drop}
+use Rattle.records.specs.Bytes.{all}
 use Rattle.records.specs.Gate.{Gate}
 use Rattle.records.specs.Netlist.{values}
 use Rattle.records.specs.Refusal.{gatesGood}
 use Rattle.records.specs.Service.{gatesFrom}
+use Rattle.engine.specs.Choice.{same}
 use Rattle.engine.specs.Eval.{bit, bits}
 
 pub record Evaluable (kinds firsts seconds : List ℕ) (count base words : ℕ) : Type 0 where
@@ -35,3 +38,16 @@ pub record Loaded (at k : ℕ) (x : ℕ → ℕ) (before after : List ℕ) : Typ
   pub beyond : drop (at + k) after ≡ drop (at + k) before
   pub words : (j : ℕ) → j < 64
       → map (bit j) (take (at + k) after) ≡ map (bit j) (take at before) ++ bits k (x j)
+
+-- the values of the nets os in scenario j
+unfoldable pub outputBits : ℕ → List ℕ → List ℕ → List ℕ
+outputBits j nets os = map (λ o. bit j (getD nets o 0)) os
+
+-- 1 where two lists differ, else 0
+unfoldable pub differs : List ℕ → List ℕ → ℕ
+differs xs ys = cond (same xs ys) 0 1
+
+-- count outputs in the list os, each with a word among the nets
+pub record Outputs (os : List ℕ) (count words : ℕ) : Type 0 where
+  pub held : count ≤ length os
+  pub below : all (λ o. ltb o words) (take count os) ≡ true

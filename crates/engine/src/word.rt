@@ -6,7 +6,7 @@ ghost use lib.ListN.{length, take};
 ghost use Rattle.records.specs.Gate.{arity, gateValue};
 ghost use Rattle.records.specs.Service.{gatesFrom};
 ghost use Rattle.engine.specs.Eval.{bit};
-ghost use Rattle.engine.specs.Inner.{Evaluable, Evaluated};
+ghost use Rattle.engine.specs.Inner.{Evaluable, Evaluated, Outputs, outputBits, differs};
 
 // The word of a gate of this kind on the words of its operands.
 pub fn gate_word(kind: u8, a: u64, b: u64) -> u64
@@ -39,4 +39,23 @@ pub fn eval_words(kinds: &[u8], firsts: &[u16], seconds: &[u16], count: usize, b
         nets[base + i] = gate_word(kinds[i], nets[a], nets[b]);
         i += 1;
     }
+}
+
+// Where the first count outputs of two netlists differ: bit j is 1 exactly when they do in scenario j.
+pub fn differ_word(old: &[u64], old_outputs: &[u16], golden: &[u64], golden_outputs: &[u16], count: usize) -> u64
+    requires { ⌜ Outputs (now «old_outputs») count (length (now old)) ⌝ }
+    requires { ⌜ Outputs (now «golden_outputs») count (length (now golden)) ⌝ }
+    ensures { λ r. ⌜ ((j : ℕ) → j < 64 → bit j r ≡ differs
+        (outputBits j (now (old .entry)) (take count (now («old_outputs» .entry))))
+        (outputBits j (now (golden .entry)) (take count (now («golden_outputs» .entry))))) ⌝ }
+{
+    let mut r = 0u64;
+    let mut i = 0usize;
+    while i < count {
+        let a = old_outputs[i] as usize;
+        let b = golden_outputs[i] as usize;
+        r = r | (old[a] ^ golden[b]);
+        i += 1;
+    }
+    r
 }
