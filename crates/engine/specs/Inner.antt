@@ -4,7 +4,7 @@
 --   Loaded ..        leaves in words
 --   Evaluated ..     in each of 64 scenarios the words of the nets are the values that the leaves' words give; words beyond the
 --                    nets are as before
-use Prim.Native.Nat.{ℕ, _+_, _≤_, _<_}
+use Prim.Native.Nat.{ℕ, _+_, _*_, _≤_, _<_}
 use mathlib.Core.Path.{_≡_}
 use mathlib.Core.List.{List, _++_, map}
 use mathlib.Core.Bool.{true, cond}
@@ -51,3 +51,9 @@ differs xs ys = cond (same xs ys) 0 1
 pub record Outputs (os : List ℕ) (count words : ℕ) : Type 0 where
   pub held : count ≤ length os
   pub below : all (λ o. ltb o words) (take count os) ≡ true
+
+-- in scenario j of block b, the words are the values of a netlist's nets at input 64 * b + j and vector v
+pub record BlockValues (gs : List Gate) (n m b v : ℕ) (before after : List ℕ) : Type 0 where
+  pub long : length after ≡ length before
+  pub words : (j : ℕ) → j < 64
+      → map (bit j) (take (n + m + length gs) after) ≡ values (bits n (64 * b + j) ++ bits m v) gs

@@ -3,7 +3,9 @@ ghost use mathlib.Core.Path.{_≡_};
 ghost use Prim.Native.Nat.{ℕ, _+_, _*_, _≤_, _<_};
 ghost use lib.ListN.{length};
 ghost use Rattle.engine.specs.Eval.{bit};
-ghost use Rattle.engine.specs.Inner.{Loaded};
+ghost use Rattle.records.specs.Service.{gatesFrom};
+ghost use Rattle.engine.specs.Inner.{Evaluable, Loaded, BlockValues};
+use super::word::eval_words;
 
 // The word of a value that is the same in every scenario: the lowest bit of x.
 pub fn broadcast(x: usize) -> u64
@@ -52,4 +54,27 @@ pub fn load_targets(at: usize, targets: usize, v: usize, nets: &mut [u64])
         nets[at + i] = broadcast(v >> i);
         i += 1;
     }
+}
+
+// The words of all nets of a netlist in block b at vector v: of the old netlist, or of the golden one with no targets.
+// It costs one gate evaluation a gate for the block's 64 inputs.
+pub fn eval_block(
+    kinds: &[u8],
+    firsts: &[u16],
+    seconds: &[u16],
+    count: usize,
+    inputs: usize,
+    targets: usize,
+    b: usize,
+    v: usize,
+    nets: &mut [u64],
+)
+    requires { ⌜ (inputs < 64) × (targets < 64) ⌝ }
+    requires { ⌜ Evaluable (now kinds) (now firsts) (now seconds) count (inputs + targets) (length (now nets)) ⌝ }
+    ensures { λ _. ⌜ BlockValues (gatesFrom count (now (kinds .entry)) (now (firsts .entry)) (now (seconds .entry)))
+        inputs targets b v (now (nets .entry)) (now (nets .exit)) ⌝ }
+{
+    load_inputs(inputs, b, nets);
+    load_targets(inputs, targets, v, nets);
+    eval_words(kinds, firsts, seconds, count, inputs + targets, nets);
 }

@@ -1,8 +1,8 @@
 -- Laws of evaluation on words: a turn of the loop over gates. Assumes nothing.
-use Prim.Native.Nat.{ℕ, zero, suc, _+_, _≤_, _<_}
+use Prim.Native.Nat.{ℕ, zero, suc, _+_, _*_, _≤_, _<_}
 use mathlib.Core.Path.{_≡_, refl, sym, _∙_, ap}
 use mathlib.Core.List.{List, [], _∷_, _++_, map, append-assoc, append-nil}
-use native.Mathlib.Nat.{add-zero}
+use native.Mathlib.Nat.{add-zero, zero-add}
 use mathlib.Core.Bool.{Bool, true, _&&_}
 use native.Mathlib.Omega.{arith}
 use borrow.Author.Tests.{ltb-true}
@@ -11,12 +11,12 @@ use lib.ListN.{length, getD, take, drop, set, length-set, List·getD-map}
 use lib.Seq.{getD-take, take-suc-set, take-set-le, drop-set-lt}
 use Rattle.records.specs.Bytes.{upFrom, tabulate, all}
 use Rattle.records.specs.Gate.{Gate, gateOf, arity, operands, gateValue}
-use Rattle.records.specs.Netlist.{netAt, extended, valueOf}
+use Rattle.records.specs.Netlist.{netAt, extended, valueOf, values}
 use Rattle.records.specs.Refusal.{gateGood, gatesGood}
 use Rattle.records.proofs.Laws.Bytes.{and-left, and-right, all-cons, drop-tabulate, tabulate-snoc}
 use Rattle.records.proofs.Laws.Gate.{gateGood-parts}
 use Rattle.engine.specs.Eval.{bit, bits}
-use Rattle.engine.specs.Inner.{Loaded}
+use Rattle.engine.specs.Inner.{Loaded, Evaluated, BlockValues}
 use Rattle.engine.proofs.Laws.Word.{bit-zero}
 
 map-append : (f : ℕ → ℕ) (xs ys : List ℕ) → map f (xs ++ ys) ≡ map f xs ++ map f ys
@@ -127,3 +127,15 @@ loading-next at k size x before after w l h r e =
 pub loading-all : (at k size : ℕ) (x : ℕ → ℕ) (before after : List ℕ) → k ≡ size → Loading at k size x before after
     → Loaded at size x before after
 loading-all at k size x before after e l = record { long = l .long; beyond = l .beyond; words = rw e at (l .words) }
+
+-- inputs and targets loaded, and the gates evaluated on them
+pub block-values : (gs : List Gate) (n m b v : ℕ) (d₀ d₁ d₂ d₃ : List ℕ) → Loaded 0 n (λ j. 64 * b + j) d₀ d₁
+    → Loaded n m (λ j. v) d₁ d₂ → Evaluated gs (n + m) d₂ d₃ → BlockValues gs n m b v d₀ d₃
+block-values gs n m b v d₀ d₁ d₂ d₃ p q e =
+    record {
+      long = e .long ∙ q .long ∙ p .long;
+      words =
+        λ j h.
+        e .words j h
+        ∙ ap (λ (l : List ℕ). values l gs)
+          (q .words j h ∙ ap (λ (l : List ℕ). l ++ bits m v) (ap (λ (k : ℕ). map (bit j) (take k d₁)) (sym (zero-add n)) ∙ p .words j h)) }
