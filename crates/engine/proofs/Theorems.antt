@@ -30,12 +30,12 @@ readings j g is m x v = reading-vector j g is m x v
 pub patch-exactly : PatchExactly
 patch-exactly j = (
   λ p.
-    let c = patch-chosen j (p .0) (p .1) in
-    sound-iff-subset-carries j (candidateNets j) .0 (c .1),
+      let c = patch-chosen j (p .0) (p .1) in
+      sound-iff-subset-carries j (candidateNets j) .0 (c .1),
   λ c.
-    let s = sound-iff-subset-carries j (candidateNets j) .1 c in
-    let r = stuck-none-iff j .1 (rectifiable-of-carries j (candidateNets j) (carries-of-sound j (candidateNets j) s)) in
-    (chosen j, ruling-patch j r s),
+      let s = sound-iff-subset-carries j (candidateNets j) .1 c in
+      let r = stuck-none-iff j .1 (rectifiable-of-carries j (candidateNets j) (carries-of-sound j (candidateNets j) s)) in
+      (chosen j, ruling-patch j r s),
 )
 
 pub patch-table : PatchTable
@@ -58,11 +58,11 @@ unfixable-exactly j x = (
 pub blind-exactly : BlindExactly
 blind-exactly j r = (
   λ e.
-    let b = blind-reading j r e in
-    let l = blind-least j (b .1) in
-    (stuck-none-iff j .0 (b .0), rw (b .2) (l .below), rw (b .2) (l .none-shared), rw (b .2) (l .smaller)),
+      let b = blind-reading j r e in
+      let l = blind-least j (b .1) in
+      (stuck-none-iff j .0 (b .0), rw (b .2) (l .below), rw (b .2) (l .none-shared), rw (b .2) (l .smaller)),
   λ h.
-    let l : LeastBlind j r = record { below = h .1; none-shared = h .2; smaller = h .3 } in
-    let u = unsound-of-blind j r l in
-    ruling-blind j (stuck-none-iff j .1 (h .0)) u ∙ ap blind (blind-unique j (blindReading j) r (blind-least j u) l),
+      let l : LeastBlind j r = record { below = h .1; none-shared = h .2; smaller = h .3 } in
+      let u = unsound-of-blind j r l in
+      ruling-blind j (stuck-none-iff j .1 (h .0)) u ∙ ap blind (blind-unique j (blindReading j) r (blind-least j u) l),
 )

@@ -92,10 +92,10 @@ cases =
     ∷ is (replied 1076 (jobWith 2 0 andGate netTwo andGate netTwo bothNets)) (0 ∷ emptySupport)
     -- 8: prices 0 at 5 and 2 at 1: support 2, table 1 0
     ∷ is (replied 1076 (inverted (0 ∷ 0 ∷ 0 ∷ 5 ∷ 0 ∷ 2 ∷ 0 ∷ 1 ∷ [])))
-      (0 ∷ field 16 (0 ∷ 2 ∷ []) ++ field 17 (1 ∷ 0 ∷ []) ++ field 18 (0 ∷ 0 ∷ 0 ∷ 1 ∷ []) ++ field 19 (0 ∷ 1 ∷ []))
+    (0 ∷ field 16 (0 ∷ 2 ∷ []) ++ field 17 (1 ∷ 0 ∷ []) ++ field 18 (0 ∷ 0 ∷ 0 ∷ 1 ∷ []) ++ field 19 (0 ∷ 1 ∷ []))
     -- 9: both prices 0: support 0, table 0 1
     ∷ is (replied 1076 (inverted (0 ∷ 0 ∷ 0 ∷ 0 ∷ 0 ∷ 2 ∷ 0 ∷ 0 ∷ [])))
-      (0 ∷ field 16 (0 ∷ 0 ∷ []) ++ field 17 (0 ∷ 1 ∷ []) ++ field 18 (0 ∷ 0 ∷ 0 ∷ 0 ∷ []) ++ field 19 (0 ∷ 1 ∷ []))
+    (0 ∷ field 16 (0 ∷ 0 ∷ []) ++ field 17 (0 ∷ 1 ∷ []) ++ field 18 (0 ∷ 0 ∷ 0 ∷ 0 ∷ []) ++ field 19 (0 ∷ 1 ∷ []))
     -- 10: A with n 21: 3
     ∷ is (replied 1076 (jobWith 21 1 [] netTwo andGate netTwo bothNets)) (3 ∷ [])
     -- 11: A with m 5: 3

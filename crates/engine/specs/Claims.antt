@@ -43,7 +43,7 @@ EveryTable =
     (j : Job) (is t : List ℕ)
     → ((x : ℕ) → x < 2 ^ j .inputs → oldOutputs j x (drivenBy j is t x) ≡ goldenOutputs j x)
     ↔ ((r y : ℕ) → y < 2 ^ j .inputs → reading j is y ≡ r
-      → (x : ℕ) → x < 2 ^ j .inputs → reading j is x ≡ r → rectifies j x (getD t r 0) ≡ true)
+    → (x : ℕ) → x < 2 ^ j .inputs → reading j is x ≡ r → rectifies j x (getD t r 0) ≡ true)
 
 -- Document 01: "No target leads to them, so the vector has no say."
 abbrev pub Readings : Type 0
@@ -84,6 +84,6 @@ BlindExactly =
     (j : Job) (r : ℕ)
     → (ruling j ≡ blind r)
     ↔ (((x : ℕ) → x < 2 ^ j .inputs → rectifiable j x ≡ true)
-      × (r < 2 ^ length (candidateNets j))
-      × (shared j (candidateNets j) r ≡ none)
-      × ((q : ℕ) → q < r → shared j (candidateNets j) q ≡ none → ⊥))
+    × (r < 2 ^ length (candidateNets j))
+    × (shared j (candidateNets j) r ≡ none)
+    × ((q : ℕ) → q < r → shared j (candidateNets j) q ≡ none → ⊥))

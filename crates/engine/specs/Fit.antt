@@ -77,7 +77,8 @@ fitted j is t =
     let ns = newNets j is t in
     record {
       gates = movedGates j ns (gateIndices j 0) ++ trees j is t .gates ++ movedGates j ns (gateIndices j 1);
-      outputs = map (netAt ns) (j .old .outputs) }
+      outputs = map (netAt ns) (j .old .outputs);
+    }
 
 unfoldable pub fittedBytes : Job → List ℕ → List ℕ → List ℕ
 fittedBytes j is t =

@@ -34,11 +34,12 @@ pub record Listed : Type 0 where
 unfoldable pub rounds : Job → ℕ → List ℕ → Listed
 rounds j zero vs = record { vectors = vs; stuck = none }
 rounds j (suc k) vs =
-    elim (first (unlisted j vs) (allInputs j))
-    [ none ↦ record { vectors = vs; stuck = none }
-    | some x ↦
-      elim (first (rectifies j x) (allVectors j))
-      [ none ↦ record { vectors = vs; stuck = some x } | some v ↦ rounds j k (vs ++ (v ∷ [])) ] ]
+    elim (first (unlisted j vs) (allInputs j)) [
+      | none ↦ record { vectors = vs; stuck = none }
+      | some x ↦
+          elim (first (rectifies j x) (allVectors j))
+          [ none ↦ record { vectors = vs; stuck = some x } | some v ↦ rounds j k (vs ++ (v ∷ [])) ]
+    ]
 
 unfoldable pub vectorLoop : Job → Listed
 vectorLoop j = rounds j (2 ^ j .targets) (0 ∷ [])

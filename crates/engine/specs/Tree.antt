@@ -22,19 +22,22 @@ tree zero next is col = gateOf (cond (all (eqb 0) col) 0 1) 0 0 ∷ []
 tree (suc k) next is col =
     let low = take (2 ^ k) col in
     let high = drop (2 ^ k) col in
-    elim (all (eqb 0) col)
-    [ true ↦ gateOf 0 0 0 ∷ []
-    | false ↦
-      elim (all (eqb 1) col)
-      [ true ↦ gateOf 1 0 0 ∷ []
+    elim (all (eqb 0) col) [
+      | true ↦ gateOf 0 0 0 ∷ []
       | false ↦
-        elim (same low high)
-        [ true ↦ tree k next is low
-        | false ↦
-          let s = getD is k 0 in
-          let ls = tree k next is low in
-          let hs = tree k (next + length ls) is high in
-          let l = next + length ls - 1 in
-          let h = next + length ls + length hs - 1 in
-          let n = h + 1 in
-          ls ++ hs ++ (gateOf 3 s 0 ∷ gateOf 4 n l ∷ gateOf 4 s h ∷ gateOf 6 (n + 1) (n + 2) ∷ []) ] ] ]
+          elim (all (eqb 1) col) [
+            | true ↦ gateOf 1 0 0 ∷ []
+            | false ↦
+                elim (same low high) [
+                  | true ↦ tree k next is low
+                  | false ↦
+                      let s = getD is k 0 in
+                      let ls = tree k next is low in
+                      let hs = tree k (next + length ls) is high in
+                      let l = next + length ls - 1 in
+                      let h = next + length ls + length hs - 1 in
+                      let n = h + 1 in
+                      ls ++ hs ++ (gateOf 3 s 0 ∷ gateOf 4 n l ∷ gateOf 4 s h ∷ gateOf 6 (n + 1) (n + 2) ∷ [])
+                ]
+          ]
+    ]

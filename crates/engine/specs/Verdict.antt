@@ -34,9 +34,10 @@ blindReading j =
 
 unfoldable pub ruling : Job → Ruling
 ruling j =
-    elim (vectorLoop j .stuck)
-    [ some x ↦ unfixable x
-    | none ↦ elim (sound j (candidateNets j)) [ true ↦ patch (chosen j) | false ↦ blind (blindReading j) ] ]
+    elim (vectorLoop j .stuck) [
+      | some x ↦ unfixable x
+      | none ↦ elim (sound j (candidateNets j)) [ true ↦ patch (chosen j) | false ↦ blind (blindReading j) ]
+    ]
 
 unfoldable pub fourBytes : ℕ → List ℕ
 fourBytes x = bytePair (x / 65536) ++ bytePair (x % 65536)

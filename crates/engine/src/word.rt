@@ -28,7 +28,14 @@ pub fn gate_word(kind: u8, a: u64, b: u64) -> u64
 
 // The words of all nets: those of the inputs and targets, nets 0 to base - 1, stand in nets already; one gate after the
 // other adds its own. It costs one gate evaluation a gate, whatever the number of scenarios.
-pub fn eval_words(kinds: &[u8], firsts: &[u16], seconds: &[u16], count: usize, base: usize, nets: &mut [u64])
+pub fn eval_words(
+    kinds: &[u8],
+    firsts: &[u16],
+    seconds: &[u16],
+    count: usize,
+    base: usize,
+    nets: &mut [u64],
+)
     requires { ⌜ Evaluable (now kinds) (now firsts) (now seconds) count base (length (now nets)) ⌝ }
     ensures { λ _. ⌜ Evaluated (gatesFrom count (now (kinds .entry)) (now (firsts .entry)) (now (seconds .entry))) base (now (nets .entry)) (now (nets .exit)) ⌝ }
 {

@@ -2,10 +2,10 @@
 -- one of its lists than which none is better; hence the chosen support is a sound one, no sound one costs less, and it is the only
 -- one than which no sound one is better. Assumes nothing.
 use Prim.Native.Nat.{ℕ, _≤_, _<_}
-use mathlib.Core.Path.{_≡_, refl, sym, _∙_, ap}
-use mathlib.Core.Logic.{_↔_, _⊎_, inl, inr, ⊎-elim}
-use mathlib.Core.List.{List, [], _∷_, List·Memᴰ as Mem, List·Memᴰ·head as here, List·Memᴰ·tail as there, List·Memᴰ·not-nil as not-nil, List·Memᴰ·cases-cons as cases-cons, Memᴰ·append-left as mem-append-left, Memᴰ·map as mem-map, Memᴰ·cast as mem-cast}
-use mathlib.Core.Bool.{Bool, true, false, _&&_, _||_, cond, false≢true}
+use mathlib.Core.Path.{_≡_, refl, sym, _∙_}
+use mathlib.Core.Logic.{_⊎_, inl, inr, ⊎-elim}
+use mathlib.Core.List.{List, [], _∷_, List·Memᴰ as Mem, List·Memᴰ·head as here, List·Memᴰ·tail as there, List·Memᴰ·not-nil as not-nil, List·Memᴰ·cases-cons as cases-cons, Memᴰ·cast as mem-cast}
+use mathlib.Core.Bool.{Bool, true, false, _&&_, _||_, false≢true}
 use native.Mathlib.Omega.{arith}
 use lib.Dec.{ltb, eqb}
 use lib.ListN.{length}
@@ -14,32 +14,8 @@ use Rattle.records.specs.Job.{Job}
 use Rattle.records.proofs.Laws.Bytes.{and-left, and-right, and-both, false-of}
 use Rattle.engine.specs.Choice.{keep}
 use Rattle.engine.specs.Support.{sound, candidateNets, subsets, cost, earlier, better, bestOf, chosen}
-use Rattle.engine.proofs.Laws.Loop.{true-or-false, not-both, or-cases, or-right}
-
--- ---- lists
-
-subsets-self : (is : List ℕ) → Mem is (subsets is)
-unfolding subsets
-subsets-self [] = here refl
-subsets-self (i ∷ is) = mem-append-left (subsets is) (mem-map (λ (ls : List ℕ). i ∷ ls) (subsets-self is))
-
-module _ (p : List ℕ → Bool) where
-  -- the members of a choice, by the test's value
-  mem-cond : (y : List ℕ) (ys zs : List (List ℕ)) (x : List ℕ) (b : Bool) → p y ≡ b → (Mem x zs ↔ (Mem x ys × (p x ≡ true)))
-      → Mem x (cond b (y ∷ zs) zs) ↔ (Mem x (y ∷ ys) × (p x ≡ true))
-  mem-cond y ys zs x true q h = (
-    λ m. ⊎-elim (λ e. (here e, ap p e ∙ q)) (λ n. let r = h .0 n in (there (r .0), r .1)) (cases-cons m),
-    λ r. ⊎-elim here (λ n. there (h .1 (n, r .1))) (cases-cons (r .0)),
-  )
-  mem-cond y ys zs x false q h = (
-    λ m. let r = h .0 m in (there (r .0), r .1),
-    λ r. ⊎-elim (λ e. absurd (not-both (r .1) (ap p e ∙ q))) (λ n. h .1 (n, r .1)) (cases-cons (r .0)),
-  )
-
-  mem-keep : (xs : List (List ℕ)) (x : List ℕ) → Mem x (keep p xs) ↔ (Mem x xs × (p x ≡ true))
-  unfolding keep
-  mem-keep [] x = (λ m. absurd (not-nil m), λ r. r .0)
-  mem-keep (y ∷ ys) x = mem-cond y ys (keep p ys) x (p y) refl (mem-keep ys x)
+use Rattle.engine.proofs.Laws.Choice.{not-both, true-or-false, or-right, or-cases, mem-keep}
+use Rattle.engine.proofs.Laws.Support.{subsets-self}
 
 -- ---- a number first, then another test
 

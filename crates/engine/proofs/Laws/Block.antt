@@ -1,39 +1,25 @@
 -- Laws of blocks of 64 inputs: the six patterns, and the bits that are the same in a whole block. Assumes nothing.
 use Prim.Native.Nat.{ℕ, zero, suc, _+_, _-_, _*_, _/_, _%_, _^_, _≤_, _<_}
-use mathlib.Core.Path.{_≡_, refl, sym, _∙_, ap}
+use mathlib.Core.Path.{_≡_, sym, _∙_, ap}
 use mathlib.Core.Bool.{Bool, true}
-use mathlib.Core.List.{List, [], _∷_}
 use native.Mathlib.Nat.{div-one}
 use native.Mathlib.Omega.{arith}
 use borrow.Author.Tests.{eqb-true}
-use lib.Arith.{digits-div}
 use lib.Dec.{eqb}
-use lib.ListN.{getD, length}
 use lib.Pow.{shr-shr}
 use Rattle.records.specs.Bytes.{upFrom, all}
-use Rattle.records.proofs.Laws.Bytes.{all-cons}
 use Rattle.engine.specs.Eval.{bit}
+use Rattle.engine.proofs.Laws.Choice.{all-iff-below}
 
 -- ---- patterns: a test over the 64 scenarios, computed, and the rule at each
 
 unfoldable pub pattern : ℕ → ℕ → Bool
 pattern i p = all (λ j. eqb (bit j p) (bit i j)) (upFrom 0 64)
 
-at-upFrom : (p : ℕ → Bool) (a n : ℕ) → all p (upFrom a n) ≡ true → (j : ℕ) → j < n → p (a + j) ≡ true
-unfolding upFrom
-at-upFrom p a zero e j h = let f : ⊥ = omega arith in absurd f
-at-upFrom p a (suc n) e zero h =
-    let z : a ≡ a + 0 = omega arith in
-    ap p (sym z) ∙ all-cons p a (upFrom (suc a) n) e .0
-at-upFrom p a (suc n) e (suc j) h =
-    let z : suc a + j ≡ a + suc j = omega arith in
-    ap p (sym z) ∙ at-upFrom p (suc a) n (all-cons p a (upFrom (suc a) n) e .1) j (omega arith)
-
 pattern-at : (i p : ℕ) → pattern i p ≡ true → (j : ℕ) → j < 64 → bit j p ≡ bit i j
 unfolding pattern
 pattern-at i p e j h =
-    let z : 0 + j ≡ j = omega arith in
-    eqb-true (bit j p) (bit i j) (ap (λ (k : ℕ). eqb (bit k p) (bit i k)) (sym z) ∙ at-upFrom (λ k. eqb (bit k p) (bit i k)) 0 64 e j h)
+    eqb-true (bit j p) (bit i j) (all-iff-below (λ k. eqb (bit k p) (bit i k)) 64 .0 e j h)
 
 -- the lowest six bits of an input are those of its scenario
 low-bit : (i b j : ℕ) → i < 6 → bit i (64 * b + j) ≡ bit i j

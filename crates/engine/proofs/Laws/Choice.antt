@@ -5,9 +5,11 @@ use mathlib.Core.Logic.{_↔_, _⊎_, inl, inr, ⊎-elim}
 use mathlib.Core.List.{List, [], _∷_, map, List·Memᴰ as Mem, List·Memᴰ·head as here, List·Memᴰ·tail as there, List·Memᴰ·not-nil as not-nil, List·Memᴰ·cases-cons as cases-cons}
 use mathlib.Core.Bool.{Bool, true, false, cond, _&&_, _||_, true≢false, false≢true}
 use mathlib.Core.Option.{Option, none, some, Option·some-injective as some-injective, Option·none-ne-some as none-ne-some, Option·some-ne-none as some-ne-none}
+use native.Mathlib.Nat.{eq-or-lt-of-le}
 use native.Mathlib.Omega.{arith}
 use borrow.Author.Tests.{eqb-true, eq-eqb}
 use lib.Dec.{eqb}
+use lib.ListN.{length}
 use Rattle.records.specs.Bytes.{upFrom, all}
 use Rattle.records.proofs.Laws.Bytes.{and-left, and-right, and-both, false-of}
 use Rattle.engine.specs.Choice.{any, keep, first, found, orZero, same}
@@ -150,6 +152,39 @@ module _ {A : Type 0} (p : A → Bool) where
       (cases-cons m))
       (true-or-false (p y))
 
+-- ---- how many are kept
+
+-- r is at least k shorter than s, and stays so with x put before r by b and before s by a, where b implies a
+cond-le : {A : Type 0} (a b : Bool) (x : A) (k : ℕ) (r s : List A) → (a ≡ false → b ≡ false) → k + length r ≤ length s
+    → k + length (cond b (x ∷ r) r) ≤ length (cond a (x ∷ s) s)
+cond-le true true x k r s h l = omega arith
+cond-le true false x k r s h l = omega arith
+cond-le false true x k r s h l = absurd (true≢false (h refl))
+cond-le false false x k r s h l = l
+
+pub length-keep-le : {A : Type 0} (p : A → Bool) (xs : List A) → length (keep p xs) ≤ length xs
+unfolding keep
+length-keep-le p [] = omega arith
+length-keep-le p (x ∷ xs) =
+    let r = length-keep-le p xs in
+    omega (arith, cond-le true (p x) x 0 (keep p xs) xs (λ e. absurd (true≢false e)) (omega arith))
+
+-- where q implies p, it keeps no more than p, and less where p holds of an element of which q does not
+module _ {A : Type 0} (p q : A → Bool) (h : (x : A) → p x ≡ false → q x ≡ false) where
+  pub keep-le : (xs : List A) → length (keep q xs) ≤ length (keep p xs)
+  unfolding keep
+  keep-le [] = omega arith
+  keep-le (x ∷ xs) =
+      let r = keep-le xs in
+      omega (arith, cond-le (p x) (q x) x 0 (keep q xs) (keep p xs) (h x) (omega arith))
+
+  pub keep-lt : {x : A} {xs : List A} → Mem x xs → p x ≡ true → q x ≡ false → length (keep q xs) < length (keep p xs)
+  unfolding keep
+  keep-lt (here {xs = xs} e) a b = rw (← e, a, b) (omega (arith, keep-le xs))
+  keep-lt (there {x = y} {xs = xs} m) a b =
+      let r = keep-lt m a b in
+      omega (arith, cond-le (p y) (q y) y 1 (keep q xs) (keep p xs) (h y) (omega arith))
+
 -- ---- map
 
 pub map-agree : {A B : Type 0} (f g : A → B) (xs : List A) → ((x : A) → Mem x xs → f x ≡ g x) → map f xs ≡ map g xs
@@ -160,12 +195,6 @@ map-agree f g (x ∷ xs) h =
     cc
 
 -- ---- numbers from a up
-
-eq-or-above : (a x : ℕ) → a ≤ x → (x ≡ a) ⊎ (a < x)
-eq-or-above zero zero h = inl refl
-eq-or-above zero (suc x) h = inr (omega arith)
-eq-or-above (suc a) zero h = let f : ⊥ = omega arith in absurd f
-eq-or-above (suc a) (suc x) h = ⊎-elim (λ e. inl (ap suc e)) (λ l. inr (omega arith)) (eq-or-above a x (omega arith))
 
 pub mem-upFrom : (a n x : ℕ) → Mem x (upFrom a n) ↔ ((a ≤ x) × (x < a + n))
 unfolding upFrom
@@ -178,9 +207,9 @@ mem-upFrom a (suc n) x = (
       (cases-cons m),
   λ r.
       ⊎-elim
-      (λ (e : x ≡ a). here e)
+      (λ (e : a ≡ x). here (sym e))
       (λ (l : a < x). there (mem-upFrom (suc a) n x .1 (l, omega (arith, r .1))))
-      (eq-or-above a x (r .0)),
+      (eq-or-lt-of-le (r .0)),
 )
 
 -- the members of the numbers below n
@@ -201,9 +230,9 @@ first-smaller p a (suc n) x e y l h =
     let f : ⊥ = omega arith in absurd f)
     (λ (q : p a ≡ false).
     ⊎-elim
-    (λ (i : y ≡ a). ap p i ∙ q)
+    (λ (i : a ≡ y). ap p (sym i) ∙ q)
     (λ (k : a < y). first-smaller p (suc a) n x (sym (first-there p a (upFrom (suc a) n) q) ∙ e) y k h)
-    (eq-or-above a y l))
+    (eq-or-lt-of-le l))
     (true-or-false (p a))
 
 -- x is the least number below n with p
@@ -228,6 +257,10 @@ module _ (p : ℕ → Bool) (n : ℕ) where
   first-none-below e x h = first-none p (upFrom 0 n) e x (mem-below n x .1 h)
 
 -- ---- found
+
+pub none-or-some : (o : Option ℕ) → (o ≡ none) ⊎ ((x : ℕ) × (o ≡ some x))
+none-or-some none = inl refl
+none-or-some (some x) = inr (x, refl)
 
 pub found-some : (o : Option ℕ) → found o ≡ true → o ≡ some (orZero o)
 unfolding found orZero

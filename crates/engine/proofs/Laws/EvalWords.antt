@@ -1,27 +1,24 @@
 -- Laws of evaluation on words: a turn of the loop over gates. Assumes nothing.
 use Prim.Native.Nat.{ℕ, zero, suc, _+_, _*_, _≤_, _<_}
 use mathlib.Core.Path.{_≡_, refl, sym, _∙_, ap}
-use mathlib.Core.List.{List, [], _∷_, _++_, map, append-assoc, append-nil}
+use mathlib.Core.List.{List, [], _∷_, _++_, map, map-append, append-assoc, append-nil}
+use mathlib.Core.Bool.{true, _&&_}
 use native.Mathlib.Nat.{add-zero, zero-add}
-use mathlib.Core.Bool.{Bool, true, _&&_}
 use native.Mathlib.Omega.{arith}
 use borrow.Author.Tests.{ltb-true}
 use lib.Dec.{ltb}
 use lib.ListN.{length, getD, take, drop, set, length-set, List·getD-map}
-use lib.Seq.{getD-take, take-suc-set, take-set-le, drop-set-lt}
+use lib.Seq.{getD-take, take-suc-set, drop-set-lt}
 use Rattle.records.specs.Bytes.{upFrom, tabulate, all}
 use Rattle.records.specs.Gate.{Gate, gateOf, arity, operands, gateValue}
 use Rattle.records.specs.Netlist.{netAt, extended, valueOf, values}
 use Rattle.records.specs.Refusal.{gateGood, gatesGood}
-use Rattle.records.proofs.Laws.Bytes.{and-left, and-right, all-cons, drop-tabulate, tabulate-snoc}
+use Rattle.records.proofs.Laws.Bytes.{and-left, and-right, drop-tabulate, tabulate-snoc}
 use Rattle.records.proofs.Laws.Gate.{gateGood-parts}
 use Rattle.engine.specs.Eval.{bit, bits}
 use Rattle.engine.specs.Inner.{Loaded, Evaluated, BlockValues}
+use Rattle.engine.proofs.Laws.Choice.{all-true, map-agree}
 use Rattle.engine.proofs.Laws.Word.{bit-zero}
-
-map-append : (f : ℕ → ℕ) (xs ys : List ℕ) → map f (xs ++ ys) ≡ map f xs ++ map f ys
-map-append f [] ys = refl
-map-append f (x ∷ xs) ys = ap (λ (l : List ℕ). f x ∷ l) (map-append f xs ys)
 
 map-take : (f : ℕ → ℕ) (n : ℕ) (xs : List ℕ) → map f (take n xs) ≡ take n (map f xs)
 map-take f zero xs = refl
@@ -38,9 +35,10 @@ module _ (n : ℕ) (g : ℕ → Gate) (i : ℕ) (h : i < n) where
       let m : suc (base + i) ≡ base + (i + 1) = omega arith in
       let rest = drop (i + 1) (tabulate n g) in
       let q : (gateGood (base + i) (g i) && gatesGood (suc (base + i)) rest) ≡ true =
-        rw (drop-tabulate n g i h) at e in
-      (and-left (gateGood (base + i) (g i)) (gatesGood (suc (base + i)) rest) q,
-        ap (λ (k : ℕ). gatesGood k rest) (sym m) ∙ and-right (gateGood (base + i) (g i)) (gatesGood (suc (base + i)) rest) q)
+      rw (drop-tabulate n g i h) at e in (
+        and-left (gateGood (base + i) (g i)) (gatesGood (suc (base + i)) rest) q,
+        ap (λ (k : ℕ). gatesGood k rest) (sym m) ∙ and-right (gateGood (base + i) (g i)) (gatesGood (suc (base + i)) rest) q,
+      )
 
   extended-step : (known : List ℕ)
       → extended valueOf known (drop i (tabulate n g))
@@ -60,10 +58,9 @@ module _ (j net : ℕ) (nets : List ℕ) where
 
   known-nets : (is : List ℕ) → all (λ x. ltb x net) is ≡ true
       → map (netAt (map (bit j) (take net nets))) is ≡ map (λ x. bit j (getD nets x 0)) is
-  known-nets [] e = refl
-  known-nets (x ∷ is) e =
-      let p = all-cons (λ x. ltb x net) x is e in
-      rw (known-net x (ltb-true x net (p .0)), known-nets is (p .1))
+  known-nets is e =
+      map-agree (netAt (map (bit j) (take net nets))) (λ x. bit j (getD nets x 0)) is
+      (λ x m. known-net x (ltb-true x net (all-true (λ y. ltb y net) is e x m)))
 
   -- the value of a good gate on the words' bits is the value that the definition gives it
   pub word-value : (k a b : ℕ) → gateGood net (gateOf k a b) ≡ true
@@ -73,7 +70,7 @@ module _ (j net : ℕ) (nets : List ℕ) where
   word-value k a b e =
       ap (gateValue k)
       (sym (map-take (λ x. bit j (getD nets x 0)) (arity k) (a ∷ b ∷ []))
-        ∙ sym (known-nets (take (arity k) (a ∷ b ∷ [])) (gateGood-parts net (gateOf k a b) e .0)))
+      ∙ sym (known-nets (take (arity k) (a ∷ b ∷ [])) (gateGood-parts net (gateOf k a b) e .0)))
 
 -- ---- a turn of the loop
 
@@ -85,10 +82,10 @@ eval-turn n g i h j base w nets l e =
     let m : base + (i + 1) ≡ suc (base + i) = omega arith in
     let known = map (bit j) (take (base + i) nets) in
     let p : map (bit j) (take (base + (i + 1)) (set nets (base + i) w)) ≡ known ++ (valueOf known (g i) ∷ []) =
-      ap (λ (k : ℕ). map (bit j) (take k (set nets (base + i) w))) m
-      ∙ ap (map (bit j)) (take-suc-set nets (base + i) w l)
-      ∙ map-append (bit j) (take (base + i) nets) (w ∷ [])
-      ∙ ap (λ (v : ℕ). known ++ (v ∷ [])) e in
+    ap (λ (k : ℕ). map (bit j) (take k (set nets (base + i) w))) m
+    ∙ ap (map (bit j)) (take-suc-set nets (base + i) w l)
+    ∙ map-append (bit j) (take (base + i) nets) (w ∷ [])
+    ∙ ap (λ (v : ℕ). known ++ (v ∷ [])) e in
     ap (λ (l : List ℕ). extended valueOf l (drop (i + 1) (tabulate n g))) p ∙ sym (extended-step n g i h known)
 
 -- ---- leaves: k words so far from net at on, whose bits are those of x j

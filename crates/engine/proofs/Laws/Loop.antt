@@ -3,151 +3,23 @@
 -- smallest such input. Assumes nothing.
 use Prim.Native.Nat.{ℕ, zero, suc, _+_, _^_, _≤_, _<_}
 use mathlib.Core.Path.{_≡_, refl, sym, _∙_, ap}
-use mathlib.Core.Logic.{_↔_, _⊎_, inl, inr, ⊎-elim}
-use mathlib.Core.List.{List, [], _∷_, _++_, List·Memᴰ as Mem, List·Memᴰ·head as here, List·Memᴰ·tail as there, List·Memᴰ·not-nil as not-nil, List·Memᴰ·cases-cons as cases-cons, List·Memᴰ·append-cases as append-cases, List·Memᴰ·eq-of-singleton as eq-of-singleton, Memᴰ·cast as mem-cast}
-use mathlib.Core.Bool.{Bool, true, false, cond, not, _||_, true≢false, false≢true}
-use mathlib.Core.Option.{Option, none, some, Option·some-injective as some-injective, Option·none-ne-some as none-ne-some}
+use mathlib.Core.Logic.{_↔_, ⊎-elim}
+use mathlib.Core.List.{List, [], _∷_, _++_, List·Memᴰ as Mem, List·Memᴰ·head as here, List·Memᴰ·tail as there, List·Memᴰ·not-nil as not-nil, List·Memᴰ·append-cases as append-cases, List·Memᴰ·eq-of-singleton as eq-of-singleton, Memᴰ·cast as mem-cast}
+use mathlib.Core.Bool.{true, false, not}
+use mathlib.Core.Option.{none, some, Option·some-injective as some-injective, Option·none-ne-some as none-ne-some}
 use native.Mathlib.Omega.{arith}
 use lib.Dec.{ltb, eqb}
 use lib.Pow.{pow-pos}
 use lib.ListN.{length, length-append}
-use borrow.Author.Tests.{ltb-true, ltb-false, eqb-true, eqb-false, eq-eqb, not-true, not-false}
+use borrow.Author.Tests.{ltb-true, ltb-false, eqb-true, eq-eqb, not-true, not-false}
 use Rattle.records.specs.Bytes.{upFrom}
 use Rattle.records.specs.Job.{Job}
-use Rattle.records.proofs.Laws.Bytes.{and-left, and-right, and-both, false-of, length-upFrom}
-use Rattle.engine.specs.Choice.{any, keep, first, same}
+use Rattle.records.proofs.Laws.Bytes.{false-of, length-upFrom}
+use Rattle.engine.specs.Choice.{any, keep, first}
 use Rattle.engine.specs.Eval.{allInputs, allVectors, oldOutputs, goldenOutputs}
 use Rattle.engine.specs.Rectify.{rectifies, rectifiable, unlisted, Listed, rounds, vectorLoop}
-
--- ---- tests and lists
-
-pub not-both : {b : Bool} → b ≡ true → b ≡ false → ⊥
-not-both p q = true≢false (sym p ∙ q)
-
-pub true-or-false : (b : Bool) → (b ≡ true) ⊎ (b ≡ false)
-true-or-false true = inl refl
-true-or-false false = inr refl
-
-pub or-right : (a b : Bool) → b ≡ true → (a || b) ≡ true
-or-right true b e = refl
-or-right false b e = e
-
-pub or-cases : (a b : Bool) → (a || b) ≡ true → (a ≡ true) ⊎ (b ≡ true)
-or-cases true b e = inl refl
-or-cases false b e = inr e
-
-same-true : (xs ys : List ℕ) → same xs ys ≡ true → xs ≡ ys
-unfolding same
-same-true [] [] e = refl
-same-true [] (y ∷ ys) e = absurd (false≢true e)
-same-true (x ∷ xs) [] e = absurd (false≢true e)
-same-true (x ∷ xs) (y ∷ ys) e =
-    let p : x ≡ y = eqb-true x y (and-left (eqb x y) (same xs ys) e) in
-    let q : xs ≡ ys = same-true xs ys (and-right (eqb x y) (same xs ys) e) in
-    cc
-
-same-refl : (xs : List ℕ) → same xs xs ≡ true
-unfolding same
-same-refl [] = refl
-same-refl (x ∷ xs) = and-both (eqb x x) (same xs xs) (eq-eqb x x refl) (same-refl xs)
-
-same-iff-equal : (xs ys : List ℕ) → (same xs ys ≡ true) ↔ (xs ≡ ys)
-same-iff-equal xs ys = (same-true xs ys, λ e. rw e (same-refl ys))
-
-mem-upFrom : (a n x : ℕ) → Mem x (upFrom a n) ↔ ((a ≤ x) × (x < a + n))
-unfolding upFrom
-mem-upFrom a zero x = (λ m. absurd (not-nil m), λ r. let f : ⊥ = omega (arith, r .0, r .1) in absurd f)
-mem-upFrom a (suc n) x = (
-  λ m.
-      ⊎-elim
-      (λ (e : x ≡ a). (omega arith, omega arith))
-      (λ (k : Mem x (upFrom (suc a) n)). let r = mem-upFrom (suc a) n x .0 k in (omega (arith, r .0), omega (arith, r .1)))
-      (cases-cons m),
-  λ r.
-      ⊎-elim
-      (λ e. here (sym (eqb-true a x e)))
-      (λ e. let d = eqb-false a x e in there (mem-upFrom (suc a) n x .1 (omega (arith, r .0), omega (arith, r .1))))
-      (true-or-false (eqb a x)),
-)
-
-mem-below : (n x : ℕ) → Mem x (upFrom 0 n) ↔ (x < n)
-mem-below n x =
-    (λ m. omega (arith, mem-upFrom 0 n x .0 m .1), λ h. mem-upFrom 0 n x .1 (omega arith, omega arith))
-
-module _ (p : ℕ → Bool) where
-  any-true : (xs : List ℕ) → any p xs ≡ true → (x : ℕ) × Mem x xs × (p x ≡ true)
-  unfolding any
-  any-true [] e = absurd (false≢true e)
-  any-true (x ∷ xs) e =
-      ⊎-elim
-      (λ h. (x, here refl, h))
-      (λ h. let r = any-true xs h in (r .0, there (r .1), r .2))
-      (or-cases (p x) (any p xs) e)
-
-  any-of-member : (xs : List ℕ) (x : ℕ) → Mem x xs → p x ≡ true → any p xs ≡ true
-  unfolding any
-  any-of-member [] x m h = absurd (not-nil m)
-  any-of-member (y ∷ ys) x m h =
-      ⊎-elim
-      (λ (e : x ≡ y). rw (← e, h))
-      (λ n. or-right (p y) (any p ys) (any-of-member ys x n h))
-      (cases-cons m)
-
-  first-here : (x : ℕ) (xs : List ℕ) → p x ≡ true → first p (x ∷ xs) ≡ some x
-  unfolding first
-  first-here x xs h = rw (h, first)
-
-  first-there : (x : ℕ) (xs : List ℕ) → p x ≡ false → first p (x ∷ xs) ≡ first p xs
-  unfolding first
-  first-there x xs h = rw (h, first)
-
-  first-none : (xs : List ℕ) → first p xs ≡ none → (x : ℕ) → Mem x xs → p x ≡ false
-  first-none [] e x m = absurd (not-nil m)
-  first-none (y ∷ ys) e x m =
-      ⊎-elim
-      (λ h. absurd (none-ne-some y (sym e ∙ first-here y ys h)))
-      (λ h. ⊎-elim (λ (q : x ≡ y). rw q h) (first-none ys (sym (first-there y ys h) ∙ e) x) (cases-cons m))
-      (true-or-false (p y))
-
-  first-from : (a n x : ℕ) → first p (upFrom a n) ≡ some x
-      → (a ≤ x) × (x < a + n) × (p x ≡ true) × ((y : ℕ) → a ≤ y → y < x → p y ≡ false)
-  unfolding first upFrom
-  first-from a zero x e = absurd (none-ne-some x e)
-  first-from a (suc n) x e =
-      ⊎-elim
-      (λ h.
-      let q : a ≡ x = some-injective a x (sym (first-here a (upFrom (suc a) n) h) ∙ e) in
-      (omega arith, omega arith, rw (← q) h, λ y l m. let f : ⊥ = omega arith in absurd f))
-      (λ h.
-      let r = first-from (suc a) n x (sym (first-there a (upFrom (suc a) n) h) ∙ e) in (
-        omega (arith, r .0),
-        omega (arith, r .1),
-        r .2,
-        λ y l m.
-            ⊎-elim
-            (λ q. rw (← eqb-true a y q) h)
-            (λ q. let d = eqb-false a y q in r .3 y (omega arith) m)
-            (true-or-false (eqb a y)),
-      ))
-      (true-or-false (p a))
-
-record Least (p : ℕ → Bool) (n x : ℕ) : Type 0 where
-  below : x < n
-  holds : p x ≡ true
-  smaller : (y : ℕ) → y < x → p y ≡ false
-
-module _ (p : ℕ → Bool) (n : ℕ) where
-  first-least : (x : ℕ) → first p (upFrom 0 n) ≡ some x → Least p n x
-  first-least x e =
-      let r = first-from p 0 n x e in
-      record { below = omega (arith, r .1); holds = r .2; smaller = λ y l. r .3 y (omega arith) l }
-
-  first-none-below : first p (upFrom 0 n) ≡ none → (x : ℕ) → x < n → p x ≡ false
-  first-none-below e x h = first-none p (upFrom 0 n) e x (mem-below n x .1 h)
-
-none-or-some : (o : Option ℕ) → (o ≡ none) ⊎ ((x : ℕ) × (o ≡ some x))
-none-or-some none = inl refl
-none-or-some (some x) = inr (x, refl)
+use Rattle.engine.proofs.Laws.Choice.{not-both, true-or-false, or-right, any-true, any-of-member, length-keep-le, keep-lt, none-or-some, first-none, mem-below, Least, first-least, first-none-below}
+use Rattle.engine.proofs.Laws.Support.{rectifies-iff-outputs, rectifiable-of}
 
 -- ---- distinct numbers
 
@@ -161,36 +33,6 @@ distinct-snoc (x ∷ xs) v d h = (
   λ m. ⊎-elim (d .0) (λ s. h (here (sym (eq-of-singleton s)))) (append-cases xs m),
   distinct-snoc xs v (d .1) (λ m. h (there m)),
 )
-
-cond-le : (a b : Bool) (x k : ℕ) (r s : List ℕ) → (a ≡ false → b ≡ false) → k + length r ≤ length s
-    → k + length (cond b (x ∷ r) r) ≤ length (cond a (x ∷ s) s)
-cond-le true true x k r s h l = omega arith
-cond-le true false x k r s h l = omega arith
-cond-le false true x k r s h l = absurd (true≢false (h refl))
-cond-le false false x k r s h l = l
-
-length-keep-le : (p : ℕ → Bool) (xs : List ℕ) → length (keep p xs) ≤ length xs
-unfolding keep
-length-keep-le p [] = omega arith
-length-keep-le p (x ∷ xs) =
-    let r = length-keep-le p xs in
-    omega (arith, cond-le true (p x) x 0 (keep p xs) xs (λ e. absurd (true≢false e)) (omega arith))
-
--- where q implies p, it keeps no more than p, and less where p holds of an element of which q does not
-module _ (p q : ℕ → Bool) (h : (x : ℕ) → p x ≡ false → q x ≡ false) where
-  keep-le : (xs : List ℕ) → length (keep q xs) ≤ length (keep p xs)
-  unfolding keep
-  keep-le [] = omega arith
-  keep-le (x ∷ xs) =
-      let r = keep-le xs in
-      omega (arith, cond-le (p x) (q x) x 0 (keep q xs) (keep p xs) (h x) (omega arith))
-
-  keep-lt : {x : ℕ} {xs : List ℕ} → Mem x xs → p x ≡ true → q x ≡ false → length (keep q xs) < length (keep p xs)
-  unfolding keep
-  keep-lt (here {xs = xs} e) a b = rw (← e, a, b) (omega (arith, keep-le xs))
-  keep-lt (there {x = y} {xs = xs} m) a b =
-      let r = keep-lt m a b in
-      omega (arith, cond-le (p y) (q y) y 1 (keep q xs) (keep p xs) (h y) (omega arith))
 
 -- how many numbers below n are not in xs
 unfoldable missing : ℕ → List ℕ → ℕ
@@ -222,19 +64,12 @@ length-distinct-le n xs d b = omega (arith, distinct-missing n xs d b)
 
 pub rectifiable-iff : (j : Job) (x : ℕ)
     → (rectifiable j x ≡ true) ↔ ((v : ℕ) × (v < 2 ^ j .targets) × (oldOutputs j x v ≡ goldenOutputs j x))
-unfolding rectifiable rectifies allVectors
+unfolding rectifiable allVectors
 rectifiable-iff j x = (
   λ e.
       let r = any-true (rectifies j x) (allVectors j) e in
-      let q = same-iff-equal (oldOutputs j x (r .0)) (goldenOutputs j x) .0 (r .2) in
-      (r .0, mem-below (2 ^ j .targets) (r .0) .0 (r .1), q),
-  λ r.
-      any-of-member
-      (rectifies j x)
-      (allVectors j)
-      (r .0)
-      (mem-below (2 ^ j .targets) (r .0) .1 (r .1))
-      (same-iff-equal (oldOutputs j x (r .0)) (goldenOutputs j x) .1 (r .2)),
+      (r .0, mem-below (2 ^ j .targets) (r .0) .0 (r .1), rectifies-iff-outputs j x (r .0) .0 (r .2)),
+  λ r. rectifiable-of j x (r .0) (r .1) (rectifies-iff-outputs j x (r .0) .1 (r .2)),
 )
 
 -- ---- a round
@@ -367,14 +202,7 @@ module _ (j : Job) where
 
   rectifiable-of-listed : (x : ℕ) → (v : ℕ) × Mem v (vectorLoop j .vectors) × (rectifies j x v ≡ true)
       → rectifiable j x ≡ true
-  unfolding rectifiable allVectors
-  rectifiable-of-listed x r =
-      any-of-member
-      (rectifies j x)
-      (allVectors j)
-      (r .0)
-      (mem-below (2 ^ j .targets) (r .0) .1 (vectors-below j (r .0) (r .1)))
-      (r .2)
+  rectifiable-of-listed x r = rectifiable-of j x (r .0) (vectors-below j (r .0) (r .1)) (r .2)
 
   -- ---- where the loop is stuck
 

@@ -15,7 +15,8 @@ use Rattle.records.proofs.Laws.Bytes.{all-cons}
 use Rattle.engine.specs.Choice.{same}
 use Rattle.engine.specs.Eval.{bit}
 use Rattle.engine.specs.Inner.{outputBits, differs, Outputs}
-use Rattle.engine.proofs.Laws.Word.{bit-lt, bit-or, bit-xor}
+use Rattle.engine.proofs.Laws.Eval.{bit-lt}
+use Rattle.engine.proofs.Laws.Word.{bit-or, bit-xor}
 
 -- each output of a list has its word
 all-getD : (n : ℕ) (xs : List ℕ) → all (λ o. ltb o n) xs ≡ true → (i : ℕ) → i < length xs → getD xs i 0 < n

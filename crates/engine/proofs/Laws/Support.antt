@@ -28,6 +28,11 @@ module _ (j : Job) where
   unfolding rectifies
   rectifies-iff-outputs x v = same-iff-equal (oldOutputs j x v) (goldenOutputs j x)
 
+  -- an input is rectifiable where a vector rectifies it
+  pub rectifiable-of : (x v : ℕ) → v < 2 ^ j .targets → rectifies j x v ≡ true → rectifiable j x ≡ true
+  unfolding rectifiable allVectors
+  rectifiable-of x v l e = any-of-member (rectifies j x) (allVectors j) v (mem-below (2 ^ j .targets) v .1 l) e
+
   -- what holds of every input
   pub all-inputs : (p : ℕ → Bool) → (all p (allInputs j) ≡ true) ↔ ((x : ℕ) → x < 2 ^ j .inputs → p x ≡ true)
   unfolding allInputs
@@ -264,10 +269,9 @@ module _ (j : Job) (h : candidatesGood j ≡ true) where
 
 -- where the nets carry a table, every input is rectifiable
 pub rectifiable-of-carries : (j : Job) (is : List ℕ) → Carries j is → (x : ℕ) → x < 2 ^ j .inputs → rectifiable j x ≡ true
-unfolding rectifiable allVectors drivenBy
 rectifiable-of-carries j is c x h =
     let t = c .table in
     let r = reading j is x in
     let e = golden-iff-readings j is t .0 (c .equal) r x h refl x h refl in
     let l : r < length t = subst (λ (k : ℕ). r < k) (sym (c .entries)) (reading-lt j is x) in
-    any-of-member (rectifies j x) (upFrom 0 (2 ^ j .targets)) (getD t r 0) (mem-below (2 ^ j .targets) (getD t r 0) .1 (c .below r l)) e
+    rectifiable-of j x (getD t r 0) (c .below r l) e

@@ -1,11 +1,12 @@
 -- Laws of the verdict: which case is given, and the least blind reading. Assumes nothing.
-use Prim.Native.Nat.{ℕ, _^_, _<_, _≤_}
+use Prim.Native.Nat.{ℕ, _^_, _<_}
 use mathlib.Core.Path.{_≡_, refl, sym, _∙_, ap}
 use mathlib.Core.Logic.{⊎-elim}
 use mathlib.Core.List.{List}
 use mathlib.Core.Bool.{Bool, true, false, true≢false, not}
 use mathlib.Core.Option.{Option, none, some}
 use native.Mathlib.Omega.{arith}
+use borrow.Author.Tests.{not-true}
 use lib.ListN.{length}
 use Rattle.records.specs.Bytes.{upFrom}
 use Rattle.records.specs.Job.{Job}
@@ -13,7 +14,7 @@ use Rattle.engine.specs.Choice.{first, found, orZero}
 use Rattle.engine.specs.Rectify.{vectorLoop}
 use Rattle.engine.specs.Support.{shared, sound, candidateNets, chosen}
 use Rattle.engine.specs.Verdict.{Ruling, patch, unfixable, blind, blindReading, ruling}
-use Rattle.engine.proofs.Laws.Choice.{Least, first-least, first-none-below, found-some, found-none, not-both, true-or-false}
+use Rattle.engine.proofs.Laws.Choice.{Least, first-least, first-none-below, found-none, not-both, true-or-false}
 use Rattle.engine.proofs.Laws.Support.{sound-iff-found}
 
 -- ---- the three cases
@@ -75,11 +76,6 @@ pub record LeastBlind (j : Job) (r : ℕ) : Type 0 where
   pub none-shared : shared j (candidateNets j) r ≡ none
   pub smaller : (q : ℕ) → q < r → shared j (candidateNets j) q ≡ none → ⊥
 
-found-of-not : (o : Option ℕ) → not (found o) ≡ true → o ≡ none
-unfolding found
-found-of-not none e = refl
-found-of-not (some x) e = absurd (true≢false (sym e))
-
 not-of-none : (o : Option ℕ) → o ≡ none → not (found o) ≡ true
 unfolding found
 not-of-none o e = rw e
@@ -93,8 +89,9 @@ module _ (j : Job) where
   least-lacks r l =
       record {
         below = l .below;
-        none-shared = found-of-not _ (l .holds);
-        smaller = λ q h e. not-both (not-of-none _ e) (l .smaller q h) }
+        none-shared = found-none _ (not-true _ (l .holds));
+        smaller = λ q h e. not-both (not-of-none _ e) (l .smaller q h);
+      }
 
   -- where all candidates together are not sound, the reading given is the least that lacks a vector
   pub blind-least : sound j (candidateNets j) ≡ false → LeastBlind j (blindReading j)
@@ -106,9 +103,9 @@ module _ (j : Job) where
       go none q =
           absurd
           (not-both
-            (sound-iff-found j (candidateNets j) .1
-              (λ r h. ⊎-elim (λ t. t) (λ t. absurd (not-both (ap not t) (first-none-below lacks (2 ^ length (candidateNets j)) q r h))) (true-or-false (found (shared j (candidateNets j) r)))))
-            e)
+          (sound-iff-found j (candidateNets j) .1
+          (λ r h. ⊎-elim (λ t. t) (λ t. absurd (not-both (ap not t) (first-none-below lacks (2 ^ length (candidateNets j)) q r h))) (true-or-false (found (shared j (candidateNets j) r)))))
+          e)
 
   pub blind-unique : (r q : ℕ) → LeastBlind j r → LeastBlind j q → r ≡ q
   blind-unique r q a b =

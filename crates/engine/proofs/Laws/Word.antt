@@ -1,20 +1,16 @@
 -- Laws of the bits of words: and, or, xor and complement bit by bit. Assumes nothing.
-use Prim.Native.Nat.{ℕ, zero, suc, _+_, _-_, _*_, _/_, _%_, _^_, min, max, _≤_, _<_}
-use mathlib.Core.Path.{_≡_, refl, sym, _∙_, ap}
+use Prim.Native.Nat.{ℕ, zero, suc, _+_, _-_, _*_, _/_, _%_, _^_, min, max, _<_}
+use mathlib.Core.Path.{_≡_, refl, _∙_, ap}
 use native.Mathlib.Omega.{arith}
 use lib.Arith.{digits-div}
 use lib.Bits.{bitAnd, bitOr, bitXor, differ, and-step, or-step, xor-step, and-shr, or-shr, xor-shr}
 use lib.Pow.{pow-pos, pow-add, split, shr-lt, ones-split}
 use native.Mathlib.Nat.{add-mul, mod-lt, zero-div, div-one}
-use mathlib.Core.List.{List, [], _∷_}
+use mathlib.Core.List.{[], _∷_}
 use mathlib.Core.Logic.{_⊎_, inl, inr}
 use lib.ListN.{take}
 use Rattle.records.specs.Gate.{arity, gateValue, conj, disj, parity, inverted}
 use Rattle.engine.specs.Eval.{bit}
-
-pub bit-lt : (i x : ℕ) → bit i x < 2
-unfolding bit
-bit-lt i x = omega arith
 
 -- the lowest bit of a number made of a number and a bit
 low : (q b : ℕ) → b < 2 → (q * 2 + b) % 2 ≡ b
@@ -44,7 +40,7 @@ unfolding bit
 bit-xor i a b =
     ap (λ (x : ℕ). x % 2) (xor-shr a b i ∙ xor-step (a / 2 ^ i) (b / 2 ^ i))
     ∙ low (bitXor (a / 2 ^ i / 2) (b / 2 ^ i / 2)) (differ (a / 2 ^ i % 2) (b / 2 ^ i % 2))
-      (differ-lt (a / 2 ^ i % 2) (b / 2 ^ i % 2) (omega arith) (omega arith))
+    (differ-lt (a / 2 ^ i % 2) (b / 2 ^ i % 2) (omega arith) (omega arith))
 
 -- the complement of x in 1 + h + i bits, as the complement of its upper part and of its lower i bits
 complement-split : (h i x : ℕ) → x < 2 ^ (1 + h + i)

@@ -42,7 +42,8 @@ begun gs count base nets g =
       leaves = refl;
       beyond = refl;
       good = rw add-zero g;
-      words = λ j h. rw add-zero }
+      words = λ j h. rw add-zero;
+    }
 
 gate : List ℕ → List ℕ → List ℕ → ℕ → Gate
 gate ks xs ys k = gateOf (getD ks k 0) (getD xs k 0) (getD ys k 0)
@@ -56,9 +57,9 @@ module _ (ks xs ys : List ℕ) (count base : ℕ) (nets₀ nets : List ℕ) (i :
 
   turned : (w : ℕ) → base + count ≤ length nets₀
       → ((j : ℕ) → j < 64
-        → bit j w
-        ≡ gateValue (getD ks i 0)
-          (take (arity (getD ks i 0)) (bit j (getD nets (getD xs i 0) 0) ∷ bit j (getD nets (getD ys i 0) 0) ∷ [])))
+      → bit j w
+      ≡ gateValue (getD ks i 0)
+      (take (arity (getD ks i 0)) (bit j (getD nets (getD xs i 0) 0) ∷ bit j (getD nets (getD ys i 0) 0) ∷ [])))
       → Evaluating (gatesFrom count ks xs ys) count base nets₀ (set nets (base + i) w) (i + 1)
   unfolding gate gatesFrom
   turned w r v =
@@ -69,10 +70,11 @@ module _ (ks xs ys : List ℕ) (count base : ℕ) (nets₀ nets : List ℕ) (i :
         beyond = drop-set-lt (base + count) nets (base + i) w (omega arith) ∙ e .beyond;
         good = here .1;
         words =
-          λ j l.
-          eval-turn count (gate ks xs ys) i h j base w nets (omega (arith, e .long))
+            λ j l.
+            eval-turn count (gate ks xs ys) i h j base w nets (omega (arith, e .long))
             (v j l ∙ word-value j (base + i) nets (getD ks i 0) (getD xs i 0) (getD ys i 0) (here .0))
-          ∙ e .words j l }
+            ∙ e .words j l;
+      }
 
 finished : (ks xs ys : List ℕ) (count base : ℕ) (nets₀ nets : List ℕ) (i : ℕ) → i ≡ count
     → Evaluating (gatesFrom count ks xs ys) count base nets₀ nets i
@@ -84,7 +86,8 @@ finished ks xs ys count base nets₀ nets i z e =
       long = e .long;
       leaves = e .leaves;
       beyond = rw n (e .beyond);
-      words = λ j l. rw n (rw (z, drop-tabulate-end count (gate ks xs ys)) at (e .words j l)) }
+      words = λ j l. rw n (rw (z, drop-tabulate-end count (gate ks xs ys)) at (e .words j l));
+    }
 
 abbrev Inv-loop : tie.InvT-loop
 Inv-loop kinds firsts seconds count base nets₀ i₀ nets i = Evaluating (gatesFrom count kinds firsts seconds) count base nets₀ nets i

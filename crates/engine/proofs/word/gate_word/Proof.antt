@@ -7,7 +7,8 @@ use lib.Bits.{bitAnd, bitOr, bitXor, and-lt, or-lt, xor-lt}
 use Rattle.records.specs.Gate.{arity, gateValue, inverted}
 use Rattle.records.proofs.Laws.Gate.{gateValue-other}
 use Rattle.engine.specs.Eval.{bit}
-use Rattle.engine.proofs.Laws.Word.{bit-lt, bit-and, bit-or, bit-xor, bit-not, bit-zero, applied, at-kind, and-bits, or-bits, xor-bits, inverts}
+use Rattle.engine.proofs.Laws.Eval.{bit-lt}
+use Rattle.engine.proofs.Laws.Word.{bit-and, bit-or, bit-xor, bit-not, bit-zero, applied, at-kind, and-bits, or-bits, xor-bits, inverts}
 use Rattle.engine.proofs.word.gate_word.Statement.{statement}
 use Rattle.engine.proofs.word.gate_word.Tie as tie
 
