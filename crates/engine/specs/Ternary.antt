@@ -6,10 +6,12 @@
 --   ternaryValue k x y     kind k, of two operands, on x and y: known exactly when every completion of the operands, each taken
 --                          on its own, gives the same value
 --   ternaryTable k         the three by three table of kind k
-use Prim.Native.Nat.{ℕ, zero, suc, _+_}
+--   entry t x y            the entry of the table t at the operands x and y, where any number above 1 stands for not yet known
+use Prim.Native.Nat.{ℕ, min}
 use mathlib.Core.List.{List, [], _∷_, _++_, map}
 use mathlib.Core.Bool.{Bool, cond}
 use lib.Dec.{eqb}
+use lib.ListN.{getD}
 use Rattle.records.specs.Bytes.{all, flat}
 use Rattle.records.specs.Gate.{gateValue}
 
@@ -29,3 +31,6 @@ ternaryValue k x y =
 
 unfoldable pub ternaryTable : ℕ → List (List ℕ)
 ternaryTable k = map (λ x. map (ternaryValue k x) (0 ∷ 1 ∷ 2 ∷ [])) (0 ∷ 1 ∷ 2 ∷ [])
+
+unfoldable pub entry : List (List ℕ) → ℕ → ℕ → ℕ
+entry t x y = getD (getD t (min x unknown) []) (min y unknown) 0

@@ -1,1 +1,5 @@
 // The engine.
+mod ternary;
+
+pub use ternary::ternary_entry;
+pub use ternary::ternary_table;
