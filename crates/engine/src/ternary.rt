@@ -1,10 +1,10 @@
 // Gates on 0, 1 and not yet known (2): each kind's three by three table, handed by value to the partial evaluation of the
 // search.
+ghost use Prim.Native.Nat.{min};
 ghost use mathlib.Core.Path.{_≡_};
 ghost use Rattle.engine.specs.Ternary.{unknown, ternaryTable, entry};
-ghost use Prim.Native.Nat.{min};
 
-// The tables, by kind. The first index is the first operand; a kind of fewer operands leaves the others out.
+// The tables, by kind; the first operand picks the row. A kind of one operand looks at the first alone, a constant at none.
 const TABLES: [[[u8; 3]; 3]; 10] = [
     [[0, 0, 0], [0, 0, 0], [0, 0, 0]], // constant zero
     [[1, 1, 1], [1, 1, 1], [1, 1, 1]], // constant one
@@ -36,7 +36,7 @@ fn place(x: usize) -> usize
     if x < 2 { x } else { 2 }
 }
 
-// The entry of a table at two operands.
+// The entry of a table at two operands; the first picks the row.
 pub fn ternary_entry(table: [[u8; 3]; 3], a: usize, b: usize) -> u8
     ensures { λ r. ⌜ r ≡ entry table a b ⌝ }
 {
