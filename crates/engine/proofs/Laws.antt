@@ -7,5 +7,6 @@ pub mod EvalWords
 pub mod Loop
 pub mod Outputs
 pub mod Support
+pub mod Ternary
 pub mod Verdict
 pub mod Word

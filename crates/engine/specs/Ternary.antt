@@ -6,10 +6,15 @@
 --   ternaryValue k x y     kind k, of two operands, on x and y: known exactly when every completion of the operands, each taken
 --                          on its own, gives the same value
 --   ternaryTable k         the three by three table of kind k
-use Prim.Native.Nat.{ℕ, zero, suc, _+_}
-use mathlib.Core.List.{List, [], _∷_, _++_, map}
-use mathlib.Core.Bool.{Bool, cond}
+--   entry t x y            the entry of the table t at the operands x and y, where any number above 1 stands for not yet known
+--   Completes a x          a is a value that x may turn out to have: 0 or 1, and x itself where x is known
+--   Possible k x y v       v is what kind k gives on a completion of x and a completion of y
+use Prim.Native.Nat.{ℕ, _<_, min}
+use mathlib.Core.Path.{_≡_}
+use mathlib.Core.List.{List, [], _∷_, map}
+use mathlib.Core.Bool.{cond}
 use lib.Dec.{eqb}
+use lib.ListN.{getD}
 use Rattle.records.specs.Bytes.{all, flat}
 use Rattle.records.specs.Gate.{gateValue}
 
@@ -29,3 +34,19 @@ ternaryValue k x y =
 
 unfoldable pub ternaryTable : ℕ → List (List ℕ)
 ternaryTable k = map (λ x. map (ternaryValue k x) (0 ∷ 1 ∷ 2 ∷ [])) (0 ∷ 1 ∷ 2 ∷ [])
+
+unfoldable pub entry : List (List ℕ) → ℕ → ℕ → ℕ
+entry t x y = getD (getD t (min x unknown) []) (min y unknown) 0
+
+-- ---- what the laws of the tables say
+
+pub record Completes (a x : ℕ) : Type 0 where
+  pub bit : a < 2
+  pub kept : x < unknown → a ≡ x
+
+pub record Possible (k x y v : ℕ) : Type 0 where
+  pub left : ℕ
+  pub right : ℕ
+  pub completesLeft : Completes left x
+  pub completesRight : Completes right y
+  pub gives : gateValue k (left ∷ right ∷ []) ≡ v
