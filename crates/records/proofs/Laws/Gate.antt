@@ -28,7 +28,7 @@ getD-run t at n v end e k l h =
     ∙ getD-replicate n (k - at) v 0 (omega arith)
 
 -- what holds of each entry, and of what stands for one past the end
-getD-all : (p : ℕ → Bool) (t : List ℕ) → all p t ≡ true → p 0 ≡ true → (k : ℕ) → p (getD t k 0) ≡ true
+pub getD-all : (p : ℕ → Bool) (t : List ℕ) → all p t ≡ true → p 0 ≡ true → (k : ℕ) → p (getD t k 0) ≡ true
 unfolding all
 getD-all p [] e z k = z
 getD-all p (x ∷ t) e z zero = all-cons p x t e .0
@@ -120,7 +120,7 @@ abbrev pub applied : ℕ → ℕ → ℕ → ℕ
 applied k a b = gateValue k (take (arity k) (a % 2 ∷ b % 2 ∷ []))
 
 -- what holds of 0 and 1 holds of lowest bits
-on-bit : (P : ℕ → Type 0) → P 0 → P 1 → (x : ℕ) → x < 2 → P x
+pub on-bit : (P : ℕ → Type 0) → P 0 → P 1 → (x : ℕ) → x < 2 → P x
 on-bit P p q zero h = p
 on-bit P p q (suc zero) h = q
 on-bit P p q (suc (suc x)) h = let f : ⊥ = omega arith in absurd f

@@ -1,0 +1,138 @@
+-- Laws of evaluation on words: a turn of the loop over gates. Assumes nothing.
+use Prim.Native.Nat.{ℕ, zero, suc, _+_, _*_, _≤_, _<_}
+use mathlib.Core.Path.{_≡_, refl, sym, _∙_, ap}
+use mathlib.Core.List.{List, [], _∷_, _++_, map, map-append, append-assoc, append-nil}
+use mathlib.Core.Bool.{true, _&&_}
+use native.Mathlib.Nat.{add-zero, zero-add}
+use native.Mathlib.Omega.{arith}
+use borrow.Author.Tests.{ltb-true}
+use lib.Dec.{ltb}
+use lib.ListN.{length, getD, take, drop, set, length-set, List·getD-map}
+use lib.Seq.{getD-take, take-suc-set, drop-set-lt}
+use Rattle.records.specs.Bytes.{upFrom, tabulate, all}
+use Rattle.records.specs.Gate.{Gate, gateOf, arity, operands, gateValue}
+use Rattle.records.specs.Netlist.{netAt, extended, valueOf, values}
+use Rattle.records.specs.Refusal.{gateGood, gatesGood}
+use Rattle.records.proofs.Laws.Bytes.{and-left, and-right, drop-tabulate, tabulate-snoc}
+use Rattle.records.proofs.Laws.Gate.{gateGood-parts}
+use Rattle.engine.specs.Eval.{bit, bits}
+use Rattle.engine.specs.Inner.{Loaded, Evaluated, BlockValues}
+use Rattle.engine.proofs.Laws.Choice.{all-true, map-agree}
+use Rattle.engine.proofs.Laws.Word.{bit-zero}
+
+map-take : (f : ℕ → ℕ) (n : ℕ) (xs : List ℕ) → map f (take n xs) ≡ take n (map f xs)
+map-take f zero xs = refl
+map-take f (suc n) [] = refl
+map-take f (suc n) (x ∷ xs) = ap (λ (l : List ℕ). f x ∷ l) (map-take f n xs)
+
+-- ---- gates in a row
+
+module _ (n : ℕ) (g : ℕ → Gate) (i : ℕ) (h : i < n) where
+  pub good-both : (base : ℕ) → gatesGood (base + i) (drop i (tabulate n g)) ≡ true
+      → (gateGood (base + i) (g i) ≡ true) × (gatesGood (base + (i + 1)) (drop (i + 1) (tabulate n g)) ≡ true)
+  unfolding gatesGood
+  good-both base e =
+      let m : suc (base + i) ≡ base + (i + 1) = omega arith in
+      let rest = drop (i + 1) (tabulate n g) in
+      let q : (gateGood (base + i) (g i) && gatesGood (suc (base + i)) rest) ≡ true =
+      rw (drop-tabulate n g i h) at e in (
+        and-left (gateGood (base + i) (g i)) (gatesGood (suc (base + i)) rest) q,
+        ap (λ (k : ℕ). gatesGood k rest) (sym m) ∙ and-right (gateGood (base + i) (g i)) (gatesGood (suc (base + i)) rest) q,
+      )
+
+  extended-step : (known : List ℕ)
+      → extended valueOf known (drop i (tabulate n g))
+      ≡ extended valueOf (known ++ (valueOf known (g i) ∷ [])) (drop (i + 1) (tabulate n g))
+  unfolding extended
+  extended-step known = rw (drop-tabulate n g i h)
+
+-- ---- a gate's value from words
+
+module _ (j net : ℕ) (nets : List ℕ) where
+  known-net : (x : ℕ) → x < net → netAt (map (bit j) (take net nets)) x ≡ bit j (getD nets x 0)
+  unfolding netAt
+  known-net x h =
+      ap (λ (d : ℕ). getD (map (bit j) (take net nets)) x d) (sym (bit-zero j))
+      ∙ List·getD-map (bit j) (take net nets) x 0
+      ∙ ap (bit j) (getD-take net nets x 0 h)
+
+  known-nets : (is : List ℕ) → all (λ x. ltb x net) is ≡ true
+      → map (netAt (map (bit j) (take net nets))) is ≡ map (λ x. bit j (getD nets x 0)) is
+  known-nets is e =
+      map-agree (netAt (map (bit j) (take net nets))) (λ x. bit j (getD nets x 0)) is
+      (λ x m. known-net x (ltb-true x net (all-true (λ y. ltb y net) is e x m)))
+
+  -- the value of a good gate on the words' bits is the value that the definition gives it
+  pub word-value : (k a b : ℕ) → gateGood net (gateOf k a b) ≡ true
+      → gateValue k (take (arity k) (bit j (getD nets a 0) ∷ bit j (getD nets b 0) ∷ []))
+      ≡ valueOf (map (bit j) (take net nets)) (gateOf k a b)
+  unfolding valueOf operands gateOf
+  word-value k a b e =
+      ap (gateValue k)
+      (sym (map-take (λ x. bit j (getD nets x 0)) (arity k) (a ∷ b ∷ []))
+      ∙ sym (known-nets (take (arity k) (a ∷ b ∷ [])) (gateGood-parts net (gateOf k a b) e .0)))
+
+-- ---- a turn of the loop
+
+pub eval-turn : (n : ℕ) (g : ℕ → Gate) (i : ℕ) → i < n → (j base w : ℕ) (nets : List ℕ) → base + i < length nets
+    → bit j w ≡ valueOf (map (bit j) (take (base + i) nets)) (g i)
+    → extended valueOf (map (bit j) (take (base + (i + 1)) (set nets (base + i) w))) (drop (i + 1) (tabulate n g))
+    ≡ extended valueOf (map (bit j) (take (base + i) nets)) (drop i (tabulate n g))
+eval-turn n g i h j base w nets l e =
+    let m : base + (i + 1) ≡ suc (base + i) = omega arith in
+    let known = map (bit j) (take (base + i) nets) in
+    let p : map (bit j) (take (base + (i + 1)) (set nets (base + i) w)) ≡ known ++ (valueOf known (g i) ∷ []) =
+    ap (λ (k : ℕ). map (bit j) (take k (set nets (base + i) w))) m
+    ∙ ap (map (bit j)) (take-suc-set nets (base + i) w l)
+    ∙ map-append (bit j) (take (base + i) nets) (w ∷ [])
+    ∙ ap (λ (v : ℕ). known ++ (v ∷ [])) e in
+    ap (λ (l : List ℕ). extended valueOf l (drop (i + 1) (tabulate n g))) p ∙ sym (extended-step n g i h known)
+
+-- ---- leaves: k words so far from net at on, whose bits are those of x j
+
+pub record Loading (at k size : ℕ) (x : ℕ → ℕ) (before after : List ℕ) : Type 0 where
+  pub long : length after ≡ length before
+  pub beyond : drop (at + size) after ≡ drop (at + size) before
+  pub words : (j : ℕ) → j < 64
+      → map (bit j) (take (at + k) after) ≡ map (bit j) (take at before) ++ bits k (x j)
+
+pub loading-none : (at size : ℕ) (x : ℕ → ℕ) (d : List ℕ) → Loading at 0 size x d d
+unfolding bits tabulate upFrom
+loading-none at size x d =
+    record { long = refl; beyond = refl; words = λ j h. rw add-zero (sym (append-nil (map (bit j) (take at d)))) }
+
+-- a store of the next word
+pub loading-next : (at k size : ℕ) (x : ℕ → ℕ) (before after : List ℕ) (w : ℕ) → Loading at k size x before after
+    → k < size → at + size ≤ length before → ((j : ℕ) → j < 64 → bit j w ≡ bit k (x j))
+    → Loading at (k + 1) size x before (set after (at + k) w)
+unfolding bits
+loading-next at k size x before after w l h r e =
+    let m : at + (k + 1) ≡ suc (at + k) = omega arith in
+    record {
+      long = length-set after (at + k) w ∙ l .long;
+      beyond = drop-set-lt (at + size) after (at + k) w (omega arith) ∙ l .beyond;
+      words =
+        λ j q.
+        ap (λ (n : ℕ). map (bit j) (take n (set after (at + k) w))) m
+        ∙ ap (map (bit j)) (take-suc-set after (at + k) w (omega (arith, l .long)))
+        ∙ map-append (bit j) (take (at + k) after) (w ∷ [])
+        ∙ ap (λ (v : ℕ). map (bit j) (take (at + k) after) ++ (v ∷ [])) (e j q)
+        ∙ ap (λ (xs : List ℕ). xs ++ (bit k (x j) ∷ [])) (l .words j q)
+        ∙ append-assoc (map (bit j) (take at before)) (tabulate k (λ i. bit i (x j))) (bit k (x j) ∷ [])
+        ∙ ap (λ (xs : List ℕ). map (bit j) (take at before) ++ xs) (sym (tabulate-snoc k (λ i. bit i (x j)))) }
+
+pub loading-all : (at k size : ℕ) (x : ℕ → ℕ) (before after : List ℕ) → k ≡ size → Loading at k size x before after
+    → Loaded at size x before after
+loading-all at k size x before after e l = record { long = l .long; beyond = l .beyond; words = rw e at (l .words) }
+
+-- inputs and targets loaded, and the gates evaluated on them
+pub block-values : (gs : List Gate) (n m b v : ℕ) (d₀ d₁ d₂ d₃ : List ℕ) → Loaded 0 n (λ j. 64 * b + j) d₀ d₁
+    → Loaded n m (λ j. v) d₁ d₂ → Evaluated gs (n + m) d₂ d₃ → BlockValues gs n m b v d₀ d₃
+block-values gs n m b v d₀ d₁ d₂ d₃ p q e =
+    record {
+      long = e .long ∙ q .long ∙ p .long;
+      words =
+        λ j h.
+        e .words j h
+        ∙ ap (λ (l : List ℕ). values l gs)
+          (q .words j h ∙ ap (λ (l : List ℕ). l ++ bits m v) (ap (λ (k : ℕ). map (bit j) (take k d₁)) (sym (zero-add n)) ∙ p .words j h)) }

@@ -1,0 +1,122 @@
+-- Laws of the verdict: which case is given, and the least blind reading. Assumes nothing.
+use Prim.Native.Nat.{ℕ, _^_, _<_}
+use mathlib.Core.Path.{_≡_, refl, sym, _∙_, ap}
+use mathlib.Core.Logic.{⊎-elim}
+use mathlib.Core.List.{List}
+use mathlib.Core.Bool.{Bool, true, false, true≢false, not}
+use mathlib.Core.Option.{Option, none, some}
+use native.Mathlib.Omega.{arith}
+use borrow.Author.Tests.{not-true}
+use lib.ListN.{length}
+use Rattle.records.specs.Bytes.{upFrom}
+use Rattle.records.specs.Job.{Job}
+use Rattle.engine.specs.Choice.{first, found, orZero}
+use Rattle.engine.specs.Rectify.{vectorLoop}
+use Rattle.engine.specs.Support.{shared, sound, candidateNets, chosen}
+use Rattle.engine.specs.Verdict.{Ruling, patch, unfixable, blind, blindReading, ruling}
+use Rattle.engine.proofs.Laws.Choice.{Least, first-least, first-none-below, found-none, not-both, true-or-false}
+use Rattle.engine.proofs.Laws.Support.{sound-iff-found}
+
+-- ---- the three cases
+
+pick : Option ℕ → Bool → List ℕ → ℕ → Ruling
+pick o b p r = elim o [ some x ↦ unfixable x | none ↦ elim b [ true ↦ patch p | false ↦ blind r ] ]
+
+pick-unfixable : (o : Option ℕ) (b : Bool) (p : List ℕ) (r x : ℕ) → pick o b p r ≡ unfixable x → o ≡ some x
+unfolding pick
+pick-unfixable (some y) b p r x e = cc
+pick-unfixable none true p r x e = let z : _≡_ {A = ℕ} 0 1 = cc in let f : ⊥ = omega arith in absurd f
+pick-unfixable none false p r x e = let z : _≡_ {A = ℕ} 0 1 = cc in let f : ⊥ = omega arith in absurd f
+
+pick-patch : (o : Option ℕ) (b : Bool) (p : List ℕ) (r : ℕ) (is : List ℕ) → pick o b p r ≡ patch is
+    → (o ≡ none) × (b ≡ true) × (is ≡ p)
+unfolding pick
+pick-patch none true p r is e = (refl, refl, cc)
+pick-patch none false p r is e = let z : _≡_ {A = ℕ} 0 1 = cc in let f : ⊥ = omega arith in absurd f
+pick-patch (some y) b p r is e = let z : _≡_ {A = ℕ} 0 1 = cc in let f : ⊥ = omega arith in absurd f
+
+pick-blind : (o : Option ℕ) (b : Bool) (p : List ℕ) (r q : ℕ) → pick o b p r ≡ blind q → (o ≡ none) × (b ≡ false) × (q ≡ r)
+unfolding pick
+pick-blind none false p r q e = (refl, refl, cc)
+pick-blind none true p r q e = let z : _≡_ {A = ℕ} 0 1 = cc in let f : ⊥ = omega arith in absurd f
+pick-blind (some y) b p r q e = let z : _≡_ {A = ℕ} 0 1 = cc in let f : ⊥ = omega arith in absurd f
+
+module _ (j : Job) where
+  ruling-pick : ruling j ≡ pick (vectorLoop j .stuck) (sound j (candidateNets j)) (chosen j) (blindReading j)
+  unfolding ruling pick
+  ruling-pick = refl
+
+  pub ruling-unfixable : (x : ℕ) → vectorLoop j .stuck ≡ some x → ruling j ≡ unfixable x
+  unfolding pick
+  ruling-unfixable x e = ruling-pick ∙ rw e
+
+  pub ruling-patch : vectorLoop j .stuck ≡ none → sound j (candidateNets j) ≡ true → ruling j ≡ patch (chosen j)
+  unfolding pick
+  ruling-patch e s = ruling-pick ∙ rw (e, s)
+
+  pub ruling-blind : vectorLoop j .stuck ≡ none → sound j (candidateNets j) ≡ false → ruling j ≡ blind (blindReading j)
+  unfolding pick
+  ruling-blind e s = ruling-pick ∙ rw (e, s)
+
+  pub unfixable-stuck : (x : ℕ) → ruling j ≡ unfixable x → vectorLoop j .stuck ≡ some x
+  unfixable-stuck x e = pick-unfixable _ (sound j (candidateNets j)) (chosen j) (blindReading j) x (sym ruling-pick ∙ e)
+
+  pub patch-chosen : (is : List ℕ) → ruling j ≡ patch is
+      → (vectorLoop j .stuck ≡ none) × (sound j (candidateNets j) ≡ true) × (is ≡ chosen j)
+  patch-chosen is e = pick-patch _ _ (chosen j) (blindReading j) is (sym ruling-pick ∙ e)
+
+  pub blind-reading : (r : ℕ) → ruling j ≡ blind r
+      → (vectorLoop j .stuck ≡ none) × (sound j (candidateNets j) ≡ false) × (r ≡ blindReading j)
+  blind-reading r e = pick-blind _ _ (chosen j) (blindReading j) r (sym ruling-pick ∙ e)
+
+-- ---- the blind reading
+
+pub record LeastBlind (j : Job) (r : ℕ) : Type 0 where
+  pub below : r < 2 ^ length (candidateNets j)
+  pub none-shared : shared j (candidateNets j) r ≡ none
+  pub smaller : (q : ℕ) → q < r → shared j (candidateNets j) q ≡ none → ⊥
+
+not-of-none : (o : Option ℕ) → o ≡ none → not (found o) ≡ true
+unfolding found
+not-of-none o e = rw e
+
+module _ (j : Job) where
+  lacks : ℕ → Bool
+  lacks r = not (found (shared j (candidateNets j) r))
+
+  least-lacks : (r : ℕ) → Least lacks (2 ^ length (candidateNets j)) r → LeastBlind j r
+  unfolding lacks
+  least-lacks r l =
+      record {
+        below = l .below;
+        none-shared = found-none _ (not-true _ (l .holds));
+        smaller = λ q h e. not-both (not-of-none _ e) (l .smaller q h);
+      }
+
+  -- where all candidates together are not sound, the reading given is the least that lacks a vector
+  pub blind-least : sound j (candidateNets j) ≡ false → LeastBlind j (blindReading j)
+  unfolding lacks blindReading orZero
+  blind-least e = go (first lacks (upFrom 0 (2 ^ length (candidateNets j)))) refl
+    where
+      go : (o : Option ℕ) → first lacks (upFrom 0 (2 ^ length (candidateNets j))) ≡ o → LeastBlind j (orZero o)
+      go (some r) q = least-lacks r (first-least lacks (2 ^ length (candidateNets j)) r q)
+      go none q =
+          absurd
+          (not-both
+          (sound-iff-found j (candidateNets j) .1
+          (λ r h. ⊎-elim (λ t. t) (λ t. absurd (not-both (ap not t) (first-none-below lacks (2 ^ length (candidateNets j)) q r h))) (true-or-false (found (shared j (candidateNets j) r)))))
+          e)
+
+  pub blind-unique : (r q : ℕ) → LeastBlind j r → LeastBlind j q → r ≡ q
+  blind-unique r q a b =
+      let l : (q < r → ⊥) = λ h. a .smaller q h (b .none-shared) in
+      let m : (r < q → ⊥) = λ h. b .smaller r h (a .none-shared) in
+      omega arith
+
+  pub unsound-of-blind : (r : ℕ) → LeastBlind j r → sound j (candidateNets j) ≡ false
+  unfolding found
+  unsound-of-blind r l =
+      ⊎-elim
+      (λ s. absurd (true≢false (sym (sound-iff-found j (candidateNets j) .0 s r (l .below)) ∙ ap found (l .none-shared))))
+      (λ s. s)
+      (true-or-false (sound j (candidateNets j)))

@@ -1,0 +1,4 @@
+-- The laws of the definitions, and the theorems about them.
+pub mod Cases
+pub mod Laws
+pub mod Theorems

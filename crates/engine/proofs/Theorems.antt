@@ -1,0 +1,68 @@
+-- What specs/Claims.antt promises of the engine's definitions. Assumes nothing.
+use Prim.Native.Nat.{ℕ, _^_, _<_}
+use mathlib.Core.Path.{_≡_, refl, sym, _∙_, ap, subst}
+use mathlib.Core.Logic.{_↔_, ⊎-elim}
+use mathlib.Core.List.{List}
+use mathlib.Core.Bool.{true, false, true≢false}
+use mathlib.Core.Option.{none, some}
+use Rattle.records.specs.Job.{Job}
+use Rattle.engine.specs.Rectify.{rectifiable, vectorLoop}
+use Rattle.engine.specs.Support.{Carries, sound, candidateNets, subsets, chosen, tableOf}
+use Rattle.engine.specs.Verdict.{patch, unfixable, blind, blindReading, ruling}
+use Rattle.engine.specs.Claims.{In, Rectifiable, EveryTable, Readings, PatchExactly, PatchTable, LeastCost, UnfixableExactly, BlindExactly}
+use Rattle.engine.proofs.Laws.Support.{golden-iff, golden-iff-readings, golden-of-sound, carries-of-sound, sound-of-carries, sound-iff-subset-carries, reading-vector, rectifiable-of-carries}
+use Rattle.engine.proofs.Laws.Best.{chosen-sound, chosen-least}
+use Rattle.engine.proofs.Laws.Loop.{rectifiable-iff, stuck-iff, stuck-none-iff}
+use Rattle.engine.proofs.Laws.Verdict.{LeastBlind, ruling-unfixable, ruling-patch, ruling-blind, unfixable-stuck, patch-chosen, blind-reading, blind-least, blind-unique, unsound-of-blind}
+
+pub rectifiable-exactly : Rectifiable
+rectifiable-exactly = rectifiable-iff
+
+pub every-table : EveryTable
+every-table j is t = (
+  λ g. golden-iff-readings j is t .0 (golden-iff j is t .1 g),
+  λ h. golden-iff j is t .0 (golden-iff-readings j is t .1 h),
+)
+
+pub readings : Readings
+readings j g is m x v = reading-vector j g is m x v
+
+pub patch-exactly : PatchExactly
+patch-exactly j = (
+  λ p.
+      let c = patch-chosen j (p .0) (p .1) in
+      sound-iff-subset-carries j (candidateNets j) .0 (c .1),
+  λ c.
+      let s = sound-iff-subset-carries j (candidateNets j) .1 c in
+      let r = stuck-none-iff j .1 (rectifiable-of-carries j (candidateNets j) (carries-of-sound j (candidateNets j) s)) in
+      (chosen j, ruling-patch j r s),
+)
+
+pub patch-table : PatchTable
+patch-table j is e =
+    let c = patch-chosen j is e in
+    let s = chosen-sound j (c .1) in
+    rw (c .2) (s .1, golden-iff j (chosen j) (tableOf j (chosen j)) .0 (golden-of-sound j (chosen j) (s .0)))
+
+pub least-cost : LeastCost
+least-cost j is e ks m c =
+    let p = patch-chosen j is e in
+    rw (p .2) (chosen-least j ks m (sound-of-carries j ks c) .0)
+
+pub unfixable-exactly : UnfixableExactly
+unfixable-exactly j x = (
+  λ e. stuck-iff j x .0 (unfixable-stuck j x e),
+  λ h. ruling-unfixable j x (stuck-iff j x .1 h),
+)
+
+pub blind-exactly : BlindExactly
+blind-exactly j r = (
+  λ e.
+      let b = blind-reading j r e in
+      let l = blind-least j (b .1) in
+      (stuck-none-iff j .0 (b .0), rw (b .2) (l .below), rw (b .2) (l .none-shared), rw (b .2) (l .smaller)),
+  λ h.
+      let l : LeastBlind j r = record { below = h .1; none-shared = h .2; smaller = h .3 } in
+      let u = unsound-of-blind j r l in
+      ruling-blind j (stuck-none-iff j .1 (h .0)) u ∙ ap blind (blind-unique j (blindReading j) r (blind-least j u) l),
+)

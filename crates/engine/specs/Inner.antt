@@ -1,0 +1,59 @@
+-- What the engine's private functions require and give. No public contract cites this file. Assumes nothing.
+--
+--   Evaluable ..     the places hold count gates, good from net base on, and there are words for all nets
+--   Loaded ..        leaves in words
+--   Evaluated ..     in each of 64 scenarios the words of the nets are the values that the leaves' words give; words beyond the
+--                    nets are as before
+use Prim.Native.Nat.{ℕ, _+_, _*_, _≤_, _<_}
+use mathlib.Core.Path.{_≡_}
+use mathlib.Core.List.{List, _++_, map}
+use mathlib.Core.Bool.{true, cond}
+use lib.Dec.{ltb}
+use lib.ListN.{length, getD, take, drop}
+use Rattle.records.specs.Bytes.{all}
+use Rattle.records.specs.Gate.{Gate}
+use Rattle.records.specs.Netlist.{values}
+use Rattle.records.specs.Refusal.{gatesGood}
+use Rattle.records.specs.Service.{gatesFrom}
+use Rattle.engine.specs.Choice.{same}
+use Rattle.engine.specs.Eval.{bit, bits}
+
+pub record Evaluable (kinds firsts seconds : List ℕ) (count base words : ℕ) : Type 0 where
+  pub kinds-held : count ≤ length kinds
+  pub firsts-held : count ≤ length firsts
+  pub seconds-held : count ≤ length seconds
+  pub room : base + count ≤ words
+  pub good : gatesGood base (gatesFrom count kinds firsts seconds) ≡ true
+
+pub record Evaluated (gs : List Gate) (base : ℕ) (before after : List ℕ) : Type 0 where
+  pub long : length after ≡ length before
+  pub leaves : take base after ≡ take base before
+  pub beyond : drop (base + length gs) after ≡ drop (base + length gs) before
+  pub words : (i : ℕ) → i < 64
+      → map (bit i) (take (base + length gs) after) ≡ values (map (bit i) (take base before)) gs
+
+-- from net at on, the words of k nets hold the bits of x j in scenario j; the words beyond them are as before
+pub record Loaded (at k : ℕ) (x : ℕ → ℕ) (before after : List ℕ) : Type 0 where
+  pub long : length after ≡ length before
+  pub beyond : drop (at + k) after ≡ drop (at + k) before
+  pub words : (j : ℕ) → j < 64
+      → map (bit j) (take (at + k) after) ≡ map (bit j) (take at before) ++ bits k (x j)
+
+-- the values of the nets os in scenario j
+unfoldable pub outputBits : ℕ → List ℕ → List ℕ → List ℕ
+outputBits j nets os = map (λ o. bit j (getD nets o 0)) os
+
+-- 1 where two lists differ, else 0
+unfoldable pub differs : List ℕ → List ℕ → ℕ
+differs xs ys = cond (same xs ys) 0 1
+
+-- count outputs in the list os, each with a word among the nets
+pub record Outputs (os : List ℕ) (count words : ℕ) : Type 0 where
+  pub held : count ≤ length os
+  pub below : all (λ o. ltb o words) (take count os) ≡ true
+
+-- in scenario j of block b, the words are the values of a netlist's nets at input 64 * b + j and vector v
+pub record BlockValues (gs : List Gate) (n m b v : ℕ) (before after : List ℕ) : Type 0 where
+  pub long : length after ≡ length before
+  pub words : (j : ℕ) → j < 64
+      → map (bit j) (take (n + m + length gs) after) ≡ values (bits n (64 * b + j) ++ bits m v) gs
