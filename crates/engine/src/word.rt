@@ -49,7 +49,13 @@ pub fn eval_words(
 }
 
 // Where the first count outputs of two netlists differ: bit j is 1 exactly when they do in scenario j.
-pub fn differ_word(old: &[u64], old_outputs: &[u16], golden: &[u64], golden_outputs: &[u16], count: usize) -> u64
+pub fn differ_word(
+    old: &[u64],
+    old_outputs: &[u16],
+    golden: &[u64],
+    golden_outputs: &[u16],
+    count: usize,
+) -> u64
     requires { ⌜ Outputs (now «old_outputs») count (length (now old)) ⌝ }
     requires { ⌜ Outputs (now «golden_outputs») count (length (now golden)) ⌝ }
     ensures { λ r. ⌜ ((j : ℕ) → j < 64 → bit j r ≡ differs

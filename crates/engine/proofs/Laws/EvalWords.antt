@@ -112,14 +112,15 @@ loading-next at k size x before after w l h r e =
       long = length-set after (at + k) w ∙ l .long;
       beyond = drop-set-lt (at + size) after (at + k) w (omega arith) ∙ l .beyond;
       words =
-        λ j q.
-        ap (λ (n : ℕ). map (bit j) (take n (set after (at + k) w))) m
-        ∙ ap (map (bit j)) (take-suc-set after (at + k) w (omega (arith, l .long)))
-        ∙ map-append (bit j) (take (at + k) after) (w ∷ [])
-        ∙ ap (λ (v : ℕ). map (bit j) (take (at + k) after) ++ (v ∷ [])) (e j q)
-        ∙ ap (λ (xs : List ℕ). xs ++ (bit k (x j) ∷ [])) (l .words j q)
-        ∙ append-assoc (map (bit j) (take at before)) (tabulate k (λ i. bit i (x j))) (bit k (x j) ∷ [])
-        ∙ ap (λ (xs : List ℕ). map (bit j) (take at before) ++ xs) (sym (tabulate-snoc k (λ i. bit i (x j)))) }
+          λ j q.
+          ap (λ (n : ℕ). map (bit j) (take n (set after (at + k) w))) m
+          ∙ ap (map (bit j)) (take-suc-set after (at + k) w (omega (arith, l .long)))
+          ∙ map-append (bit j) (take (at + k) after) (w ∷ [])
+          ∙ ap (λ (v : ℕ). map (bit j) (take (at + k) after) ++ (v ∷ [])) (e j q)
+          ∙ ap (λ (xs : List ℕ). xs ++ (bit k (x j) ∷ [])) (l .words j q)
+          ∙ append-assoc (map (bit j) (take at before)) (tabulate k (λ i. bit i (x j))) (bit k (x j) ∷ [])
+          ∙ ap (λ (xs : List ℕ). map (bit j) (take at before) ++ xs) (sym (tabulate-snoc k (λ i. bit i (x j))));
+    }
 
 pub loading-all : (at k size : ℕ) (x : ℕ → ℕ) (before after : List ℕ) → k ≡ size → Loading at k size x before after
     → Loaded at size x before after
@@ -132,7 +133,8 @@ block-values gs n m b v d₀ d₁ d₂ d₃ p q e =
     record {
       long = e .long ∙ q .long ∙ p .long;
       words =
-        λ j h.
-        e .words j h
-        ∙ ap (λ (l : List ℕ). values l gs)
-          (q .words j h ∙ ap (λ (l : List ℕ). l ++ bits m v) (ap (λ (k : ℕ). map (bit j) (take k d₁)) (sym (zero-add n)) ∙ p .words j h)) }
+          λ j h.
+          e .words j h
+          ∙ ap (λ (l : List ℕ). values l gs)
+          (q .words j h ∙ ap (λ (l : List ℕ). l ++ bits m v) (ap (λ (k : ℕ). map (bit j) (take k d₁)) (sym (zero-add n)) ∙ p .words j h));
+    }

@@ -93,7 +93,7 @@ differs-turn j r i xs os ys ps h k e =
     let x = getD xs (getD os i 0) 0 in
     let y = getD ys (getD ps i 0) 0 in
     let l : length (outputBits j xs (take i os)) ≡ length (outputBits j ys (take i ps)) =
-      omega (arith, length-outputBits j xs os i (omega arith), length-outputBits j ys ps i (omega arith)) in
+    omega (arith, length-outputBits j xs os i (omega arith), length-outputBits j ys ps i (omega arith)) in
     bit-or j r (bitXor x y)
     ∙ ap (λ (v : ℕ). max v (bit j (bitXor x y))) e
     ∙ ap (λ (v : ℕ). max (differs (outputBits j xs (take i os)) (outputBits j ys (take i ps))) v) (bit-xor j x y)

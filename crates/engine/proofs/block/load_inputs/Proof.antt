@@ -38,14 +38,15 @@ loop-again : tie.Need-loop-again Inv-loop μ-loop
 loop-again c =
     let t = c .before in
     let a = t .before .before .before .args in
-    let l = t .before .loop in
-    (omega arith,
+    let l = t .before .loop in (
+      omega arith,
       subst (λ (n : ℕ). Loading 0 (l .i + 1) (a .inputs) (λ j. 64 * a .b + j) (now (a .nets)) (set (l .nets) n (c .input-word .result)))
-      (zero-add (l .i))
-      (loading-next 0 (l .i) (a .inputs) (λ j. 64 * a .b + j) (now (a .nets)) (l .nets) (c .input-word .result) (l .inv .1)
-        (t .loop-test .taken)
-        (omega arith)
-        (c .input-word .ensures)))
+          (zero-add (l .i))
+          (loading-next 0 (l .i) (a .inputs) (λ j. 64 * a .b + j) (now (a .nets)) (l .nets) (c .input-word .result) (l .inv .1)
+          (t .loop-test .taken)
+          (omega arith)
+          (c .input-word .ensures)),
+    )
 
 same-length : tie.Need-same-length Inv-loop μ-loop
 same-length c = c .before .loop .inv .1 .long

@@ -45,12 +45,13 @@ loop-again : tie.Need-loop-again Inv-loop μ-loop
 loop-again c =
     let t = c .before in
     let a = t .before .before .before .args in
-    let l = t .before .loop in
-    (omega arith,
+    let l = t .before .loop in (
+      omega arith,
       loading-next (a .at) (l .i) (a .targets) (λ j. a .v) (now (a .nets)) (l .nets) (c .broadcast .result) (l .inv .1)
-        (t .loop-test .taken)
-        (omega arith)
-        (λ j h. c .broadcast .ensures j h ∙ bit-shift (l .i) (a .v)))
+          (t .loop-test .taken)
+          (omega arith)
+          (λ j h. c .broadcast .ensures j h ∙ bit-shift (l .i) (a .v)),
+    )
 
 same-length : tie.Need-same-length Inv-loop μ-loop
 same-length c = c .before .loop .inv .1 .long

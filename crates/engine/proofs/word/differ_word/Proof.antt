@@ -73,13 +73,14 @@ loop-again : tie.Need-loop-again Inv-loop μ-loop
 loop-again c =
     let t = c .before .before .before .before in
     let a = t .before .before .args in
-    let l = t .before .loop in
-    (omega arith,
+    let l = t .before .loop in (
+      omega arith,
       λ j h.
-      differs-turn j (l .r) (l .i) (now (a .old)) (now (a .old-outputs)) (now (a .golden)) (now (a .golden-outputs))
-      (omega arith)
-      (omega arith)
-      (l .inv .1 j h))
+          differs-turn j (l .r) (l .i) (now (a .old)) (now (a .old-outputs)) (now (a .golden)) (now (a .golden-outputs))
+          (omega arith)
+          (omega arith)
+          (l .inv .1 j h),
+    )
 
 returns : tie.Need-returns Inv-loop μ-loop
 returns c =
