@@ -12,7 +12,8 @@ use lib.Dec.{ltb}
 use lib.ListN.{length, getD, take, drop}
 use Rattle.records.specs.Bytes.{all}
 use Rattle.records.specs.Gate.{Gate}
-use Rattle.records.specs.Netlist.{values}
+use Rattle.records.specs.Netlist
+use Rattle.records.specs.Netlist.{netAt, values}
 use Rattle.records.specs.Refusal.{gatesGood}
 use Rattle.records.specs.Service.{gatesFrom}
 use Rattle.engine.specs.Choice.{same}
@@ -57,3 +58,22 @@ pub record BlockValues (gs : List Gate) (n m b v : ℕ) (before after : List ℕ
   pub long : length after ≡ length before
   pub words : (j : ℕ) → j < 64
       → map (bit j) (take (n + m + length gs) after) ≡ values (bits n (64 * b + j) ++ bits m v) gs
+
+-- a row of golden words in block b: those of a netlist with the gates gs and no targets
+pub record GoldenWords (gs : List Gate) (n b : ℕ) (words : List ℕ) : Type 0 where
+  pub room : n + length gs ≤ length words
+  pub values : (j : ℕ) → j < 64 → map (bit j) (take (n + length gs) words) ≡ Netlist.values (bits n (64 * b + j)) gs
+
+-- bit j of r is 1 exactly when the old outputs at input 64 * b + j and vector v are the golden ones, whatever the golden
+-- gates are that the golden words come from
+abbrev pub RectifiesWord : List Gate → List ℕ → List ℕ → List ℕ → ℕ → ℕ → ℕ → ℕ → ℕ → ℕ → Type 0
+RectifiesWord gs os golden ps count n m b v r =
+    (hs : List Gate) → GoldenWords hs n b golden → all (λ o. ltb o (n + length hs)) (take count ps) ≡ true
+    → (j : ℕ) → j < 64
+    → bit j r
+    ≡ cond
+    (same
+    (map (netAt (Netlist.values (bits n (64 * b + j) ++ bits m v) gs)) (take count os))
+    (map (netAt (Netlist.values (bits n (64 * b + j)) hs)) (take count ps)))
+    1
+    0

@@ -56,7 +56,7 @@ module _ (j net : ℕ) (nets : List ℕ) where
       ∙ List·getD-map (bit j) (take net nets) x 0
       ∙ ap (bit j) (getD-take net nets x 0 h)
 
-  known-nets : (is : List ℕ) → all (λ x. ltb x net) is ≡ true
+  pub known-nets : (is : List ℕ) → all (λ x. ltb x net) is ≡ true
       → map (netAt (map (bit j) (take net nets))) is ≡ map (λ x. bit j (getD nets x 0)) is
   known-nets is e =
       map-agree (netAt (map (bit j) (take net nets))) (λ x. bit j (getD nets x 0)) is

@@ -1,0 +1,58 @@
+-- Laws of rectifying words: the outputs in words are those of the definition. Assumes nothing.
+use Prim.Native.Nat.{ℕ, _+_, _-_, _*_, _^_, _≤_, _<_}
+use mathlib.Core.Path.{_≡_, refl, sym, _∙_, ap}
+use mathlib.Core.List.{List, [], _∷_, _++_, map}
+use native.Mathlib.Nat.{le-trans}
+use borrow.Author.Tests.{ltb-true, lt-ltb}
+use Rattle.records.proofs.Laws.Bytes.{all-cons, and-both}
+use mathlib.Core.Bool.{Bool, true, false, cond}
+use lib.Dec.{ltb}
+use lib.ListN.{length, take}
+use Rattle.records.specs.Bytes.{all}
+use Rattle.records.specs.Gate.{Gate}
+use Rattle.records.specs.Netlist.{netAt, values}
+use Rattle.engine.specs.Choice.{same}
+use Rattle.engine.specs.Eval.{bit, bits}
+use Rattle.engine.specs.Inner.{outputBits, differs, Outputs, BlockValues, RectifiesWord}
+use Rattle.engine.proofs.Laws.EvalWords.{known-nets}
+use Rattle.engine.proofs.Laws.Word.{bit-not}
+
+-- the outputs' bits are the values of the output nets
+pub outputs-of-words : (j n : ℕ) (nets vs os : List ℕ) → map (bit j) (take n nets) ≡ vs → all (λ o. ltb o n) os ≡ true
+    → outputBits j nets os ≡ map (netAt vs) os
+unfolding outputBits
+outputs-of-words j n nets vs os e h = sym (ap (λ (l : List ℕ). map (netAt l) os) (sym e) ∙ known-nets j n nets os h)
+
+pub not-differs : (xs ys : List ℕ) → 1 - differs xs ys ≡ cond (same xs ys) 1 0
+unfolding differs
+not-differs xs ys = go (same xs ys)
+  where
+    go : (b : Bool) → 1 - cond b 0 1 ≡ cond b 1 0
+    go true = refl
+    go false = refl
+
+-- where two rows of outputs in words do not differ, the vector rectifies the input
+pub rectifies-word : (gs : List Gate) (os golden ps : List ℕ) (count n m b v r k : ℕ) (d₀ nets : List ℕ) → length gs ≡ k
+    → r < 2 ^ 64 → BlockValues gs n m b v d₀ nets → Outputs os count (n + m + k)
+    → ((j : ℕ) → j < 64 → bit j r ≡ differs (outputBits j nets (take count os)) (outputBits j golden (take count ps)))
+    → RectifiesWord gs os golden ps count n m b v ((2 ^ 64 - 1) - r)
+rectifies-word gs os golden ps count n m b v r k d₀ nets e l w o d hs g q j h =
+    let a : all (λ x. ltb x (n + m + length gs)) (take count os) ≡ true = rw e (o .below) in
+    bit-not j r h l
+    ∙ ap (λ (x : ℕ). 1 - x) (d j h)
+    ∙ not-differs (outputBits j nets (take count os)) (outputBits j golden (take count ps))
+    ∙ ap (λ (xs : List ℕ). cond (same xs (outputBits j golden (take count ps))) 1 0)
+    (outputs-of-words j (n + m + length gs) nets _ (take count os) (w .words j h) a)
+    ∙ ap (λ (ys : List ℕ). cond (same (map (netAt (values (bits n (64 * b + j) ++ bits m v) gs)) (take count os)) ys) 1 0)
+    (outputs-of-words j (n + length hs) golden _ (take count ps) (g .values j h) q)
+
+all-below-more : (n m : ℕ) → n ≤ m → (os : List ℕ) → all (λ o. ltb o n) os ≡ true → all (λ o. ltb o m) os ≡ true
+unfolding all
+all-below-more n m h [] e = refl
+all-below-more n m h (o ∷ os) e =
+    let p = all-cons (λ x. ltb x n) o os e in
+    and-both _ _ (lt-ltb o m (le-trans (ltb-true o n (p .0)) h)) (all-below-more n m h os (p .1))
+
+-- outputs below a number of nets have words among as many or more
+pub outputs-more : (os : List ℕ) (count n m : ℕ) → n ≤ m → Outputs os count n → Outputs os count m
+outputs-more os count n m h o = record { held = o .held; below = all-below-more n m h (take count os) (o .below) }
