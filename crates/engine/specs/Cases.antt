@@ -5,6 +5,7 @@
 --   replied k s        what decide gives on job bytes s and a reply buffer of k bytes: the number, then the sheet if it is 0
 --   fittedSize s p     how many gates the job s fitted with the sheet p has, then its output nets
 --   Case, cases        what is given, and what must be
+--   casesHold          each case gives what it must
 use Prim.Native.Nat.{ℕ}
 use mathlib.Core.List.{List, [], _∷_, _++_}
 use mathlib.Core.Bool.{Bool, true, false}
@@ -14,7 +15,7 @@ use Rattle.records.specs.Bytes.{all, field}
 use Rattle.records.specs.Job.{jobOf}
 use Rattle.records.specs.Sheet.{patchOf}
 use Rattle.engine.specs.Choice.{same}
-use Rattle.engine.specs.Verdict.{sheetOf, decideNumber}
+use Rattle.engine.specs.Verdict.{sheetOf, longestSheet, decideNumber}
 use Rattle.engine.specs.Fit.{fitted}
 
 abbrev pub jobA : List ℕ
@@ -77,29 +78,29 @@ is xs ys = record { given = xs; expected = ys }
 unfoldable pub cases : List Case
 cases =
     -- 1: A's verdict
-    is (replied 1076 jobA) (0 ∷ sheetA)
+    is (replied longestSheet jobA) (0 ∷ sheetA)
     -- 2: A fitted has 11 gates and output net 12
     ∷ is (fittedSize jobA sheetA) (11 ∷ 12 ∷ [])
     -- 3: A without priced net 1: blind 1
-    ∷ is (replied 1076 (jobWith 2 1 [] netTwo andGate netTwo (0 ∷ 0 ∷ 0 ∷ 3 ∷ []))) (0 ∷ field 21 (0 ∷ 1 ∷ []) ++ field 19 (0 ∷ 1 ∷ []))
+    ∷ is (replied longestSheet (jobWith 2 1 [] netTwo andGate netTwo (0 ∷ 0 ∷ 0 ∷ 3 ∷ []))) (0 ∷ field 21 (0 ∷ 1 ∷ []) ++ field 19 (0 ∷ 1 ∷ []))
     -- 4: A with none: blind 0
-    ∷ is (replied 1076 (jobWith 2 1 [] netTwo andGate netTwo [])) (0 ∷ field 21 (0 ∷ 0 ∷ []) ++ field 19 (0 ∷ 1 ∷ []))
+    ∷ is (replied longestSheet (jobWith 2 1 [] netTwo andGate netTwo [])) (0 ∷ field 21 (0 ∷ 0 ∷ []) ++ field 19 (0 ∷ 1 ∷ []))
     -- 5: A with old output 0: unfixable 1, vectors 0
-    ∷ is (replied 1076 (jobWith 2 1 [] (0 ∷ 0 ∷ []) andGate netTwo bothNets)) (0 ∷ field 20 (0 ∷ 0 ∷ 0 ∷ 1 ∷ []) ++ field 19 (0 ∷ []))
+    ∷ is (replied longestSheet (jobWith 2 1 [] (0 ∷ 0 ∷ []) andGate netTwo bothNets)) (0 ∷ field 20 (0 ∷ 0 ∷ 0 ∷ 1 ∷ []) ++ field 19 (0 ∷ []))
     -- 6: A with a golden constant zero: empty support, table 0, cost 0
-    ∷ is (replied 1076 (jobWith 2 1 [] netTwo (0 ∷ 0 ∷ 0 ∷ 0 ∷ 0 ∷ []) netTwo bothNets)) (0 ∷ emptySupport)
+    ∷ is (replied longestSheet (jobWith 2 1 [] netTwo (0 ∷ 0 ∷ 0 ∷ 0 ∷ 0 ∷ []) netTwo bothNets)) (0 ∷ emptySupport)
     -- 7: no targets, equal circuits: the same, vectors 0
-    ∷ is (replied 1076 (jobWith 2 0 andGate netTwo andGate netTwo bothNets)) (0 ∷ emptySupport)
+    ∷ is (replied longestSheet (jobWith 2 0 andGate netTwo andGate netTwo bothNets)) (0 ∷ emptySupport)
     -- 8: prices 0 at 5 and 2 at 1: support 2, table 1 0
-    ∷ is (replied 1076 (inverted (0 ∷ 0 ∷ 0 ∷ 5 ∷ 0 ∷ 2 ∷ 0 ∷ 1 ∷ [])))
+    ∷ is (replied longestSheet (inverted (0 ∷ 0 ∷ 0 ∷ 5 ∷ 0 ∷ 2 ∷ 0 ∷ 1 ∷ [])))
     (0 ∷ field 16 (0 ∷ 2 ∷ []) ++ field 17 (1 ∷ 0 ∷ []) ++ field 18 (0 ∷ 0 ∷ 0 ∷ 1 ∷ []) ++ field 19 (0 ∷ 1 ∷ []))
     -- 9: both prices 0: support 0, table 0 1
-    ∷ is (replied 1076 (inverted (0 ∷ 0 ∷ 0 ∷ 0 ∷ 0 ∷ 2 ∷ 0 ∷ 0 ∷ [])))
+    ∷ is (replied longestSheet (inverted (0 ∷ 0 ∷ 0 ∷ 0 ∷ 0 ∷ 2 ∷ 0 ∷ 0 ∷ [])))
     (0 ∷ field 16 (0 ∷ 0 ∷ []) ++ field 17 (0 ∷ 1 ∷ []) ++ field 18 (0 ∷ 0 ∷ 0 ∷ 0 ∷ []) ++ field 19 (0 ∷ 1 ∷ []))
     -- 10: A with n 21: 3
-    ∷ is (replied 1076 (jobWith 21 1 [] netTwo andGate netTwo bothNets)) (3 ∷ [])
+    ∷ is (replied longestSheet (jobWith 21 1 [] netTwo andGate netTwo bothNets)) (3 ∷ [])
     -- 11: A with m 5: 3
-    ∷ is (replied 1076 (jobWith 2 5 [] netTwo andGate netTwo bothNets)) (3 ∷ [])
+    ∷ is (replied longestSheet (jobWith 2 5 [] netTwo andGate netTwo bothNets)) (3 ∷ [])
     -- 12: a reply buffer of 1,075: 1
     ∷ is (replied 1075 jobA) (1 ∷ [])
     ∷ []

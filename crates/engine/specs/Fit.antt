@@ -2,13 +2,18 @@
 --
 --   led j                  1 for each old net that is a target or led to by one, else 0
 --   gateIndices j b        the indices of the old gates with mark b, ascending
+--   rank xs i              how many elements of xs are below i
+--   Trees, trees           the gates of all targets' trees and the net of each; those of a job
+--   freeNet j i, gateNumber j is t i     the new net of old gate i: where no target leads to it, and in general
+--   freeNumber j i         the new number of an old net that no target leads to
 --   treesFrom next ..      the trees of the targets k, k + 1, .., one after the other, the first gate driving net next, and the
 --                          net of each
 --   newNets j is t         the new number of each old net
---   moved ns g             gate g with its used operands at their new numbers ns
+--   moved ns g, movedGates gate g with its used operands at their new numbers ns; several old gates so
 --   fitted j is t          the patched netlist: the old gates that no target leads to, a tree for each target, the remaining old
 --                          gates, each group in its old order
 --   fittedBytes j is t     its fields 1 (n and 0), 2 and 3
+--   fits j is t            the patched netlist has at most 400 gates, else number 9
 --   longestFit             the longest result has 2,075 bytes
 use Prim.Native.Nat.{ℕ, zero, suc, _+_, _-_}
 use mathlib.Core.List.{List, [], _∷_, _++_, map}
@@ -30,7 +35,6 @@ unfoldable pub gateIndices : Job → ℕ → List ℕ
 gateIndices j b =
     keep (λ i. eqb (netAt (led j) (j .inputs + j .targets + i)) b) (upFrom 0 (length (j .old .gates)))
 
--- how many elements of xs are below i
 unfoldable pub rank : List ℕ → ℕ → ℕ
 rank xs i = length (keep (λ x. ltb x i) xs)
 

@@ -5,6 +5,7 @@
 --   ruling j             the verdict on job j: unfixable comes first, blind where every input is fixable and all candidates
 --                        together are not a sound support
 --   fourBytes x          x as four bytes, the high byte first
+--   rulingFields j v     the fields of the verdict v before the vector list
 --   sheetOf j            the bytes of the verdict's sheet
 --   longestSheet         the longest sheet has 1,076 bytes
 --   decideNumber d s     the number for job bytes s and a reply buffer d
