@@ -8,14 +8,14 @@ ghost use Rattle.engine.specs.Inner.{Evaluable, Loaded, BlockValues};
 use super::word::eval_words;
 
 // The word of a value that is the same in every scenario: the lowest bit of x.
-pub fn broadcast(x: usize) -> u64
+pub(super) fn broadcast(x: usize) -> u64
     ensures { λ r. ⌜ ((j : ℕ) → j < 64 → bit j r ≡ bit 0 x) ⌝ }
 {
     if x % 2 == 0 { 0 } else { !0 }
 }
 
 // The word of input i in block b: bit j is bit i of the input 64 * b + j.
-pub fn input_word(i: usize, b: usize) -> u64
+pub(super) fn input_word(i: usize, b: usize) -> u64
     requires { ⌜ i < 64 ⌝ }
     ensures { λ r. ⌜ ((j : ℕ) → j < 64 → bit j r ≡ bit i (64 * b + j)) ⌝ }
 {
@@ -33,7 +33,7 @@ pub fn input_word(i: usize, b: usize) -> u64
 }
 
 // The words of the inputs in block b, from net 0 on.
-pub fn load_inputs(inputs: usize, b: usize, nets: &mut [u64])
+pub(super) fn load_inputs(inputs: usize, b: usize, nets: &mut [u64])
     requires { ⌜ (inputs < 64) × (inputs ≤ length (now nets)) ⌝ }
     ensures { λ _. ⌜ Loaded 0 inputs (λ j. 64 * b + j) (now (nets .entry)) (now (nets .exit)) ⌝ }
 {
@@ -45,7 +45,7 @@ pub fn load_inputs(inputs: usize, b: usize, nets: &mut [u64])
 }
 
 // The words of the targets at vector v, the same in every scenario, from net at on.
-pub fn load_targets(at: usize, targets: usize, v: usize, nets: &mut [u64])
+pub(super) fn load_targets(at: usize, targets: usize, v: usize, nets: &mut [u64])
     requires { ⌜ (targets < 64) × (at + targets ≤ length (now nets)) ⌝ }
     ensures { λ _. ⌜ Loaded at targets (λ j. v) (now (nets .entry)) (now (nets .exit)) ⌝ }
 {
@@ -58,7 +58,7 @@ pub fn load_targets(at: usize, targets: usize, v: usize, nets: &mut [u64])
 
 // The words of all nets of a netlist in block b at vector v: of the old netlist, or of the golden one with no targets.
 // It costs one gate evaluation a gate for the block's 64 inputs.
-pub fn eval_block(
+pub(super) fn eval_block(
     kinds: &[u8],
     firsts: &[u16],
     seconds: &[u16],

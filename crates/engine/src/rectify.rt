@@ -9,7 +9,7 @@ use super::word::differ_word;
 
 // Where vector v rectifies the inputs of block b: bit j is 1 exactly when the old outputs at input 64 * b + j and vector v are
 // the golden ones, whose words are given. It costs one gate evaluation a gate of the old netlist.
-pub fn rectify_word(
+pub(super) fn rectify_word(
     kinds: &[u8],
     firsts: &[u16],
     seconds: &[u16],

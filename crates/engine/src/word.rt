@@ -9,7 +9,7 @@ ghost use Rattle.engine.specs.Eval.{bit};
 ghost use Rattle.engine.specs.Inner.{Evaluable, Evaluated, Outputs, outputBits, differs};
 
 // The word of a gate of this kind on the words of its operands.
-pub fn gate_word(kind: u8, a: u64, b: u64) -> u64
+pub(super) fn gate_word(kind: u8, a: u64, b: u64) -> u64
     ensures { λ r. ⌜ ((i : ℕ) → i < 64 → bit i r ≡ gateValue kind (take (arity kind) (bit i a ∷ bit i b ∷ []))) ⌝ }
 {
     match kind {
@@ -28,7 +28,7 @@ pub fn gate_word(kind: u8, a: u64, b: u64) -> u64
 
 // The words of all nets: those of the inputs and targets, nets 0 to base - 1, stand in nets already; one gate after the
 // other adds its own. It costs one gate evaluation a gate, whatever the number of scenarios.
-pub fn eval_words(
+pub(super) fn eval_words(
     kinds: &[u8],
     firsts: &[u16],
     seconds: &[u16],
@@ -49,7 +49,7 @@ pub fn eval_words(
 }
 
 // Where the first count outputs of two netlists differ: bit j is 1 exactly when they do in scenario j.
-pub fn differ_word(
+pub(super) fn differ_word(
     old: &[u64],
     old_outputs: &[u16],
     golden: &[u64],

@@ -7,7 +7,7 @@ use super::field::Check;
 use super::field::word_at;
 
 // Whether the candidates ascend, are below nets and have no mark.
-pub fn check_candidates(s: &[u8], nets: usize, marks: &[u8; 424]) -> Check
+pub(super) fn check_candidates(s: &[u8], nets: usize, marks: &[u8; 424]) -> Check
     requires { ⌜ nets ≤ 424 ⌝ }
     ensures { λ r. ⌜ r ≡ checkOf (unmarkedAscending nets (now (marks .entry)) (candidatesOf (now (s .entry)))) ⌝ }
 {

@@ -29,14 +29,14 @@ pub struct Walk {
     pub lens: [usize; 6],
 }
 
-pub fn wide(x: u8) -> usize
+pub(super) fn wide(x: u8) -> usize
     ensures { λ r. ⌜ r ≡ x ⌝ }
 {
     x as usize
 }
 
 // The two-byte number at a position.
-pub fn word_at(s: &[u8], at: usize) -> usize
+pub(super) fn word_at(s: &[u8], at: usize) -> usize
     requires { ⌜ at + 1 < length (now s) ⌝ }
     ensures { λ r. ⌜ r ≡ word (now (s .entry)) at ⌝ }
 {
@@ -45,7 +45,7 @@ pub fn word_at(s: &[u8], at: usize) -> usize
 
 impl Cursor {
     // The field with this tag at the cursor.
-    pub fn field(self, s: &[u8], tag: u8) -> Field
+    pub(super) fn field(self, s: &[u8], tag: u8) -> Field
         ensures { λ r. ⌜ r ≡ fieldAt (now (s .entry)) (self .at) tag ⌝ }
     {
         let at = self.at;
@@ -68,7 +68,7 @@ impl Cursor {
 }
 
 // Walks the bytes field by field from the first byte: count fields with the tags first, first + 1, ..
-pub fn walked(s: &[u8], first: u8, count: usize) -> Walk
+pub(super) fn walked(s: &[u8], first: u8, count: usize) -> Walk
     requires { ⌜ (first + count < 256) × (count ≤ 6) ⌝ }
     ensures { λ r. ⌜ Walks (now (s .entry)) first count r ⌝ }
 {

@@ -7,7 +7,7 @@ ghost use Rattle.records.specs.Inner.{byteColumn, wordColumn};
 use super::field::word_at;
 
 // The first byte of each of count records of size bytes.
-pub fn fill_bytes(s: &[u8], size: usize, count: usize, places: &mut [u8])
+pub(super) fn fill_bytes(s: &[u8], size: usize, count: usize, places: &mut [u8])
     requires { ⌜ (1 ≤ size) × (size * count ≤ length (now s)) × (count ≤ length (now places)) ⌝ }
     ensures { λ _. ⌜ now (places .exit) ≡ placed (now (places .entry)) 0 (byteColumn (now (s .entry)) size count) ⌝ }
 {
@@ -21,7 +21,7 @@ pub fn fill_bytes(s: &[u8], size: usize, count: usize, places: &mut [u8])
 }
 
 // The two-byte number at offset in each of count records of size bytes.
-pub fn fill_words(s: &[u8], size: usize, offset: usize, count: usize, places: &mut [u16])
+pub(super) fn fill_words(s: &[u8], size: usize, offset: usize, count: usize, places: &mut [u16])
     requires { ⌜ (offset + 2 ≤ size) × (size * count ≤ length (now s)) × (count ≤ length (now places)) ⌝ }
     ensures { λ _. ⌜ now (places .exit) ≡ placed (now (places .entry)) 0 (wordColumn (now (s .entry)) size offset count) ⌝ }
 {

@@ -7,7 +7,7 @@ ghost use Rattle.records.specs.Gate.{arity, gateValue, gateOf};
 ghost use Rattle.records.specs.Refusal.{gateGood};
 
 // How many operands a kind has.
-pub fn operand_count(kind: u8) -> usize
+pub(super) fn operand_count(kind: u8) -> usize
     ensures { λ r. ⌜ r ≡ arity kind ⌝ }
 {
     match kind {
@@ -18,7 +18,7 @@ pub fn operand_count(kind: u8) -> usize
 }
 
 // Whether a gate of this kind, with a and b in its operand places, may drive net.
-pub fn gate_good(kind: u8, a: usize, b: usize, net: usize) -> bool
+pub(super) fn gate_good(kind: u8, a: usize, b: usize, net: usize) -> bool
     ensures { λ r. ⌜ r ≡ gateGood net (gateOf kind a b) ⌝ }
 {
     if 9 < kind {

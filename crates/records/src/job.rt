@@ -76,7 +76,7 @@ fn check_lengths(lens: [usize; 6]) -> Check
 }
 
 // The six fields, and that each has a length that its records allow.
-pub fn shaped(job: &[u8]) -> Shape
+pub(super) fn shaped(job: &[u8]) -> Shape
     ensures { λ r. ⌜ r ≡ shapeOf (now (job .entry)) ⌝ }
 {
     let w = walked(job, 1, 6);
@@ -105,7 +105,7 @@ pub fn shaped(job: &[u8]) -> Shape
 }
 
 // Whether every count is within its range.
-pub fn check_counts(c: Counts) -> Check
+pub(super) fn check_counts(c: Counts) -> Check
     ensures { λ r. ⌜ r ≡ checkOf (countsWithin c) ⌝ }
 {
     if 20 < c.inputs {
@@ -141,7 +141,7 @@ pub fn check_counts(c: Counts) -> Check
 }
 
 // Where the fields of a job with these counts stand.
-pub fn starts_of(c: Counts) -> Starts
+pub(super) fn starts_of(c: Counts) -> Starts
     requires { ⌜ Within c ⌝ }
     ensures { λ r. ⌜ r ≡ startsOf c ⌝ }
 {
@@ -218,7 +218,7 @@ fn check_all_candidates(job: &[u8], c: Counts) -> Check
 }
 
 // The counts of an accepted job, or the first number that applies, each tested over the whole job before the next.
-pub fn check_job(job: &[u8]) -> Checked
+pub(super) fn check_job(job: &[u8]) -> Checked
     ensures { λ r. ⌜ r ≡ checkedOf (now (job .entry)) ⌝ }
 {
     let found = shaped(job);

@@ -16,7 +16,7 @@ use super::gate::gate_good;
 use super::gate::operand_count;
 
 // The gate check: whether each gate of the gate field's bytes may drive its net, the first one net base.
-pub fn check_gates(s: &[u8], base: usize) -> Check
+pub(super) fn check_gates(s: &[u8], base: usize) -> Check
     requires { ⌜ base < 65536 ⌝ }
     ensures { λ r. ⌜ r ≡ checkOf (gatesGood base (gatesOf (now (s .entry)))) ⌝ }
 {
@@ -36,7 +36,7 @@ pub fn check_gates(s: &[u8], base: usize) -> Check
 }
 
 // Whether each net of the output field's bytes is below nets.
-pub fn check_outputs(s: &[u8], nets: usize) -> Check
+pub(super) fn check_outputs(s: &[u8], nets: usize) -> Check
     ensures { λ r. ⌜ r ≡ checkOf (all (λ i. ltb i nets) (netsOf (now (s .entry)))) ⌝ }
 {
     let count = s.len() / 2;
@@ -82,7 +82,7 @@ fn leaf_marks(inputs: usize, targets: usize) -> [u8; 424]
 }
 
 // The targets' fanout, a mark for each net of the old netlist whose gates have these bytes.
-pub fn fanout_marks(s: &[u8], inputs: usize, targets: usize) -> [u8; 424]
+pub(super) fn fanout_marks(s: &[u8], inputs: usize, targets: usize) -> [u8; 424]
     requires { ⌜ inputs + targets + length (now s) / 5 ≤ 424 ⌝ }
     requires { ⌜ gatesGood (inputs + targets) (gatesOf (now s)) ≡ true ⌝ }
     ensures { λ r. ⌜ take (inputs + targets + length (now (s .entry)) / 5) r ≡ fanout inputs targets (gatesOf (now (s .entry))) ⌝ }

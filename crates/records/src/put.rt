@@ -11,7 +11,7 @@ use super::job::Counts;
 use super::job::SideCounts;
 
 // A field's tag and length.
-pub fn put_head(buf: &mut [u8], at: usize, tag: u8, len: usize) -> usize
+pub(super) fn put_head(buf: &mut [u8], at: usize, tag: u8, len: usize) -> usize
     requires { ⌜ (at + 3 ≤ length (now buf)) × (len < 65536) ⌝ }
     ensures { λ r. ⌜ (r ≡ at + 3) × (now (buf .exit) ≡ placed (now (buf .entry)) at (tag ∷ bytePair len)) ⌝ }
 {
@@ -31,7 +31,7 @@ fn put_word(buf: &mut [u8], at: usize, x: u16)
 }
 
 // The first count numbers of xs.
-pub fn put_words(buf: &mut [u8], at: usize, xs: &[u16], count: usize) -> usize
+pub(super) fn put_words(buf: &mut [u8], at: usize, xs: &[u16], count: usize) -> usize
     requires { ⌜ (at + 2 * count ≤ length (now buf)) × (count ≤ length (now xs)) ⌝ }
     ensures { λ r. ⌜ (r ≡ at + 2 * count) × (now (buf .exit) ≡ placed (now (buf .entry)) at (flat bytePair (take count (now (xs .entry))))) ⌝ }
 {
@@ -108,7 +108,7 @@ fn put_side(
 }
 
 // A whole job.
-pub fn put_job(
+pub(super) fn put_job(
     buf: &mut [u8],
     counts: Counts,
     old_kinds: &[u8],
