@@ -2,9 +2,9 @@
 // a row: inputs, targets, old gates and outputs, golden gates and outputs, candidates.
 ghost use mathlib.Core.Path.{_≡_};
 ghost use Rattle.records.specs.Service.{sidePlaces, places, readReply, readPlaces, writeReply, writtenBytes};
-ghost use Rattle.records_c.specs.Row.{rowOf, rowCounts};
+ghost use Rattle.records_c.specs.Row.{rowAfter, rowCounts};
 
-// records::read: the reply's number is returned, and its counts are left in counts.
+// records::read: the reply's number is returned; an accepted job's counts are left in counts, which a refusal keeps.
 #[no_mangle]
 pub extern "C" fn records_read(
     job: &[u8],
@@ -26,12 +26,12 @@ pub extern "C" fn records_read(
         (sidePlaces (now («golden_kinds» .entry)) (now («golden_firsts» .entry)) (now («golden_seconds» .entry)) (now («golden_outputs» .entry)))
         (now (nets .entry)) (now (weights .entry)))
         (now (job .entry)) .number ⌝ }
-    ensures counted { λ _. ⌜ now (counts .exit) ≡ rowOf (readReply
+    ensures counted { λ _. ⌜ now (counts .exit) ≡ rowAfter (readReply
         (places
         (sidePlaces (now («old_kinds» .entry)) (now («old_firsts» .entry)) (now («old_seconds» .entry)) (now («old_outputs» .entry)))
         (sidePlaces (now («golden_kinds» .entry)) (now («golden_firsts» .entry)) (now («golden_seconds» .entry)) (now («golden_outputs» .entry)))
         (now (nets .entry)) (now (weights .entry)))
-        (now (job .entry)) .counts) ⌝ }
+        (now (job .entry))) (now (counts .entry)) ⌝ }
     ensures lent { λ _. ⌜
         places
         (sidePlaces (now («old_kinds» .exit)) (now («old_firsts» .exit)) (now («old_seconds» .exit)) (now («old_outputs» .exit)))
@@ -57,6 +57,9 @@ pub extern "C" fn records_read(
         nets,
         weights,
     );
+    if reply.number != 0 {
+        return reply.number;
+    }
     let c = reply.counts;
     *counts = [
         c.inputs,

@@ -1,11 +1,23 @@
--- `records_c::records_read` meets its contract: it passes on what `records::read` ensures, its counts in a row. Assumes
--- nothing.
-use mathlib.Core.Path.{ap}
+-- `records_c::records_read` meets its contract by that of `records::read`; a refusal returns before the row is set.
+-- Assumes nothing.
+use Prim.Native.Nat.{ℕ}
+use mathlib.Core.Path.{_≡_, ap}
+use mathlib.Core.List.{List}
+use borrow.Author.Tests.{ne-eqb}
 use Rattle.records.specs.declared.reading.ReadReply.{ReadReply}
-use Rattle.records_c.specs.Row.{rowOf}
+use Rattle.records_c.specs.Row.{rowOf, rowAfter}
 use borrow.Author.Needs.{needs}
 use Rattle.records_c.proofs.records_read.Statement.{statement}
 use Rattle.records_c.proofs.records_read.Tie as tie
+
+-- what the row holds after a refusal, and after an accepted job
+kept : (r q : ReadReply) (row : List ℕ) → r ≡ q → (r .number ≡ 0 → ⊥) → row ≡ rowAfter q row
+unfolding rowAfter
+kept r q row e n = rw (← e, ne-eqb (r .number) 0 n)
+
+left : (r q : ReadReply) (row : List ℕ) → r ≡ q → r .number ≡ 0 → rowOf (r .counts) ≡ rowAfter q row
+unfolding rowAfter
+left r q row e n = rw (← e, n)
 
 read-requires : tie.Need-read-requires
 read-requires c κs = search needs
@@ -41,10 +53,45 @@ same-length-10 : tie.Need-same-length-10
 same-length-10 c = search needs
 
 returns : tie.Need-returns
-unfolding rowOf
 returns c =
     let e = c .before .before .before .before .before .before .before .before .before .before .before .before .before .before .before .before .before .before .before .before .before .before .read .ensures in
-    (ap (λ (r : ReadReply). r .number) (e .0), (ap (λ (r : ReadReply). rowOf (r .counts)) (e .0), e .1))
+    (ap (λ (r : ReadReply). r .number) (e .0), (kept _ _ _ (e .0) (c .if1 .taken), e .1))
+
+same-length-11 : tie.Need-same-length-11
+same-length-11 c = search needs
+
+same-length-12 : tie.Need-same-length-12
+same-length-12 c = search needs
+
+same-length-13 : tie.Need-same-length-13
+same-length-13 c = search needs
+
+same-length-14 : tie.Need-same-length-14
+same-length-14 c = search needs
+
+same-length-15 : tie.Need-same-length-15
+same-length-15 c = search needs
+
+same-length-16 : tie.Need-same-length-16
+same-length-16 c = search needs
+
+same-length-17 : tie.Need-same-length-17
+same-length-17 c = search needs
+
+same-length-18 : tie.Need-same-length-18
+same-length-18 c = search needs
+
+same-length-19 : tie.Need-same-length-19
+same-length-19 c = search needs
+
+same-length-20 : tie.Need-same-length-20
+same-length-20 c = search needs
+
+returns-2 : tie.Need-returns-2
+unfolding rowOf
+returns-2 c =
+    let e = c .before .before .before .before .before .before .before .before .before .before .before .before .before .before .before .before .before .before .before .before .before .before .before .before .read .ensures in
+    (ap (λ (r : ReadReply). r .number) (e .0), (left _ _ _ (e .0) (c .before .before .if1 .left), e .1))
 
 pub records-read-spec : {M : Type 1} → statement M
 records-read-spec =
@@ -61,4 +108,15 @@ records-read-spec =
     same-length-8
     same-length-9
     same-length-10
-    returns)
+    returns
+    same-length-11
+    same-length-12
+    same-length-13
+    same-length-14
+    same-length-15
+    same-length-16
+    same-length-17
+    same-length-18
+    same-length-19
+    same-length-20
+    returns-2)
