@@ -11,3 +11,5 @@ pub mod Fit
 pub mod Claims
 pub mod Cases
 pub mod Inner
+pub mod Walk
+pub mod Sets

@@ -1,6 +1,8 @@
 // The engine. So far: the three by three tables of the gates for the search, and the values of all nets in 64 scenarios at
 // once, a word a net.
 mod block;
+mod choose;
+mod list;
 mod rectify;
 mod ternary;
 mod word;
