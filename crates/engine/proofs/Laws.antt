@@ -5,7 +5,9 @@ pub mod Choice
 pub mod Eval
 pub mod EvalWords
 pub mod Loop
+pub mod Masks
 pub mod Outputs
+pub mod Ready
 pub mod Rectify
 pub mod Support
 pub mod Ternary
