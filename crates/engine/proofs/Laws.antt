@@ -9,6 +9,7 @@ pub mod Masks
 pub mod Outputs
 pub mod Ready
 pub mod Rectify
+pub mod Search
 pub mod Support
 pub mod Ternary
 pub mod Verdict

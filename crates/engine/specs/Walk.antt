@@ -15,6 +15,7 @@
 --   startList, startSets         what the walk starts from
 --   listedOf v, Held v           the vector list that a struct holds; its places hold vectors
 --   Progress j x v ss            what stands after the inputs below x
+--   Aligned n low prefix         a range of inputs that the search takes
 --   Masks, ReadingWords          a block's words: a mask a vector, a word a candidate
 use Prim.Native.Nat.{ℕ, zero, suc, _+_, _-_, _*_, _^_, _≤_, _<_}
 use mathlib.Core.Path.{_≡_}
@@ -119,6 +120,12 @@ pub record Progress (j : Job) (x : ℕ) (v : Vectors) (ss : List ℕ) : Type 0 w
   pub listed : listedOf v ≡ listedFrom (rectifiers j) startList 0 x
   pub sets : v .stuck ≡ false
       → ss ≡ setsFrom (rectifiers j) (reading j (candidateNets j)) (startSets (j .targets)) 0 x
+
+-- the inputs from prefix * 2 ^ low on, as many as 2 ^ low: among all, and blocks of 64 unless they are the first inputs
+pub record Aligned (n low prefix : ℕ) : Type 0 where
+  pub among : low ≤ n
+  pub within : (prefix + 1) * 2 ^ low ≤ 2 ^ n
+  pub blocks : low < 6 → prefix ≡ 0
 
 -- ---- a block's words
 

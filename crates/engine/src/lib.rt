@@ -5,8 +5,11 @@ mod choose;
 mod compare;
 mod decide;
 mod list;
+mod partial;
 mod rectify;
+mod search;
 mod ternary;
+mod visit;
 mod word;
 
 pub use ternary::ternary_entry;

@@ -129,6 +129,10 @@ module _ {c : Counts} {old golden : SidePlaces} {nets : List ℕ} (r : Ready c o
   pub ready-within : Within c
   ready-within = counts-row (r .good .counts)
 
+  pub ready-targets : circuits c old golden nets .targets ≤ 4
+  unfolding circuits jobFrom
+  ready-targets = ready-within .targets
+
   gates-good : netlistsGood (circuits c old golden nets) ≡ true
       → (gatesGood (c .inputs + c .targets) (gatesFrom (c .old .gates) (old .kinds) (old .firsts) (old .seconds)) ≡ true)
       × (gatesGood (c .inputs) (gatesFrom (c .golden .gates) (golden .kinds) (golden .firsts) (golden .seconds)) ≡ true)

@@ -1,0 +1,47 @@
+// One block of 64 inputs in the walk.
+ghost use mathlib.Core.Path.{_≡_};
+ghost use Prim.Native.Nat.{_+_, _*_, _^_, _≤_};
+ghost use Rattle.records.specs.Service.{sidePlaces, gatesFrom};
+ghost use Rattle.engine.specs.Walk.{circuits, Ready, FanoutMarks, Progress};
+use super::list::Vectors;
+use records::Counts;
+
+// The first count inputs of block b: the list and the sets after them. It costs one gate evaluation a gate of both netlists,
+// and one for each vector and each gate that a target leads to.
+pub(super) fn visit_block(
+    kinds: &[u8],
+    firsts: &[u16],
+    seconds: &[u16],
+    outputs: &[u16],
+    golden_kinds: &[u8],
+    golden_firsts: &[u16],
+    golden_seconds: &[u16],
+    golden_outputs: &[u16],
+    nets: &[u16],
+    counts: Counts,
+    marks: &[u8],
+    b: usize,
+    count: usize,
+    list: Vectors,
+    sets: &mut [u16],
+) -> Vectors
+    requires { ⌜ Ready counts
+        (sidePlaces (now kinds) (now firsts) (now seconds) (now outputs))
+        (sidePlaces (now «golden_kinds») (now «golden_firsts») (now «golden_seconds») (now «golden_outputs»)) (now nets) ⌝ }
+    requires { ⌜ FanoutMarks (counts .inputs) (counts .targets)
+        (gatesFrom (counts .old .gates) (now kinds) (now firsts) (now seconds)) (now marks) ⌝ }
+    requires { ⌜ (count ≤ 64) × (64 * b + count ≤ 2 ^ counts .inputs) ⌝ }
+    requires { ⌜ Progress
+        (circuits counts
+        (sidePlaces (now kinds) (now firsts) (now seconds) (now outputs))
+        (sidePlaces (now «golden_kinds») (now «golden_firsts») (now «golden_seconds») (now «golden_outputs»)) (now nets))
+        (64 * b) list (now sets) ⌝ }
+    ensures { λ r. ⌜ Progress
+        (circuits counts
+        (sidePlaces (now (kinds .entry)) (now (firsts .entry)) (now (seconds .entry)) (now (outputs .entry)))
+        (sidePlaces (now («golden_kinds» .entry)) (now («golden_firsts» .entry)) (now («golden_seconds» .entry)) (now («golden_outputs» .entry)))
+        (now (nets .entry)))
+        (64 * b + count) r (now (sets .exit)) ⌝ }
+{
+    list
+}
