@@ -2,8 +2,11 @@
 ghost use mathlib.Core.Path.{_≡_};
 ghost use mathlib.Core.List.{map};
 ghost use Prim.Native.Nat.{ℕ, _≤_, _<_};
-ghost use lib.ListN.{length, take};
+ghost use lib.Dec.{eqb};
+ghost use lib.ListN.{length, getD, take};
+ghost use Rattle.engine.specs.Choice.{any, orZero};
 ghost use Rattle.engine.specs.Eval.{bit, numberOf};
+ghost use Rattle.engine.specs.Walk.{lowest};
 
 // The first len places hold the vector list. Where stuck, no vector rectifies this input.
 pub struct Vectors {
@@ -25,4 +28,34 @@ pub(super) fn gather(words: &[u64], count: usize, j: usize) -> usize
         r = 2 * r + ((words[i] >> j) % 2) as usize;
     }
     r
+}
+
+// The smallest vector of a set, 0 where it is empty.
+fn lowest_of(set: usize) -> usize
+    ensures { λ r. ⌜ r ≡ orZero (lowest set) ⌝ }
+{
+    let mut v = 0usize;
+    while v < 16 {
+        if (set >> v) % 2 == 1 {
+            return v;
+        }
+        v += 1;
+    }
+    0
+}
+
+// Whether a vector of the list is in the set.
+fn rectifies_any(list: [u8; 16], len: usize, set: usize) -> bool
+    requires { ⌜ (len ≤ 16) × ((i : ℕ) → getD list i 0 < 16) ⌝ }
+    ensures { λ r. ⌜ r ≡ any (λ v. eqb (bit v set) 1) (take len list) ⌝ }
+{
+    let mut i = 0usize;
+    while i < len {
+        let v = list[i] as usize;
+        if (set >> v) % 2 == 1 {
+            return true;
+        }
+        i += 1;
+    }
+    false
 }

@@ -3,11 +3,19 @@
 use Prim.Native.Nat.{ℕ, zero, suc, _+_, _-_, _*_, _/_, _%_, _^_, _≤_, _<_}
 use mathlib.Core.Path.{_≡_, refl, sym, _∙_, ap}
 use mathlib.Core.List.{List, [], _∷_, map}
+use mathlib.Core.Bool.{Bool, true, false, _||_}
+use mathlib.Core.Option.{Option, none, some}
+use native.Mathlib.Numerals.{add-one}
 use native.Mathlib.Omega.{arith}
+use borrow.Author.Tests.{eq-eqb, ne-eqb}
+use lib.Dec.{eqb}
 use lib.ListN.{length, getD, take, drop, length-take, length-drop, length-map, drop-of-length-le}
 use lib.Pow.{pow-mono}
 use lib.Seq.{drop-cons, getD-take}
+use Rattle.records.specs.Bytes.{upFrom}
+use Rattle.engine.specs.Choice.{any, first}
 use Rattle.engine.specs.Eval.{bit, numberOf}
+use Rattle.engine.proofs.Laws.Choice.{first-here, first-there}
 use Rattle.engine.proofs.Laws.Eval.{bit-lt, bits-map, numberOf-lt}
 
 -- ---- gathered bits
@@ -44,3 +52,38 @@ module _ (ws : List ℕ) (count j : ℕ) where
       drop-cons (take count ws) i 0 (omega (arith, length-take count ws))
       ∙ ap (λ (v : ℕ). v ∷ drop (suc i) (take count ws)) (getD-take count ws i 0 h) in
       omega (arith, ap (λ (l : List ℕ). numberOf (map (bit j) l)) e)
+
+-- ---- the vectors of a set
+
+-- whether v is in the set s, as specs/Walk says it
+abbrev pub inSet : ℕ → ℕ → Bool
+inSet s v = eqb (bit v s) 1
+
+-- .. and as the code tests it
+pub inSet-true : (s v : ℕ) → s / 2 ^ v % 2 ≡ 1 → inSet s v ≡ true
+unfolding bit
+inSet-true s v e = eq-eqb (s / 2 ^ v % 2) 1 e
+
+pub inSet-false : (s v : ℕ) → (s / 2 ^ v % 2 ≡ 1 → ⊥) → inSet s v ≡ false
+unfolding bit
+inSet-false s v n = ne-eqb (s / 2 ^ v % 2) 1 n
+
+-- a turn of a search: the first with p from v on
+pub first-from-here : (p : ℕ → Bool) (v n : ℕ) → v < n → p v ≡ true → first p (upFrom v (n - v)) ≡ some v
+unfolding upFrom
+first-from-here p v n h e =
+    let k : n - v ≡ suc (n - suc v) = omega arith in
+    rw k (first-here p v (upFrom (suc v) (n - suc v)) e)
+
+pub first-from-there : (p : ℕ → Bool) (v n : ℕ) → v < n → p v ≡ false
+    → first p (upFrom v (n - v)) ≡ first p (upFrom (v + 1) (n - (v + 1)))
+unfolding upFrom
+first-from-there p v n h e =
+    let k : n - v ≡ suc (n - suc v) = omega arith in
+    rw (k, add-one v) (first-there p v (upFrom (suc v) (n - suc v)) e)
+
+-- a turn of a test over a list
+pub any-from : (p : ℕ → Bool) (xs : List ℕ) (i : ℕ) → i < length xs
+    → any p (drop i xs) ≡ (p (getD xs i 0) || any p (drop (i + 1) xs))
+unfolding any
+any-from p xs i h = rw (add-one i) (ap (any p) (drop-cons xs i 0 h))
