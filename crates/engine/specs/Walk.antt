@@ -14,6 +14,7 @@
 --   setsFrom f g ss x k          .. after the k inputs from x on, where g says the reading of each
 --   startList, startSets         what the walk starts from
 --   listedOf v, Held v           the vector list that a struct holds; its places hold vectors
+--   Appended, Stepped, Noted     what the code of one vector more, of one input and of a block's inputs gives
 --   Progress j x v ss            what stands after the inputs below x
 --   Masks, ReadingWords          a block's words: a mask a vector, a word a candidate
 use Prim.Native.Nat.{ℕ, zero, suc, _+_, _-_, _*_, _^_, _≤_, _<_}
@@ -97,6 +98,14 @@ listedOf v = record { vectors = take (v .len) (v .list); stuck = cond (v .stuck)
 pub record Held (v : Vectors) : Type 0 where
   pub long : v .len ≤ maxVectors
   pub below : (i : ℕ) → getD (v .list) i 0 < maxVectors
+
+pub record Appended (v : Vectors) (x : ℕ) (after : Vectors) : Type 0 where
+  pub held : Held after
+  pub listed : listedOf after ≡ record { vectors = listedOf v .vectors ++ (x ∷ []); stuck = listedOf v .stuck }
+
+pub record Stepped (v : Vectors) (s x : ℕ) (after : Vectors) : Type 0 where
+  pub held : Held after
+  pub listed : listedOf after ≡ listStep (listedOf v) s x
 
 -- ---- the sets of all readings
 

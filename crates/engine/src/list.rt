@@ -6,7 +6,7 @@ ghost use lib.Dec.{eqb};
 ghost use lib.ListN.{length, getD, take};
 ghost use Rattle.engine.specs.Choice.{any, orZero};
 ghost use Rattle.engine.specs.Eval.{bit, numberOf};
-ghost use Rattle.engine.specs.Walk.{lowest};
+ghost use Rattle.engine.specs.Walk.{lowest, Held, Appended};
 
 // The first len places hold the vector list. Where stuck, no vector rectifies this input.
 pub struct Vectors {
@@ -58,4 +58,15 @@ fn rectifies_any(list: [u8; 16], len: usize, set: usize) -> bool
         i += 1;
     }
     false
+}
+
+// The list with one vector more.
+fn append(v: Vectors, x: usize) -> Vectors
+    requires { ⌜ Held v × (v .len < 16) × (x < 16) ⌝ }
+    ensures { λ r. ⌜ Appended v x r ⌝ }
+{
+    let mut list = v.list;
+    let at = v.len;
+    list[at] = x as u8;
+    Vectors { list, len: at + 1, stuck: v.stuck, input: v.input }
 }

@@ -2,21 +2,24 @@
 -- step of the vector list on the places that hold it. Assumes nothing.
 use Prim.Native.Nat.{ℕ, zero, suc, _+_, _-_, _*_, _/_, _%_, _^_, _≤_, _<_}
 use mathlib.Core.Path.{_≡_, refl, sym, _∙_, ap}
-use mathlib.Core.List.{List, [], _∷_, map}
+use mathlib.Core.List.{List, [], _∷_, _++_, map}
 use mathlib.Core.Bool.{Bool, true, false, _||_}
 use mathlib.Core.Option.{Option, none, some}
 use native.Mathlib.Numerals.{add-one}
 use native.Mathlib.Omega.{arith}
 use borrow.Author.Tests.{eq-eqb, ne-eqb}
 use lib.Dec.{eqb}
-use lib.ListN.{length, getD, take, drop, length-take, length-drop, length-map, drop-of-length-le}
+use lib.ListN.{length, getD, take, drop, set, length-take, length-drop, length-map, drop-of-length-le}
 use lib.Pow.{pow-mono}
-use lib.Seq.{drop-cons, getD-take}
+use lib.Seq.{drop-cons, getD-take, take-suc-set}
 use Rattle.records.specs.Bytes.{upFrom}
 use Rattle.engine.specs.Choice.{any, first}
 use Rattle.engine.specs.Eval.{bit, numberOf}
+use Rattle.engine.specs.Walk.{listedOf, Held, Appended}
+use Rattle.engine.specs.declared.list.Vectors.{Vectors}
 use Rattle.engine.proofs.Laws.Choice.{first-here, first-there}
 use Rattle.engine.proofs.Laws.Eval.{bit-lt, bits-map, numberOf-lt}
+use Rattle.engine.proofs.Laws.Walk.{inSet}
 
 -- ---- gathered bits
 
@@ -55,11 +58,7 @@ module _ (ws : List ℕ) (count j : ℕ) where
 
 -- ---- the vectors of a set
 
--- whether v is in the set s, as specs/Walk says it
-abbrev pub inSet : ℕ → ℕ → Bool
-inSet s v = eqb (bit v s) 1
-
--- .. and as the code tests it
+-- how the code tests whether v is in the set s
 pub inSet-true : (s v : ℕ) → s / 2 ^ v % 2 ≡ 1 → inSet s v ≡ true
 unfolding bit
 inSet-true s v e = eq-eqb (s / 2 ^ v % 2) 1 e
@@ -87,3 +86,28 @@ pub any-from : (p : ℕ → Bool) (xs : List ℕ) (i : ℕ) → i < length xs
     → any p (drop i xs) ≡ (p (getD xs i 0) || any p (drop (i + 1) xs))
 unfolding any
 any-from p xs i h = rw (add-one i) (ap (any p) (drop-cons xs i 0 h))
+
+-- ---- the places of the vector list
+
+-- the list with x stored behind it
+abbrev pub withVector : Vectors → ℕ → Vectors
+withVector v x =
+    record { list = set (v .list) (v .len) x; len = v .len + 1; stuck = v .stuck; input = v .input }
+
+pub set-below : (xs : List ℕ) (i x n : ℕ) → ((k : ℕ) → getD xs k 0 < n) → x < n → (k : ℕ) → getD (set xs i x) k 0 < n
+set-below [] i x n b h k = b k
+set-below (y ∷ ys) zero x n b h zero = h
+set-below (y ∷ ys) zero x n b h (suc k) = b (suc k)
+set-below (y ∷ ys) (suc i) x n b h zero = b zero
+set-below (y ∷ ys) (suc i) x n b h (suc k) = set-below ys i x n (λ m. b (suc m)) h k
+
+pub vector-appended : (v : Vectors) (x : ℕ) → length (v .list) ≡ 16 → Held v → v .len < 16 → x < 16
+    → Appended v x (withVector v x)
+unfolding listedOf
+vector-appended v x n h l b =
+    let e : take (v .len + 1) (set (v .list) (v .len) x) ≡ take (v .len) (v .list) ++ (x ∷ []) =
+    rw (add-one (v .len)) (take-suc-set (v .list) (v .len) x (omega arith)) in
+    record {
+      held = record { long = omega arith; below = set-below (v .list) (v .len) x 16 (h .below) b };
+      listed = rw e;
+    }
