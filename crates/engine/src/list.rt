@@ -6,7 +6,7 @@ ghost use lib.Dec.{eqb};
 ghost use lib.ListN.{length, getD, take};
 ghost use Rattle.engine.specs.Choice.{any, orZero};
 ghost use Rattle.engine.specs.Eval.{bit, numberOf};
-ghost use Rattle.engine.specs.Walk.{lowest, Held, Appended};
+ghost use Rattle.engine.specs.Walk.{lowest, Held, Appended, Stepped};
 
 // The first len places hold the vector list. Where stuck, no vector rectifies this input.
 pub struct Vectors {
@@ -68,5 +68,36 @@ fn append(v: Vectors, x: usize) -> Vectors
     let mut list = v.list;
     let at = v.len;
     list[at] = x as u8;
-    Vectors { list, len: at + 1, stuck: v.stuck, input: v.input }
+    Vectors {
+        list,
+        len: at + 1,
+        stuck: v.stuck,
+        input: v.input,
+    }
+}
+
+// The list after an input that the vectors of this set rectify.
+pub(super) fn list_step(v: Vectors, set: usize, input: usize) -> Vectors
+    requires { ⌜ Held v × (set < 65536) ⌝ }
+    ensures { λ r. ⌜ Stepped v set input r ⌝ }
+{
+    if v.stuck {
+        return v;
+    }
+    let list = v.list;
+    if rectifies_any(list, v.len, set) {
+        return v;
+    }
+    if set == 0 {
+        return Vectors {
+            list,
+            len: v.len,
+            stuck: true,
+            input,
+        };
+    }
+    if 16 <= v.len {
+        return v;
+    }
+    append(v, lowest_of(set))
 }

@@ -13,13 +13,13 @@ use lib.ListN.{length, getD, take, drop, set, length-take, length-drop, length-m
 use lib.Pow.{pow-mono}
 use lib.Seq.{drop-cons, getD-take, take-suc-set}
 use Rattle.records.specs.Bytes.{upFrom}
-use Rattle.engine.specs.Choice.{any, first}
+use Rattle.engine.specs.Choice.{any, first, orZero}
 use Rattle.engine.specs.Eval.{bit, numberOf}
-use Rattle.engine.specs.Walk.{listedOf, Held, Appended}
+use Rattle.engine.specs.Walk.{lowest, listedOf, Held, Appended, Stepped}
 use Rattle.engine.specs.declared.list.Vectors.{Vectors}
 use Rattle.engine.proofs.Laws.Choice.{first-here, first-there}
 use Rattle.engine.proofs.Laws.Eval.{bit-lt, bits-map, numberOf-lt}
-use Rattle.engine.proofs.Laws.Walk.{inSet}
+use Rattle.engine.proofs.Laws.Walk.{inSet, lowest-zero, lowest-some, listStep-stuck, listStep-listed, listStep-none, listStep-full, listStep-append}
 
 -- ---- gathered bits
 
@@ -89,6 +89,10 @@ any-from p xs i h = rw (add-one i) (ap (any p) (drop-cons xs i 0 h))
 
 -- ---- the places of the vector list
 
+-- how many places an array has, as owning a struct that holds it tells
+pub places : (xs : List ℕ) (n : ℕ) → length (map (λ (v : ℕ). v) xs) ≡ n → length xs ≡ n
+places xs n e = sym (length-map xs (λ v. v)) ∙ e
+
 -- the list with x stored behind it
 abbrev pub withVector : Vectors → ℕ → Vectors
 withVector v x =
@@ -111,3 +115,47 @@ vector-appended v x n h l b =
       held = record { long = omega arith; below = set-below (v .list) (v .len) x 16 (h .below) b };
       listed = rw e;
     }
+
+-- how the code's step ends, by its tests
+module _ (v : Vectors) (s x : ℕ) (h : Held v) where
+  pub step-stuck : v .stuck ≡ true → Stepped v s x v
+  unfolding listedOf
+  step-stuck e =
+      let o : listedOf v .stuck ≡ some (v .input) = rw e in
+      record { held = h; listed = sym (listStep-stuck (listedOf v) s x (v .input) o) }
+
+  pub step-listed : any (inSet s) (take (v .len) (v .list)) ≡ true → Stepped v s x v
+  unfolding listedOf
+  step-listed a = record { held = h; listed = sym (listStep-listed (listedOf v) s x a) }
+
+  module _ (e : v .stuck ≡ false) (a : any (inSet s) (take (v .len) (v .list)) ≡ false) where
+    going : listedOf v .stuck ≡ none
+    unfolding listedOf
+    going = rw e
+
+    pub step-none : s ≡ 0 → Stepped v s x (record { list = v .list; len = v .len; stuck = true; input = x })
+    unfolding listedOf
+    step-none z =
+        record {
+          held = record { long = h .long; below = h .below };
+          listed = sym (listStep-none (listedOf v) s x going a (ap lowest z ∙ lowest-zero));
+        }
+
+    module _ (l : s < 65536) (n : s ≡ 0 → ⊥) where
+      pub step-full : length (v .list) ≡ 16 → 16 ≤ v .len → Stepped v s x v
+      unfolding listedOf
+      step-full k b =
+          record {
+            held = h;
+            listed =
+                sym
+                (listStep-full (listedOf v) s x going a (orZero (lowest s)) (lowest-some s l n)
+                (omega (arith, length-take (v .len) (v .list))));
+          }
+
+      pub step-append : (r : Vectors) → v .len < 16 → Appended v (orZero (lowest s)) r → Stepped v s x r
+      unfolding listedOf
+      step-append r b p =
+          let q = listStep-append (listedOf v) s x going a (orZero (lowest s)) (lowest-some s l n)
+          (omega (arith, length-take (v .len) (v .list))) in
+          record { held = p .held; listed = p .listed ∙ (rw going) ∙ sym q }
