@@ -119,6 +119,18 @@ setsFrom f g ss x (suc k) = setsFrom f g (narrowed ss (g x) (f x)) (suc x) k
 unfoldable pub startSets : ℕ → List ℕ
 startSets m = replicate maxReadings (2 ^ 2 ^ m - 1)
 
+-- the count inputs from first on, where bit i of the words ws, taken together, is what f says of input first + i
+abbrev pub Gathered : List ℕ → ℕ → ℕ → (ℕ → ℕ) → Type 0
+Gathered ws first count f = (i : ℕ) → i < count → numberOf (map (bit i) ws) ≡ f (first + i)
+
+-- the list v and the sets ss after them: masks say what rectifies each input, words its reading
+pub record Noted (masks words : List ℕ) (first count : ℕ) (v : Vectors) (ss : List ℕ) (after : Vectors) (ss′ : List ℕ) : Type 0 where
+  pub held : Held after
+  pub long : length ss′ ≡ length ss
+  pub listed : (f : ℕ → ℕ) → Gathered masks first count f → listedOf after ≡ listedFrom f (listedOf v) first count
+  pub sets : (f g : ℕ → ℕ) → Gathered masks first count f → Gathered words first count g
+      → ss′ ≡ setsFrom f g ss first count
+
 -- ---- what stands after the inputs below x
 
 -- Once the list is stuck the sets play no part.

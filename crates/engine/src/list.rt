@@ -6,7 +6,7 @@ ghost use lib.Dec.{eqb};
 ghost use lib.ListN.{length, getD, take};
 ghost use Rattle.engine.specs.Choice.{any, orZero};
 ghost use Rattle.engine.specs.Eval.{bit, numberOf};
-ghost use Rattle.engine.specs.Walk.{lowest, Held, Appended, Stepped};
+ghost use Rattle.engine.specs.Walk.{lowest, Held, Appended, Stepped, Noted};
 
 // The first len places hold the vector list. Where stuck, no vector rectifies this input.
 pub struct Vectors {
@@ -100,4 +100,33 @@ pub(super) fn list_step(v: Vectors, set: usize, input: usize) -> Vectors
         return v;
     }
     append(v, lowest_of(set))
+}
+
+// The list and the sets after count inputs from first on. Bit i of the masks, taken together, is the set of the vectors that
+// rectify input first + i, and bit i of the words its reading. No gate is evaluated here.
+pub(super) fn note_block(
+    masks: &[u64],
+    vectors: usize,
+    words: &[u64],
+    candidates: usize,
+    first: usize,
+    count: usize,
+    list: Vectors,
+    sets: &mut [u16],
+) -> Vectors
+    requires { ⌜ (vectors ≤ length (now masks)) × (vectors ≤ 16) × (candidates ≤ length (now words)) × (candidates ≤ 10) ⌝ }
+    requires { ⌜ (count ≤ 64) × (first < 4294967296) × (1024 ≤ length (now sets)) × Held list ⌝ }
+    ensures { λ r. ⌜ Noted (take vectors (now (masks .entry))) (take candidates (now (words .entry))) first count list
+        (now (sets .entry)) r (now (sets .exit)) ⌝ }
+{
+    let mut list = list;
+    let mut i = 0usize;
+    while i < count {
+        let set = gather(masks, vectors, i);
+        let r = gather(words, candidates, i);
+        sets[r] = sets[r] & (set as u16);
+        list = list_step(list, set, first + i);
+        i += 1;
+    }
+    list
 }

@@ -8,18 +8,19 @@ use mathlib.Core.Option.{Option, none, some}
 use native.Mathlib.Numerals.{add-one}
 use native.Mathlib.Omega.{arith}
 use borrow.Author.Tests.{eq-eqb, ne-eqb}
-use lib.Dec.{eqb}
-use lib.ListN.{length, getD, take, drop, set, length-take, length-drop, length-map, drop-of-length-le}
+use lib.Bits.{bitAnd}
+use lib.ListN.{length, getD, take, drop, set, length-set, length-take, length-drop, length-map, drop-of-length-le}
 use lib.Pow.{pow-mono}
 use lib.Seq.{drop-cons, getD-take, take-suc-set}
 use Rattle.records.specs.Bytes.{upFrom}
 use Rattle.engine.specs.Choice.{any, first, orZero}
 use Rattle.engine.specs.Eval.{bit, numberOf}
-use Rattle.engine.specs.Walk.{lowest, listedOf, Held, Appended, Stepped}
+use Rattle.engine.specs.Rectify.{Listed}
+use Rattle.engine.specs.Walk.{lowest, listStep, listedFrom, listedOf, narrowed, setsFrom, Held, Appended, Stepped, Noted}
 use Rattle.engine.specs.declared.list.Vectors.{Vectors}
 use Rattle.engine.proofs.Laws.Choice.{first-here, first-there}
 use Rattle.engine.proofs.Laws.Eval.{bit-lt, bits-map, numberOf-lt}
-use Rattle.engine.proofs.Laws.Walk.{inSet, lowest-zero, lowest-some, listStep-stuck, listStep-listed, listStep-none, listStep-full, listStep-append}
+use Rattle.engine.proofs.Laws.Walk.{inSet, lowest-zero, lowest-some, listStep-stuck, listStep-listed, listStep-none, listStep-full, listStep-append, listedFrom-snoc, setsFrom-snoc}
 
 -- ---- gathered bits
 
@@ -159,3 +160,34 @@ module _ (v : Vectors) (s x : ℕ) (h : Held v) where
           let q = listStep-append (listedOf v) s x going a (orZero (lowest s)) (lowest-some s l n)
           (omega (arith, length-take (v .len) (v .list))) in
           record { held = p .held; listed = p .listed ∙ (rw going) ∙ sym q }
+
+-- ---- a block's inputs, one after the other
+
+module _ (masks words : List ℕ) (first : ℕ) (v : Vectors) (ss : List ℕ) where
+  pub noted-none : Held v → Noted masks words first 0 v ss v ss
+  unfolding listedFrom setsFrom
+  noted-none h = record { held = h; long = refl; listed = λ f m. refl; sets = λ f g m w. refl }
+
+  pub noted-next : (i : ℕ) (u : Vectors) (ts : List ℕ) (s r : ℕ) (u′ : Vectors) → Noted masks words first i v ss u ts
+      → s ≡ numberOf (map (bit i) masks) → r ≡ numberOf (map (bit i) words) → Stepped u s (first + i) u′
+      → Noted masks words first (i + 1) v ss u′ (set ts r (bitAnd (getD ts r 0) s))
+  unfolding narrowed
+  noted-next i u ts s r u′ p m w t =
+      record {
+        held = t .held;
+        long = length-set ts r (bitAnd (getD ts r 0) s) ∙ p .long;
+        listed = λ f a.
+            let e : s ≡ f (first + i) = m ∙ a i (omega arith) in
+            t .listed
+            ∙ ap (λ (k : ℕ). listStep (listedOf u) k (first + i)) e
+            ∙ ap (λ (l : Listed). listStep l (f (first + i)) (first + i)) (p .listed f (λ k l. a k (omega arith)))
+            ∙ sym (listedFrom-snoc f (listedOf v) first i);
+        sets = λ f g a b.
+            let e : s ≡ f (first + i) = m ∙ a i (omega arith) in
+            let d : r ≡ g (first + i) = w ∙ b i (omega arith) in
+            ap (λ (k : ℕ). narrowed ts r k) e
+            ∙ ap (λ (k : ℕ). narrowed ts k (f (first + i))) d
+            ∙ ap (λ (l : List ℕ). narrowed l (g (first + i)) (f (first + i)))
+            (p .sets f g (λ k l. a k (omega arith)) (λ k l. b k (omega arith)))
+            ∙ sym (setsFrom-snoc f g ss first i);
+      }

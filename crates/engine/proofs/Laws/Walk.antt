@@ -5,8 +5,8 @@ use mathlib.Core.Logic.{⊎-elim}
 use mathlib.Core.List.{List, [], _∷_, _++_, map}
 use mathlib.Core.Bool.{Bool, true, false, cond}
 use mathlib.Core.Option.{Option, none, some}
-use native.Mathlib.Nat.{mod-lt, zero-mul}
-use native.Mathlib.Numerals.{one-add}
+use native.Mathlib.Nat.{mod-lt, zero-mul, zero-add, add-zero, suc-add}
+use native.Mathlib.Numerals.{add-one, one-add}
 use native.Mathlib.Omega.{arith}
 use borrow.Author.Tests.{eq-eqb, ne-eqb, eqb-false, lt-ltb, le-ltb}
 use lib.Dec.{eqb, ltb}
@@ -16,9 +16,44 @@ use Rattle.records.specs.Bytes.{upFrom}
 use Rattle.engine.specs.Choice.{any, first, orZero}
 use Rattle.engine.specs.Eval.{bit, numberOf, allVectors}
 use Rattle.engine.specs.Rectify.{Listed}
-use Rattle.engine.specs.Walk.{lowest, listStep, listedFrom, maxVectors}
+use Rattle.engine.specs.Walk.{lowest, listStep, listedFrom, narrowed, setsFrom}
 use Rattle.engine.proofs.Laws.Choice.{true-or-false, none-or-some, first-least, first-none-below}
 use Rattle.engine.proofs.Laws.Eval.{bit-lt}
+
+-- ---- k steps from x on
+
+unfoldable pub walked : {A : Type 0} → (A → ℕ → A) → A → ℕ → ℕ → A
+walked step a x zero = a
+walked step a x (suc k) = walked step (step a x) (suc x) k
+
+module _ {A : Type 0} (step : A → ℕ → A) where
+  pub walked-append : (a : A) (x k i : ℕ) → walked step a x (k + i) ≡ walked step (walked step a x k) (x + k) i
+  unfolding walked
+  walked-append a x zero i = rw (zero-add i, add-zero x)
+  walked-append a x (suc k) i =
+      let e : suc x + k ≡ x + suc k = omega arith in
+      rw (suc-add k i) (walked-append (step a x) (suc x) k i ∙ ap (λ (n : ℕ). walked step (walked step (step a x) (suc x) k) n i) e)
+
+  pub walked-snoc : (a : A) (x k : ℕ) → walked step a x (k + 1) ≡ step (walked step a x k) (x + k)
+  unfolding walked
+  walked-snoc a x k = walked-append a x k 1
+
+  -- what each step keeps holds at the end
+  pub walked-holds : (P : ℕ → A → Type 0) (a : A) (x k : ℕ) → P x a
+      → ((y : ℕ) → x ≤ y → y < x + k → (b : A) → P y b → P (y + 1) (step b y)) → P (x + k) (walked step a x k)
+  unfolding walked
+  walked-holds P a x zero p h = rw (add-zero x) p
+  walked-holds P a x (suc k) p h =
+      let e : x + 1 + k ≡ x + suc k = omega arith in
+      let q : P (x + 1) (step a x) = h x (omega arith) (omega arith) a p in
+      rw (← e, ← add-one x) (walked-holds P (step a x) (x + 1) k q (λ y l u b r. h y (omega arith) (omega arith) b r))
+
+  -- steps that change nothing
+  pub walked-still : (a : A) (x k : ℕ) → ((y : ℕ) → x ≤ y → y < x + k → step a y ≡ a) → walked step a x k ≡ a
+  unfolding walked
+  walked-still a x zero h = refl
+  walked-still a x (suc k) h =
+      rw (h x (omega arith) (omega arith)) (walked-still a (suc x) k (λ y l u. h y (omega arith) (omega arith)))
 
 -- ---- sets of vectors
 
@@ -93,3 +128,43 @@ module _ (l : Listed) (s x : ℕ) where
     pub listStep-full : (v : ℕ) → lowest s ≡ some v → 16 ≤ length (l .vectors) → listStep l s x ≡ l
     unfolding listStep
     listStep-full v n h = rw (e, a, n, le-ltb (length (l .vectors)) 16 h, listStep) (listed-eta l none e)
+
+-- ---- the list after several steps
+
+module _ (f : ℕ → ℕ) where
+  abbrev listing : Listed → ℕ → Listed
+  listing l y = listStep l (f y) y
+
+  pub listedFrom-walked : (l : Listed) (x k : ℕ) → listedFrom f l x k ≡ walked listing l x k
+  unfolding listedFrom walked
+  listedFrom-walked l x zero = refl
+  listedFrom-walked l x (suc k) = listedFrom-walked (listStep l (f x) x) (suc x) k
+
+  pub listedFrom-append : (l : Listed) (x k i : ℕ) → listedFrom f l x (k + i) ≡ listedFrom f (listedFrom f l x k) (x + k) i
+  listedFrom-append l x k i =
+      rw (listedFrom-walked l x (k + i), listedFrom-walked l x k, listedFrom-walked (walked listing l x k) (x + k) i)
+      (walked-append listing l x k i)
+
+  pub listedFrom-snoc : (l : Listed) (x k : ℕ)
+      → listedFrom f l x (k + 1) ≡ listStep (listedFrom f l x k) (f (x + k)) (x + k)
+  listedFrom-snoc l x k = rw (listedFrom-walked l x (k + 1), listedFrom-walked l x k) (walked-snoc listing l x k)
+
+-- ---- the sets after several steps
+
+module _ (f g : ℕ → ℕ) where
+  abbrev narrowing : List ℕ → ℕ → List ℕ
+  narrowing ss y = narrowed ss (g y) (f y)
+
+  pub setsFrom-walked : (ss : List ℕ) (x k : ℕ) → setsFrom f g ss x k ≡ walked narrowing ss x k
+  unfolding setsFrom walked
+  setsFrom-walked ss x zero = refl
+  setsFrom-walked ss x (suc k) = setsFrom-walked (narrowed ss (g x) (f x)) (suc x) k
+
+  pub setsFrom-append : (ss : List ℕ) (x k i : ℕ) → setsFrom f g ss x (k + i) ≡ setsFrom f g (setsFrom f g ss x k) (x + k) i
+  setsFrom-append ss x k i =
+      rw (setsFrom-walked ss x (k + i), setsFrom-walked ss x k, setsFrom-walked (walked narrowing ss x k) (x + k) i)
+      (walked-append narrowing ss x k i)
+
+  pub setsFrom-snoc : (ss : List ℕ) (x k : ℕ)
+      → setsFrom f g ss x (k + 1) ≡ narrowed (setsFrom f g ss x k) (g (x + k)) (f (x + k))
+  setsFrom-snoc ss x k = rw (setsFrom-walked ss x (k + 1), setsFrom-walked ss x k) (walked-snoc narrowing ss x k)
