@@ -10,7 +10,9 @@ pub mod Outputs
 pub mod Ready
 pub mod Rectify
 pub mod Search
+pub mod Stream
 pub mod Support
 pub mod Ternary
 pub mod Verdict
+pub mod Walk
 pub mod Word
