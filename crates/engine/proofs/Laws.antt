@@ -15,4 +15,5 @@ pub mod Support
 pub mod Ternary
 pub mod Verdict
 pub mod Walk
+pub mod Weights
 pub mod Word

@@ -5,11 +5,14 @@ use mathlib.Core.List.{List}
 use mathlib.Core.Bool.{true, false}
 use native.Mathlib.Omega.{arith}
 use mathlib.Core.Logic.{⊎-elim}
-use native.Mathlib.Nat.{mul-assoc, mul-comm, mul-le-mul-left, mul-le-mul-right, le-trans, eq-or-lt-of-le, one-mul, zero-mul, add-mul}
+use native.Mathlib.Nat.{mul-assoc, mul-comm, mul-le-mul-left, mul-le-mul-right, le-trans, eq-or-lt-of-le, one-mul, zero-mul, add-mul, zero-add}
+use lib.ListN.{length, take}
 use lib.Pow.{pow-add, pow-pos, pow-mono}
 use Rattle.records.specs.Job.{Job}
-use Rattle.engine.specs.Rectify.{rectifies}
-use Rattle.engine.specs.Walk.{Progress, Aligned}
+use Rattle.engine.specs.Rectify.{rectifies, Listed}
+use Rattle.engine.specs.Support.{reading, candidateNets}
+use Rattle.engine.specs.Walk.{rectifiers, listedFrom, setsFrom, startList, startSets, Noted, Progress, Aligned, Masks, ReadingWords}
+use Rattle.engine.proofs.Laws.Walk.{listedFrom-append, setsFrom-append}
 use Rattle.engine.specs.declared.list.Vectors.{Vectors}
 
 -- ---- halves of a range
@@ -90,6 +93,32 @@ module _ {n k p : ℕ} (a : Aligned n k p) where
 
 pub descends : {t : ℕ} (k : ℕ) → k ≡ t → 6 < k → k - 1 < t
 descends k e h = omega arith
+
+-- ---- the inputs of a block
+
+pub progress-noted : {j : Job} (b count : ℕ) (masks words : List ℕ) {v after : Vectors} {ss ss′ : List ℕ}
+    → Progress j (64 * b) v ss → v .stuck ≡ false → count ≤ 64 → Masks j b masks → ReadingWords j b words
+    → Noted (take (2 ^ j .targets) masks) (take (length (candidateNets j)) words) (64 * b) count v ss after ss′
+    → Progress j (64 * b + count) after ss′
+progress-noted {j} b count masks words {v} {after} {ss} {ss′} p s l m w n =
+    let f = rectifiers j in
+    let g = reading j (candidateNets j) in
+    record {
+      held = n .held;
+      long = n .long ∙ p .long;
+      listed =
+          n .listed f (λ i h. m i (omega arith))
+          ∙ ap (λ (k : Listed). listedFrom f k (64 * b) count) (p .listed)
+          ∙ sym
+          (listedFrom-append f startList 0 (64 * b) count
+          ∙ ap (λ (z : ℕ). listedFrom f (listedFrom f startList 0 (64 * b)) z count) (zero-add (64 * b)));
+      sets = λ e.
+          n .sets f g (λ i h. m i (omega arith)) (λ i h. w i (omega arith))
+          ∙ ap (λ (k : List ℕ). setsFrom f g k (64 * b) count) (p .sets s)
+          ∙ sym
+          (setsFrom-append f g (startSets (j .targets)) 0 (64 * b) count
+          ∙ ap (λ (z : ℕ). setsFrom f g (setsFrom f g (startSets (j .targets)) 0 (64 * b)) z count) (zero-add (64 * b)));
+    }
 
 -- ---- ranges that change nothing
 
