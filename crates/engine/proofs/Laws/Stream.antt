@@ -20,7 +20,7 @@ use Rattle.engine.specs.Walk.{lowest, listStep, listedFrom, listedOf, na
 use Rattle.engine.specs.declared.list.Vectors.{Vectors}
 use Rattle.engine.proofs.Laws.Choice.{first-here, first-there}
 use Rattle.engine.proofs.Laws.Eval.{bit-lt, bits-map, numberOf-lt}
-use Rattle.engine.proofs.Laws.Walk.{inSet, lowest-zero, lowest-some, listStep-stuck, listStep-listed, listStep-none, listStep-full, listStep-append, listedFrom-snoc, setsFrom-snoc}
+use Rattle.engine.proofs.Laws.Walk.{set-below, inSet, lowest-zero, lowest-some, listStep-stuck, listStep-listed, listStep-none, listStep-full, listStep-append, listedFrom-snoc, setsFrom-snoc}
 
 -- ---- gathered bits
 
@@ -98,13 +98,6 @@ places xs n e = sym (length-map xs (λ v. v)) ∙ e
 abbrev pub withVector : Vectors → ℕ → Vectors
 withVector v x =
     record { list = set (v .list) (v .len) x; len = v .len + 1; stuck = v .stuck; input = v .input }
-
-pub set-below : (xs : List ℕ) (i x n : ℕ) → ((k : ℕ) → getD xs k 0 < n) → x < n → (k : ℕ) → getD (set xs i x) k 0 < n
-set-below [] i x n b h k = b k
-set-below (y ∷ ys) zero x n b h zero = h
-set-below (y ∷ ys) zero x n b h (suc k) = b (suc k)
-set-below (y ∷ ys) (suc i) x n b h zero = b zero
-set-below (y ∷ ys) (suc i) x n b h (suc k) = set-below ys i x n (λ m. b (suc m)) h k
 
 pub vector-appended : (v : Vectors) (x : ℕ) → length (v .list) ≡ 16 → Held v → v .len < 16 → x < 16
     → Appended v x (withVector v x)

@@ -2,23 +2,27 @@
 use Prim.Native.Nat.{ℕ, zero, suc, _+_, _-_, _*_, _/_, _%_, _^_, _≤_, _<_}
 use mathlib.Core.Path.{_≡_, refl, sym, _∙_, ap}
 use mathlib.Core.Logic.{⊎-elim}
-use mathlib.Core.List.{List, [], _∷_, _++_, map}
+use mathlib.Core.List.{List, [], _∷_, _++_, map, List·Memᴰ as Mem, List·Memᴰ·head as here, Memᴰ·append-left as append-left}
 use mathlib.Core.Bool.{Bool, true, false, cond}
 use mathlib.Core.Option.{Option, none, some}
-use native.Mathlib.Nat.{mod-lt, zero-mul, zero-add, add-zero, suc-add}
+use native.Mathlib.Nat.{mod-lt, zero-mul, zero-add, add-zero, suc-add, zero-div, div-one, pow-suc, mod-eq-of-lt}
 use native.Mathlib.Numerals.{add-one, one-add}
 use native.Mathlib.Omega.{arith}
-use borrow.Author.Tests.{eq-eqb, ne-eqb, eqb-false, lt-ltb, le-ltb}
+use borrow.Author.Tests.{eq-eqb, eqb-false, ltb-true, ltb-false, lt-ltb, le-ltb}
 use lib.Dec.{eqb, ltb}
-use lib.ListN.{length, getD, take, set}
-use lib.Pow.{pow-pos, pow-add, shr-lt, split}
-use Rattle.records.specs.Bytes.{upFrom}
+use lib.ListN.{length, getD, set, replicate, length-replicate, getD-replicate, List·getD-eq-default}
+use lib.Seq.{set-getD}
+use lib.Bits.{bitAnd, and-le-l, and-mask}
+use lib.Pow.{pow-pos, pow-mono, shr-lt, shr-shr, split}
+use Rattle.records.specs.Bytes.{upFrom, tabulate}
+use Rattle.records.specs.Job.{Job}
+use Rattle.records.proofs.Laws.Bytes.{length-tabulate, getD-tabulate, tabulate-ext}
 use Rattle.engine.specs.Choice.{any, first, orZero}
 use Rattle.engine.specs.Eval.{bit, numberOf, allVectors}
-use Rattle.engine.specs.Rectify.{Listed}
-use Rattle.engine.specs.Walk.{lowest, listStep, listedFrom, narrowed, setsFrom}
-use Rattle.engine.proofs.Laws.Choice.{true-or-false, none-or-some, first-least, first-none-below}
-use Rattle.engine.proofs.Laws.Eval.{bit-lt}
+use Rattle.engine.specs.Rectify.{rectifies, Listed}
+use Rattle.engine.specs.Walk.{rectifiers, lowest, listStep, listedFrom, startList, narrowed, setsFrom, startSets}
+use Rattle.engine.proofs.Laws.Choice.{true-or-false, none-or-some, any-of-member, first-here, first-there, first-least, first-none-below}
+use Rattle.engine.proofs.Laws.Eval.{Bits, bits-nil, bits-cons, bits-map, bit-lt, numberOf-lt}
 
 -- ---- k steps from x on
 
@@ -54,6 +58,41 @@ module _ {A : Type 0} (step : A → ℕ → A) where
   walked-still a x zero h = refl
   walked-still a x (suc k) h =
       rw (h x (omega arith) (omega arith)) (walked-still a (suc x) k (λ y l u. h y (omega arith) (omega arith)))
+
+-- ---- lists
+
+-- a store keeps a bound of all elements
+pub set-below : (xs : List ℕ) (i x n : ℕ) → ((k : ℕ) → getD xs k 0 < n) → x < n → (k : ℕ) → getD (set xs i x) k 0 < n
+set-below [] i x n b h k = b k
+set-below (y ∷ ys) zero x n b h zero = h
+set-below (y ∷ ys) zero x n b h (suc k) = b (suc k)
+set-below (y ∷ ys) (suc i) x n b h zero = b zero
+set-below (y ∷ ys) (suc i) x n b h (suc k) = set-below ys i x n (λ m. b (suc m)) h k
+
+-- ---- choices
+
+first-nothing : (p : ℕ → Bool) (a n : ℕ) → ((v : ℕ) → a ≤ v → p v ≡ false) → first p (upFrom a n) ≡ none
+unfolding upFrom first
+first-nothing p a zero z = refl
+first-nothing p a (suc n) z =
+    first-there p a (upFrom (suc a) n) (z a (omega arith)) ∙ first-nothing p (suc a) n (λ v l. z v (omega arith))
+
+-- p and q agree on the n numbers from a on, and p holds of none after them
+first-agree : (p q : ℕ → Bool) (a n k : ℕ) → ((v : ℕ) → a ≤ v → v < a + n → p v ≡ q v)
+    → ((v : ℕ) → a + n ≤ v → p v ≡ false) → first p (upFrom a (n + k)) ≡ first q (upFrom a n)
+unfolding upFrom first
+first-agree p q a zero k e z = rw (zero-add k) (first-nothing p a k (λ v l. z v (omega arith)))
+first-agree p q a (suc n) k e z =
+    let h : p a ≡ q a = e a (omega arith) (omega arith) in
+    rw (suc-add n k)
+    (⊎-elim
+    (λ (t : p a ≡ true).
+    first-here p a (upFrom (suc a) (n + k)) t ∙ sym (first-here q a (upFrom (suc a) n) (sym h ∙ t)))
+    (λ (t : p a ≡ false).
+    first-there p a (upFrom (suc a) (n + k)) t
+    ∙ first-agree p q (suc a) n k (λ v l u. e v (omega arith) (omega arith)) (λ v l. z v (omega arith))
+    ∙ sym (first-there q a (upFrom (suc a) n) (sym h ∙ t)))
+    (true-or-false (p a)))
 
 -- ---- sets of vectors
 
@@ -99,6 +138,103 @@ lowest-lt s =
     (λ (e : lowest s ≡ none). omega (arith, ap orZero e))
     (λ r. omega (arith, ap orZero (r .1), first-least (inSet s) 16 (r .0) (r .1) .below))
     (none-or-some (lowest s))
+
+-- ---- the bits of a number made of bits
+
+pub bit-numberOf : {bs : List ℕ} → Bits bs → (v : ℕ) → bit v (numberOf bs) ≡ getD bs v 0
+unfolding bit numberOf
+bit-numberOf bits-nil v = ap (λ (q : ℕ). q % 2) (zero-div (2 ^ v))
+bit-numberOf (bits-cons {v = b} {vs = bs} h t) zero = omega (arith, div-one (b + 2 * numberOf bs))
+bit-numberOf (bits-cons {v = b} {vs = bs} h t) (suc v) =
+    let n : ℕ = numberOf bs in
+    let d : (b + 2 * n) / 2 ^ 1 ≡ n = omega arith in
+    let e : 1 + v ≡ suc v = one-add v in
+    ap (λ (q : ℕ). q % 2)
+    (ap (λ (k : ℕ). (b + 2 * n) / 2 ^ k) (sym e) ∙ sym (shr-shr (b + 2 * n) 1 v) ∙ ap (λ (q : ℕ). q / 2 ^ v) d)
+    ∙ bit-numberOf t v
+
+module _ (n : ℕ) (h : ℕ → ℕ) (b : (i : ℕ) → h i < 2) where
+  tabulated : (v : ℕ) → bit v (numberOf (tabulate n h)) ≡ getD (tabulate n h) v 0
+  unfolding tabulate
+  tabulated v = bit-numberOf (bits-map h b (upFrom 0 n)) v
+
+  pub bit-tabulate : (v : ℕ) → v < n → bit v (numberOf (tabulate n h)) ≡ h v
+  bit-tabulate v l = tabulated v ∙ getD-tabulate n h v 0 l
+
+  pub bit-beyond : (v : ℕ) → n ≤ v → bit v (numberOf (tabulate n h)) ≡ 0
+  bit-beyond v l =
+      tabulated v ∙ List·getD-eq-default (tabulate n h) 0 {n = v} (omega (arith, length-tabulate n h))
+
+  pub tabulate-lt : numberOf (tabulate n h) < 2 ^ n
+  unfolding tabulate
+  tabulate-lt =
+      omega
+      (arith, numberOf-lt (bits-map h b (upFrom 0 n)), ap (λ (k : ℕ). 2 ^ k) (length-tabulate n h))
+
+-- the number whose lowest n bits are 1
+ones-from : (a n : ℕ) → numberOf (map (λ i. 1) (upFrom a n)) ≡ 2 ^ n - 1
+unfolding numberOf upFrom
+ones-from a zero = refl
+ones-from a (suc n) = omega (arith, ones-from (suc a) n, pow-suc 2 n, pow-pos n)
+
+pub numberOf-ones : (n : ℕ) → numberOf (tabulate n (λ i. 1)) ≡ 2 ^ n - 1
+unfolding tabulate
+numberOf-ones n = ones-from 0 n
+
+-- ---- the set of the vectors that rectify an input
+
+eqb-cond : (b : Bool) → eqb (cond b 1 0) 1 ≡ b
+eqb-cond true = refl
+eqb-cond false = refl
+
+cond-lt : (b : Bool) → cond b 1 0 < 2
+cond-lt true = omega arith
+cond-lt false = omega arith
+
+module _ (j : Job) (x : ℕ) where
+  abbrev member : ℕ → ℕ
+  member v = cond (rectifies j x v) 1 0
+
+  rectifiers-tabulate : rectifiers j x ≡ numberOf (tabulate (2 ^ j .targets) member)
+  unfolding rectifiers allVectors tabulate
+  rectifiers-tabulate = refl
+
+  pub rectifiers-bit : (v : ℕ) → v < 2 ^ j .targets → bit v (rectifiers j x) ≡ cond (rectifies j x v) 1 0
+  rectifiers-bit v l =
+      ap (bit v) rectifiers-tabulate ∙ bit-tabulate (2 ^ j .targets) member (λ i. cond-lt (rectifies j x i)) v l
+
+  pub rectifiers-beyond : (v : ℕ) → 2 ^ j .targets ≤ v → bit v (rectifiers j x) ≡ 0
+  rectifiers-beyond v l =
+      ap (bit v) rectifiers-tabulate ∙ bit-beyond (2 ^ j .targets) member (λ i. cond-lt (rectifies j x i)) v l
+
+  pub rectifiers-lt : rectifiers j x < 2 ^ 2 ^ j .targets
+  rectifiers-lt =
+      rw rectifiers-tabulate (tabulate-lt (2 ^ j .targets) member (λ i. cond-lt (rectifies j x i)))
+
+  -- where every vector rectifies the input, the set is full
+  pub rectifiers-full : ((v : ℕ) → v < 2 ^ j .targets → rectifies j x v ≡ true) → rectifiers j x ≡ 2 ^ 2 ^ j .targets - 1
+  rectifiers-full h =
+      rectifiers-tabulate
+      ∙ ap numberOf
+      (tabulate-ext (2 ^ j .targets) member (λ i. 1) (λ v l. ap (λ (b : Bool). cond b 1 0) (h v l)))
+      ∙ numberOf-ones (2 ^ j .targets)
+
+  pub inSet-rectifiers : (v : ℕ) → v < 2 ^ j .targets → inSet (rectifiers j x) v ≡ rectifies j x v
+  inSet-rectifiers v l = ap (λ (b : ℕ). eqb b 1) (rectifiers-bit v l) ∙ eqb-cond (rectifies j x v)
+
+  pub inSet-beyond : (v : ℕ) → 2 ^ j .targets ≤ v → inSet (rectifiers j x) v ≡ false
+  inSet-beyond v l = ap (λ (b : ℕ). eqb b 1) (rectifiers-beyond v l)
+
+  -- the smallest vector of the set is the first that rectifies
+  pub lowest-rectifiers : j .targets ≤ 4 → lowest (rectifiers j x) ≡ first (rectifies j x) (allVectors j)
+  unfolding lowest allVectors
+  lowest-rectifiers t =
+      let n : ℕ = 2 ^ j .targets in
+      let l : n ≤ 16 = pow-mono t in
+      let e : n + (16 - n) ≡ 16 = omega arith in
+      ap (λ (k : ℕ). first (inSet (rectifiers j x)) (upFrom 0 k)) (sym e)
+      ∙ first-agree (inSet (rectifiers j x)) (rectifies j x) 0 n (16 - n) (λ v a b. inSet-rectifiers v (omega arith))
+      (λ v a. inSet-beyond v (omega arith))
 
 -- ---- a step of the list
 
@@ -168,3 +304,117 @@ module _ (f g : ℕ → ℕ) where
   pub setsFrom-snoc : (ss : List ℕ) (x k : ℕ)
       → setsFrom f g ss x (k + 1) ≡ narrowed (setsFrom f g ss x k) (g (x + k)) (f (x + k))
   setsFrom-snoc ss x k = rw (setsFrom-walked ss x (k + 1), setsFrom-walked ss x k) (walked-snoc narrowing ss x k)
+
+-- ---- once stuck, the list stays
+
+module _ (f : ℕ → ℕ) (l : Listed) (x k y : ℕ) (e : l .stuck ≡ some y) where
+  pub listedFrom-stuck : listedFrom f l x k ≡ l
+  listedFrom-stuck =
+      listedFrom-walked f l x k ∙ walked-still (listing f) l x k (λ z a b. listStep-stuck l (f z) z y e)
+
+pub stuck-stays : (f : ℕ → ℕ) (l : Listed) (x k y : ℕ) → listedFrom f l 0 x .stuck ≡ some y
+    → listedFrom f l 0 (x + k) ≡ listedFrom f l 0 x
+stuck-stays f l x k y e =
+    listedFrom-append f l 0 x k ∙ listedFrom-stuck f (listedFrom f l 0 x) (0 + x) k y e
+
+-- ---- steps that change nothing
+
+-- a step keeps the listed vectors
+listStep-keeps : (l : Listed) (s x v : ℕ) → Mem v (l .vectors) → Mem v (listStep l s x .vectors)
+listStep-keeps l s x v m =
+    ⊎-elim
+    (λ (n : l .stuck ≡ none).
+    ⊎-elim
+    (λ (a : any (inSet s) (l .vectors) ≡ true). rw (listStep-listed l s x a) m)
+    (λ (a : any (inSet s) (l .vectors) ≡ false).
+    ⊎-elim
+    (λ (e : lowest s ≡ none). rw (listStep-none l s x n a e) m)
+    (λ r.
+    ⊎-elim
+    (λ (t : ltb (length (l .vectors)) 16 ≡ true).
+    rw (listStep-append l s x n a (r .0) (r .1) (ltb-true (length (l .vectors)) 16 t)) (append-left (r .0 ∷ []) m))
+    (λ (t : ltb (length (l .vectors)) 16 ≡ false).
+    rw (listStep-full l s x n a (r .0) (r .1) (ltb-false (length (l .vectors)) 16 t)) m)
+    (true-or-false (ltb (length (l .vectors)) 16)))
+    (none-or-some (lowest s)))
+    (true-or-false (any (inSet s) (l .vectors))))
+    (λ r. rw (listStep-stuck l s x (r .0) (r .1)) m)
+    (none-or-some (l .stuck))
+
+module _ (f : ℕ → ℕ) where
+  -- vector 0 stays listed
+  zero-listed : (x : ℕ) → Mem 0 (listedFrom f startList 0 x .vectors)
+  zero-listed x =
+      rw (listedFrom-walked f startList 0 x)
+      (walked-holds (listing f) (λ y l. Mem 0 (l .vectors)) startList 0 x (here refl)
+      (λ y a b l m. listStep-keeps l (f y) y 0 m))
+
+  -- inputs that vector 0 rectifies add nothing to the list
+  pub listedFrom-skip : (x k : ℕ) → ((y : ℕ) → x ≤ y → y < x + k → bit 0 (f y) ≡ 1)
+      → listedFrom f startList 0 (x + k) ≡ listedFrom f startList 0 x
+  listedFrom-skip x k h =
+      let l : Listed = listedFrom f startList 0 x in
+      let o : 0 + x ≡ x = zero-add x in
+      listedFrom-append f startList 0 x k
+      ∙ ap (λ (z : ℕ). listedFrom f l z k) o
+      ∙ listedFrom-walked f l x k
+      ∙ walked-still (listing f) l x k
+      (λ y a b.
+      listStep-listed l (f y) y
+      (any-of-member (inSet (f y)) (l .vectors) 0 (zero-listed x) (eq-eqb (bit 0 (f y)) 1 (h y a b))))
+
+module _ (f g : ℕ → ℕ) (n : ℕ) where
+  -- no set grows
+  sets-lt : (ss : List ℕ) (x : ℕ) → ((r : ℕ) → getD ss r 0 < n) → (r : ℕ) → getD (setsFrom f g ss 0 x) r 0 < n
+  unfolding narrowed
+  sets-lt ss x h =
+      rw (setsFrom-walked f g ss 0 x)
+      (walked-holds (narrowing f g) (λ y ts. (r : ℕ) → getD ts r 0 < n) ss 0 x h
+      (λ y a b ts t. set-below ts (g y) (bitAnd (getD ts (g y) 0) (f y)) n t
+      (omega (arith, and-le-l (getD ts (g y) 0) (f y), t (g y)))))
+
+-- inputs that every vector rectifies narrow no set
+pub setsFrom-skip : (f g : ℕ → ℕ) (n : ℕ) (ss : List ℕ) (x k : ℕ) → ((r : ℕ) → getD ss r 0 < 2 ^ n)
+    → ((y : ℕ) → x ≤ y → y < x + k → f y ≡ 2 ^ n - 1) → setsFrom f g ss 0 (x + k) ≡ setsFrom f g ss 0 x
+unfolding narrowed
+setsFrom-skip f g n ss x k b h =
+    let ts : List ℕ = setsFrom f g ss 0 x in
+    let o : 0 + x ≡ x = zero-add x in
+    setsFrom-append f g ss 0 x k
+    ∙ ap (λ (z : ℕ). setsFrom f g ts z k) o
+    ∙ setsFrom-walked f g ts x k
+    ∙ walked-still (narrowing f g) ts x k
+    (λ y a l.
+    let r : ℕ = g y in
+    let t : ℕ = getD ts r 0 in
+    ap (λ (s : ℕ). set ts r (bitAnd t s)) (h y a l)
+    ∙ ap (λ (s : ℕ). set ts r s) (and-mask t n ∙ mod-eq-of-lt (sets-lt f g (2 ^ n) ss x b r))
+    ∙ set-getD ts r 0)
+
+startSets-lt : (m r : ℕ) → getD (startSets m) r 0 < 2 ^ 2 ^ m
+unfolding startSets
+startSets-lt m r =
+    ⊎-elim
+    (λ (t : ltb r 1024 ≡ true).
+    omega (arith, getD-replicate 1024 r (2 ^ 2 ^ m - 1) 0 (ltb-true r 1024 t), pow-pos (2 ^ m)))
+    (λ (t : ltb r 1024 ≡ false).
+    omega (
+      arith,
+      List·getD-eq-default (replicate 1024 (2 ^ 2 ^ m - 1)) 0 {n = r}
+          (omega (arith, length-replicate 1024 (2 ^ 2 ^ m - 1), ltb-false r 1024 t)),
+      pow-pos (2 ^ m),
+    ))
+    (true-or-false (ltb r 1024))
+
+module _ (j : Job) (x k : ℕ) (h : (y : ℕ) → x ≤ y → y < x + k → (v : ℕ) → v < 2 ^ j .targets → rectifies j y v ≡ true) where
+  pub walk-skip-list : listedFrom (rectifiers j) startList 0 (x + k) ≡ listedFrom (rectifiers j) startList 0 x
+  walk-skip-list =
+      listedFrom-skip (rectifiers j) x k
+      (λ y a b.
+      rectifiers-bit j y 0 (pow-pos (j .targets)) ∙ ap (λ (c : Bool). cond c 1 0) (h y a b 0 (pow-pos (j .targets))))
+
+  pub walk-skip-sets : (g : ℕ → ℕ)
+      → setsFrom (rectifiers j) g (startSets (j .targets)) 0 (x + k) ≡ setsFrom (rectifiers j) g (startSets (j .targets)) 0 x
+  walk-skip-sets g =
+      setsFrom-skip (rectifiers j) g (2 ^ j .targets) (startSets (j .targets)) x k (startSets-lt (j .targets))
+      (λ y a b. rectifiers-full j y (h y a b))
