@@ -2,7 +2,8 @@
 use Prim.Native.Nat.{ℕ, zero, suc, _+_, _-_, _*_, _%_, _^_, _≤_, _<_}
 use mathlib.Core.Path.{_≡_, refl, sym, _∙_, ap, subst}
 use mathlib.Core.List.{List}
-use mathlib.Core.Bool.{true, false}
+use mathlib.Core.Bool.{Bool, true, false, cond, true≢false}
+use mathlib.Core.Option.{none, some}
 use native.Mathlib.Omega.{arith}
 use mathlib.Core.Logic.{⊎-elim}
 use native.Mathlib.Nat.{mul-assoc, mul-comm, mul-le-mul-left, mul-le-mul-right, le-trans, eq-or-lt-of-le, one-mul, zero-mul, add-mul, zero-add}
@@ -11,8 +12,8 @@ use lib.Pow.{pow-add, pow-pos, pow-mono}
 use Rattle.records.specs.Job.{Job}
 use Rattle.engine.specs.Rectify.{rectifies, Listed}
 use Rattle.engine.specs.Support.{reading, candidateNets}
-use Rattle.engine.specs.Walk.{rectifiers, listedFrom, setsFrom, startList, startSets, Noted, Progress, Aligned, Masks, ReadingWords}
-use Rattle.engine.proofs.Laws.Walk.{listedFrom-append, setsFrom-append}
+use Rattle.engine.specs.Walk.{rectifiers, listedOf, listedFrom, setsFrom, startList, startSets, Noted, Progress, Aligned, Masks, ReadingWords}
+use Rattle.engine.proofs.Laws.Walk.{listedFrom-append, setsFrom-append, stuck-stays, walk-skip-list, walk-skip-sets}
 use Rattle.engine.specs.declared.list.Vectors.{Vectors}
 
 -- ---- halves of a range
@@ -125,10 +126,41 @@ progress-noted {j} b count masks words {v} {after} {ss} {ss′} p s l m w n =
 pub progress-at : {j : Job} {x y : ℕ} {v : Vectors} {ss : List ℕ} → Progress j x v ss → x ≡ y → Progress j y v ss
 progress-at {j} {x} {y} {v} {ss} p e = subst (λ (z : ℕ). Progress j z v ss) e p
 
+-- the inputs from x up to y
+upTo : {x y : ℕ} → x ≤ y → x + (y - x) ≡ y
+upTo h = omega arith
+
+listed-stuck : (v : Vectors) → v .stuck ≡ true → listedOf v .stuck ≡ some (v .input)
+unfolding listedOf
+listed-stuck v e = ap (λ (b : Bool). cond b (some (v .input)) none) e
+
 pub progress-stuck : {j : Job} {x y : ℕ} {v : Vectors} {ss : List ℕ} → Progress j x v ss → x ≤ y → v .stuck ≡ true
     → Progress j y v ss
-progress-stuck p h s = ?
+progress-stuck {j} {x} {y} {v} {ss} p h s =
+    let f = rectifiers j in
+    let e : listedFrom f startList 0 x .stuck ≡ some (v .input) = ap (λ (l : Listed). l .stuck) (sym (p .listed)) ∙ listed-stuck v s in
+    record {
+      held = p .held;
+      long = p .long;
+      listed =
+          p .listed
+          ∙ sym (stuck-stays f startList x (y - x) (v .input) e)
+          ∙ ap (λ (z : ℕ). listedFrom f startList 0 z) (upTo h);
+      sets = λ n. absurd (true≢false (sym s ∙ n));
+    }
 
-pub progress-skip : {j : Job} {x y : ℕ} {v : Vectors} {ss : List ℕ} → Progress j x v ss → x ≤ y → j .targets ≤ 4
+pub progress-skip : {j : Job} {x y : ℕ} {v : Vectors} {ss : List ℕ} → Progress j x v ss → x ≤ y
     → ((z : ℕ) → x ≤ z → z < y → (u : ℕ) → u < 2 ^ j .targets → rectifies j z u ≡ true) → Progress j y v ss
-progress-skip p h t f = ?
+progress-skip {j} {x} {y} {v} {ss} p h r =
+    let f = rectifiers j in
+    let g = reading j (candidateNets j) in
+    let a : (z : ℕ) → x ≤ z → z < x + (y - x) → (u : ℕ) → u < 2 ^ j .targets → rectifies j z u ≡ true =
+    λ z l b. r z l (omega (arith, upTo h)) in
+    progress-at
+    (record {
+      held = p .held;
+      long = p .long;
+      listed = p .listed ∙ sym (walk-skip-list j x (y - x) a);
+      sets = λ e. p .sets e ∙ sym (walk-skip-sets j x (y - x) a g);
+    })
+    (upTo h)

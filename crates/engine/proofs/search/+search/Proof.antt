@@ -6,7 +6,7 @@ use native.Mathlib.Omega.{arith}
 use borrow.Author.Needs.{needs}
 use borrow.Fn.Kinds.{In}
 use borrow.Fn.PlainCycle.{Measures, is, falls, and}
-use Rattle.engine.proofs.Laws.Ready.{ready-within, ready-targets, ready-evaluable, ready-golden-evaluable, ready-outputs, ready-golden-outputs}
+use Rattle.engine.proofs.Laws.Ready.{ready-within, ready-evaluable, ready-golden-evaluable, ready-outputs, ready-golden-outputs}
 use Rattle.engine.proofs.Laws.Masks.{rectifies-of-outputs}
 use Rattle.engine.proofs.Laws.Search.{descends, progress-at, range-le, aligned-small, half-start, half-end, aligned-low, aligned-high, block-start, block-room, block-next, progress-stuck, progress-skip}
 use Rattle.engine.proofs.search.search.Reads as search′
@@ -77,8 +77,7 @@ search-settled-requires t c κs =
 search-returns-3 : (t : ℕ) → search-lts.Need-returns-3 (calls t) (search-at t) search′.Post
 search-returns-3 t c =
     let s = c .before .before .before .before .before .before .before .before .before .before .before .before .before .before .before .before .before .before in
-    progress-skip (s .pre .1 .1 .1 .1) (range-le (s .args .prefix) (s .args .low)) (ready-targets (s .pre .1 .0))
-    (λ z h l u b. rectifies-of-outputs (s .pre .1 .0) z u (c .before .settled .ensures (c .if4 .taken) z u h l))
+    progress-skip (s .pre .1 .1 .1 .1) (range-le (s .args .prefix) (s .args .low)) (λ z h l u b. rectifies-of-outputs (s .pre .1 .0) z u (c .before .settled .ensures (c .if4 .taken) z u h l))
 
 search-sub-search : (t : ℕ) → search-lts.Need-sub-search (calls t) (search-at t) search′.Post
 search-sub-search t c = let l = c .before .if2 .left in search needs
