@@ -53,11 +53,11 @@ pub record Outputs (os : List ℕ) (count words : ℕ) : Type 0 where
   pub held : count ≤ length os
   pub below : all (λ o. ltb o words) (take count os) ≡ true
 
--- in scenario j of block b, the words are the values of a netlist's nets at input 64 * b + j and vector v
-pub record BlockValues (gs : List Gate) (n m b v : ℕ) (before after : List ℕ) : Type 0 where
+-- in scenario j of block b, the words are the values of a netlist's nets at input 64 * b + j and vector v j
+pub record BlockValues (gs : List Gate) (n m b : ℕ) (v : ℕ → ℕ) (before after : List ℕ) : Type 0 where
   pub long : length after ≡ length before
   pub words : (j : ℕ) → j < 64
-      → map (bit j) (take (n + m + length gs) after) ≡ values (bits n (64 * b + j) ++ bits m v) gs
+      → map (bit j) (take (n + m + length gs) after) ≡ values (bits n (64 * b + j) ++ bits m (v j)) gs
 
 -- a row of golden words in block b: those of a netlist with the gates gs and no targets
 pub record GoldenWords (gs : List Gate) (n b : ℕ) (words : List ℕ) : Type 0 where

@@ -127,8 +127,8 @@ pub loading-all : (at k size : ℕ) (x : ℕ → ℕ) (before after : List ℕ) 
 loading-all at k size x before after e l = record { long = l .long; beyond = l .beyond; words = rw e at (l .words) }
 
 -- inputs and targets loaded, and the gates evaluated on them
-pub block-values : (gs : List Gate) (n m b v : ℕ) (d₀ d₁ d₂ d₃ : List ℕ) → Loaded 0 n (λ j. 64 * b + j) d₀ d₁
-    → Loaded n m (λ j. v) d₁ d₂ → Evaluated gs (n + m) d₂ d₃ → BlockValues gs n m b v d₀ d₃
+pub block-values : (gs : List Gate) (n m b : ℕ) (v : ℕ → ℕ) (d₀ d₁ d₂ d₃ : List ℕ) → Loaded 0 n (λ j. 64 * b + j) d₀ d₁
+    → Loaded n m v d₁ d₂ → Evaluated gs (n + m) d₂ d₃ → BlockValues gs n m b v d₀ d₃
 block-values gs n m b v d₀ d₁ d₂ d₃ p q e =
     record {
       long = e .long ∙ q .long ∙ p .long;
@@ -136,5 +136,5 @@ block-values gs n m b v d₀ d₁ d₂ d₃ p q e =
           λ j h.
           e .words j h
           ∙ ap (λ (l : List ℕ). values l gs)
-          (q .words j h ∙ ap (λ (l : List ℕ). l ++ bits m v) (ap (λ (k : ℕ). map (bit j) (take k d₁)) (sym (zero-add n)) ∙ p .words j h));
+          (q .words j h ∙ ap (λ (l : List ℕ). l ++ bits m (v j)) (ap (λ (k : ℕ). map (bit j) (take k d₁)) (sym (zero-add n)) ∙ p .words j h));
     }

@@ -33,7 +33,7 @@ not-differs xs ys = go (same xs ys)
 
 -- where two rows of outputs in words do not differ, the vector rectifies the input
 pub rectifies-word : (gs : List Gate) (os golden ps : List ℕ) (count n m b v r k : ℕ) (d₀ nets : List ℕ) → length gs ≡ k
-    → r < 2 ^ 64 → BlockValues gs n m b v d₀ nets → Outputs os count (n + m + k)
+    → r < 2 ^ 64 → BlockValues gs n m b (λ j. v) d₀ nets → Outputs os count (n + m + k)
     → ((j : ℕ) → j < 64 → bit j r ≡ differs (outputBits j nets (take count os)) (outputBits j golden (take count ps)))
     → RectifiesWord gs os golden ps count n m b v ((2 ^ 64 - 1) - r)
 rectifies-word gs os golden ps count n m b v r k d₀ nets e l w o d hs g q j h =
