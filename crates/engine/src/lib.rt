@@ -2,6 +2,7 @@
 // once, a word a net.
 mod block;
 mod choose;
+mod fanout;
 mod list;
 mod rectify;
 mod ternary;

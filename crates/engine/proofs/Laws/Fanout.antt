@@ -1,0 +1,106 @@
+-- Laws of the targets' fanout: the turns of the loops that mark the nets, and of the loop that evaluates again the gates that a
+-- target leads to. Assumes nothing.
+use Prim.Native.Nat.{ℕ, zero, suc, _+_, _-_, _*_, _^_, max, _≤_, _<_}
+use mathlib.Core.Path.{_≡_, refl, sym, _∙_, ap}
+use mathlib.Core.List.{List, [], _∷_, _++_, map}
+use mathlib.Core.Bool.{true}
+use native.Mathlib.Nat.{add-zero}
+use native.Mathlib.Numerals.{add-one}
+use native.Mathlib.Omega.{arith}
+use lib.ListN.{length, getD, take, drop, set, replicate, length-set, length-append, length-replicate, getD-replicate, List·getD-append}
+use lib.Seq.{take-suc, take-suc-set, getD-append-add}
+use Rattle.records.specs.Bytes.{tabulate}
+use Rattle.records.specs.Gate.{Gate, gateOf}
+use Rattle.records.specs.Netlist.{extended, markOf, fanout}
+use Rattle.records.specs.Refusal.{gateGood, gatesGood}
+use Rattle.records.specs.Inner.{leafMarks}
+use Rattle.records.specs.Service.{gatesFrom}
+use Rattle.records.proofs.Laws.Bytes.{length-tabulate, drop-tabulate-end}
+use Rattle.records.proofs.Laws.Netlist.{markOf-take}
+use Rattle.engine.specs.Walk.{FanoutMarks}
+use Rattle.engine.proofs.Laws.EvalWords.{extended-step, gates-both}
+
+-- ---- marks
+
+module _ (n m i : ℕ) where
+  pub leaf-input : i < n → 0 ≡ getD (leafMarks n m) i 0
+  unfolding leafMarks
+  leaf-input h =
+      sym
+      (List·getD-append (replicate n 0) (replicate m 1) 0 i (omega (arith, length-replicate {A = ℕ} n 0))
+      ∙ getD-replicate n i 0 0 h)
+
+  pub leaf-target : n ≤ i → i < n + m → 1 ≡ getD (leafMarks n m) i 0
+  unfolding leafMarks
+  leaf-target l h =
+      let e : i ≡ length (replicate {A = ℕ} n 0) + (i - n) = omega (arith, length-replicate {A = ℕ} n 0) in
+      sym
+      (ap (λ (k : ℕ). getD (replicate n 0 ++ replicate m 1) k 0) e
+      ∙ getD-append-add (replicate n 0) (replicate m 1) (i - n) 0
+      ∙ getD-replicate m (i - n) 1 0 (omega arith))
+
+pub length-leafMarks : (n m : ℕ) → length (leafMarks n m) ≡ n + m
+unfolding leafMarks
+length-leafMarks n m =
+    length-append (replicate n 0) (replicate m 1) ∙ omega (arith, length-replicate {A = ℕ} n 0, length-replicate {A = ℕ} m 1)
+
+-- a turn of the loop over inputs and targets
+pub leaf-turn : (n m i w : ℕ) (marks : List ℕ) → i < n + m → i < length marks → w ≡ getD (leafMarks n m) i 0
+    → take i marks ≡ take i (leafMarks n m) → take (i + 1) (set marks i w) ≡ take (i + 1) (leafMarks n m)
+leaf-turn n m i w marks h l e p =
+    ap (λ (k : ℕ). take k (set marks i w)) (add-one i)
+    ∙ take-suc-set marks i w l
+    ∙ ap (λ (v : ℕ). take i marks ++ (v ∷ [])) e
+    ∙ ap (λ (xs : List ℕ). xs ++ (getD (leafMarks n m) i 0 ∷ [])) p
+    ∙ sym (take-suc (leafMarks n m) i 0 (omega (arith, length-leafMarks n m)))
+    ∙ ap (λ (k : ℕ). take k (leafMarks n m)) (sym (add-one i))
+
+-- a turn of the loop over gates
+pub mark-turn : (n : ℕ) (g : ℕ → Gate) (i : ℕ) → i < n → (base w : ℕ) (marks : List ℕ) → base + i < length marks
+    → gateGood (base + i) (g i) ≡ true → w ≡ markOf marks (g i)
+    → extended markOf (take (base + (i + 1)) (set marks (base + i) w)) (drop (i + 1) (tabulate n g))
+    ≡ extended markOf (take (base + i) marks) (drop i (tabulate n g))
+mark-turn n g i h base w marks l e v =
+    let m : base + (i + 1) ≡ suc (base + i) = omega arith in
+    let known = take (base + i) marks in
+    let p : take (base + (i + 1)) (set marks (base + i) w) ≡ known ++ (markOf known (g i) ∷ []) =
+    ap (λ (k : ℕ). take k (set marks (base + i) w)) m
+    ∙ take-suc-set marks (base + i) w l
+    ∙ ap (λ (x : ℕ). known ++ (x ∷ [])) (v ∙ sym (markOf-take (base + i) marks (g i) e)) in
+    ap (λ (xs : List ℕ). extended markOf xs (drop (i + 1) (tabulate n g))) p ∙ sym (extended-step n g i h markOf known)
+
+-- ---- the marks once those of the first i gates are found
+
+pub record Marking (gs : List Gate) (count n m : ℕ) (before after : List ℕ) (i : ℕ) : Type 0 where
+  pub most : i ≤ count
+  pub long : length after ≡ length before
+  pub good : gatesGood (n + m + i) (drop i gs) ≡ true
+  pub marks : extended markOf (take (n + m + i) after) (drop i gs) ≡ fanout n m gs
+
+pub marking-none : (gs : List Gate) (count n m : ℕ) (d : List ℕ) → gatesGood (n + m) gs ≡ true
+    → take (n + m) d ≡ leafMarks n m → Marking gs count n m d d 0
+unfolding fanout leafMarks
+marking-none gs count n m d g e = record { most = omega arith; long = refl; good = rw add-zero g; marks = rw (add-zero, e) }
+
+module _ (ks xs ys : List ℕ) (count n m : ℕ) (before after : List ℕ) (i : ℕ)
+    (e : Marking (gatesFrom count ks xs ys) count n m before after i) (r : n + m + count ≤ length before) where
+  pub marking-next : i < count → (w : ℕ) → w ≡ markOf after (gateOf (getD ks i 0) (getD xs i 0) (getD ys i 0))
+      → Marking (gatesFrom count ks xs ys) count n m before (set after (n + m + i) w) (i + 1)
+  unfolding gatesFrom
+  marking-next h w v =
+      let g = gates-both ks xs ys count (n + m) i h (e .good) in
+      record {
+        most = omega arith;
+        long = length-set after (n + m + i) w ∙ e .long;
+        good = g .1;
+        marks =
+            mark-turn count (λ k. gateOf (getD ks k 0) (getD xs k 0) (getD ys k 0)) i h (n + m) w after (omega (arith, e .long)) (g .0) v
+            ∙ e .marks;
+      }
+
+  pub marking-all : i ≡ count → FanoutMarks n m (gatesFrom count ks xs ys) after
+  unfolding gatesFrom extended
+  marking-all z =
+      let g : ℕ → Gate = λ k. gateOf (getD ks k 0) (getD xs k 0) (getD ys k 0) in
+      let l = length-tabulate count g in
+      record { room = omega (arith, e .long); marks = rw l (rw (z, drop-tabulate-end count g) at (e .marks)) }
