@@ -4,6 +4,7 @@
 --   Loaded ..        leaves in words
 --   Evaluated ..     in each of 64 scenarios the words of the nets are the values that the leaves' words give; words beyond the
 --                    nets are as before
+--   Unmarked ..      .. of the gates that no target leads to, the words are so already
 use Prim.Native.Nat.{ℕ, _+_, _*_, _≤_, _<_}
 use mathlib.Core.Path.{_≡_}
 use mathlib.Core.List.{List, _++_, map}
@@ -32,6 +33,11 @@ pub record Evaluated (gs : List Gate) (base : ℕ) (before after : List ℕ) : T
   pub beyond : drop (base + length gs) after ≡ drop (base + length gs) before
   pub words : (i : ℕ) → i < 64
       → map (bit i) (take (base + length gs) after) ≡ values (map (bit i) (take base before)) gs
+
+-- the words of the gates with mark 0 are the values that the leaves' words give, in each scenario
+pub record Unmarked (gs : List Gate) (base : ℕ) (marks nets : List ℕ) : Type 0 where
+  pub words : (i : ℕ) → base ≤ i → i < base + length gs → getD marks i 0 ≡ 0 → (j : ℕ) → j < 64
+      → bit j (getD nets i 0) ≡ netAt (values (map (bit j) (take base nets)) gs) i
 
 -- from net at on, the words of k nets hold the bits of x j in scenario j; the words beyond them are as before
 pub record Loaded (at k : ℕ) (x : ℕ → ℕ) (before after : List ℕ) : Type 0 where

@@ -7,8 +7,9 @@ ghost use Rattle.records.specs.Gate.{gateOf};
 ghost use Rattle.records.specs.Netlist.{markOf};
 ghost use Rattle.records.specs.Inner.{leafMarks};
 ghost use Rattle.records.specs.Service.{gatesFrom};
-ghost use Rattle.engine.specs.Inner.{Evaluable};
+ghost use Rattle.engine.specs.Inner.{Evaluable, Evaluated, Unmarked};
 ghost use Rattle.engine.specs.Walk.{FanoutMarks};
+use super::word::gate_word;
 
 // The mark of a gate: 1 where a used operand is marked.
 fn gate_mark(marks: &[u8], kind: u8, a: usize, b: usize) -> u8
@@ -63,6 +64,34 @@ pub(super) fn mark_fanout(
         let a = firsts[i] as usize;
         let b = seconds[i] as usize;
         marks[base + i] = gate_mark(marks, kinds[i], a, b);
+        i += 1;
+    }
+}
+
+// Evaluates again the gates whose mark is not 0; the others keep their words, which are those of the leaves' words already.
+// It costs one gate evaluation a marked gate.
+pub(super) fn eval_fanout(
+    kinds: &[u8],
+    firsts: &[u16],
+    seconds: &[u16],
+    count: usize,
+    base: usize,
+    marks: &[u8],
+    nets: &mut [u64],
+)
+    requires { ⌜ Evaluable (now kinds) (now firsts) (now seconds) count base (length (now nets)) ⌝ }
+    requires { ⌜ base + count ≤ length (now marks) ⌝ }
+    requires { ⌜ Unmarked (gatesFrom count (now kinds) (now firsts) (now seconds)) base (now marks) (now nets) ⌝ }
+    ensures { λ _. ⌜ Evaluated (gatesFrom count (now (kinds .entry)) (now (firsts .entry)) (now (seconds .entry))) base
+        (now (nets .entry)) (now (nets .exit)) ⌝ }
+{
+    let mut i = 0usize;
+    while i < count {
+        if marks[base + i] != 0 {
+            let a = firsts[i] as usize;
+            let b = seconds[i] as usize;
+            nets[base + i] = gate_word(kinds[i], nets[a], nets[b]);
+        }
         i += 1;
     }
 }

@@ -1,24 +1,26 @@
 -- Laws of the targets' fanout: the turns of the loops that mark the nets, and of the loop that evaluates again the gates that a
 -- target leads to. Assumes nothing.
 use Prim.Native.Nat.{ℕ, zero, suc, _+_, _-_, _*_, _^_, max, _≤_, _<_}
-use mathlib.Core.Path.{_≡_, refl, sym, _∙_, ap}
+use mathlib.Core.Path.{_≡_, refl, sym, _∙_, ap, subst}
 use mathlib.Core.List.{List, [], _∷_, _++_, map}
 use mathlib.Core.Bool.{true}
 use native.Mathlib.Nat.{add-zero}
 use native.Mathlib.Numerals.{add-one}
 use native.Mathlib.Omega.{arith}
-use lib.ListN.{length, getD, take, drop, set, replicate, length-set, length-append, length-replicate, getD-replicate, List·getD-append}
-use lib.Seq.{take-suc, take-suc-set, getD-append-add}
+use lib.ListN.{length, getD, take, drop, set, replicate, length-set, length-map, length-append, length-replicate, getD-replicate, List·getD-append}
+use lib.Seq.{length-take-le, take-suc, take-suc-set, drop-set-lt, drop-drop, getD-drop, getD-at, getD-append-add, set-getD}
 use Rattle.records.specs.Bytes.{tabulate}
-use Rattle.records.specs.Gate.{Gate, gateOf}
-use Rattle.records.specs.Netlist.{extended, markOf, fanout}
+use Rattle.records.specs.Gate.{Gate, gateOf, arity, gateValue}
+use Rattle.records.specs.Netlist.{netAt, extended, valueOf, values, markOf, fanout}
 use Rattle.records.specs.Refusal.{gateGood, gatesGood}
 use Rattle.records.specs.Inner.{leafMarks}
 use Rattle.records.specs.Service.{gatesFrom}
 use Rattle.records.proofs.Laws.Bytes.{length-tabulate, drop-tabulate-end}
 use Rattle.records.proofs.Laws.Netlist.{markOf-take}
+use Rattle.engine.specs.Eval.{bit, bits}
+use Rattle.engine.specs.Inner.{Unmarked}
 use Rattle.engine.specs.Walk.{FanoutMarks}
-use Rattle.engine.proofs.Laws.EvalWords.{extended-step, gates-both}
+use Rattle.engine.proofs.Laws.EvalWords.{extended-step, gates-both, Evaluating, evaluating-none, evaluating-next, evaluating-gate}
 
 -- ---- marks
 
@@ -104,3 +106,78 @@ module _ (ks xs ys : List ℕ) (count n m : ℕ) (before after : List ℕ) (i : 
       let g : ℕ → Gate = λ k. gateOf (getD ks k 0) (getD xs k 0) (getD ys k 0) in
       let l = length-tabulate count g in
       record { room = omega (arith, e .long); marks = rw l (rw (z, drop-tabulate-end count g) at (e .marks)) }
+
+-- ---- the gates with a mark evaluated again
+
+-- what stands in a list stands in the list extended
+getD-extended : (f : List ℕ → Gate → ℕ) (known : List ℕ) (gs : List Gate) (i : ℕ) → i < length known
+    → getD (extended f known gs) i 0 ≡ getD known i 0
+unfolding extended
+getD-extended f known [] i h = refl
+getD-extended f known (g ∷ gs) i h =
+    getD-extended f (known ++ (f known g ∷ [])) gs i (omega (arith, length-append known (f known g ∷ [])))
+    ∙ List·getD-append known (f known g ∷ []) 0 i h
+
+-- .. and after it what f says of the first gate
+extended-first : (n : ℕ) (g : ℕ → Gate) (i : ℕ) → i < n → (f : List ℕ → Gate → ℕ) (known : List ℕ) (k : ℕ) → length known ≡ k
+    → getD (extended f known (drop i (tabulate n g))) k 0 ≡ f known (g i)
+extended-first n g i h f known k e =
+    let v = f known (g i) in
+    ap (λ (l : List ℕ). getD l k 0) (extended-step n g i h f known)
+    ∙ getD-extended f (known ++ (v ∷ [])) (drop (i + 1) (tabulate n g)) k (omega (arith, length-append known (v ∷ [])))
+    ∙ getD-at known v [] 0 k e
+
+-- the words once the first i gates are passed; those ahead are as before
+pub record Reevaluating (gs : List Gate) (count base : ℕ) (before after : List ℕ) (i : ℕ) : Type 0 where
+  pub known : Evaluating gs count base before after i
+  pub ahead : drop (base + i) after ≡ drop (base + i) before
+
+pub again-none : (gs : List Gate) (count base : ℕ) (d : List ℕ) → gatesGood base gs ≡ true → Reevaluating gs count base d d 0
+again-none gs count base d g = record { known = evaluating-none gs count base d g; ahead = refl }
+
+drop-more : (n i : ℕ) (xs ys : List ℕ) → drop (n + i) xs ≡ drop (n + i) ys → drop (n + (i + 1)) xs ≡ drop (n + (i + 1)) ys
+drop-more n i xs ys e =
+    let m : n + (i + 1) ≡ n + i + 1 = omega arith in
+    rw m (sym (drop-drop 1 (n + i) xs) ∙ ap (drop 1) e ∙ drop-drop 1 (n + i) ys)
+
+drop-first : (n : ℕ) (xs ys : List ℕ) → drop n xs ≡ drop n ys → getD xs n 0 ≡ getD ys n 0
+drop-first n xs ys e =
+    rw add-zero at (sym (getD-drop n xs 0 0) ∙ ap (λ (l : List ℕ). getD l 0 0) e ∙ getD-drop n ys 0 0)
+
+module _ (ks xs ys : List ℕ) (count base : ℕ) (before after : List ℕ) (i : ℕ)
+    (e : Reevaluating (gatesFrom count ks xs ys) count base before after i) (h : i < count)
+    (r : base + count ≤ length before) where
+  -- a marked gate gets the word that its operands' words give
+  pub again-gate : (w : ℕ)
+      → ((j : ℕ) → j < 64
+      → bit j w
+      ≡ gateValue (getD ks i 0)
+      (take (arity (getD ks i 0)) (bit j (getD after (getD xs i 0) 0) ∷ bit j (getD after (getD ys i 0) 0) ∷ [])))
+      → Reevaluating (gatesFrom count ks xs ys) count base before (set after (base + i) w) (i + 1)
+  again-gate w v =
+      record {
+        known = evaluating-gate ks xs ys count base before after i (e .known) h w r v;
+        ahead = drop-set-lt (base + (i + 1)) after (base + i) w (omega arith) ∙ drop-more base i after before (e .ahead);
+      }
+
+  -- .. and one without a mark has it already
+  pub again-kept : (marks : List ℕ) → Unmarked (gatesFrom count ks xs ys) base marks before → getD marks (base + i) 0 ≡ 0
+      → Reevaluating (gatesFrom count ks xs ys) count base before after (i + 1)
+  unfolding gatesFrom netAt
+  again-kept marks u z =
+      let g : ℕ → Gate = λ k. gateOf (getD ks k 0) (getD xs k 0) (getD ys k 0) in
+      let w = getD after (base + i) 0 in
+      let v : (j : ℕ) → j < 64 → bit j w ≡ valueOf (map (bit j) (take (base + i) after)) (g i) =
+      λ j l.
+      ap (bit j) (drop-first (base + i) after before (e .ahead))
+      ∙ u .words (base + i) (omega arith) (omega (arith, length-tabulate count g)) z j l
+      ∙ ap (λ (vs : List ℕ). getD vs (base + i) 0) (sym (e .known .words j l))
+      ∙ extended-first count g i h valueOf (map (bit j) (take (base + i) after)) (base + i)
+      (length-map (take (base + i) after) (bit j) ∙ length-take-le (base + i) after (omega (arith, e .known .long))) in
+      record {
+        known =
+            subst (λ (d : List ℕ). Evaluating (gatesFrom count ks xs ys) count base before d (i + 1))
+            (set-getD after (base + i) 0)
+            (evaluating-next ks xs ys count base before after i (e .known) h w r v);
+        ahead = drop-more base i after before (e .ahead);
+      }
