@@ -65,6 +65,17 @@ pub record BlockValues (gs : List Gate) (n m b : ℕ) (v : ℕ → ℕ) (before 
   pub words : (j : ℕ) → j < 64
       → map (bit j) (take (n + m + length gs) after) ≡ values (bits n (64 * b + j) ++ bits m (v j)) gs
 
+-- the words are so in block b, at some vector in each scenario
+pub record HoldsBlock (gs : List Gate) (n m b : ℕ) (nets : List ℕ) : Type 0 where
+  pub vectors : ℕ → ℕ
+  pub words : (j : ℕ) → j < 64
+      → map (bit j) (take (n + m + length gs) nets) ≡ values (bits n (64 * b + j) ++ bits m (vectors j)) gs
+
+-- .. in some block
+pub record HoldsSome (gs : List Gate) (n m : ℕ) (nets : List ℕ) : Type 0 where
+  pub block : ℕ
+  pub held : HoldsBlock gs n m block nets
+
 -- a row of golden words in block b: those of a netlist with the gates gs and no targets
 pub record GoldenWords (gs : List Gate) (n b : ℕ) (words : List ℕ) : Type 0 where
   pub room : n + length gs ≤ length words
@@ -83,3 +94,8 @@ RectifiesWord gs os golden ps count n m b v r =
     (map (netAt (Netlist.values (bits n (64 * b + j)) hs)) (take count ps)))
     1
     0
+
+-- r says where vector v rectifies the inputs of block b, and the nets' words are those at v
+pub record VectorWord (gs : List Gate) (os golden ps : List ℕ) (count n m b v r : ℕ) (before after : List ℕ) : Type 0 where
+  pub mask : RectifiesWord gs os golden ps count n m b v r
+  pub nets : BlockValues gs n m b (λ j. v) before after

@@ -21,7 +21,7 @@ use Rattle.engine.specs.Inner.{Loaded, Evaluated, BlockValues}
 use Rattle.engine.proofs.Laws.Choice.{all-true, map-agree}
 use Rattle.engine.proofs.Laws.Word.{bit-zero}
 
-map-take : (f : ℕ → ℕ) (n : ℕ) (xs : List ℕ) → map f (take n xs) ≡ take n (map f xs)
+pub map-take : (f : ℕ → ℕ) (n : ℕ) (xs : List ℕ) → map f (take n xs) ≡ take n (map f xs)
 map-take f zero xs = refl
 map-take f (suc n) [] = refl
 map-take f (suc n) (x ∷ xs) = ap (λ (l : List ℕ). f x ∷ l) (map-take f n xs)
@@ -49,7 +49,7 @@ module _ (n : ℕ) (g : ℕ → Gate) (i : ℕ) (h : i < n) where
 -- ---- a gate's value from words
 
 module _ (j net : ℕ) (nets : List ℕ) where
-  known-net : (x : ℕ) → x < net → netAt (map (bit j) (take net nets)) x ≡ bit j (getD nets x 0)
+  pub known-net : (x : ℕ) → x < net → netAt (map (bit j) (take net nets)) x ≡ bit j (getD nets x 0)
   unfolding netAt
   known-net x h =
       ap (λ (d : ℕ). getD (map (bit j) (take net nets)) x d) (sym (bit-zero j))
@@ -89,6 +89,10 @@ eval-turn n g i h j base w nets l e =
     ap (λ (l : List ℕ). extended valueOf l (drop (i + 1) (tabulate n g))) p ∙ sym (extended-step n g i h valueOf known)
 
 -- ---- gates in places: the words once the first i are evaluated
+
+pub length-gates : (count : ℕ) (ks xs ys : List ℕ) → length (gatesFrom count ks xs ys) ≡ count
+unfolding gatesFrom
+length-gates count ks xs ys = length-tabulate count (λ k. gateOf (getD ks k 0) (getD xs k 0) (getD ys k 0))
 
 -- gate i is good, and so are those after it
 pub gates-both : (ks xs ys : List ℕ) (count base i : ℕ) → i < count
@@ -207,15 +211,26 @@ pub loading-all : (at k size : ℕ) (x : ℕ → ℕ) (before after : List ℕ) 
     → Loaded at size x before after
 loading-all at k size x before after e l = record { long = l .long; beyond = l .beyond; words = rw e at (l .words) }
 
+-- targets loaded beside the inputs of block b, and the gates evaluated on both
+pub target-values : (gs : List Gate) (n m b : ℕ) (v : ℕ → ℕ) (d₁ d₂ d₃ : List ℕ)
+    → ((j : ℕ) → j < 64 → map (bit j) (take n d₁) ≡ bits n (64 * b + j)) → Loaded n m v d₁ d₂ → Evaluated gs (n + m) d₂ d₃
+    → BlockValues gs n m b v d₁ d₃
+target-values gs n m b v d₁ d₂ d₃ p q e =
+    record {
+      long = e .long ∙ q .long;
+      words =
+          λ j h.
+          e .words j h
+          ∙ ap (λ (l : List ℕ). values l gs) (q .words j h ∙ ap (λ (l : List ℕ). l ++ bits m (v j)) (p j h));
+    }
+
 -- inputs and targets loaded, and the gates evaluated on them
 pub block-values : (gs : List Gate) (n m b : ℕ) (v : ℕ → ℕ) (d₀ d₁ d₂ d₃ : List ℕ) → Loaded 0 n (λ j. 64 * b + j) d₀ d₁
     → Loaded n m v d₁ d₂ → Evaluated gs (n + m) d₂ d₃ → BlockValues gs n m b v d₀ d₃
 block-values gs n m b v d₀ d₁ d₂ d₃ p q e =
-    record {
-      long = e .long ∙ q .long ∙ p .long;
-      words =
-          λ j h.
-          e .words j h
-          ∙ ap (λ (l : List ℕ). values l gs)
-          (q .words j h ∙ ap (λ (l : List ℕ). l ++ bits m (v j)) (ap (λ (k : ℕ). map (bit j) (take k d₁)) (sym (zero-add n)) ∙ p .words j h));
-    }
+    let t =
+    target-values gs n m b v d₁ d₂ d₃
+    (λ j h. ap (λ (k : ℕ). map (bit j) (take k d₁)) (sym (zero-add n)) ∙ p .words j h)
+    q
+    e in
+    record { long = t .long ∙ p .long; words = t .words }

@@ -8,7 +8,7 @@ use native.Mathlib.Nat.{add-zero}
 use native.Mathlib.Numerals.{add-one}
 use native.Mathlib.Omega.{arith}
 use lib.ListN.{length, getD, take, drop, set, replicate, length-set, length-map, length-append, length-replicate, getD-replicate, List·getD-append}
-use lib.Seq.{length-take-le, take-suc, take-suc-set, drop-set-lt, drop-drop, getD-drop, getD-at, getD-append-add, set-getD}
+use lib.Seq.{length-take-le, take-at, take-take, take-append-le, take-suc, take-suc-set, drop-set-lt, drop-drop, getD-take, getD-drop, getD-at, getD-append-add, set-getD}
 use Rattle.records.specs.Bytes.{tabulate}
 use Rattle.records.specs.Gate.{Gate, gateOf, arity, gateValue}
 use Rattle.records.specs.Netlist.{netAt, extended, valueOf, values, markOf, fanout}
@@ -18,9 +18,10 @@ use Rattle.records.specs.Service.{gatesFrom}
 use Rattle.records.proofs.Laws.Bytes.{length-tabulate, drop-tabulate-end}
 use Rattle.records.proofs.Laws.Netlist.{markOf-take}
 use Rattle.engine.specs.Eval.{bit, bits}
-use Rattle.engine.specs.Inner.{Unmarked}
+use Rattle.engine.specs.Inner.{Loaded, Evaluated, Unmarked, BlockValues, HoldsBlock}
 use Rattle.engine.specs.Walk.{FanoutMarks}
-use Rattle.engine.proofs.Laws.EvalWords.{extended-step, gates-both, Evaluating, evaluating-none, evaluating-next, evaluating-gate}
+use Rattle.engine.proofs.Laws.Eval.{values-agree}
+use Rattle.engine.proofs.Laws.EvalWords.{map-take, extended-step, known-net, gates-both, Evaluating, evaluating-none, evaluating-next, evaluating-gate, target-values}
 
 -- ---- marks
 
@@ -110,13 +111,13 @@ module _ (ks xs ys : List ℕ) (count n m : ℕ) (before after : List ℕ) (i : 
 -- ---- the gates with a mark evaluated again
 
 -- what stands in a list stands in the list extended
-getD-extended : (f : List ℕ → Gate → ℕ) (known : List ℕ) (gs : List Gate) (i : ℕ) → i < length known
-    → getD (extended f known gs) i 0 ≡ getD known i 0
+take-extended : (f : List ℕ → Gate → ℕ) (known : List ℕ) (gs : List Gate) (k : ℕ) → k ≤ length known
+    → take k (extended f known gs) ≡ take k known
 unfolding extended
-getD-extended f known [] i h = refl
-getD-extended f known (g ∷ gs) i h =
-    getD-extended f (known ++ (f known g ∷ [])) gs i (omega (arith, length-append known (f known g ∷ [])))
-    ∙ List·getD-append known (f known g ∷ []) 0 i h
+take-extended f known [] k h = refl
+take-extended f known (g ∷ gs) k h =
+    take-extended f (known ++ (f known g ∷ [])) gs k (omega (arith, length-append known (f known g ∷ [])))
+    ∙ take-append-le k known (f known g ∷ []) h
 
 -- .. and after it what f says of the first gate
 extended-first : (n : ℕ) (g : ℕ → Gate) (i : ℕ) → i < n → (f : List ℕ → Gate → ℕ) (known : List ℕ) (k : ℕ) → length known ≡ k
@@ -124,7 +125,10 @@ extended-first : (n : ℕ) (g : ℕ → Gate) (i : ℕ) → i < n → (f : List 
 extended-first n g i h f known k e =
     let v = f known (g i) in
     ap (λ (l : List ℕ). getD l k 0) (extended-step n g i h f known)
-    ∙ getD-extended f (known ++ (v ∷ [])) (drop (i + 1) (tabulate n g)) k (omega (arith, length-append known (v ∷ [])))
+    ∙ sym (getD-take (suc k) (extended f (known ++ (v ∷ [])) (drop (i + 1) (tabulate n g))) k 0 (omega arith))
+    ∙ ap (λ (l : List ℕ). getD l k 0)
+    (take-extended f (known ++ (v ∷ [])) (drop (i + 1) (tabulate n g)) (suc k) (omega (arith, length-append known (v ∷ []))))
+    ∙ getD-take (suc k) (known ++ (v ∷ [])) k 0 (omega arith)
     ∙ getD-at known v [] 0 k e
 
 -- the words once the first i gates are passed; those ahead are as before
@@ -181,3 +185,46 @@ module _ (ks xs ys : List ℕ) (count base : ℕ) (before after : List ℕ) (i :
             (evaluating-next ks xs ys count base before after i (e .known) h w r v);
         ahead = drop-more base i after before (e .ahead);
       }
+
+-- ---- other vectors in a block whose words stand
+
+module _ (gs : List Gate) (n m b : ℕ) (nets : List ℕ) (held : HoldsBlock gs n m b nets) where
+  -- the inputs' words are the block's
+  pub held-inputs : (j : ℕ) → j < 64 → map (bit j) (take n nets) ≡ bits n (64 * b + j)
+  unfolding values bits
+  held-inputs j h =
+      let xs = bits n (64 * b + j) in
+      let vs = bits m (held .vectors j) in
+      let l : length xs ≡ n = length-tabulate n _ in
+      ap (map (bit j)) (sym (take-take n (n + m + length gs) nets (omega arith)))
+      ∙ map-take (bit j) n (take (n + m + length gs) nets)
+      ∙ ap (take n) (held .words j h)
+      ∙ take-extended valueOf (xs ++ vs) gs n (omega (arith, length-append xs vs))
+      ∙ take-at xs vs n l
+
+  -- once other vectors are loaded, the words of the gates that no target leads to are right already
+  pub unmarked-of-held : (marks after : List ℕ) (v : ℕ → ℕ) → FanoutMarks n m gs marks → Loaded n m v nets after
+      → Unmarked gs (n + m) marks after
+  unfolding netAt
+  unmarked-of-held marks after v f l =
+      record {
+        words =
+            λ i low high z j h.
+            let k : n + m + (i - (n + m)) ≡ i = omega arith in
+            let same : getD after i 0 ≡ getD nets i 0 =
+            rw k at (sym (getD-drop (n + m) after (i - (n + m)) 0) ∙ ap (λ (d : List ℕ). getD d (i - (n + m)) 0) (l .beyond) ∙ getD-drop (n + m) nets (i - (n + m)) 0) in
+            let mark : netAt (fanout n m gs) i ≡ 0 =
+            ap (λ (d : List ℕ). getD d i 0) (sym (f .marks)) ∙ getD-take (n + m + length gs) marks i 0 high ∙ z in
+            let leaves : bits n (64 * b + j) ++ bits m (v j) ≡ map (bit j) (take (n + m) after) =
+            sym (l .words j h ∙ ap (λ (xs : List ℕ). xs ++ bits m (v j)) (held-inputs j h)) in
+            ap (bit j) same
+            ∙ sym (known-net j (n + m + length gs) nets i high)
+            ∙ ap (λ (d : List ℕ). netAt d i) (held .words j h)
+            ∙ values-agree n m gs (64 * b + j) (held .vectors j) (v j) i mark
+            ∙ ap (λ (d : List ℕ). netAt (values d gs) i) leaves;
+      }
+
+  -- .. and with the others evaluated again, all words are those at the new vectors
+  pub revalued : (v : ℕ → ℕ) (loaded after : List ℕ) → Loaded n m v nets loaded → Evaluated gs (n + m) loaded after
+      → BlockValues gs n m b v nets after
+  revalued v loaded after = target-values gs n m b v nets loaded after held-inputs
