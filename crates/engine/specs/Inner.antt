@@ -5,7 +5,7 @@
 --   Evaluated ..     in each of 64 scenarios the words of the nets are the values that the leaves' words give; words beyond the
 --                    nets are as before
 --   Unmarked ..      .. of the gates that no target leads to, the words are so already
-use Prim.Native.Nat.{ℕ, _+_, _*_, _≤_, _<_}
+use Prim.Native.Nat.{ℕ, _+_, _*_, _^_, _≤_, _<_}
 use mathlib.Core.Path.{_≡_}
 use mathlib.Core.List.{List, _++_, map}
 use mathlib.Core.Bool.{true, cond}
@@ -99,3 +99,9 @@ RectifiesWord gs os golden ps count n m b v r =
 pub record VectorWord (gs : List Gate) (os golden ps : List ℕ) (count n m b v r : ℕ) (before after : List ℕ) : Type 0 where
   pub mask : RectifiesWord gs os golden ps count n m b v r
   pub nets : BlockValues gs n m b (λ j. v) before after
+
+-- such a word for each vector, and the nets' words are still the block's
+pub record VectorMasks (gs : List Gate) (os golden ps : List ℕ) (count n m b : ℕ) (nets before after : List ℕ) : Type 0 where
+  pub long : length after ≡ length before
+  pub masks : (v : ℕ) → v < 2 ^ m → RectifiesWord gs os golden ps count n m b v (getD after v 0)
+  pub held : HoldsBlock gs n m b nets
