@@ -4,6 +4,7 @@ pub mod Block
 pub mod Choice
 pub mod Eval
 pub mod EvalWords
+pub mod Fanout
 pub mod Loop
 pub mod Masks
 pub mod Outputs

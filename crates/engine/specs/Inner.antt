@@ -4,7 +4,8 @@
 --   Loaded ..        leaves in words
 --   Evaluated ..     in each of 64 scenarios the words of the nets are the values that the leaves' words give; words beyond the
 --                    nets are as before
-use Prim.Native.Nat.{ℕ, _+_, _*_, _≤_, _<_}
+--   Unmarked ..      .. of the gates that no target leads to, the words are so already
+use Prim.Native.Nat.{ℕ, _+_, _*_, _^_, _≤_, _<_}
 use mathlib.Core.Path.{_≡_}
 use mathlib.Core.List.{List, _++_, map}
 use mathlib.Core.Bool.{true, cond}
@@ -33,6 +34,11 @@ pub record Evaluated (gs : List Gate) (base : ℕ) (before after : List ℕ) : T
   pub words : (i : ℕ) → i < 64
       → map (bit i) (take (base + length gs) after) ≡ values (map (bit i) (take base before)) gs
 
+-- the words of the gates with mark 0 are the values that the leaves' words give, in each scenario
+pub record Unmarked (gs : List Gate) (base : ℕ) (marks nets : List ℕ) : Type 0 where
+  pub words : (i : ℕ) → base ≤ i → i < base + length gs → getD marks i 0 ≡ 0 → (j : ℕ) → j < 64
+      → bit j (getD nets i 0) ≡ netAt (values (map (bit j) (take base nets)) gs) i
+
 -- from net at on, the words of k nets hold the bits of x j in scenario j; the words beyond them are as before
 pub record Loaded (at k : ℕ) (x : ℕ → ℕ) (before after : List ℕ) : Type 0 where
   pub long : length after ≡ length before
@@ -53,11 +59,22 @@ pub record Outputs (os : List ℕ) (count words : ℕ) : Type 0 where
   pub held : count ≤ length os
   pub below : all (λ o. ltb o words) (take count os) ≡ true
 
--- in scenario j of block b, the words are the values of a netlist's nets at input 64 * b + j and vector v
-pub record BlockValues (gs : List Gate) (n m b v : ℕ) (before after : List ℕ) : Type 0 where
+-- in scenario j of block b, the words are the values of a netlist's nets at input 64 * b + j and vector v j
+pub record BlockValues (gs : List Gate) (n m b : ℕ) (v : ℕ → ℕ) (before after : List ℕ) : Type 0 where
   pub long : length after ≡ length before
   pub words : (j : ℕ) → j < 64
-      → map (bit j) (take (n + m + length gs) after) ≡ values (bits n (64 * b + j) ++ bits m v) gs
+      → map (bit j) (take (n + m + length gs) after) ≡ values (bits n (64 * b + j) ++ bits m (v j)) gs
+
+-- the words are so in block b, at some vector in each scenario
+pub record HoldsBlock (gs : List Gate) (n m b : ℕ) (nets : List ℕ) : Type 0 where
+  pub vectors : ℕ → ℕ
+  pub words : (j : ℕ) → j < 64
+      → map (bit j) (take (n + m + length gs) nets) ≡ values (bits n (64 * b + j) ++ bits m (vectors j)) gs
+
+-- .. in some block
+pub record HoldsSome (gs : List Gate) (n m : ℕ) (nets : List ℕ) : Type 0 where
+  pub block : ℕ
+  pub held : HoldsBlock gs n m block nets
 
 -- a row of golden words in block b: those of a netlist with the gates gs and no targets
 pub record GoldenWords (gs : List Gate) (n b : ℕ) (words : List ℕ) : Type 0 where
@@ -77,3 +94,14 @@ RectifiesWord gs os golden ps count n m b v r =
     (map (netAt (Netlist.values (bits n (64 * b + j)) hs)) (take count ps)))
     1
     0
+
+-- r says where vector v rectifies the inputs of block b, and the nets' words are those at v
+pub record VectorWord (gs : List Gate) (os golden ps : List ℕ) (count n m b v r : ℕ) (before after : List ℕ) : Type 0 where
+  pub mask : RectifiesWord gs os golden ps count n m b v r
+  pub nets : BlockValues gs n m b (λ j. v) before after
+
+-- such a word for each vector, and the nets' words are still the block's
+pub record VectorMasks (gs : List Gate) (os golden ps : List ℕ) (count n m b : ℕ) (nets before after : List ℕ) : Type 0 where
+  pub long : length after ≡ length before
+  pub masks : (v : ℕ) → v < 2 ^ m → RectifiesWord gs os golden ps count n m b v (getD after v 0)
+  pub held : HoldsBlock gs n m b nets

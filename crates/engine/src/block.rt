@@ -72,7 +72,7 @@ pub(super) fn eval_block(
     requires { ⌜ (inputs < 64) × (targets < 64) ⌝ }
     requires { ⌜ Evaluable (now kinds) (now firsts) (now seconds) count (inputs + targets) (length (now nets)) ⌝ }
     ensures { λ _. ⌜ BlockValues (gatesFrom count (now (kinds .entry)) (now (firsts .entry)) (now (seconds .entry)))
-        inputs targets b v (now (nets .entry)) (now (nets .exit)) ⌝ }
+        inputs targets b (λ j. v) (now (nets .entry)) (now (nets .exit)) ⌝ }
 {
     load_inputs(inputs, b, nets);
     load_targets(inputs, targets, v, nets);

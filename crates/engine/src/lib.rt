@@ -4,6 +4,7 @@ mod block;
 mod choose;
 mod compare;
 mod decide;
+mod fanout;
 mod list;
 mod partial;
 mod rectify;

@@ -178,17 +178,20 @@ leaves-agree c f g h a zero = agree-nil
 leaves-agree c f g h a (suc n) = agree-cons (h a) (leaves-agree c f g h (suc a) n)
 
 -- the vector has no say on a net that no target leads to
-pub oldValues-agree : (j : Job) (x v w i : ℕ) → netAt (fanout (j .inputs) (j .targets) (j .old .gates)) i ≡ 0
-    → netAt (oldValues j x v) i ≡ netAt (oldValues j x w) i
-unfolding oldValues values fanout bits tabulate
-oldValues-agree j x v w i e =
-    let n : ℕ = j .inputs in
-    let m : ℕ = j .targets in
+pub values-agree : (n m : ℕ) (gs : List Gate) (x v w i : ℕ) → netAt (fanout n m gs) i ≡ 0
+    → netAt (values (bits n x ++ bits m v) gs) i ≡ netAt (values (bits n x ++ bits m w) gs) i
+unfolding values fanout bits tabulate
+values-agree n m gs x v w i e =
     let a =
     agree-append
     (leaves-agree 0 (λ k. bit k x) (λ k. bit k x) (λ k z. refl) 0 n)
     (leaves-agree 1 (λ k. bit k v) (λ k. bit k w) (λ k z. let f : ⊥ = omega arith in absurd f) 0 m) in
     netAt-agree
-    (extended-agree (replicate n 0 ++ replicate m 1) (bits n x ++ bits m v) (bits n x ++ bits m w) a (j .old .gates))
+    (extended-agree (replicate n 0 ++ replicate m 1) (bits n x ++ bits m v) (bits n x ++ bits m w) a gs)
     i
     e
+
+pub oldValues-agree : (j : Job) (x v w i : ℕ) → netAt (fanout (j .inputs) (j .targets) (j .old .gates)) i ≡ 0
+    → netAt (oldValues j x v) i ≡ netAt (oldValues j x w) i
+unfolding oldValues
+oldValues-agree j = values-agree (j .inputs) (j .targets) (j .old .gates)
