@@ -9,6 +9,7 @@ mod list;
 mod partial;
 mod rectify;
 mod search;
+mod survey;
 mod ternary;
 mod visit;
 mod word;
