@@ -3,6 +3,7 @@
 mod block;
 mod choose;
 mod list;
+mod partial;
 mod rectify;
 mod ternary;
 mod word;
