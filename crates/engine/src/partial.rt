@@ -1,10 +1,15 @@
 // Partial evaluation: one evaluation on 0, 1 and not yet known (2) speaks for a whole range of inputs, which the search then
 // need not look at one by one.
 ghost use mathlib.Core.Path.{_≡_};
-ghost use lib.ListN.{length};
+ghost use mathlib.Core.Logic.{_↔_};
+ghost use mathlib.Core.Bool.{true};
+ghost use Prim.Native.Nat.{ℕ, _+_, _≤_, _<_};
+ghost use lib.ListN.{length, getD, take};
+ghost use Rattle.records.specs.Bytes.{tabulate, placed};
 ghost use Rattle.records.specs.Service.{gatesFrom};
-ghost use Rattle.engine.specs.Inner.{Evaluable};
-ghost use Rattle.engine.specs.Partial.{PartlyEvaluated};
+ghost use Rattle.engine.specs.Ternary.{unknown};
+ghost use Rattle.engine.specs.Inner.{Evaluable, Outputs};
+ghost use Rattle.engine.specs.Partial.{PartlyEvaluated, partialInput, Known};
 use super::ternary::ternary_entry;
 use super::ternary::ternary_table;
 
@@ -30,4 +35,69 @@ pub(super) fn eval_partial(
         nets[base + i] = ternary_entry(table, nets[a] as usize, nets[b] as usize);
         i += 1;
     }
+}
+
+// What is known of input i where the inputs from low on are the bits of prefix.
+fn partial_input(i: usize, low: usize, prefix: usize) -> u8
+    requires { ⌜ i < 64 ⌝ }
+    ensures { λ r. ⌜ r ≡ partialInput low prefix i ⌝ }
+{
+    if i < low {
+        return 2;
+    }
+    ((prefix >> (i - low)) % 2) as u8
+}
+
+// What is known of the inputs, from net 0 on: those from low on are the bits of prefix, the others not yet known.
+pub(super) fn load_partial(inputs: usize, low: usize, prefix: usize, nets: &mut [u8])
+    requires { ⌜ (inputs < 64) × (inputs ≤ length (now nets)) ⌝ }
+    ensures { λ _. ⌜ now (nets .exit) ≡ placed (now (nets .entry)) 0 (tabulate inputs (partialInput low prefix)) ⌝ }
+{
+    let mut i = 0usize;
+    while i < inputs {
+        nets[i] = partial_input(i, low, prefix);
+        i += 1;
+    }
+}
+
+// Not yet known, on count nets from net at on: the targets.
+pub(super) fn load_unknown(at: usize, count: usize, nets: &mut [u8])
+    requires { ⌜ at + count ≤ length (now nets) ⌝ }
+    ensures { λ _. ⌜ now (nets .exit) ≡ placed (now (nets .entry)) at (tabulate count (λ i. unknown)) ⌝ }
+{
+    let mut i = 0usize;
+    while i < count {
+        nets[at + i] = 2;
+        i += 1;
+    }
+}
+
+// Whether each of the first count outputs of two netlists has one known value in both.
+pub(super) fn known_equal(
+    old: &[u8],
+    old_outputs: &[u16],
+    golden: &[u8],
+    golden_outputs: &[u16],
+    count: usize,
+) -> bool
+    requires { ⌜ Outputs (now «old_outputs») count (length (now old)) ⌝ }
+    requires { ⌜ Outputs (now «golden_outputs») count (length (now golden)) ⌝ }
+    ensures { λ r. ⌜ (r ≡ true) ↔ ((i : ℕ) → i < count → Known
+        (getD (now (old .entry)) (getD (now («old_outputs» .entry)) i 0) 0)
+        (getD (now (golden .entry)) (getD (now («golden_outputs» .entry)) i 0) 0)) ⌝ }
+{
+    let mut i = 0usize;
+    while i < count {
+        let a = old_outputs[i] as usize;
+        let b = golden_outputs[i] as usize;
+        let x = old[a];
+        if 2 <= x {
+            return false;
+        }
+        if x != golden[b] {
+            return false;
+        }
+        i += 1;
+    }
+    true
 }

@@ -1,23 +1,25 @@
--- Laws of specs/Partial: a gate on completed operands, and a turn of the loop over gates. Assumes nothing.
-use Prim.Native.Nat.{ℕ, zero, suc, _+_, _%_, min, _≤_, _<_}
-use mathlib.Core.Path.{_≡_, refl, _∙_, ap}
+-- Laws of specs/Partial: a gate on completed operands, a turn of the loop over gates, and what is known of a range of inputs.
+-- Assumes nothing.
+use Prim.Native.Nat.{ℕ, zero, suc, _+_, _-_, _%_, min, _≤_, _<_}
+use mathlib.Core.Path.{_≡_, refl, sym, _∙_, ap}
 use mathlib.Core.Logic.{⊎-elim}
 use mathlib.Core.List.{List, [], _∷_, _++_}
-use mathlib.Core.Bool.{Bool, true, _&&_}
+use mathlib.Core.Bool.{Bool, true, false, _&&_}
 use native.Mathlib.Nat.{add-zero, eq-or-lt-of-le}
 use native.Mathlib.Omega.{arith}
-use borrow.Author.Tests.{ltb-true}
+use borrow.Author.Tests.{lt-ltb, le-ltb, ltb-true}
 use lib.Dec.{ltb, eqb, lit≤}
-use lib.ListN.{length, getD, drop, set, length-append, List·getD-append}
+use lib.ListN.{length, getD, drop, set, length-append, length-set, List·getD-append}
 use lib.Seq.{getD-at, getD-set-same, getD-set-other}
-use Rattle.records.specs.Bytes.{tabulate, all}
+use Rattle.records.specs.Bytes.{upFrom, tabulate, all, placed}
 use Rattle.records.specs.Gate.{Gate, gateOf, arity, operands, unused, gateValue}
 use Rattle.records.specs.Netlist.{netAt, extended, valueOf, values}
 use Rattle.records.specs.Refusal.{gateGood}
-use Rattle.records.proofs.Laws.Bytes.{and-left, and-right, drop-tabulate, drop-tabulate-end}
+use Rattle.records.proofs.Laws.Bytes.{and-left, and-right, length-tabulate, drop-tabulate, drop-tabulate-end, tabulate-snoc, placed-nil, set-placed}
 use Rattle.records.proofs.Laws.Gate.{arity-two, gateGood-one, gateGood-two}
+use Rattle.engine.specs.Eval.{bit}
 use Rattle.engine.specs.Ternary.{unknown, ternaryValue, ternaryTable, entry, Completes}
-use Rattle.engine.specs.Partial.{Completed}
+use Rattle.engine.specs.Partial.{Completed, partialInput}
 use Rattle.engine.proofs.Laws.Ternary.{entry-table, possible-completes}
 
 -- ---- a table's entry
@@ -149,3 +151,34 @@ unfolding extended
 extends-all n g i z base leaves nets e =
     let k : e .known ≡ values leaves (tabulate n g) = rw (z, drop-tabulate-end n g) at (e .left) in
     rw (← k, ← z) (e .completed)
+
+-- ---- leaves: n numbers so far from place at on
+
+abbrev pub Filling : List ℕ → ℕ → (ℕ → ℕ) → List ℕ → ℕ → Type 0
+Filling d₀ at g d n = (length d ≡ length d₀) × (d ≡ placed d₀ at (tabulate n g))
+
+module _ (d₀ : List ℕ) (at : ℕ) (g : ℕ → ℕ) where
+  pub filling-none : Filling d₀ at g d₀ 0
+  unfolding tabulate upFrom
+  filling-none = (refl, sym (placed-nil d₀ at))
+
+  pub filling-next : (d : List ℕ) (n p x : ℕ) → p ≡ at + n → p < length d₀ → x ≡ g n → Filling d₀ at g d n
+      → Filling d₀ at g (set d p x) (n + 1)
+  filling-next d n p x q h e w =
+      let l : p ≡ at + length (tabulate n g) = omega (arith, length-tabulate n g) in
+      let s : set (placed d₀ at (tabulate n g)) p (g n) ≡ placed d₀ at (tabulate (n + 1) g) =
+      ap (λ (j : ℕ). set (placed d₀ at (tabulate n g)) j (g n)) l
+      ∙ set-placed d₀ at (tabulate n g) (g n) (omega arith)
+      ∙ ap (placed d₀ at) (sym (tabulate-snoc n g)) in
+      (length-set d p x ∙ w .0, rw (w .1, e) s)
+
+-- ---- the places of a range
+
+module _ (low prefix i : ℕ) where
+  pub partialInput-low : i < low → partialInput low prefix i ≡ unknown
+  unfolding partialInput
+  partialInput-low h = let t : ltb i low ≡ true = lt-ltb i low h in rw t
+
+  pub partialInput-high : low ≤ i → partialInput low prefix i ≡ bit (i - low) prefix
+  unfolding partialInput
+  partialInput-high h = let t : ltb i low ≡ false = le-ltb i low h in rw t
