@@ -9,7 +9,7 @@ ghost use Rattle.records.specs.Bytes.{tabulate, placed};
 ghost use Rattle.records.specs.Service.{gatesFrom};
 ghost use Rattle.engine.specs.Ternary.{unknown};
 ghost use Rattle.engine.specs.Inner.{Evaluable, Outputs};
-ghost use Rattle.engine.specs.Partial.{PartlyEvaluated, partialInput, Known};
+ghost use Rattle.engine.specs.Partial.{PartlyEvaluated, partialInput, RangeValues, Known, Settled};
 use super::ternary::ternary_entry;
 use super::ternary::ternary_table;
 
@@ -72,6 +72,29 @@ pub(super) fn load_unknown(at: usize, count: usize, nets: &mut [u8])
     }
 }
 
+// What is known of all nets of a netlist at the inputs of a range, those whose bits from bit low on are prefix, and at any
+// vector: of the old netlist, or of the golden one with no targets. It costs one gate evaluation a gate for the whole range.
+pub(super) fn eval_range(
+    kinds: &[u8],
+    firsts: &[u16],
+    seconds: &[u16],
+    count: usize,
+    inputs: usize,
+    targets: usize,
+    low: usize,
+    prefix: usize,
+    nets: &mut [u8],
+)
+    requires { ⌜ inputs < 64 ⌝ }
+    requires { ⌜ Evaluable (now kinds) (now firsts) (now seconds) count (inputs + targets) (length (now nets)) ⌝ }
+    ensures { λ _. ⌜ RangeValues (gatesFrom count (now (kinds .entry)) (now (firsts .entry)) (now (seconds .entry)))
+        inputs targets low prefix (now (nets .entry)) (now (nets .exit)) ⌝ }
+{
+    load_partial(inputs, low, prefix, nets);
+    load_unknown(inputs, targets, nets);
+    eval_partial(kinds, firsts, seconds, count, inputs + targets, nets);
+}
+
 // Whether each of the first count outputs of two netlists has one known value in both.
 pub(super) fn known_equal(
     old: &[u8],
@@ -100,4 +123,62 @@ pub(super) fn known_equal(
         i += 1;
     }
     true
+}
+
+// Whether it is settled that every vector rectifies every input whose bits from bit low on are prefix: each output has one
+// known value in both netlists. It costs one gate evaluation a gate of both netlists for the whole range.
+pub(super) fn settled(
+    kinds: &[u8],
+    firsts: &[u16],
+    seconds: &[u16],
+    gates: usize,
+    outputs: &[u16],
+    golden_kinds: &[u8],
+    golden_firsts: &[u16],
+    golden_seconds: &[u16],
+    golden_gates: usize,
+    goldens: &[u16],
+    count: usize,
+    inputs: usize,
+    targets: usize,
+    low: usize,
+    prefix: usize,
+) -> bool
+    requires { ⌜ inputs < 64 ⌝ }
+    requires { ⌜ Evaluable (now kinds) (now firsts) (now seconds) gates (inputs + targets) 424 ⌝ }
+    requires { ⌜ Evaluable (now «golden_kinds») (now «golden_firsts») (now «golden_seconds») «golden_gates» inputs 424 ⌝ }
+    requires { ⌜ Outputs (now outputs) count (inputs + targets + gates) ⌝ }
+    requires { ⌜ Outputs (now goldens) count (inputs + «golden_gates») ⌝ }
+    ensures { λ r. ⌜ (r ≡ true → Settled
+        (gatesFrom gates (now (kinds .entry)) (now (firsts .entry)) (now (seconds .entry)))
+        (take count (now (outputs .entry)))
+        (gatesFrom «golden_gates» (now («golden_kinds» .entry)) (now («golden_firsts» .entry)) (now («golden_seconds» .entry)))
+        (take count (now (goldens .entry)))
+        inputs targets low prefix) ⌝ }
+{
+    let mut old = [0u8; 424];
+    let mut golden = [0u8; 424];
+    eval_range(
+        kinds,
+        firsts,
+        seconds,
+        gates,
+        inputs,
+        targets,
+        low,
+        prefix,
+        &mut old,
+    );
+    eval_range(
+        golden_kinds,
+        golden_firsts,
+        golden_seconds,
+        golden_gates,
+        inputs,
+        0,
+        low,
+        prefix,
+        &mut golden,
+    );
+    known_equal(&old, outputs, &golden, goldens, count)
 }

@@ -77,7 +77,8 @@ finished ks xs ys count base nets₀ nets i z e =
     }
 
 abbrev Inv-loop : tie.InvT-loop
-Inv-loop kinds firsts seconds count base nets₀ i₀ nets i = Evaluating (gatesFrom count kinds firsts seconds) count base nets₀ nets i
+Inv-loop kinds firsts seconds count base nets₀ i₀ nets i =
+    Evaluating (gatesFrom count kinds firsts seconds) count base nets₀ nets i
 
 abbrev μ-loop : tie.MeasureT-loop
 μ-loop kinds firsts seconds count base nets₀ i₀ nets i = count - i
@@ -117,7 +118,8 @@ slots c =
     let a = c .before .before .before .before .before .before .args in
     let l = c .before .loop in
     slots-le (a .base + l .i) _ _ _
-    (here (now (a .kinds)) (now (a .firsts)) (now (a .seconds)) (a .count) (a .base) (now (a .nets)) (l .nets) (l .i) (l .inv) (c .loop-test .taken) .0)
+    (here (now (a .kinds)) (now (a .firsts)) (now (a .seconds)) (a .count) (a .base) (now (a .nets)) (l .nets) (l .i) (l .inv)
+    (c .loop-test .taken) .0)
 
 slice-read-ternary-entry : tie.Need-slice-read-ternary-entry Inv-loop μ-loop
 slice-read-ternary-entry c = let q = slots (c .before .before .before .before .before) in omega arith

@@ -1,6 +1,6 @@
 -- `engine::partial::load_partial` meets its contract. The invariant: what is known of the first i inputs stands in its places.
 -- Assumes nothing.
-use Prim.Native.Nat.{ℕ, _-_, _≤_}
+use Prim.Native.Nat.{_-_, _≤_}
 use mathlib.Core.Path.{_≡_, sym}
 use native.Mathlib.Nat.{zero-add}
 use native.Mathlib.Omega.{arith}

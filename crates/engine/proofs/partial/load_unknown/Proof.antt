@@ -1,5 +1,6 @@
--- `engine::partial::load_unknown` meets its contract. The invariant: the first i of the places are not yet known. Assumes nothing.
-use Prim.Native.Nat.{ℕ, _-_, _≤_}
+-- `engine::partial::load_unknown` meets its contract. The invariant: the first i of the places are not yet known.
+-- Assumes nothing.
+use Prim.Native.Nat.{_-_, _≤_}
 use mathlib.Core.Path.{_≡_, refl}
 use native.Mathlib.Omega.{arith}
 use denote.Ref.{now}
