@@ -8,6 +8,7 @@ pub mod Fanout
 pub mod Loop
 pub mod Masks
 pub mod Outputs
+pub mod Partial
 pub mod Ready
 pub mod Rectify
 pub mod Search

@@ -14,3 +14,4 @@ pub mod Cases
 pub mod Inner
 pub mod Walk
 pub mod Sets
+pub mod Partial
