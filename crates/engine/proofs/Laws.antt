@@ -8,6 +8,7 @@ pub mod Fanout
 pub mod Loop
 pub mod Outputs
 pub mod Rectify
+pub mod Stream
 pub mod Support
 pub mod Ternary
 pub mod Verdict
