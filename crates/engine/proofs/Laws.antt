@@ -12,4 +12,5 @@ pub mod Stream
 pub mod Support
 pub mod Ternary
 pub mod Verdict
+pub mod Walk
 pub mod Word
