@@ -1,8 +1,8 @@
 // Values in 64 scenarios at once: bit i of a net's word is its value in scenario i.
 ghost use mathlib.Core.Path.{_≡_};
-ghost use mathlib.Core.List.{[], _∷_};
-ghost use Prim.Native.Nat.{ℕ, _<_};
-ghost use lib.ListN.{length, take};
+ghost use mathlib.Core.List.{[], _∷_, map};
+ghost use Prim.Native.Nat.{ℕ, _≤_, _<_};
+ghost use lib.ListN.{length, getD, take};
 ghost use Rattle.records.specs.Gate.{arity, gateValue};
 ghost use Rattle.records.specs.Service.{gatesFrom};
 ghost use Rattle.engine.specs.Eval.{bit};
@@ -44,6 +44,21 @@ pub(super) fn eval_words(
         let a = firsts[i] as usize;
         let b = seconds[i] as usize;
         nets[base + i] = gate_word(kinds[i], nets[a], nets[b]);
+        i += 1;
+    }
+}
+
+// The words of picked nets, one after the other.
+pub(super) fn select_words(nets: &[u64], picks: &[u16], count: usize, words: &mut [u64])
+    requires { ⌜ Outputs (now picks) count (length (now nets)) ⌝ }
+    requires { ⌜ count ≤ length (now words) ⌝ }
+    ensures { λ _. ⌜ take count (now (words .exit)) ≡ map (λ o. getD (now (nets .entry)) o 0) (take count (now (picks .entry))) ⌝ }
+    ensures { λ _. ⌜ length (now (words .exit)) ≡ length (now (words .entry)) ⌝ }
+{
+    let mut i = 0usize;
+    while i < count {
+        let a = picks[i] as usize;
+        words[i] = nets[a];
         i += 1;
     }
 }

@@ -8,8 +8,8 @@ use native.Mathlib.Omega.{arith}
 use borrow.Author.Tests.{ltb-true}
 use lib.Bits.{bitOr, bitXor, differ}
 use lib.Dec.{eqb, ltb}
-use lib.ListN.{length, getD, take, length-map}
-use lib.Seq.{take-suc, getD-take, length-take-le}
+use lib.ListN.{length, getD, take, set, length-map}
+use lib.Seq.{take-suc, take-suc-set, getD-take, length-take-le}
 use Rattle.records.specs.Bytes.{all}
 use Rattle.records.proofs.Laws.Bytes.{all-cons}
 use Rattle.engine.specs.Choice.{same}
@@ -72,13 +72,27 @@ map-snoc : (f : ℕ → ℕ) (xs : List ℕ) (x : ℕ) → map f (xs ++ (x ∷ [
 map-snoc f [] x = refl
 map-snoc f (y ∷ xs) x = ap (λ (l : List ℕ). f y ∷ l) (map-snoc f xs x)
 
+-- one more element of a list of picked nets
+map-more : (f : ℕ → ℕ) (os : List ℕ) (i : ℕ) → i < length os
+    → map f (take (i + 1) os) ≡ map f (take i os) ++ (f (getD os i 0) ∷ [])
+map-more f os i h =
+    ap (λ (k : ℕ). map f (take k os)) (add-one i) ∙ ap (map f) (take-suc os i 0 h) ∙ map-snoc f (take i os) (getD os i 0)
+
+-- a turn of the loop that copies the picked nets' words
+pub select-turn : (nets picks words : List ℕ) (i : ℕ) → i < length picks → i < length words
+    → take i words ≡ map (λ o. getD nets o 0) (take i picks)
+    → take (i + 1) (set words i (getD nets (getD picks i 0) 0)) ≡ map (λ o. getD nets o 0) (take (i + 1) picks)
+select-turn nets picks words i h l e =
+    let w = getD nets (getD picks i 0) 0 in
+    ap (λ (k : ℕ). take k (set words i w)) (add-one i)
+    ∙ take-suc-set words i w l
+    ∙ ap (λ (xs : List ℕ). xs ++ (w ∷ [])) e
+    ∙ sym (map-more (λ o. getD nets o 0) picks i h)
+
 outputBits-more : (j : ℕ) (nets os : List ℕ) (i : ℕ) → i < length os
     → outputBits j nets (take (i + 1) os) ≡ outputBits j nets (take i os) ++ (bit j (getD nets (getD os i 0) 0) ∷ [])
 unfolding outputBits
-outputBits-more j nets os i h =
-    ap (λ (k : ℕ). map (λ o. bit j (getD nets o 0)) (take k os)) (add-one i)
-    ∙ ap (map (λ o. bit j (getD nets o 0))) (take-suc os i 0 h)
-    ∙ map-snoc (λ o. bit j (getD nets o 0)) (take i os) (getD os i 0)
+outputBits-more j nets os i h = map-more (λ o. bit j (getD nets o 0)) os i h
 
 length-outputBits : (j : ℕ) (nets os : List ℕ) (i : ℕ) → i ≤ length os → length (outputBits j nets (take i os)) ≡ i
 unfolding outputBits

@@ -1,28 +1,32 @@
 -- Laws of the walk over the inputs (specs/Walk). Assumes nothing.
-use Prim.Native.Nat.{ℕ, zero, suc, _+_, _-_, _*_, _/_, _%_, _^_, _≤_, _<_}
+use Prim.Native.Nat.{ℕ, zero, suc, _+_, _-_, _*_, _/_, _%_, _^_, min, _≤_, _<_}
 use mathlib.Core.Path.{_≡_, refl, sym, _∙_, ap}
-use mathlib.Core.Logic.{⊎-elim}
-use mathlib.Core.List.{List, [], _∷_, _++_, map, List·Memᴰ as Mem, List·Memᴰ·head as here, Memᴰ·append-left as append-left}
-use mathlib.Core.Bool.{Bool, true, false, cond}
+use mathlib.Core.Logic.{_↔_, _⊎_, inl, inr, ⊎-elim}
+use mathlib.Core.List.{List, [], _∷_, _++_, map, List·Memᴰ as Mem, List·Memᴰ·head as here, List·Memᴰ·tail as there, Memᴰ·append-left as append-left, Memᴰ·append-right as append-right}
+use mathlib.Core.Bool.{Bool, true, false, cond, not}
 use mathlib.Core.Option.{Option, none, some}
-use native.Mathlib.Nat.{mod-lt, zero-mul, zero-add, add-zero, suc-add, zero-div, div-one, pow-suc, mod-eq-of-lt}
+use native.Mathlib.Nat.{mod-lt, zero-mul, zero-add, add-zero, suc-add, zero-div, div-one, pow-suc, mod-eq-of-lt, eq-or-lt-of-le}
 use native.Mathlib.Numerals.{add-one, one-add}
 use native.Mathlib.Omega.{arith}
-use borrow.Author.Tests.{eq-eqb, eqb-false, ltb-true, ltb-false, lt-ltb, le-ltb}
+use borrow.Author.Tests.{eq-eqb, eqb-true, eqb-false, ltb-true, ltb-false, lt-ltb, le-ltb}
 use lib.Dec.{eqb, ltb}
-use lib.ListN.{length, getD, set, replicate, length-replicate, getD-replicate, List·getD-eq-default}
-use lib.Seq.{set-getD}
+use lib.ListN.{length, length-append, length-set, getD, set, replicate, length-replicate, getD-replicate, List·getD-eq-default}
+use lib.Seq.{set-getD, getD-set-same, getD-set-other}
 use lib.Bits.{bitAnd, and-le-l, and-mask}
 use lib.Pow.{pow-pos, pow-mono, shr-lt, shr-shr, split}
 use Rattle.records.specs.Bytes.{upFrom, tabulate}
 use Rattle.records.specs.Job.{Job}
 use Rattle.records.proofs.Laws.Bytes.{length-tabulate, getD-tabulate, tabulate-ext}
 use Rattle.engine.specs.Choice.{any, first, orZero}
-use Rattle.engine.specs.Eval.{bit, numberOf, allVectors}
-use Rattle.engine.specs.Rectify.{rectifies, Listed}
+use Rattle.engine.specs.Eval.{bit, numberOf, allInputs, allVectors}
+use Rattle.engine.specs.Rectify.{rectifies, unlisted, Listed, rounds, vectorLoop}
+use Rattle.engine.specs.Sets.{ReadingSets}
+use Rattle.engine.specs.Support.{reading, candidateNets}
 use Rattle.engine.specs.Walk.{rectifiers, lowest, listStep, listedFrom, startList, narrowed, setsFrom, startSets}
-use Rattle.engine.proofs.Laws.Choice.{true-or-false, none-or-some, any-of-member, first-here, first-there, first-least, first-none-below}
+use Rattle.engine.proofs.Laws.Choice.{not-both, true-or-false, none-or-some, any-true, any-of-member, Least, first-here, first-there, first-least, first-none-below}
 use Rattle.engine.proofs.Laws.Eval.{Bits, bits-nil, bits-cons, bits-map, bit-lt, numberOf-lt}
+use Rattle.engine.proofs.Laws.Word.{bit-and}
+use Rattle.engine.proofs.Laws.Loop.{rounds-done, rounds-stuck, rounds-again, Listing, listing-start, listing-round, listing-length}
 
 -- ---- k steps from x on
 
@@ -70,6 +74,9 @@ set-below (y ∷ ys) (suc i) x n b h zero = b zero
 set-below (y ∷ ys) (suc i) x n b h (suc k) = set-below ys i x n (λ m. b (suc m)) h k
 
 -- ---- choices
+
+eq-or-below : (x y : ℕ) → x < y + 1 → (x ≡ y) ⊎ (x < y)
+eq-or-below x y h = eq-or-lt-of-le (omega arith)
 
 first-nothing : (p : ℕ → Bool) (a n : ℕ) → ((v : ℕ) → a ≤ v → p v ≡ false) → first p (upFrom a n) ≡ none
 unfolding upFrom first
@@ -418,3 +425,280 @@ module _ (j : Job) (x k : ℕ) (h : (y : ℕ) → x ≤ y → y < x + k → (v :
   walk-skip-sets g =
       setsFrom-skip (rectifiers j) g (2 ^ j .targets) (startSets (j .targets)) x k (startSets-lt (j .targets))
       (λ y a b. rectifiers-full j y (h y a b))
+
+-- ---- the walk gives the list of the loop's rounds
+
+any-agree : (p q : ℕ → Bool) (xs : List ℕ) → ((x : ℕ) → Mem x xs → p x ≡ q x) → any p xs ≡ any q xs
+unfolding any
+any-agree p q [] h = refl
+any-agree p q (x ∷ xs) h = rw (h x (here refl), any-agree p q xs (λ y m. h y (there m)))
+
+module _ (p : ℕ → Bool) (n : ℕ) where
+  first-of-least : (x : ℕ) → Least p n x → first p (upFrom 0 n) ≡ some x
+  first-of-least x l =
+      ⊎-elim
+      (λ (e : first p (upFrom 0 n) ≡ none). absurd (not-both (l .holds) (first-none-below p n e x (l .below))))
+      (λ r.
+      let z : ℕ = r .0 in
+      let m = first-least p n z (r .1) in
+      let a : z < x → ⊥ = λ u. not-both (m .holds) (l .smaller z u) in
+      let b : x < z → ⊥ = λ u. not-both (l .holds) (m .smaller x u) in
+      let q : z ≡ x = omega arith in
+      r .1 ∙ ap some q)
+      (none-or-some (first p (upFrom 0 n)))
+
+  first-of-none : ((x : ℕ) → x < n → p x ≡ false) → first p (upFrom 0 n) ≡ none
+  first-of-none h =
+      ⊎-elim
+      (λ (e : first p (upFrom 0 n) ≡ none). e)
+      (λ r. let m = first-least p n (r .0) (r .1) in absurd (not-both (m .holds) (h (r .0) (m .below))))
+      (none-or-some (first p (upFrom 0 n)))
+
+-- what holds after the inputs below x: no input is stuck yet, and the rounds left from the list give the loop's result ..
+record Going (j : Job) (x : ℕ) (l : Listed) : Type 0 where
+  going : l .stuck ≡ none
+  listing : Listing j (l .vectors)
+  seen : (y : ℕ) → y < x → any (rectifies j y) (l .vectors) ≡ true
+  left : ℕ
+  rest : rounds j (suc left) (l .vectors) ≡ vectorLoop j
+  enough : 2 ^ j .targets ≤ left + length (l .vectors)
+
+-- .. or it is the result already
+record Ended (j : Job) (l : Listed) : Type 0 where
+  at : ℕ
+  stuck : l .stuck ≡ some at
+  same : l ≡ vectorLoop j
+
+module _ (j : Job) (t : j .targets ≤ 4) where
+  going-start : Going j 0 startList
+  unfolding vectorLoop
+  going-start =
+      let p = pow-pos (j .targets) in
+      let e : suc (2 ^ j .targets - 1) ≡ 2 ^ j .targets = omega arith in
+      record {
+        going = refl;
+        listing = listing-start j;
+        seen = λ y h. let f : ⊥ = omega arith in absurd f;
+        left = 2 ^ j .targets - 1;
+        rest = ap (λ (k : ℕ). rounds j k (0 ∷ [])) e;
+        enough = omega arith;
+      }
+
+  module _ (y : ℕ) (b : y < 2 ^ j .inputs) (l : Listed) (h : Going j y l) where
+    listed-any : any (inSet (rectifiers j y)) (l .vectors) ≡ any (rectifies j y) (l .vectors)
+    listed-any =
+        any-agree (inSet (rectifiers j y)) (rectifies j y) (l .vectors)
+        (λ v m. inSet-rectifiers j y v (h .listing .below v m))
+
+    -- the input is rectified by a listed vector
+    going-listed : any (rectifies j y) (l .vectors) ≡ true → Going j (y + 1) (listStep l (rectifiers j y) y)
+    going-listed a =
+        rw (listStep-listed l (rectifiers j y) y (listed-any ∙ a))
+        (record {
+          going = h .going;
+          listing = h .listing;
+          seen = λ z u.
+              ⊎-elim (λ (e : z ≡ y). rw e a) (λ (u : z < y). h .seen z u) (eq-or-below z y u);
+          left = h .left;
+          rest = h .rest;
+          enough = h .enough;
+        })
+
+    module _ (a : any (rectifies j y) (l .vectors) ≡ false) where
+      -- the loop's next round takes this input
+      next-input : first (unlisted j (l .vectors)) (allInputs j) ≡ some y
+      unfolding allInputs unlisted
+      next-input =
+          first-of-least (unlisted j (l .vectors)) (2 ^ j .inputs) y
+          (record { below = b; holds = ap not a; smaller = λ z u. ap not (h .seen z u) })
+
+      ended : first (rectifies j y) (allVectors j) ≡ none → Ended j (listStep l (rectifiers j y) y)
+      ended n =
+          rw (listStep-none l (rectifiers j y) y (h .going) (listed-any ∙ a) (lowest-rectifiers j y t ∙ n))
+          (record {
+            at = y;
+            stuck = refl;
+            same = sym (rounds-stuck j (h .left) (l .vectors) y next-input n) ∙ h .rest;
+          })
+
+      going-append : (v : ℕ) → first (rectifies j y) (allVectors j) ≡ some v
+          → Going j (y + 1) (listStep l (rectifiers j y) y)
+      unfolding allVectors
+      going-append v n =
+          let ws : List ℕ = l .vectors ++ (v ∷ []) in
+          let r = listing-round j (l .vectors) y v (h .listing) next-input n in
+          let k : length ws ≡ length (l .vectors) + 1 = length-append (l .vectors) (v ∷ []) in
+          let m : 2 ^ j .targets ≤ 16 = pow-mono t in
+          let c = listing-length j ws r in
+          let e : suc (h .left - 1) ≡ h .left = omega (arith, h .enough) in
+          rw
+          (listStep-append l (rectifiers j y) y (h .going) (listed-any ∙ a) v (lowest-rectifiers j y t ∙ n) (omega arith))
+          (record {
+            going = refl;
+            listing = r;
+            seen = λ z u.
+                ⊎-elim
+                (λ (q : z ≡ y).
+                any-of-member (rectifies j z) ws v (append-right (l .vectors) (here refl))
+                (rw q (first-least (rectifies j y) (2 ^ j .targets) v n .holds)))
+                (λ (u : z < y).
+                let w = any-true (rectifies j z) (l .vectors) (h .seen z u) in
+                any-of-member (rectifies j z) ws (w .0) (append-left (v ∷ []) (w .1)) (w .2))
+                (eq-or-below z y u);
+            left = h .left - 1;
+            rest = rw e (sym (rounds-again j (h .left) (l .vectors) y v next-input n) ∙ h .rest);
+            enough = omega (arith, h .enough);
+          })
+
+    walk-turn : Going j (y + 1) (listStep l (rectifiers j y) y) ⊎ Ended j (listStep l (rectifiers j y) y)
+    walk-turn =
+        ⊎-elim
+        (λ a. inl (going-listed a))
+        (λ a.
+        ⊎-elim
+        (λ n. inr (ended a n))
+        (λ r. inl (going-append a (r .0) (r .1)))
+        (none-or-some (first (rectifies j y) (allVectors j))))
+        (true-or-false (any (rectifies j y) (l .vectors)))
+
+  walk-end : (l : Listed) → Going j (2 ^ j .inputs) l → l ≡ vectorLoop j
+  unfolding allInputs unlisted
+  walk-end l h =
+      listed-eta l none (h .going)
+      ∙ sym
+      (rounds-done j (h .left) (l .vectors)
+      (first-of-none (unlisted j (l .vectors)) (2 ^ j .inputs) (λ y u. ap not (h .seen y u))))
+      ∙ h .rest
+
+  -- the list after all inputs is the loop's
+  pub walk-list : listedFrom (rectifiers j) startList 0 (2 ^ j .inputs) ≡ vectorLoop j
+  walk-list =
+      let n : ℕ = 2 ^ j .inputs in
+      let w =
+      walked-holds (listing (rectifiers j)) (λ y l. Going j y l ⊎ Ended j l) startList 0 n (inl going-start)
+      (λ y a b l s.
+      ⊎-elim
+      (λ (h : Going j y l). walk-turn y (omega arith) l h)
+      (λ (h : Ended j l). inr (rw (listStep-stuck l (rectifiers j y) y (h .at) (h .stuck)) h))
+      s) in
+      listedFrom-walked (rectifiers j) startList 0 n
+      ∙ ⊎-elim (λ h. walk-end (walked (listing (rectifiers j)) startList 0 n) (rw (zero-add n) at h)) (λ h. h .same) w
+
+-- ---- the walk gives the sets of all readings
+
+-- a smaller of two bits is 1 where both are
+min-one : (a b : ℕ) → a < 2 → b < 2 → (min a b ≡ 1) ↔ ((a ≡ 1) × (b ≡ 1))
+min-one a b l h = (λ e. (omega arith, omega arith), λ e. omega (arith, e .0, e .1))
+
+pub bit-ones : (n v : ℕ) → (bit v (2 ^ n - 1) ≡ 1) ↔ (v < n)
+bit-ones n v = (
+  λ e.
+      ⊎-elim
+      (λ (l : ltb v n ≡ true). ltb-true v n l)
+      (λ (l : ltb v n ≡ false).
+      let z = ap (bit v) (sym (numberOf-ones n)) ∙ bit-beyond n (λ i. 1) (λ i. omega arith) v (ltb-false v n l) in
+      let f : ⊥ = omega arith in absurd f)
+      (true-or-false (ltb v n)),
+  λ l. ap (bit v) (sym (numberOf-ones n)) ∙ bit-tabulate n (λ i. 1) (λ i. omega arith) v l,
+)
+
+-- of the vectors that rectify input x: those of the set
+bit-rectifiers : (j : Job) (x v : ℕ) → (bit v (rectifiers j x) ≡ 1) ↔ ((v < 2 ^ j .targets) × (rectifies j x v ≡ true))
+bit-rectifiers j x v = (
+  λ e.
+      ⊎-elim
+      (λ (l : ltb v (2 ^ j .targets) ≡ true).
+      let b = ltb-true v (2 ^ j .targets) l in
+      (b, sym (inSet-rectifiers j x v b) ∙ eq-eqb (bit v (rectifiers j x)) 1 e))
+      (λ (l : ltb v (2 ^ j .targets) ≡ false).
+      let z = rectifiers-beyond j x v (ltb-false v (2 ^ j .targets) l) in
+      let f : ⊥ = omega arith in absurd f)
+      (true-or-false (ltb v (2 ^ j .targets))),
+  λ r. rectifiers-bit j x v (r .0) ∙ ap (λ (b : Bool). cond b 1 0) (r .1),
+)
+
+-- the set of reading r holds the vectors that rectify the inputs below x that give r
+record SetsBelow (j : Job) (g : ℕ → ℕ) (x : ℕ) (ss : List ℕ) : Type 0 where
+  long : length ss ≡ 1024
+  sets : (r v : ℕ) → r < 1024
+      → (bit v (getD ss r 0) ≡ 1) ↔ ((v < 2 ^ j .targets) × ((y : ℕ) → y < x → g y ≡ r → rectifies j y v ≡ true))
+
+module _ (j : Job) (g : ℕ → ℕ) where
+  sets-start : SetsBelow j g 0 (startSets (j .targets))
+  unfolding startSets
+  sets-start =
+      let o : ℕ = 2 ^ 2 ^ j .targets - 1 in
+      record {
+        long = length-replicate 1024 o;
+        sets = λ r v l.
+            let e : getD (replicate 1024 o) r 0 ≡ o = getD-replicate 1024 r o 0 l in
+            let b = bit-ones (2 ^ j .targets) v in (
+              λ a. (b .0 (sym (ap (bit v) e) ∙ a), λ y u. let f : ⊥ = omega arith in absurd f),
+              λ a. ap (bit v) e ∙ b .1 (a .0),
+            );
+      }
+
+  sets-turn : (x : ℕ) (ss : List ℕ) → SetsBelow j g x ss → SetsBelow j g (x + 1) (narrowed ss (g x) (rectifiers j x))
+  unfolding narrowed
+  sets-turn x ss h =
+      let t : ℕ = bitAnd (getD ss (g x) 0) (rectifiers j x) in
+      record {
+        long = length-set ss (g x) t ∙ h .long;
+        sets = λ r v l.
+            let old = h .sets r v l in
+            ⊎-elim
+            (λ (q : eqb r (g x) ≡ true).
+            let i : r ≡ g x = eqb-true r (g x) q in
+            let e : getD (set ss (g x) t) r 0 ≡ t = rw i (getD-set-same ss (g x) t 0 (omega (arith, h .long))) in
+            let m : bit v t ≡ min (bit v (getD ss r 0)) (bit v (rectifiers j x)) =
+            rw i (bit-and v (getD ss (g x) 0) (rectifiers j x)) in
+            let both =
+            min-one (bit v (getD ss r 0)) (bit v (rectifiers j x)) (bit-lt v (getD ss r 0)) (bit-lt v (rectifiers j x)) in
+            let new = bit-rectifiers j x v in (
+              λ a.
+                  let p = both .0 (sym m ∙ sym (ap (bit v) e) ∙ a) in
+                  let o = old .0 (p .0) in
+                  (o .0, λ y u k. ⊎-elim (λ (d : y ≡ x). rw d (new .0 (p .1) .1)) (λ u. o .1 y u k) (eq-or-below y x u)),
+              λ a.
+                  ap (bit v) e
+                  ∙ m
+                  ∙ both .1
+                  (old .1 (a .0, λ y u k. a .1 y (omega arith) k), new .1 (a .0, a .1 x (omega arith) (sym i))),
+            ))
+            (λ (q : eqb r (g x) ≡ false).
+            let n = eqb-false r (g x) q in
+            let e : getD (set ss (g x) t) r 0 ≡ getD ss r 0 = getD-set-other ss (g x) r t 0 n in (
+              λ a.
+                  let o = old .0 (sym (ap (bit v) e) ∙ a) in
+                  (o .0, λ y u k. ⊎-elim (λ (d : y ≡ x). absurd (n (sym k ∙ ap g d))) (λ u. o .1 y u k) (eq-or-below y x u)),
+              λ a. ap (bit v) e ∙ old .1 (a .0, λ y u k. a .1 y (omega arith) k),
+            ))
+            (true-or-false (eqb r (g x)));
+      }
+
+  sets-below : (x : ℕ) → SetsBelow j g x (setsFrom (rectifiers j) g (startSets (j .targets)) 0 x)
+  sets-below x =
+      let w =
+      walked-holds (narrowing (rectifiers j) g) (λ y ss. SetsBelow j g y ss) (startSets (j .targets)) 0 x sets-start
+      (λ y a b ss h. sets-turn y ss h) in
+      rw (setsFrom-walked (rectifiers j) g (startSets (j .targets)) 0 x) (rw (zero-add x) at w)
+
+  pub length-setsFrom : (x : ℕ) → length (setsFrom (rectifiers j) g (startSets (j .targets)) 0 x) ≡ 1024
+  length-setsFrom x = sets-below x .long
+
+  pub walk-sets : (x r v : ℕ) → r < 1024
+      → (bit v (getD (setsFrom (rectifiers j) g (startSets (j .targets)) 0 x) r 0) ≡ 1)
+      ↔ ((v < 2 ^ j .targets) × ((y : ℕ) → y < x → g y ≡ r → rectifies j y v ≡ true))
+  walk-sets x r v l = sets-below x .sets r v l
+
+-- the sets after all inputs are those of the readings
+pub walk-reading-sets : (j : Job) → length (candidateNets j) ≤ 10
+    → ReadingSets j
+    (setsFrom (rectifiers j) (reading j (candidateNets j)) (startSets (j .targets)) 0 (2 ^ j .inputs))
+walk-reading-sets j h =
+    let g = reading j (candidateNets j) in
+    let n : ℕ = 2 ^ j .inputs in
+    record {
+      long = length-setsFrom j g n;
+      sets = λ r v l b. walk-sets j g n r v (omega (arith, pow-mono h));
+    }
