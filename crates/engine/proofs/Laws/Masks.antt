@@ -20,7 +20,7 @@ use Rattle.engine.specs.Rectify.{rectifies}
 use Rattle.engine.specs.Support.{reading, candidateNets}
 use Rattle.engine.specs.Inner.{outputBits, Outputs, GoldenWords, RectifiesWord}
 use Rattle.engine.specs.Walk.{circuits, Ready, rectifiers, Masks, ReadingWords}
-use Rattle.engine.proofs.Laws.Choice.{map-agree, mem-below, same-iff-equal}
+use Rattle.engine.proofs.Laws.Choice.{map-agree, mem-below}
 use Rattle.engine.proofs.Laws.Ready.{map-map, ready-outputs-equal, ready-golden-outputs, ready-candidates, ready-candidate-count, ready-candidates-below}
 use Rattle.engine.proofs.Laws.Rectify.{outputs-of-words}
 
@@ -117,15 +117,3 @@ module _ {c : Counts} {old golden : SidePlaces} {nets : List ℕ} (r : Ready c o
       ∙ outputs-of-words i (c .inputs + c .targets + length oldGates) ws vs (take (c .candidates) nets) (e i h) below
       ∙ ap (map (netAt vs)) (sym (ready-candidates r)))
       ∙ sym (reading-places (64 * b + i))
-
-  -- where the outputs of the places' netlists are equal, the vector rectifies the input
-  pub rectifies-of-outputs : (x v : ℕ)
-      → map (netAt (values (bits (c .inputs) x ++ bits (c .targets) v) oldGates)) (take (c .old .outputs) (old .outputs))
-      ≡ map (netAt (values (bits (c .inputs) x) goldenGates)) (take (c .old .outputs) (golden .outputs))
-      → rectifies (circuits c old golden nets) x v ≡ true
-  rectifies-of-outputs x v e =
-      rectifies-places x v
-      ∙ same-iff-equal _ _ .1
-      (e
-      ∙ ap (λ (k : ℕ). map (netAt (values (bits (c .inputs) x) goldenGates)) (take k (golden .outputs)))
-      (sym (ready-outputs-equal r)))

@@ -6,8 +6,8 @@ use native.Mathlib.Omega.{arith}
 use borrow.Author.Needs.{needs}
 use borrow.Fn.Kinds.{In}
 use borrow.Fn.PlainCycle.{Measures, is, falls, and}
-use Rattle.engine.proofs.Laws.Ready.{ready-within, ready-evaluable, ready-golden-evaluable, ready-outputs, ready-golden-outputs}
-use Rattle.engine.proofs.Laws.Masks.{rectifies-of-outputs}
+use Rattle.engine.proofs.Laws.Ready.{ready-within, ready-outputs-equal, ready-evaluable, ready-golden-evaluable, ready-outputs, ready-golden-outputs}
+use Rattle.engine.proofs.Laws.Partial.{rectifies-circuits}
 use Rattle.engine.proofs.Laws.Search.{descends, progress-at, range-le, aligned-small, half-start, half-end, aligned-low, aligned-high, block-start, block-room, block-next, progress-stuck, progress-skip}
 use Rattle.engine.proofs.search.search.Reads as search′
 use Rattle.engine.proofs.search.search.Kinds as search-kinds
@@ -47,12 +47,13 @@ search-shl-visit-block t c = let l = c .if2 .taken in search needs
 
 search-visit-block-requires : (t : ℕ) → search-lts.Need-visit-block-requires (calls t) (search-at t) search′.Post
 search-visit-block-requires t c κs =
-    let s = c .before .before .before .before .before .before .before .before .before .before .before .before .before .before in (
+    let s = c .before .before .before .before .before .before .before .before .before .before .before .before .before .before in
+    let room = block-room (s .pre .1 .1 .1 .0) (c .before .if2 .taken) in (
       s .pre .1 .0,
       (
         s .pre .1 .1 .0,
         (
-          block-room (s .pre .1 .1 .1 .0) (c .before .if2 .taken),
+          (room .0, room .1, c .before .before .if1 .left),
           progress-at (s .pre .1 .1 .1 .1) (sym (block-start (s .pre .1 .1 .1 .0) (c .before .if2 .taken))),
         ),
       ),
@@ -72,12 +73,14 @@ search-settled-requires t c κs =
     let s = c .before .before .before .before .before .before .before .before .before .before .before .before .before .before .before .before in
     let r = s .pre .1 .0 in
     let w = ready-within r in
-    ((w .inputs, w .targets, s .pre .1 .1 .1 .0 .among), (ready-evaluable r, (ready-golden-evaluable r, (ready-outputs r, ready-golden-outputs r))))
+    (omega (arith, w .inputs), (ready-evaluable r, (ready-golden-evaluable r, (ready-outputs r, ready-golden-outputs r))))
 
 search-returns-3 : (t : ℕ) → search-lts.Need-returns-3 (calls t) (search-at t) search′.Post
 search-returns-3 t c =
     let s = c .before .before .before .before .before .before .before .before .before .before .before .before .before .before .before .before .before .before in
-    progress-skip (s .pre .1 .1 .1 .1) (range-le (s .args .prefix) (s .args .low)) (λ z h l u b. rectifies-of-outputs (s .pre .1 .0) z u (c .before .settled .ensures (c .if4 .taken) z u h l))
+    progress-skip (s .pre .1 .1 .1 .1) (range-le (s .args .prefix) (s .args .low)) (λ z h l u b.
+    rectifies-circuits _ _ _ _ _ _ (ready-outputs-equal (s .pre .1 .0)) (c .before .settled .ensures (c .if4 .taken)) z u
+    (record { least = h; most = l }))
 
 search-sub-search : (t : ℕ) → search-lts.Need-sub-search (calls t) (search-at t) search′.Post
 search-sub-search t c = let l = c .before .if2 .left in search needs
