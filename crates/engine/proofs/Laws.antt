@@ -10,6 +10,9 @@ pub mod Rectify
 pub mod Stream
 pub mod Support
 pub mod Ternary
+pub mod VectorSets
 pub mod Verdict
 pub mod Walk
+pub mod WalkList
+pub mod WalkSets
 pub mod Word
