@@ -15,7 +15,10 @@ pub mod Search
 pub mod Stream
 pub mod Support
 pub mod Ternary
+pub mod VectorSets
 pub mod Verdict
 pub mod Walk
+pub mod WalkList
+pub mod WalkSets
 pub mod Weights
 pub mod Word

@@ -1,7 +1,7 @@
 // The vector list of the walk over the inputs, and the sets of vectors of all readings.
 ghost use mathlib.Core.Path.{_≡_};
 ghost use mathlib.Core.List.{map};
-ghost use Prim.Native.Nat.{ℕ, _≤_, _<_};
+ghost use Prim.Native.Nat.{ℕ, _^_, _≤_, _<_};
 ghost use lib.Dec.{eqb};
 ghost use lib.ListN.{length, getD, take};
 ghost use Rattle.engine.specs.Choice.{any, orZero};
@@ -115,7 +115,7 @@ pub(super) fn note_block(
     sets: &mut [u16],
 ) -> Vectors
     requires { ⌜ (vectors ≤ length (now masks)) × (vectors ≤ 16) × (candidates ≤ length (now words)) × (candidates ≤ 10) ⌝ }
-    requires { ⌜ (count ≤ 64) × (first < 4294967296) × (1024 ≤ length (now sets)) × Held list ⌝ }
+    requires { ⌜ (count ≤ 64) × (first < 2 ^ 32) × (1024 ≤ length (now sets)) × Held list ⌝ }
     ensures { λ r. ⌜ Noted (take vectors (now (masks .entry))) (take candidates (now (words .entry))) first count list
         (now (sets .entry)) r (now (sets .exit)) ⌝ }
 {

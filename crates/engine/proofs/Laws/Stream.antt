@@ -1,10 +1,10 @@
 -- Laws of the code that walks over the inputs: a set of vectors and a reading gathered from a block's words, bit by bit, and a
 -- step of the vector list on the places that hold it. Assumes nothing.
-use Prim.Native.Nat.{ℕ, zero, suc, _+_, _-_, _*_, _/_, _%_, _^_, _≤_, _<_}
+use Prim.Native.Nat.{ℕ, suc, _+_, _-_, _*_, _/_, _%_, _^_, _≤_, _<_}
 use mathlib.Core.Path.{_≡_, refl, sym, _∙_, ap}
 use mathlib.Core.List.{List, [], _∷_, _++_, map}
 use mathlib.Core.Bool.{Bool, true, false, _||_}
-use mathlib.Core.Option.{Option, none, some}
+use mathlib.Core.Option.{none, some}
 use native.Mathlib.Numerals.{add-one}
 use native.Mathlib.Omega.{arith}
 use borrow.Author.Tests.{eq-eqb, ne-eqb}
@@ -20,7 +20,8 @@ use Rattle.engine.specs.Walk.{lowest, listStep, listedFrom, listedOf, na
 use Rattle.engine.specs.declared.list.Vectors.{Vectors}
 use Rattle.engine.proofs.Laws.Choice.{first-here, first-there}
 use Rattle.engine.proofs.Laws.Eval.{bit-lt, bits-map, numberOf-lt}
-use Rattle.engine.proofs.Laws.Walk.{set-below, inSet, lowest-zero, lowest-some, listStep-stuck, listStep-listed, listStep-none, listStep-full, listStep-append, listedFrom-snoc, setsFrom-snoc}
+use Rattle.engine.proofs.Laws.VectorSets.{inSet, lowest-zero, lowest-some}
+use Rattle.engine.proofs.Laws.Walk.{set-below, listStep-stuck, listStep-listed, listStep-none, listStep-full, listStep-append, listedFrom-snoc, setsFrom-snoc}
 
 -- ---- gathered bits
 

@@ -1,12 +1,10 @@
 -- `engine::list::list_step` meets its contract, by its tests. Assumes nothing.
-use Prim.Native.Nat.{_<_}
-use mathlib.Core.Path.{_≡_, sym, _∙_, ap}
+use mathlib.Core.Path.{_≡_, sym, _∙_}
 use mathlib.Core.Bool.{false}
 use native.Mathlib.Omega.{arith}
 use lib.ListN.{take}
-use Rattle.engine.specs.Choice.{any, orZero}
-use Rattle.engine.specs.Walk.{lowest}
-use Rattle.engine.proofs.Laws.Walk.{inSet, lowest-lt}
+use Rattle.engine.specs.Choice.{any}
+use Rattle.engine.proofs.Laws.VectorSets.{inSet, lowest-lt}
 use Rattle.engine.proofs.Laws.Stream.{places, step-stuck, step-listed, step-none, step-full, step-append}
 use Rattle.engine.proofs.list.list_step.Statement.{statement}
 use Rattle.engine.proofs.list.list_step.Tie as tie
@@ -34,7 +32,9 @@ returns-3 : tie.Need-returns-3
 returns-3 c =
     let b = c .before .before .before .before .before in
     let a = b .args in
-    step-none (a .v) (a .set) (a .input) (b .pre .0) (c .before .before .before .before .if1 .left) (unlisted (c .before)) (c .if3 .taken)
+    step-none (a .v) (a .set) (a .input) (b .pre .0) (c .before .before .before .before .if1 .left)
+    (unlisted (c .before))
+    (c .if3 .taken)
 
 returns-4 : tie.Need-returns-4
 returns-4 c =

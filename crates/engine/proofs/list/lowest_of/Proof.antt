@@ -6,7 +6,7 @@ use native.Mathlib.Omega.{arith}
 use Rattle.records.specs.Bytes.{upFrom}
 use Rattle.engine.specs.Choice.{first, orZero}
 use Rattle.engine.specs.Walk.{lowest}
-use Rattle.engine.proofs.Laws.Walk.{inSet}
+use Rattle.engine.proofs.Laws.VectorSets.{inSet}
 use Rattle.engine.proofs.Laws.Stream.{inSet-true, inSet-false, first-from-here, first-from-there}
 use Rattle.engine.proofs.list.lowest_of.Statement.{statement}
 use Rattle.engine.proofs.list.lowest_of.Tie as tie

@@ -1,7 +1,7 @@
 -- `engine::list::note_block` meets its contract. The invariant: the list and the sets are those after the first i inputs.
 -- Assumes nothing.
-use Prim.Native.Nat.{ℕ, _+_, _*_, _-_, _≤_, _<_}
-use mathlib.Core.Path.{_≡_, _∙_}
+use Prim.Native.Nat.{_-_, _≤_, _<_}
+use mathlib.Core.Path.{_≡_}
 use native.Mathlib.Omega.{arith}
 use denote.Ref.{now}
 use lib.ListN.{length, take}
@@ -28,7 +28,9 @@ gather-requires-2 c κs = let p = c .before .before .before .before .before .bef
 
 -- what a turn gathers: a set of 16 vectors, and a reading of 10 candidates, which has its place
 small : (c : tie.After-gather2 Inv-loop μ-loop)
-    → (c .before .gather .result < 65536) × (c .gather2 .result < 1024) × (c .gather2 .result < length (c .before .before .before .loop .sets))
+    → (c .before .gather .result < 65536)
+    × (c .gather2 .result < 1024)
+    × (c .gather2 .result < length (c .before .before .before .loop .sets))
 small c =
     let t = c .before .before .before in
     let b = t .before .before .before .before in
@@ -73,7 +75,10 @@ loop-again c =
     let a = t .before .before .before .before .args in
     let l = t .loop in (
       omega arith,
-      noted-next (take (a .vectors) (now (a .masks))) (take (a .candidates) (now (a .words))) (a .first) (a .list) (now (a .sets)) (l .i)
+      noted-next (take (a .vectors) (now (a .masks))) (take (a .candidates) (now (a .words))) (a .first)
+          (a .list)
+          (now (a .sets))
+          (l .i)
           (l .list)
           (l .sets)
           (c .before .before .before .gather .result)

@@ -6,7 +6,7 @@ use mathlib.Core.Bool.{_||_}
 use lib.ListN.{length, getD, take, drop, length-take, drop-of-length-le}
 use lib.Seq.{getD-take}
 use Rattle.engine.specs.Choice.{any}
-use Rattle.engine.proofs.Laws.Walk.{inSet}
+use Rattle.engine.proofs.Laws.VectorSets.{inSet}
 use Rattle.engine.proofs.Laws.Stream.{inSet-true, inSet-false, any-from}
 use Rattle.engine.proofs.list.rectifies_any.Statement.{statement}
 use Rattle.engine.proofs.list.rectifies_any.Tie as tie
