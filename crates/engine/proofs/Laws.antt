@@ -17,6 +17,7 @@ pub mod Support
 pub mod Ternary
 pub mod VectorSets
 pub mod Verdict
+pub mod Visit
 pub mod Walk
 pub mod WalkList
 pub mod WalkSets

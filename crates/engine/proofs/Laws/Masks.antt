@@ -31,7 +31,7 @@ module _ {c : Counts} {old golden : SidePlaces} {nets : List ℕ} (r : Ready c o
   abbrev goldenGates : List Gate
   goldenGates = gatesFrom (c .golden .gates) (golden .kinds) (golden .firsts) (golden .seconds)
 
-  length-golden : length goldenGates ≡ c .golden .gates
+  pub length-golden : length goldenGates ≡ c .golden .gates
   unfolding gatesFrom
   length-golden = length-tabulate (c .golden .gates) _
 
