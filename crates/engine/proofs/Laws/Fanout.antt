@@ -17,11 +17,12 @@ use Rattle.records.specs.Inner.{leafMarks}
 use Rattle.records.specs.Service.{gatesFrom}
 use Rattle.records.proofs.Laws.Bytes.{length-tabulate, drop-tabulate-end}
 use Rattle.records.proofs.Laws.Netlist.{markOf-take}
-use Rattle.engine.specs.Eval.{bit, bits}
+use Rattle.engine.specs.Eval.{bit, bits, numberOf}
 use Rattle.engine.specs.Inner.{Loaded, Evaluated, Unmarked, BlockValues, HoldsBlock}
 use Rattle.engine.specs.Walk.{FanoutMarks}
-use Rattle.engine.proofs.Laws.Eval.{values-agree}
+use Rattle.engine.proofs.Laws.Eval.{bit-lt, bits-map, values-agree}
 use Rattle.engine.proofs.Laws.EvalWords.{map-take, extended-step, known-net, gates-both, Evaluating, evaluating-none, evaluating-next, evaluating-gate, target-values}
+use Rattle.engine.proofs.Laws.Walk.{bit-numberOf}
 
 -- ---- marks
 
@@ -228,3 +229,10 @@ module _ (gs : List Gate) (n m b : ℕ) (nets : List ℕ) (held : HoldsBlock gs 
   pub revalued : (v : ℕ → ℕ) (loaded after : List ℕ) → Loaded n m v nets loaded → Evaluated gs (n + m) loaded after
       → BlockValues gs n m b v nets after
   revalued v loaded after = target-values gs n m b v nets loaded after held-inputs
+
+-- ---- vectors that differ from scenario to scenario
+
+-- the word made of bit i of k vectors
+pub gathered-bit : (vs : List ℕ) (i k j : ℕ) → j < k → bit j (numberOf (map (bit i) (take k vs))) ≡ bit i (getD vs j 0)
+unfolding netAt
+gathered-bit vs i k j h = bit-numberOf (bits-map (bit i) (bit-lt i) (take k vs)) j ∙ known-net i k vs j h
