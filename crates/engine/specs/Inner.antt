@@ -4,7 +4,7 @@
 --   Loaded ..        leaves in words
 --   Evaluated ..     in each of 64 scenarios the words of the nets are the values that the leaves' words give; words beyond the
 --                    nets are as before
---   Unmarked ..      .. of the gates that no target leads to, the words are so already
+--   Unmarked ..      the words of the gates with mark 0 are such values already
 use Prim.Native.Nat.{ℕ, _+_, _*_, _^_, _≤_, _<_}
 use mathlib.Core.Path.{_≡_}
 use mathlib.Core.List.{List, _++_, map}

@@ -1,11 +1,10 @@
 -- `engine::block::drive_words` meets its contract. The invariant: the words so far are those of the first i targets.
 -- Assumes nothing.
-use Prim.Native.Nat.{ℕ, _+_, _-_, _≤_}
-use mathlib.Core.Path.{_≡_, _∙_, ap}
+use Prim.Native.Nat.{_-_, _≤_}
+use mathlib.Core.Path.{_∙_, ap}
 use borrow.Author.Needs.{needs}
 use native.Mathlib.Omega.{arith}
 use denote.Ref.{now}
-use lib.ListN.{length}
 use Rattle.engine.specs.Eval.{bit}
 use Rattle.engine.specs.Inner.{tableVector}
 use Rattle.engine.proofs.Laws.EvalWords.{Loading, loading-none, loading-next, loading-all}
@@ -53,7 +52,8 @@ loop-again c =
     let l = t .before .loop in
     let v = tableVector (now (a .table)) (now (a .words)) (a .count) in (
       omega arith,
-      loading-next (a .at) (l .i) (a .targets) v (now (a .nets)) (l .nets) (c .target-word .result) (l .inv .1) (t .loop-test .taken)
+      loading-next (a .at) (l .i) (a .targets) v (now (a .nets)) (l .nets) (c .target-word .result) (l .inv .1)
+          (t .loop-test .taken)
           (omega arith)
           (λ j h. c .target-word .ensures j h ∙ ap (bit (l .i)) (t .before .before .scenario-vectors .ensures .1 j h)),
     )

@@ -1,8 +1,7 @@
 -- `engine::block::scenario_vectors` meets its contract. The invariant: the vectors of the first j scenarios are the table's.
 -- Assumes nothing.
-use Prim.Native.Nat.{ℕ, _+_, _-_, _≤_, _<_}
-use mathlib.Core.Path.{_≡_, refl, sym, _∙_, ap}
-use borrow.Author.Needs.{needs}
+use Prim.Native.Nat.{ℕ, _-_, _≤_, _<_}
+use mathlib.Core.Path.{_≡_, refl, _∙_, ap}
 use native.Mathlib.Omega.{arith}
 use denote.Ref.{now}
 use lib.ListN.{length, getD, length-set}
@@ -28,7 +27,8 @@ gather-requires c κs = omega arith
 shared-slice-read-vectors : tie.Need-shared-slice-read-vectors Inv-loop μ-loop
 shared-slice-read-vectors c =
     let a = c .before .before .before .before .before .before .args in
-    omega (arith, gathered-lt (c .before .before .before .loop .j) (a .count) (a .count) (now (a .words)) (omega arith), c .before .gather .ensures)
+    let j = c .before .before .before .loop .j in
+    omega (arith, gathered-lt j (a .count) (a .count) (now (a .words)) (omega arith), c .before .gather .ensures)
 
 array-write-vectors : tie.Need-array-write-vectors Inv-loop μ-loop
 array-write-vectors c = omega arith
@@ -45,7 +45,8 @@ loop-again c =
     let l = c .before .before .before .loop in (
       omega arith,
       length-set (l .vectors) _ _ ∙ l .inv .1,
-      below-set (λ k x. x ≡ tableVector (now (a .table)) (now (a .words)) (a .count) k) (l .vectors) (l .j) _ (omega arith) (l .inv .2)
+      below-set (λ k x. x ≡ tableVector (now (a .table)) (now (a .words)) (a .count) k) (l .vectors) (l .j) _ (omega arith)
+          (l .inv .2)
           (ap (λ (n : ℕ). getD (now (a .table)) n 0) (c .before .gather .ensures)),
     )
 

@@ -1,10 +1,10 @@
 -- `engine::block::target_word` meets its contract. The invariant: the number so far is made of the bits of the vectors from
 -- j on. Assumes nothing.
-use Prim.Native.Nat.{ℕ, suc, _-_, _^_, _≤_, _<_}
+use Prim.Native.Nat.{suc, _-_, _^_, _≤_, _<_}
 use mathlib.Core.Path.{_≡_, sym, _∙_, ap}
 use native.Mathlib.Omega.{arith}
 use denote.Ref.{now}
-use lib.ListN.{length, take, drop, length-take, length-drop}
+use lib.ListN.{take, drop, length-take, length-drop}
 use Rattle.engine.specs.Eval.{bit}
 use Rattle.engine.proofs.Laws.Fanout.{gathered-bit}
 use Rattle.engine.proofs.Laws.Stream.{gatheredFrom, gatheredFrom-end, gatheredFrom-turn, numberOf-bits-lt}
