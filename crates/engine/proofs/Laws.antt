@@ -6,7 +6,9 @@ pub mod Eval
 pub mod EvalWords
 pub mod Fanout
 pub mod Loop
+pub mod Masks
 pub mod Outputs
+pub mod Ready
 pub mod Rectify
 pub mod Stream
 pub mod Support

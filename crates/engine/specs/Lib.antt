@@ -6,6 +6,7 @@ pub mod Rectify
 pub mod Support
 pub mod Verdict
 pub mod Compare
+pub mod Reply
 pub mod Tree
 pub mod Fit
 pub mod Claims

@@ -2,6 +2,8 @@
 // once, a word a net.
 mod block;
 mod choose;
+mod compare;
+mod decide;
 mod fanout;
 mod list;
 mod rectify;
