@@ -4,7 +4,7 @@
 --   Loaded ..        leaves in words
 --   Evaluated ..     in each of 64 scenarios the words of the nets are the values that the leaves' words give; words beyond the
 --                    nets are as before
---   Unmarked ..      .. of the gates that no target leads to, the words are so already
+--   Unmarked ..      the words of the gates with mark 0 are such values already
 use Prim.Native.Nat.{ℕ, _+_, _*_, _^_, _≤_, _<_}
 use mathlib.Core.Path.{_≡_}
 use mathlib.Core.List.{List, _++_, map}
@@ -18,7 +18,7 @@ use Rattle.records.specs.Netlist.{netAt, values}
 use Rattle.records.specs.Refusal.{gatesGood}
 use Rattle.records.specs.Service.{gatesFrom}
 use Rattle.engine.specs.Choice.{same}
-use Rattle.engine.specs.Eval.{bit, bits}
+use Rattle.engine.specs.Eval.{bit, bits, numberOf}
 
 pub record Evaluable (kinds firsts seconds : List ℕ) (count base words : ℕ) : Type 0 where
   pub kinds-held : count ≤ length kinds
@@ -45,6 +45,10 @@ pub record Loaded (at k : ℕ) (x : ℕ → ℕ) (before after : List ℕ) : Typ
   pub beyond : drop (at + k) after ≡ drop (at + k) before
   pub words : (j : ℕ) → j < 64
       → map (bit j) (take (at + k) after) ≡ map (bit j) (take at before) ++ bits k (x j)
+
+-- the vector that a table gives scenario j: the entry at the number made of the scenario's bits of count words
+abbrev pub tableVector : List ℕ → List ℕ → ℕ → ℕ → ℕ
+tableVector table words count j = getD table (numberOf (map (bit j) (take count words))) 0
 
 -- the values of the nets os in scenario j
 unfoldable pub outputBits : ℕ → List ℕ → List ℕ → List ℕ

@@ -1,10 +1,11 @@
 // Blocks of 64 inputs: scenario j of block b is input 64 * b + j.
 ghost use mathlib.Core.Path.{_≡_};
-ghost use Prim.Native.Nat.{ℕ, _+_, _*_, _≤_, _<_};
-ghost use lib.ListN.{length};
+ghost use Prim.Native.Nat.{ℕ, _+_, _*_, _^_, _≤_, _<_};
+ghost use lib.ListN.{length, getD};
 ghost use Rattle.engine.specs.Eval.{bit};
 ghost use Rattle.records.specs.Service.{gatesFrom};
-ghost use Rattle.engine.specs.Inner.{Evaluable, Loaded, BlockValues};
+ghost use Rattle.engine.specs.Inner.{Evaluable, Loaded, BlockValues, tableVector};
+use super::list::gather;
 use super::word::eval_words;
 
 // The word of a value that is the same in every scenario: the lowest bit of x.
@@ -52,6 +53,58 @@ pub(super) fn load_targets(at: usize, targets: usize, v: usize, nets: &mut [u64]
     let mut i = 0usize;
     while i < targets {
         nets[at + i] = broadcast(v >> i);
+        i += 1;
+    }
+}
+
+// Each scenario's vector: the entry of the table at the number made of the scenario's bits of count words.
+fn scenario_vectors(words: &[u64], count: usize, table: &[u8]) -> [u8; 64]
+    requires { ⌜ (count ≤ 10) × (count ≤ length (now words)) × (2 ^ count ≤ length (now table)) ⌝ }
+    ensures { λ r. ⌜ (length r ≡ 64)
+        × ((j : ℕ) → j < 64 → getD r j 0 ≡ tableVector (now (table .entry)) (now (words .entry)) count j) ⌝ }
+{
+    let mut vectors = [0u8; 64];
+    let mut j = 0usize;
+    while j < 64 {
+        let r = gather(words, count, j);
+        vectors[j] = table[r];
+        j += 1;
+    }
+    vectors
+}
+
+// The word of target i where scenario j has the vector vectors[j].
+fn target_word(vectors: &[u8], i: usize) -> u64
+    requires { ⌜ (64 ≤ length (now vectors)) × (i < 8) ⌝ }
+    ensures { λ r. ⌜ ((j : ℕ) → j < 64 → bit j r ≡ bit i (getD (now (vectors .entry)) j 0)) ⌝ }
+{
+    let mut r = 0u64;
+    let mut j = 64usize;
+    while 0 < j {
+        j -= 1;
+        r = 2 * r + ((vectors[j] >> i) % 2) as u64;
+    }
+    r
+}
+
+// The words of the targets, from net at on, where each scenario has the vector that the table gives it.
+pub(super) fn drive_words(
+    words: &[u64],
+    count: usize,
+    table: &[u8],
+    targets: usize,
+    at: usize,
+    nets: &mut [u64],
+)
+    requires { ⌜ (count ≤ 10) × (count ≤ length (now words)) × (2 ^ count ≤ length (now table)) ⌝ }
+    requires { ⌜ (targets ≤ 4) × (at + targets ≤ length (now nets)) ⌝ }
+    ensures { λ _. ⌜ Loaded at targets (tableVector (now (table .entry)) (now (words .entry)) count) (now (nets .entry))
+        (now (nets .exit)) ⌝ }
+{
+    let vectors = scenario_vectors(words, count, table);
+    let mut i = 0usize;
+    while i < targets {
+        nets[at + i] = target_word(&vectors, i);
         i += 1;
     }
 }

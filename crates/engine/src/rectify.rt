@@ -1,5 +1,4 @@
 // Where vectors rectify the inputs of a block.
-ghost use mathlib.Core.Path.{_≡_};
 ghost use Prim.Native.Nat.{ℕ, _+_, _≤_, _<_};
 ghost use lib.ListN.{length};
 ghost use Rattle.records.specs.Service.{gatesFrom};

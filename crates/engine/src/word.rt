@@ -52,7 +52,8 @@ pub(super) fn eval_words(
 pub(super) fn select_words(nets: &[u64], picks: &[u16], count: usize, words: &mut [u64])
     requires { ⌜ Outputs (now picks) count (length (now nets)) ⌝ }
     requires { ⌜ count ≤ length (now words) ⌝ }
-    ensures { λ _. ⌜ take count (now (words .exit)) ≡ map (λ o. getD (now (nets .entry)) o 0) (take count (now (picks .entry))) ⌝ }
+    ensures { λ _. ⌜ take count (now (words .exit))
+        ≡ map (λ o. getD (now (nets .entry)) o 0) (take count (now (picks .entry))) ⌝ }
     ensures { λ _. ⌜ length (now (words .exit)) ≡ length (now (words .entry)) ⌝ }
 {
     let mut i = 0usize;

@@ -146,7 +146,8 @@ module _ (ks xs ys : List ℕ) (count base : ℕ) (before after : List ℕ) (i :
           good = gates-here .1;
           words =
               λ j l.
-              eval-turn count (λ k. gateOf (getD ks k 0) (getD xs k 0) (getD ys k 0)) i h j base w after (omega (arith, e .long)) (v j l)
+              eval-turn count (λ k. gateOf (getD ks k 0) (getD xs k 0) (getD ys k 0)) i h j base w after (omega (arith, e .long))
+              (v j l)
               ∙ e .words j l;
         }
 

@@ -1,6 +1,6 @@
 -- Laws of the targets' fanout: the turns of the loops that mark the nets, and of the loop that evaluates again the gates that a
 -- target leads to. Assumes nothing.
-use Prim.Native.Nat.{ℕ, zero, suc, _+_, _-_, _*_, _^_, max, _≤_, _<_}
+use Prim.Native.Nat.{ℕ, suc, _+_, _-_, _*_, _≤_, _<_}
 use mathlib.Core.Path.{_≡_, refl, sym, _∙_, ap, subst}
 use mathlib.Core.List.{List, [], _∷_, _++_, map}
 use mathlib.Core.Bool.{true}
@@ -17,11 +17,12 @@ use Rattle.records.specs.Inner.{leafMarks}
 use Rattle.records.specs.Service.{gatesFrom}
 use Rattle.records.proofs.Laws.Bytes.{length-tabulate, drop-tabulate-end}
 use Rattle.records.proofs.Laws.Netlist.{markOf-take}
-use Rattle.engine.specs.Eval.{bit, bits}
+use Rattle.engine.specs.Eval.{bit, bits, numberOf}
 use Rattle.engine.specs.Inner.{Loaded, Evaluated, Unmarked, BlockValues, HoldsBlock}
 use Rattle.engine.specs.Walk.{FanoutMarks}
-use Rattle.engine.proofs.Laws.Eval.{values-agree}
+use Rattle.engine.proofs.Laws.Eval.{bit-lt, bits-map, values-agree}
 use Rattle.engine.proofs.Laws.EvalWords.{map-take, extended-step, known-net, gates-both, Evaluating, evaluating-none, evaluating-next, evaluating-gate, target-values}
+use Rattle.engine.proofs.Laws.Walk.{bit-numberOf}
 
 -- ---- marks
 
@@ -97,7 +98,8 @@ module _ (ks xs ys : List ℕ) (count n m : ℕ) (before after : List ℕ) (i : 
         long = length-set after (n + m + i) w ∙ e .long;
         good = g .1;
         marks =
-            mark-turn count (λ k. gateOf (getD ks k 0) (getD xs k 0) (getD ys k 0)) i h (n + m) w after (omega (arith, e .long)) (g .0) v
+            mark-turn count (λ k. gateOf (getD ks k 0) (getD xs k 0) (getD ys k 0)) i h (n + m) w after (omega (arith, e .long)) (g .0)
+            v
             ∙ e .marks;
       }
 
@@ -212,7 +214,10 @@ module _ (gs : List Gate) (n m b : ℕ) (nets : List ℕ) (held : HoldsBlock gs 
             λ i low high z j h.
             let k : n + m + (i - (n + m)) ≡ i = omega arith in
             let same : getD after i 0 ≡ getD nets i 0 =
-            rw k at (sym (getD-drop (n + m) after (i - (n + m)) 0) ∙ ap (λ (d : List ℕ). getD d (i - (n + m)) 0) (l .beyond) ∙ getD-drop (n + m) nets (i - (n + m)) 0) in
+            rw k at
+            (sym (getD-drop (n + m) after (i - (n + m)) 0)
+            ∙ ap (λ (d : List ℕ). getD d (i - (n + m)) 0) (l .beyond)
+            ∙ getD-drop (n + m) nets (i - (n + m)) 0) in
             let mark : netAt (fanout n m gs) i ≡ 0 =
             ap (λ (d : List ℕ). getD d i 0) (sym (f .marks)) ∙ getD-take (n + m + length gs) marks i 0 high ∙ z in
             let leaves : bits n (64 * b + j) ++ bits m (v j) ≡ map (bit j) (take (n + m) after) =
@@ -228,3 +233,10 @@ module _ (gs : List Gate) (n m b : ℕ) (nets : List ℕ) (held : HoldsBlock gs 
   pub revalued : (v : ℕ → ℕ) (loaded after : List ℕ) → Loaded n m v nets loaded → Evaluated gs (n + m) loaded after
       → BlockValues gs n m b v nets after
   revalued v loaded after = target-values gs n m b v nets loaded after held-inputs
+
+-- ---- vectors that differ from scenario to scenario
+
+-- the word made of bit i of k vectors
+pub gathered-bit : (vs : List ℕ) (i k j : ℕ) → j < k → bit j (numberOf (map (bit i) (take k vs))) ≡ bit i (getD vs j 0)
+unfolding netAt
+gathered-bit vs i k j h = bit-numberOf (bits-map (bit i) (bit-lt i) (take k vs)) j ∙ known-net i k vs j h

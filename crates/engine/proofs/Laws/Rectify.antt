@@ -75,7 +75,8 @@ below-set P xs k w h p q =
 pub vector-count : (m : ℕ) → m ≤ 4 → (1 * 2 ^ m % 2 ^ 64 ≡ 2 ^ m) × (2 ^ m ≤ 16)
 vector-count m h = (shl-exact 1 m 64 (lit< tt) (omega arith) ∙ one-mul (2 ^ m), pow-mono h)
 
-pub record Masking (gs : List Gate) (os golden ps : List ℕ) (count n m : ℕ) (nets₀ nets masks₀ masks : List ℕ) (k : ℕ) : Type 0 where
+pub record Masking (gs : List Gate) (os golden ps : List ℕ) (count n m : ℕ) (nets₀ nets masks₀ masks : List ℕ) (k : ℕ)
+    : Type 0 where
   pub most : k ≤ 2 ^ m
   pub nets-long : length nets ≡ length nets₀
   pub masks-long : length masks ≡ length masks₀

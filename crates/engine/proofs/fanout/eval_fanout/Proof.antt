@@ -1,13 +1,13 @@
 -- `engine::fanout::eval_fanout` meets its contract. The invariant: in each scenario the words so far, extended by the gates
 -- from i on, give the values of all nets, and the words from net base + i on are as they were. Assumes nothing.
 use Prim.Native.Nat.{_+_, _-_, _≤_}
-use mathlib.Core.Path.{_≡_, sym, subst}
+use mathlib.Core.Path.{_≡_}
 use mathlib.Core.List.{List}
 use mathlib.Core.Logic.{⊎-elim}
 use borrow.Author.Needs.{needs}
 use native.Mathlib.Omega.{arith}
 use denote.Ref.{now}
-use lib.ListN.{length, getD}
+use lib.ListN.{getD}
 use Rattle.records.specs.Service.{gatesFrom}
 use Rattle.records.proofs.Laws.Gate.{slots-le}
 use Rattle.engine.proofs.Laws.EvalWords.{gates-here, evaluating-all}
@@ -60,7 +60,9 @@ slots c =
     let a = c .before .before .before .before .before .before .before .args in
     let l = c .before .loop in
     slots-le (a .base + l .i) _ _ _
-    (gates-here (now (a .kinds)) (now (a .firsts)) (now (a .seconds)) (a .count) (a .base) (now (a .nets)) (l .nets) (l .i) (l .inv .known) (c .loop-test .taken) .0)
+    (gates-here (now (a .kinds)) (now (a .firsts)) (now (a .seconds)) (a .count) (a .base) (now (a .nets)) (l .nets) (l .i)
+    (l .inv .known)
+    (c .loop-test .taken) .0)
 
 mul-gate-word : tie.Need-mul-gate-word Inv-loop μ-loop
 mul-gate-word c = let q = slots (c .before .before .before .before .before) in omega arith
@@ -105,13 +107,15 @@ loop-again c =
     ⊎-elim
     (λ k.
     turned _ (k .7)
-    (again-gate (now (a .kinds)) (now (a .firsts)) (now (a .seconds)) (a .count) (a .base) (now (a .nets)) (l .nets) (l .i) (l .inv) (t .loop-test .taken)
+    (again-gate (now (a .kinds)) (now (a .firsts)) (now (a .seconds)) (a .count) (a .base) (now (a .nets)) (l .nets) (l .i) (l .inv)
+    (t .loop-test .taken)
     (s .pre .0 .room)
     (k .6 .result)
     (k .6 .ensures)))
     (λ k.
     turned _ (k .1)
-    (again-kept (now (a .kinds)) (now (a .firsts)) (now (a .seconds)) (a .count) (a .base) (now (a .nets)) (l .nets) (l .i) (l .inv) (t .loop-test .taken)
+    (again-kept (now (a .kinds)) (now (a .firsts)) (now (a .seconds)) (a .count) (a .base) (now (a .nets)) (l .nets) (l .i) (l .inv)
+    (t .loop-test .taken)
     (s .pre .0 .room)
     (now (a .marks))
     (s .pre .1 .1)

@@ -5,7 +5,7 @@ use lib.ListN.{getD}
 use mathlib.Core.Path.{_≡_, _∙_, sym}
 use native.Mathlib.Omega.{arith}
 use Prim.Native.Nat.{max}
-use Rattle.records.specs.Gate.{arity, gateOf}
+use Rattle.records.specs.Gate.{gateOf}
 use Rattle.records.specs.Netlist.{markOf}
 use Rattle.records.proofs.Laws.Gate.{arity-low, arity-one, arity-two, arity-high}
 use Rattle.records.proofs.Laws.Netlist.{markOf-none, markOf-one, markOf-two}

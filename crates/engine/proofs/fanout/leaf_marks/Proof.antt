@@ -1,6 +1,6 @@
 -- `engine::fanout::leaf_marks` meets its contract. The invariant: the first i marks are those of the leaves. Assumes nothing.
-use Prim.Native.Nat.{_+_, _-_, _≤_, _<_}
-use mathlib.Core.Path.{_≡_, refl, _∙_, ap}
+use Prim.Native.Nat.{_+_, _-_, _≤_}
+use mathlib.Core.Path.{_≡_, refl, _∙_}
 use mathlib.Core.Logic.{⊎-elim}
 use native.Mathlib.Omega.{arith}
 use lib.ListN.{length, getD, take, length-set}
@@ -56,7 +56,8 @@ returns c =
     let a = c .before .before .args in
     let l = c .before .loop in
     let e : a .inputs + a .targets ≡ l .i = omega arith in
-    rw e (l .inv .2 ∙ take-all (l .i) (leafMarks (a .inputs) (a .targets)) (omega (arith, length-leafMarks (a .inputs) (a .targets))))
+    let n = length-leafMarks (a .inputs) (a .targets) in
+    rw e (l .inv .2 ∙ take-all (l .i) (leafMarks (a .inputs) (a .targets)) (omega arith))
 
 pub leaf-marks-spec : {M : Type 1} → statement M
 leaf-marks-spec =

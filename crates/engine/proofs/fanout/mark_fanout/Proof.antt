@@ -1,11 +1,9 @@
 -- `engine::fanout::mark_fanout` meets its contract. The invariant: the marks so far, extended by the gates from i on, are the
 -- fanout, and those gates are good, so that gate i's operands have their marks. Assumes nothing.
 use Prim.Native.Nat.{_+_, _-_, _≤_}
-use mathlib.Core.Path.{_≡_}
-use borrow.Author.Needs.{needs}
 use native.Mathlib.Omega.{arith}
 use denote.Ref.{now}
-use lib.ListN.{length, getD}
+use lib.ListN.{getD}
 use Rattle.records.specs.Service.{gatesFrom}
 use Rattle.records.proofs.Laws.Gate.{slots-le}
 use Rattle.engine.proofs.Laws.EvalWords.{gates-both}
@@ -28,7 +26,8 @@ add-base c = omega arith
 
 loop-holds : tie.Need-loop-holds Inv-loop μ-loop
 loop-holds c =
-    marking-none _ _ _ _ _ (c .before .before .before .before .before .before .before .before .pre .good) (c .before .before .leaf-marks .ensures)
+    marking-none _ _ _ _ _ (c .before .before .before .before .before .before .before .before .pre .good)
+    (c .before .before .leaf-marks .ensures)
 
 mul-a : tie.Need-mul-a Inv-loop μ-loop
 mul-a c = omega arith
@@ -52,14 +51,16 @@ shared-slice-read-gate-mark : tie.Need-shared-slice-read-gate-mark Inv-loop μ-l
 shared-slice-read-gate-mark c = omega arith
 
 -- gate i's operands stand at or below its net
-slots : (c : tie.In-loop Inv-loop μ-loop) → let a = c .before .before .before .before .before .before .before .before .before .before .args in
+slots : (c : tie.In-loop Inv-loop μ-loop) →
+    let a = c .before .before .before .before .before .before .before .before .before .before .args in
     let net = a .inputs + a .targets + c .before .loop .i in
     (getD (now (a .firsts)) (c .before .loop .i) 0 ≤ net) × (getD (now (a .seconds)) (c .before .loop .i) 0 ≤ net)
 slots c =
     let a = c .before .before .before .before .before .before .before .before .before .before .args in
     let l = c .before .loop in
     slots-le (a .inputs + a .targets + l .i) _ _ _
-    (gates-both (now (a .kinds)) (now (a .firsts)) (now (a .seconds)) (a .count) (a .inputs + a .targets) (l .i) (c .loop-test .taken) (l .inv .good) .0)
+    (gates-both (now (a .kinds)) (now (a .firsts)) (now (a .seconds)) (a .count) (a .inputs + a .targets) (l .i) (c .loop-test .taken)
+    (l .inv .good) .0)
 
 gate-mark-requires : tie.Need-gate-mark-requires Inv-loop μ-loop
 gate-mark-requires c κs = let q = slots (c .before .before .before .before) in omega arith
@@ -81,7 +82,8 @@ loop-again c =
     let t = c .before .before .before .before .before in
     let a = t .before .before .before .before .before .before .before .before .before .before .args in
     let l = t .before .loop in
-    marking-next (now (a .kinds)) (now (a .firsts)) (now (a .seconds)) (a .count) (a .inputs) (a .targets) _ (l .marks) (l .i) (l .inv)
+    marking-next (now (a .kinds)) (now (a .firsts)) (now (a .seconds)) (a .count) (a .inputs) (a .targets) _ (l .marks) (l .i)
+    (l .inv)
     (omega arith)
     (t .loop-test .taken)
     (c .gate-mark .result)

@@ -1,11 +1,8 @@
 -- `engine::rectify::rectify_masks` meets its contract. The invariant: the masks of the first v vectors stand, and the nets'
 -- words are the block's at some vectors. Assumes nothing.
-use Prim.Native.Nat.{_+_, _-_, _*_, _%_, _^_, _≤_}
+use Prim.Native.Nat.{_-_, _*_, _%_, _^_, _≤_}
 use mathlib.Core.Path.{_≡_}
-use borrow.Author.Needs.{needs}
 use native.Mathlib.Omega.{arith}
-use denote.Ref.{now}
-use lib.ListN.{length}
 use Rattle.records.specs.Service.{gatesFrom}
 use Rattle.engine.proofs.Laws.Rectify.{Masking, vector-count, masking-none, masking-next, masking-all}
 use Rattle.engine.proofs.rectify.rectify_masks.Statement.{statement}
@@ -16,7 +13,8 @@ Inv-loop kinds firsts seconds gates outputs marks golden goldens count inputs ta
     Masking (gatesFrom gates kinds firsts seconds) outputs golden goldens count inputs targets nets₀ nets masks₀ masks v
 
 abbrev μ-loop : tie.MeasureT-loop
-μ-loop kinds firsts seconds gates outputs marks golden goldens count inputs targets nets₀ masks₀ vectors v₀ nets masks v = vectors - v
+μ-loop kinds firsts seconds gates outputs marks golden goldens count inputs targets nets₀ masks₀ vectors v₀ nets masks v =
+    vectors - v
 
 shl-vectors : tie.Need-shl-vectors Inv-loop μ-loop
 shl-vectors c = omega arith
@@ -25,7 +23,8 @@ loop-holds : tie.Need-loop-holds Inv-loop μ-loop
 loop-holds c = masking-none _ _ _ _ _ _ _ _ _
 
 -- how many vectors there are
-size : (c : tie.At-loop Inv-loop μ-loop) → let m = c .before .before .before .before .before .before .before .before .before .before .args .targets in
+size : (c : tie.At-loop Inv-loop μ-loop) →
+    let m = c .before .before .before .before .before .before .before .before .before .before .args .targets in
     (1 * 2 ^ m % 2 ^ 64 ≡ 2 ^ m) × (2 ^ m ≤ 16)
 size c =
     let s = c .before .before .before .before .before .before .before .before .before .before in
@@ -67,7 +66,9 @@ loop-again c =
     let t = c .before .before .before .before in
     let l = t .before .loop in
     let z = size (t .before) in
-    masking-next _ _ _ _ _ _ _ _ _ (l .nets) (l .masks) (l .v) (l .inv) (c .before .before .vector-word .result) _ (omega arith) (omega arith)
+    masking-next _ _ _ _ _ _ _ _ _ (l .nets) (l .masks) (l .v) (l .inv) (c .before .before .vector-word .result) _
+    (omega arith)
+    (omega arith)
     (omega arith)
     (c .before .before .vector-word .ensures)
 

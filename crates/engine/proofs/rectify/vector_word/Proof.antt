@@ -29,12 +29,16 @@ eval-fanout-requires c κs =
         room = omega arith;
         good = p .0 .good;
       },
-      (omega (arith, length-gates (a .gates) (now (a .kinds)) (now (a .firsts)) (now (a .seconds)), m .room), unmarked-of-held _ _ _ _ _ (p .1 .1 .0 .held) _ _ _ m l),
+      (
+        omega (arith, length-gates (a .gates) (now (a .kinds)) (now (a .firsts)) (now (a .seconds)), m .room),
+        unmarked-of-held _ _ _ _ _ (p .1 .1 .0 .held) _ _ _ m l,
+      ),
     )
 
 differ-word-requires : tie.Need-differ-word-requires
 differ-word-requires c κs =
-    let s = c .before .before .before .before .before .before .before .before .before .before .before .before .before .before .before .before .before in
+    let u = c .before .before .before .before .before .before .before .before in
+    let s = u .before .before .before .before .before .before .before .before .before in
     let p = s .pre .1 in
     (outputs-more _ _ _ _ (omega arith) (p .1 .1 .1 .0), p .1 .1 .1 .1)
 
@@ -43,13 +47,19 @@ same-length c = search needs
 
 returns : tie.Need-returns
 returns c b held =
-    let s = c .before .before .before .before .before .before .before .before .before .before .before .before .before .before .before .before .before .before in
+    let u = c .before .before .before .before .before .before .before .before .before in
+    let s = u .before .before .before .before .before .before .before .before .before in
     let a = s .args in
     let w =
-    revalued _ _ _ b _ held (λ j. a .v) _ _ (c .before .before .before .before .before .before .before .before .load-targets .ensures) (c .before .before .before .before .eval-fanout .ensures) in
+    revalued _ _ _ b _ held (λ j. a .v) _ _
+    (c .before .before .before .before .before .before .before .before .load-targets .ensures)
+    (c .before .before .before .before .eval-fanout .ensures) in
     record {
       mask =
-          rectifies-word _ _ _ _ _ _ _ b (a .v) (c .differ-word .result) (a .gates) _ _ (length-gates (a .gates) _ _ _) (omega arith) w (s .pre .1 .1 .1 .1 .0) (c .differ-word .ensures);
+          rectifies-word _ _ _ _ _ _ _ b (a .v) (c .differ-word .result) (a .gates) _ _ (length-gates (a .gates) _ _ _)
+          (omega arith)
+          w
+          (s .pre .1 .1 .1 .1 .0) (c .differ-word .ensures);
       nets = w;
     }
 

@@ -5,7 +5,7 @@ use Prim.Native.Nat.{_+_, _-_, _≤_}
 use borrow.Author.Needs.{needs}
 use native.Mathlib.Omega.{arith}
 use denote.Ref.{now}
-use lib.ListN.{length, getD}
+use lib.ListN.{getD}
 use Rattle.records.specs.Service.{gatesFrom}
 use Rattle.records.proofs.Laws.Gate.{slots-le}
 use Rattle.engine.proofs.Laws.EvalWords.{Evaluating, evaluating-none, gates-here, evaluating-gate, evaluating-all}
@@ -13,7 +13,8 @@ use Rattle.engine.proofs.word.eval_words.Statement.{statement}
 use Rattle.engine.proofs.word.eval_words.Tie as tie
 
 abbrev Inv-loop : tie.InvT-loop
-Inv-loop kinds firsts seconds count base nets₀ i₀ nets i = Evaluating (gatesFrom count kinds firsts seconds) count base nets₀ nets i
+Inv-loop kinds firsts seconds count base nets₀ i₀ nets i =
+    Evaluating (gatesFrom count kinds firsts seconds) count base nets₀ nets i
 
 abbrev μ-loop : tie.MeasureT-loop
 μ-loop kinds firsts seconds count base nets₀ i₀ nets i = count - i
