@@ -14,6 +14,7 @@ pub mod Rectify
 pub mod Search
 pub mod Stream
 pub mod Support
+pub mod Survey
 pub mod Ternary
 pub mod VectorSets
 pub mod Verdict

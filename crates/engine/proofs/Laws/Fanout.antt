@@ -22,7 +22,7 @@ use Rattle.engine.specs.Inner.{Loaded, Evaluated, Unmarked, BlockValues,
 use Rattle.engine.specs.Walk.{FanoutMarks}
 use Rattle.engine.proofs.Laws.Eval.{bit-lt, bits-map, values-agree}
 use Rattle.engine.proofs.Laws.EvalWords.{map-take, extended-step, known-net, gates-both, Evaluating, evaluating-none, evaluating-next, evaluating-gate, target-values}
-use Rattle.engine.proofs.Laws.Walk.{bit-numberOf}
+use Rattle.engine.proofs.Laws.VectorSets.{bit-numberOf}
 
 -- ---- marks
 
