@@ -9,6 +9,7 @@ pub mod Loop
 pub mod Masks
 pub mod Outputs
 pub mod Partial
+pub mod Read
 pub mod Ready
 pub mod Rectify
 pub mod Search

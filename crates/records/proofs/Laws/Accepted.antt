@@ -274,7 +274,7 @@ sideHeld-filled p l =
     (column-room (slotOf 1) (gateOf 0 0 0) (p .seconds) (l .gates)))
     (le-leb _ _ (length-placed-front (p .outputs) (l .outputs)))
 
-held-filled : (p : Places) (j : Job) → held (countsOf j) (filled p j) ≡ true
+pub held-filled : (p : Places) (j : Job) → held (countsOf j) (filled p j) ≡ true
 unfolding held countsOf filled
 held-filled p j =
     let none : Candidate = record { net = 0; weight = 0 } in
@@ -307,16 +307,16 @@ countsOf-jobFrom c p h =
 
 -- ---- read, then write; write, then read
 
-two-jobOf : (s : List ℕ) → TwoEach (jobOf s)
+pub two-jobOf : (s : List ℕ) → TwoEach (jobOf s)
 unfolding jobOf netlistOf gatesOf gateAt gateOf
 two-jobOf s = record { old = all-tabulate Two _ (λ i. refl) _; golden = all-tabulate Two _ (λ i. refl) _ }
 
 module _ (p : Places) (s : List ℕ) (e : readNumber p s ≡ 0) where
-  read-counts : readReply p s .counts ≡ countsOf (jobOf s)
+  pub read-counts : readReply p s .counts ≡ countsOf (jobOf s)
   unfolding readReply
   read-counts = rw (eq-eqb (readNumber p s) 0 e)
 
-  read-places : readPlaces p s ≡ filled p (jobOf s)
+  pub read-places : readPlaces p s ≡ filled p (jobOf s)
   unfolding readPlaces
   read-places = rw (eq-eqb (readNumber p s) 0 e)
 
