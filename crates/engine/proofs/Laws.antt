@@ -6,6 +6,7 @@ pub mod Eval
 pub mod EvalWords
 pub mod Loop
 pub mod Outputs
+pub mod Picked
 pub mod Rectify
 pub mod Support
 pub mod Ternary

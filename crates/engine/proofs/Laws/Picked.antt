@@ -1,0 +1,230 @@
+-- Laws of sets of candidates as numbers: the picked lists are the subsets, the reading of picked nets is the narrowed reading of
+-- all, and readings agree on a set where they are narrowed to the same. Assumes nothing.
+use Prim.Native.Nat.{ℕ, zero, suc, _+_, _-_, _*_, _/_, _%_, _^_, _≤_, _<_}
+use mathlib.Core.Path.{_≡_, refl, sym, _∙_, ap, subst}
+use mathlib.Core.Logic.{_↔_, _⊎_, inl, inr, ⊎-elim}
+use mathlib.Core.List.{List, [], _∷_, _++_, map, List·Memᴰ as Mem, List·Memᴰ·head as here, List·Memᴰ·append-cases as append-cases, List·Memᴰ·eq-of-singleton as eq-of-singleton, Memᴰ·append-left as mem-append-left, Memᴰ·append-right as mem-append-right, Memᴰ·map as mem-map, Memᴰ·of-map as mem-of-map}
+use native.Mathlib.Nat.{pow-suc, div-one}
+use native.Mathlib.Omega.{arith}
+use lib.Bits.{bitAnd, and-step}
+use lib.Pow.{pow-pos, shr-shr}
+use lib.ListN.{length, length-map}
+use Rattle.records.specs.Bytes.{upFrom, tabulate}
+use Rattle.records.specs.Netlist.{netAt}
+use Rattle.records.specs.Job.{Job}
+use Rattle.engine.specs.Eval.{bit, bits, numberOf, oldValues}
+use Rattle.engine.specs.Support.{reading, subsets}
+use Rattle.engine.specs.Sets.{picked, narrow}
+use Rattle.engine.proofs.Laws.Choice.{map-agree}
+use Rattle.engine.proofs.Laws.Eval.{Bits, bits-nil, bits-cons, bits-map, netAt-lt, oldValues-bits}
+
+-- ---- bits
+
+pub bit-first : (x : ℕ) → bit 0 x ≡ x % 2
+unfolding bit
+bit-first x = ap (λ (y : ℕ). y % 2) (div-one x)
+
+pub bit-suc : (i x : ℕ) → bit (suc i) x ≡ bit i (x / 2)
+unfolding bit
+bit-suc i x =
+    let e : 1 + i ≡ suc i = omega arith in
+    ap (λ (y : ℕ). y % 2) (sym (rw e at (shr-shr x 1 i)))
+
+map-upFrom : (f : ℕ → ℕ) (a n : ℕ) → map f (upFrom (suc a) n) ≡ map (λ i. f (suc i)) (upFrom a n)
+unfolding upFrom
+map-upFrom f a zero = refl
+map-upFrom f a (suc n) = ap (λ (l : List ℕ). f (suc a) ∷ l) (map-upFrom f (suc a) n)
+
+pub bits-suc : (k x : ℕ) → bits (suc k) x ≡ x % 2 ∷ bits k (x / 2)
+unfolding bits tabulate upFrom
+bits-suc k x =
+    let p : map (λ i. bit i x) (upFrom 1 k) ≡ map (λ i. bit i (x / 2)) (upFrom 0 k) =
+    map-upFrom (λ i. bit i x) 0 k ∙ map-agree (λ i. bit (suc i) x) (λ i. bit i (x / 2)) (upFrom 0 k) (λ i m. bit-suc i x) in
+    let q : bit 0 x ≡ x % 2 = bit-first x in
+    cc
+
+-- the bits of a number made of bits
+pub bits-numberOf : {bs : List ℕ} → Bits bs → bits (length bs) (numberOf bs) ≡ bs
+unfolding bits tabulate upFrom numberOf
+bits-numberOf bits-nil = refl
+bits-numberOf (bits-cons {v} {vs} h b) =
+    let n = numberOf vs in
+    let p : (v + 2 * n) % 2 ≡ v = omega arith in
+    let q : (v + 2 * n) / 2 ≡ n = omega arith in
+    bits-suc (length vs) (v + 2 * n) ∙ rw (p, q, bits-numberOf b)
+
+-- ---- picked elements
+
+module _ {A : Type 0} (x : A) (xs : List A) (s : ℕ) where
+  pub picked-in : s % 2 ≡ 1 → picked (x ∷ xs) s ≡ x ∷ picked xs (s / 2)
+  unfolding picked
+  picked-in e = rw (bit-first s, e)
+
+  pub picked-out : s % 2 ≡ 0 → picked (x ∷ xs) s ≡ picked xs (s / 2)
+  unfolding picked
+  picked-out e = rw (bit-first s, e)
+
+-- a set has its first place, or not
+pub in-or-out : (s : ℕ) → (s % 2 ≡ 1) ⊎ (s % 2 ≡ 0)
+in-or-out s = go (s % 2) (omega arith)
+  where
+    go : (b : ℕ) → b < 2 → (b ≡ 1) ⊎ (b ≡ 0)
+    go zero h = inr refl
+    go (suc zero) h = inl refl
+    go (suc (suc b)) h = let f : ⊥ = omega arith in absurd f
+
+pub picked-map : {A B : Type 0} (f : A → B) (xs : List A) (s : ℕ) → map f (picked xs s) ≡ picked (map f xs) s
+unfolding picked
+picked-map f [] s = refl
+picked-map f (x ∷ xs) s =
+    ⊎-elim
+    (λ e. rw (picked-in x xs s e, picked-in (f x) (map f xs) s e, picked-map f xs (s / 2)))
+    (λ e. rw (picked-out x xs s e, picked-out (f x) (map f xs) s e, picked-map f xs (s / 2)))
+    (in-or-out s)
+
+pub length-picked-le : {A : Type 0} (xs : List A) (s : ℕ) → length (picked xs s) ≤ length xs
+unfolding picked
+length-picked-le [] s = omega arith
+length-picked-le (x ∷ xs) s =
+    let r = length-picked-le xs (s / 2) in
+    ⊎-elim (λ e. rw (picked-in x xs s e) (omega arith)) (λ e. rw (picked-out x xs s e) (omega arith)) (in-or-out s)
+
+-- a set of places that has all of them
+pub picked-all : {A : Type 0} (xs : List A) → picked xs (2 ^ length xs - 1) ≡ xs
+unfolding picked
+picked-all [] = refl
+picked-all (x ∷ xs) =
+    let p = pow-suc 2 (length xs) in
+    let q = pow-pos (length xs) in
+    let a : (2 ^ suc (length xs) - 1) % 2 ≡ 1 = omega arith in
+    let b : (2 ^ suc (length xs) - 1) / 2 ≡ 2 ^ length xs - 1 = omega arith in
+    picked-in x xs (2 ^ suc (length xs) - 1) a ∙ rw (b, picked-all xs)
+
+-- ---- the picked lists are the subsets
+
+pub picked-subset : (is : List ℕ) (s : ℕ) → Mem (picked is s) (subsets is)
+unfolding picked subsets
+picked-subset [] s = here refl
+picked-subset (i ∷ is) s =
+    ⊎-elim
+    (λ e.
+    rw (picked-in i is s e)
+    (mem-append-left (subsets is) (mem-map (λ (ks : List ℕ). i ∷ ks) (picked-subset is (s / 2)))))
+    (λ e. rw (picked-out i is s e) (mem-append-right (map (λ (ks : List ℕ). i ∷ ks) (subsets is)) (picked-subset is (s / 2))))
+    (in-or-out s)
+
+pub subset-picked : (is ks : List ℕ) → Mem ks (subsets is) → (s : ℕ) × (s < 2 ^ length is) × (ks ≡ picked is s)
+unfolding picked subsets
+subset-picked [] ks m = (0, omega arith, eq-of-singleton m)
+subset-picked (i ∷ is) ks m =
+    let p = pow-suc 2 (length is) in
+    ⊎-elim
+    (λ (a : Mem ks (map (λ (ls : List ℕ). i ∷ ls) (subsets is))).
+    let r = mem-of-map (λ (ls : List ℕ). i ∷ ls) (subsets is) a in
+    let t = subset-picked is (r .0) (r .1) in
+    let s : ℕ = t .0 in
+    let l : s < 2 ^ length is = t .1 in
+    let u : (1 + 2 * s) % 2 ≡ 1 = omega arith in
+    let w : (1 + 2 * s) / 2 ≡ s = omega arith in
+    (1 + 2 * s, omega arith, sym (r .2) ∙ ap (λ (ls : List ℕ). i ∷ ls) (t .2) ∙ sym (picked-in i is (1 + 2 * s) u ∙ rw w)))
+    (λ (a : Mem ks (subsets is)).
+    let t = subset-picked is ks a in
+    let s : ℕ = t .0 in
+    let l : s < 2 ^ length is = t .1 in
+    let u : (2 * s) % 2 ≡ 0 = omega arith in
+    let w : (2 * s) / 2 ≡ s = omega arith in
+    (2 * s, omega arith, t .2 ∙ sym (picked-out i is (2 * s) u ∙ rw w)))
+    (append-cases (map (λ (ls : List ℕ). i ∷ ls) (subsets is)) m)
+
+-- ---- narrowed readings
+
+module _ (k s r : ℕ) where
+  pub narrow-in : s % 2 ≡ 1 → narrow (suc k) s r ≡ r % 2 + 2 * narrow k (s / 2) (r / 2)
+  unfolding narrow numberOf
+  narrow-in e = rw (bits-suc k r, picked-in (r % 2) (bits k (r / 2)) s e)
+
+  pub narrow-out : s % 2 ≡ 0 → narrow (suc k) s r ≡ narrow k (s / 2) (r / 2)
+  unfolding narrow
+  narrow-out e = rw (bits-suc k r, picked-out (r % 2) (bits k (r / 2)) s e)
+
+pub narrow-none : (s r : ℕ) → narrow 0 s r ≡ 0
+unfolding narrow bits tabulate upFrom picked numberOf
+narrow-none s r = refl
+
+-- the reading of picked nets
+pub reading-picked : (j : Job) (is : List ℕ) (s x : ℕ) → reading j (picked is s) x ≡ narrow (length is) s (reading j is x)
+unfolding reading narrow
+reading-picked j is s x =
+    let f : ℕ → ℕ = netAt (oldValues j x 0) in
+    let b = bits-numberOf (bits-map f (netAt-lt (oldValues-bits j x 0)) is) in
+    ap numberOf (picked-map f is s) ∙ sym (ap (λ (l : List ℕ). numberOf (picked l s)) (rw (length-map is f) at b))
+
+half-lt : (k r : ℕ) → r < 2 ^ suc k → r / 2 < 2 ^ k
+half-lt k r h = let p = pow-suc 2 k in omega arith
+
+-- two readings agree on a set where they are narrowed to the same
+pub and-narrow : (k s r q : ℕ) → r < 2 ^ k → q < 2 ^ k → (bitAnd r s ≡ bitAnd q s) ↔ (narrow k s r ≡ narrow k s q)
+and-narrow zero s r q h l =
+    let e : r ≡ q = omega arith in
+    (λ _. ap (narrow 0 s) e, λ _. ap (λ (y : ℕ). bitAnd y s) e)
+and-narrow (suc k) s r q h l =
+    let t = and-narrow k (s / 2) (r / 2) (q / 2) (half-lt k r h) (half-lt k q l) in
+    let a = and-step r s in
+    let b = and-step q s in
+    let c = bitAnd (r / 2) (s / 2) in
+    let d = bitAnd (q / 2) (s / 2) in
+    ⊎-elim
+    (λ e. (
+      λ g.
+          let u : c ≡ d = omega arith in
+          let w : r % 2 ≡ q % 2 = omega arith in
+          let v : narrow k (s / 2) (r / 2) ≡ narrow k (s / 2) (q / 2) = t .0 u in
+          narrow-in k s r e ∙ omega arith ∙ sym (narrow-in k s q e),
+      λ g.
+          let n : r % 2 + 2 * narrow k (s / 2) (r / 2) ≡ q % 2 + 2 * narrow k (s / 2) (q / 2) =
+          sym (narrow-in k s r e) ∙ g ∙ narrow-in k s q e in
+          let u = t .1 (omega arith) in
+          let w : r % 2 ≡ q % 2 = omega arith in
+          omega arith,
+    ))
+    (λ e. (
+      λ g. let u : c ≡ d = omega arith in narrow-out k s r e ∙ t .0 u ∙ sym (narrow-out k s q e),
+      λ g. let u = t .1 (sym (narrow-out k s r e) ∙ g ∙ narrow-out k s q e) in omega arith,
+    ))
+    (in-or-out s)
+
+module _ {A : Type 0} where
+  pub narrow-lt : (xs : List A) (s r : ℕ) → narrow (length xs) s r < 2 ^ length (picked xs s)
+  unfolding picked
+  narrow-lt [] s r = rw (narrow-none s r) (omega arith)
+  narrow-lt (x ∷ xs) s r =
+      let h = narrow-lt xs (s / 2) (r / 2) in
+      ⊎-elim
+      (λ e. rw (picked-in x xs s e, narrow-in (length xs) s r e) (omega (arith, pow-suc 2 (length (picked xs (s / 2))))))
+      (λ e. rw (picked-out x xs s e, narrow-out (length xs) s r e) h)
+      (in-or-out s)
+
+  -- every reading of the picked is narrowed from one of all
+  pub narrow-onto : (xs : List A) (s q : ℕ) → q < 2 ^ length (picked xs s)
+      → (r : ℕ) × (r < 2 ^ length xs) × (narrow (length xs) s r ≡ q)
+  unfolding picked
+  narrow-onto [] s q h = (0, omega arith, let z = narrow-none s 0 in omega arith)
+  narrow-onto (x ∷ xs) s q h =
+      let p = pow-suc 2 (length xs) in
+      ⊎-elim
+      (λ e.
+      let l : q < 2 ^ suc (length (picked xs (s / 2))) = rw (picked-in x xs s e) at h in
+      let t = narrow-onto xs (s / 2) (q / 2) (half-lt (length (picked xs (s / 2))) q l) in
+      let r : ℕ = t .0 in
+      let b : r < 2 ^ length xs = t .1 in
+      let u : (q % 2 + 2 * r) / 2 ≡ r = omega arith in
+      let w : (q % 2 + 2 * r) % 2 ≡ q % 2 = omega arith in
+      let n : narrow (length xs) (s / 2) ((q % 2 + 2 * r) / 2) ≡ q / 2 = rw u (t .2) in
+      (q % 2 + 2 * r, omega arith, narrow-in (length xs) s (q % 2 + 2 * r) e ∙ omega arith))
+      (λ e.
+      let t = narrow-onto xs (s / 2) q (rw (picked-out x xs s e) at h) in
+      let r : ℕ = t .0 in
+      let b : r < 2 ^ length xs = t .1 in
+      let u : (2 * r) / 2 ≡ r = omega arith in
+      (2 * r, omega arith, narrow-out (length xs) s (2 * r) e ∙ rw u (t .2)))
+      (in-or-out s)
