@@ -8,6 +8,7 @@ pub mod Loop
 pub mod Outputs
 pub mod Picked
 pub mod Rectify
+pub mod Sets
 pub mod Support
 pub mod Ternary
 pub mod Verdict

@@ -5,15 +5,21 @@
 --   narrow k s r           of the reading r of k candidates, the reading of those in the set s
 --   RectifiesAll j is r v  vector v rectifies every input that gives reading r of the nets is
 --   ReadingSets j ss       the set of reading r of all candidates holds the vectors that rectify every input giving r
+--   SetsFor j k ss         .. for a job with k candidates, whose vectors all fit a set
+--   Projected ss n s ps    place q of ps holds the vectors that are in the set of each reading below n whose part in s is q
+--   HoldsSome t            the set of vectors t has one
+--   FirstEmpty ss n r      r is the least place below n whose set is empty, or n
 --   ChosenOf j c           the chosen support of job j, its cost, and its set of candidates
-use Prim.Native.Nat.{ℕ, _/_, _^_, _<_}
+use Prim.Native.Nat.{ℕ, _/_, _^_, _≤_, _<_}
 use mathlib.Core.Path.{_≡_}
 use mathlib.Core.Logic.{_↔_}
 use mathlib.Core.List.{List, [], _∷_}
 use mathlib.Core.Bool.{true, cond}
+use lib.Bits.{bitAnd}
 use lib.Dec.{eqb}
 use lib.ListN.{length, getD, take}
 use Rattle.records.specs.Job.{Job}
+use Rattle.records.specs.Refusal.{maxTargets}
 use Rattle.engine.specs.Eval.{bit, bits, numberOf}
 use Rattle.engine.specs.Rectify.{rectifies}
 use Rattle.engine.specs.Support.{reading, candidateNets, cost, chosen}
@@ -34,6 +40,28 @@ pub record ReadingSets (j : Job) (ss : List ℕ) : Type 0 where
   pub long : length ss ≡ maxReadings
   pub sets : (r v : ℕ) → r < 2 ^ length (candidateNets j) → v < maxVectors
       → (bit v (getD ss r 0) ≡ 1) ↔ ((v < 2 ^ j .targets) × RectifiesAll j (candidateNets j) r v)
+
+pub record SetsFor (j : Job) (k : ℕ) (ss : List ℕ) : Type 0 where
+  pub candidates : length (candidateNets j) ≡ k
+  pub targets : j .targets ≤ maxTargets
+  pub sets : ReadingSets j ss
+
+-- ---- sets of a part of the candidates
+
+pub record Projected (ss : List ℕ) (count keep : ℕ) (ps : List ℕ) : Type 0 where
+  pub below : (q : ℕ) → getD ps q 0 < 2 ^ maxVectors
+  pub sets : (q v : ℕ) → q < maxReadings → v < maxVectors
+      → (bit v (getD ps q 0) ≡ 1) ↔ ((r : ℕ) → r < count → bitAnd r keep ≡ q → bit v (getD ss r 0) ≡ 1)
+
+abbrev pub HoldsSome : ℕ → Type 0
+HoldsSome t = (v : ℕ) × (v < maxVectors) × (bit v t ≡ 1)
+
+pub record FirstEmpty (ss : List ℕ) (count r : ℕ) : Type 0 where
+  pub most : r ≤ count
+  pub empty : r < count → getD ss r 0 ≡ 0
+  pub filled : (q : ℕ) → q < r → HoldsSome (getD ss q 0)
+
+-- ---- the choice
 
 pub record ChosenOf (j : Job) (c : Chosen) : Type 0 where
   pub set : c .set < 2 ^ length (candidateNets j)
