@@ -9,20 +9,27 @@
 --   Projected ss n s ps    place q of ps holds the vectors that are in the set of each reading below n whose part in s is q
 --   HoldsSome t            the set of vectors t has one
 --   FirstEmpty ss n r      r is the least place below n whose set is empty, or n
+--   PickedNets is s r      the support r has the nets of is whose places are in s
+--   total xs               the sum of xs
+--   betterBy c is d ks     a support is of cost c is chosen before ks of cost d (specs/Support, better)
+--   Built k is ws c        c is what its set picks of the first k of the nets is, at the weights ws
+--   Choosable ..           the job whose candidates and sets of vectors stand in places has a sound support
 --   ChosenOf j c           the chosen support of job j, its cost, and its set of candidates
-use Prim.Native.Nat.{ℕ, _/_, _^_, _≤_, _<_}
+use Prim.Native.Nat.{ℕ, _+_, _/_, _^_, _≤_, _<_}
 use mathlib.Core.Path.{_≡_}
 use mathlib.Core.Logic.{_↔_}
 use mathlib.Core.List.{List, [], _∷_}
-use mathlib.Core.Bool.{true, cond}
+use mathlib.Core.Bool.{Bool, true, cond, _&&_, _||_}
 use lib.Bits.{bitAnd}
-use lib.Dec.{eqb}
+use lib.Dec.{ltb, eqb}
 use lib.ListN.{length, getD, take}
 use Rattle.records.specs.Job.{Job}
-use Rattle.records.specs.Refusal.{maxTargets}
+use Rattle.records.specs.Refusal.{maxTargets, ascending}
+use Rattle.records.specs.Service.{candidatesFrom}
+use Rattle.records.specs.declared.sheet.Support.{Support}
 use Rattle.engine.specs.Eval.{bit, bits, numberOf}
 use Rattle.engine.specs.Rectify.{rectifies}
-use Rattle.engine.specs.Support.{reading, candidateNets, cost, chosen}
+use Rattle.engine.specs.Support.{reading, sound, candidateNets, cost, earlier, chosen}
 use Rattle.engine.specs.Walk.{maxVectors, maxReadings}
 use Rattle.engine.specs.declared.choose.Chosen.{Chosen}
 
@@ -62,6 +69,29 @@ pub record FirstEmpty (ss : List ℕ) (count r : ℕ) : Type 0 where
   pub filled : (q : ℕ) → q < r → HoldsSome (getD ss q 0)
 
 -- ---- the choice
+
+pub record PickedNets (is : List ℕ) (s : ℕ) (r : Support) : Type 0 where
+  pub len : r .len ≡ length (picked is s)
+  pub nets : take (r .len) (r .nets) ≡ picked is s
+
+unfoldable pub total : List ℕ → ℕ
+total [] = 0
+total (x ∷ xs) = x + total xs
+
+unfoldable pub betterBy : ℕ → List ℕ → ℕ → List ℕ → Bool
+betterBy c is d ks = ltb c d || (eqb c d && (ltb (length is) (length ks) || (eqb (length is) (length ks) && earlier is ks)))
+
+pub record Built (k : ℕ) (is ws : List ℕ) (c : Chosen) : Type 0 where
+  pub set : c .set < 2 ^ k
+  pub support : PickedNets (take k is) (c .set) (c .support)
+  pub cost : c .cost ≡ total (picked (take k ws) (c .set))
+
+pub record Choosable (j : Job) (k : ℕ) (is ws ss : List ℕ) : Type 0 where
+  pub candidates : j .candidates ≡ candidatesFrom k is ws
+  pub ascends : ascending (candidateNets j) ≡ true
+  pub targets : j .targets ≤ maxTargets
+  pub sets : ReadingSets j ss
+  pub sound : sound j (candidateNets j) ≡ true
 
 pub record ChosenOf (j : Job) (c : Chosen) : Type 0 where
   pub set : c .set < 2 ^ length (candidateNets j)

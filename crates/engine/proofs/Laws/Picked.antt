@@ -3,20 +3,27 @@
 use Prim.Native.Nat.{ℕ, zero, suc, _+_, _-_, _*_, _/_, _%_, _^_, _≤_, _<_}
 use mathlib.Core.Path.{_≡_, refl, sym, _∙_, ap, subst}
 use mathlib.Core.Logic.{_↔_, _⊎_, inl, inr, ⊎-elim}
+use mathlib.Core.Bool.{Bool, true, false, _&&_, _||_}
 use mathlib.Core.List.{List, [], _∷_, _++_, map, List·Memᴰ as Mem, List·Memᴰ·head as here, List·Memᴰ·append-cases as append-cases, List·Memᴰ·eq-of-singleton as eq-of-singleton, Memᴰ·append-left as mem-append-left, Memᴰ·append-right as mem-append-right, Memᴰ·map as mem-map, Memᴰ·of-map as mem-of-map}
 use native.Mathlib.Nat.{pow-suc, div-one}
+use native.Mathlib.Numerals.{add-one}
 use native.Mathlib.Omega.{arith}
+use borrow.Author.Tests.{ltb-true, eqb-true, lt-ltb, eq-eqb}
 use lib.Bits.{bitAnd, and-step}
 use lib.Pow.{pow-pos, shr-shr}
-use lib.ListN.{length, length-map}
+use lib.Dec.{ltb, eqb}
+use lib.ListN.{length, getD, take, drop, set, length-append, length-map, length-take, drop-of-length-le}
+use lib.Seq.{length-take-le, take-suc, take-suc-set, drop-cons, getD-take}
 use Rattle.records.specs.Bytes.{upFrom, tabulate}
 use Rattle.records.specs.Netlist.{netAt}
 use Rattle.records.specs.Job.{Job}
+use Rattle.records.proofs.Laws.Bytes.{false-of}
 use Rattle.engine.specs.Eval.{bit, bits, numberOf, oldValues}
-use Rattle.engine.specs.Support.{reading, subsets}
-use Rattle.engine.specs.Sets.{picked, narrow}
+use Rattle.engine.specs.Support.{reading, subsets, earlier}
+use Rattle.engine.specs.Sets.{picked, narrow, total}
 use Rattle.engine.proofs.Laws.Choice.{map-agree}
 use Rattle.engine.proofs.Laws.Eval.{Bits, bits-nil, bits-cons, bits-map, netAt-lt, oldValues-bits}
+use Rattle.engine.proofs.Laws.Word.{bit-shift}
 
 -- ---- bits
 
@@ -228,3 +235,91 @@ module _ {A : Type 0} where
       let u : (2 * r) / 2 ≡ r = omega arith in
       (2 * r, omega arith, narrow-out (length xs) s (2 * r) e ∙ rw u (t .2)))
       (in-or-out s)
+
+-- ---- picking place by place
+
+total-snoc : (xs : List ℕ) (x : ℕ) → total (xs ++ (x ∷ [])) ≡ total xs + x
+unfolding total
+total-snoc [] x = omega arith
+total-snoc (y ∷ ys) x = omega (arith, total-snoc ys x)
+
+module _ {A : Type 0} where
+  picked-snoc-in : (xs : List A) (x : A) (s : ℕ) → bit (length xs) s ≡ 1 → picked (xs ++ (x ∷ [])) s ≡ picked xs s ++ (x ∷ [])
+  unfolding picked
+  picked-snoc-in [] x s e = picked-in x [] s (sym (bit-first s) ∙ e)
+  picked-snoc-in (y ∷ xs) x s e =
+      let r = picked-snoc-in xs x (s / 2) (sym (bit-suc (length xs) s) ∙ e) in
+      ⊎-elim
+      (λ i. picked-in y (xs ++ (x ∷ [])) s i ∙ rw (r, picked-in y xs s i))
+      (λ i. picked-out y (xs ++ (x ∷ [])) s i ∙ rw (r, picked-out y xs s i))
+      (in-or-out s)
+
+  picked-snoc-out : (xs : List A) (x : A) (s : ℕ) → bit (length xs) s ≡ 0 → picked (xs ++ (x ∷ [])) s ≡ picked xs s
+  unfolding picked
+  picked-snoc-out [] x s e = picked-out x [] s (sym (bit-first s) ∙ e)
+  picked-snoc-out (y ∷ xs) x s e =
+      let r = picked-snoc-out xs x (s / 2) (sym (bit-suc (length xs) s) ∙ e) in
+      ⊎-elim
+      (λ i. picked-in y (xs ++ (x ∷ [])) s i ∙ rw (r, picked-in y xs s i))
+      (λ i. picked-out y (xs ++ (x ∷ [])) s i ∙ rw (r, picked-out y xs s i))
+      (in-or-out s)
+
+module _ (xs : List ℕ) (s i : ℕ) (h : i < length xs) where
+  front : length (take i xs) ≡ i
+  front = length-take-le i xs (omega arith)
+
+  pub picked-take-in : bit i s ≡ 1 → picked (take (i + 1) xs) s ≡ picked (take i xs) s ++ (getD xs i 0 ∷ [])
+  picked-take-in e = rw (add-one i, take-suc xs i 0 h) (picked-snoc-in (take i xs) (getD xs i 0) s (rw front e))
+
+  pub picked-take-out : (bit i s ≡ 1 → ⊥) → picked (take (i + 1) xs) s ≡ picked (take i xs) s
+  picked-take-out e =
+      let z : bit i s ≡ 0 = ⊎-elim (λ o. absurd (e (sym (bit-shift i s) ∙ bit-first (s / 2 ^ i) ∙ o))) (λ o. sym (bit-shift i s) ∙ bit-first (s / 2 ^ i) ∙ o) (in-or-out (s / 2 ^ i)) in
+      rw (add-one i, take-suc xs i 0 h) (picked-snoc-out (take i xs) (getD xs i 0) s (rw front z))
+
+  pub length-picked-in : bit i s ≡ 1 → length (picked (take (i + 1) xs) s) ≡ length (picked (take i xs) s) + 1
+  length-picked-in e = rw (picked-take-in e) (length-append (picked (take i xs) s) (getD xs i 0 ∷ []))
+
+  pub total-picked-in : bit i s ≡ 1 → total (picked (take (i + 1) xs) s) ≡ total (picked (take i xs) s) + getD xs i 0
+  total-picked-in e = rw (picked-take-in e) (total-snoc (picked (take i xs) s) (getD xs i 0))
+
+-- the nets picked so far, and the next one
+module _ (xs ps : List ℕ) (s i len : ℕ) (h : i < length xs) (n : len ≡ length (picked (take i xs) s)) (room : len < length ps)
+    (e : take len ps ≡ picked (take i xs) s) where
+  pub picks-in : bit i s ≡ 1 → take (len + 1) (set ps len (getD xs i 0)) ≡ picked (take (i + 1) xs) s
+  picks-in b = rw (add-one len) (take-suc-set ps len (getD xs i 0) room ∙ rw (e, picked-take-in xs s i h b))
+
+-- ---- lists compared place by place
+
+module _ (a b : List ℕ) (len i : ℕ) (la : len ≤ length a) (lb : len ≤ length b) (h : i < len) where
+  left : (xs : List ℕ) → len ≤ length xs → drop i (take len xs) ≡ getD xs i 0 ∷ drop (i + 1) (take len xs)
+  left xs l =
+      let n = length-take-le len xs l in
+      rw (add-one i, ← getD-take len xs i 0 h) (drop-cons (take len xs) i 0 (omega arith))
+
+  earlier-step : earlier (drop i (take len a)) (drop i (take len b))
+      ≡ (ltb (getD a i 0) (getD b i 0)
+      || (eqb (getD a i 0) (getD b i 0) && earlier (drop (i + 1) (take len a)) (drop (i + 1) (take len b))))
+  unfolding earlier
+  earlier-step = rw (left a la, left b lb)
+
+  pub earlier-here : getD a i 0 < getD b i 0 → earlier (drop i (take len a)) (drop i (take len b)) ≡ true
+  earlier-here l = earlier-step ∙ rw (lt-ltb (getD a i 0) (getD b i 0) l)
+
+  pub earlier-not : getD b i 0 < getD a i 0 → earlier (drop i (take len a)) (drop i (take len b)) ≡ false
+  earlier-not l =
+      let p : ltb (getD a i 0) (getD b i 0) ≡ false = false-of _ (λ e. let f : ⊥ = omega (arith, ltb-true (getD a i 0) (getD b i 0) e) in f) in
+      let q : eqb (getD a i 0) (getD b i 0) ≡ false = false-of _ (λ e. let f : ⊥ = omega (arith, eqb-true (getD a i 0) (getD b i 0) e) in f) in
+      earlier-step ∙ rw (p, q)
+
+  pub earlier-next : getD a i 0 ≡ getD b i 0
+      → earlier (drop i (take len a)) (drop i (take len b)) ≡ earlier (drop (i + 1) (take len a)) (drop (i + 1) (take len b))
+  earlier-next e =
+      let p : ltb (getD a i 0) (getD b i 0) ≡ false = false-of _ (λ l. let f : ⊥ = omega (arith, ltb-true (getD a i 0) (getD b i 0) l) in f) in
+      let q : eqb (getD a i 0) (getD b i 0) ≡ true = eq-eqb _ _ e in
+      earlier-step ∙ rw (p, q)
+
+pub earlier-end : (a : List ℕ) (len i : ℕ) (ks : List ℕ) → len ≤ i → earlier (drop i (take len a)) ks ≡ false
+unfolding earlier
+earlier-end a len i ks h =
+    let l : length (take len a) ≤ i = omega (arith, length-take len a) in
+    rw (drop-of-length-le (take len a) l)
