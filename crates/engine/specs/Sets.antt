@@ -12,6 +12,7 @@
 --   PickedNets is s r      the support r has the nets of is whose places are in s
 --   total xs               the sum of xs
 --   betterBy c is d ks     a support is of cost c is chosen before ks of cost d (specs/Support, better)
+--   HeldSupport r          the nets of the support r stand in its ten places
 --   Built k is ws c        c is what its set picks of the first k of the nets is, at the weights ws
 --   Choosable ..           the job whose candidates and sets of vectors stand in places has a sound support
 --   ChosenOf j c           the chosen support of job j, its cost, and its set of candidates
@@ -24,7 +25,7 @@ use lib.Bits.{bitAnd}
 use lib.Dec.{ltb, eqb}
 use lib.ListN.{length, getD, take}
 use Rattle.records.specs.Job.{Job}
-use Rattle.records.specs.Refusal.{maxTargets, ascending}
+use Rattle.records.specs.Refusal.{maxTargets, maxCandidates, ascending}
 use Rattle.records.specs.Service.{candidatesFrom}
 use Rattle.records.specs.declared.sheet.Support.{Support}
 use Rattle.engine.specs.Eval.{bit, bits, numberOf}
@@ -81,8 +82,11 @@ total (x ∷ xs) = x + total xs
 unfoldable pub betterBy : ℕ → List ℕ → ℕ → List ℕ → Bool
 betterBy c is d ks = ltb c d || (eqb c d && (ltb (length is) (length ks) || (eqb (length is) (length ks) && earlier is ks)))
 
+pub record HeldSupport (r : Support) : Type 0 where
+  pub few : r .len ≤ maxCandidates
+  pub held : r .len ≤ length (r .nets)
+
 pub record Built (k : ℕ) (is ws : List ℕ) (c : Chosen) : Type 0 where
-  pub set : c .set < 2 ^ k
   pub support : PickedNets (take k is) (c .set) (c .support)
   pub cost : c .cost ≡ total (picked (take k ws) (c .set))
 

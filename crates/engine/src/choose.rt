@@ -5,7 +5,7 @@ ghost use Prim.Native.Nat.{ℕ, _^_, _≤_, _<_};
 ghost use lib.ListN.{length, take};
 ghost use Rattle.records.specs.Job.{Job};
 ghost use Rattle.engine.specs.Support.{sound, candidateNets, earlier};
-ghost use Rattle.engine.specs.Sets.{picked, SetsFor, Projected, FirstEmpty, PickedNets, total, betterBy};
+ghost use Rattle.engine.specs.Sets.{picked, SetsFor, Projected, FirstEmpty, PickedNets, total, betterBy, HeldSupport, Built, Choosable, ChosenOf};
 use records::Support;
 
 // A support, its cost, and the set of its candidates: bit i is 1 where candidate i is in it.
@@ -114,4 +114,72 @@ fn comes_earlier(a: [u16; 10], b: [u16; 10], len: usize) -> bool
         i += 1;
     }
     false
+}
+
+// Whether a is chosen before b: lower cost, then fewer nets, then the smaller net at the first place where they differ.
+pub(super) fn precedes(a: Chosen, b: Chosen) -> bool
+    requires { ⌜ HeldSupport (a .support) × HeldSupport (b .support) ⌝ }
+    ensures { λ r. ⌜ r ≡ betterBy
+        (a .cost) (take (a .support .len) (a .support .nets)) (b .cost) (take (b .support .len) (b .support .nets)) ⌝ }
+{
+    if a.cost < b.cost {
+        return true;
+    }
+    if b.cost < a.cost {
+        return false;
+    }
+    let x = a.support;
+    let y = b.support;
+    if x.len < y.len {
+        return true;
+    }
+    if y.len < x.len {
+        return false;
+    }
+    let xs = x.nets;
+    let ys = y.nets;
+    comes_earlier(xs, ys, x.len)
+}
+
+// The support that a set of the candidates picks, and its cost.
+fn build(nets: &[u16], weights: &[u16], candidates: usize, set: usize) -> Chosen
+    requires { ⌜ (candidates ≤ 10) × (candidates ≤ length (now nets)) × (candidates ≤ length (now weights)) ⌝ }
+    ensures { λ r. ⌜ r .set ≡ set ⌝ }
+    ensures { λ r. ⌜ Built candidates (now (nets .entry)) (now (weights .entry)) r ⌝ }
+{
+    let support = pick_support(nets, candidates, set);
+    let cost = pick_cost(weights, candidates, set);
+    Chosen { support, cost, set }
+}
+
+// How many readings k nets have.
+fn reading_count(k: usize) -> usize
+    requires { ⌜ k ≤ 10 ⌝ }
+    ensures { λ r. ⌜ r ≡ 2 ^ k ⌝ }
+{
+    1usize << k
+}
+
+// The chosen support, of the candidates that stand in places: the best sound one, as the definition orders them. It takes at
+// most 2 ^ k times 2 ^ k steps for k candidates, and evaluates no gate; a set is tested for soundness only where it is better
+// than the best so far.
+pub(super) fn choose(nets: &[u16], weights: &[u16], candidates: usize, sets: &[u16]) -> Chosen
+    requires { ⌜ (candidates ≤ 10) × (candidates ≤ length (now nets)) × (candidates ≤ length (now weights)) ⌝ }
+    requires { ⌜ length (now sets) ≡ 1024 ⌝ }
+    ensures { λ r. ⌜ ((j : Job)
+        → Choosable j candidates (now (nets .entry)) (now (weights .entry)) (now (sets .entry)) → ChosenOf j r) ⌝ }
+{
+    let count = reading_count(candidates);
+    let mut best = build(nets, weights, candidates, count - 1);
+    let mut set = 0usize;
+    while set < count {
+        let next = build(nets, weights, candidates, set);
+        if precedes(next, best) {
+            if sound_set(sets, count, set) {
+                best = next;
+            }
+        }
+        set += 1;
+    }
+    best
 }

@@ -4,7 +4,7 @@ use Prim.Native.Nat.{ℕ, zero, suc, _+_, _-_, _*_, _/_, _%_, _^_, _≤_, _<_}
 use mathlib.Core.Path.{_≡_, refl, sym, _∙_, ap, subst}
 use mathlib.Core.Logic.{_↔_, _⊎_, inl, inr, ⊎-elim}
 use mathlib.Core.Bool.{Bool, true, false, _&&_, _||_}
-use mathlib.Core.List.{List, [], _∷_, _++_, map, List·Memᴰ as Mem, List·Memᴰ·head as here, List·Memᴰ·append-cases as append-cases, List·Memᴰ·eq-of-singleton as eq-of-singleton, Memᴰ·append-left as mem-append-left, Memᴰ·append-right as mem-append-right, Memᴰ·map as mem-map, Memᴰ·of-map as mem-of-map}
+use mathlib.Core.List.{List, [], _∷_, _++_, map, map-map, List·Memᴰ as Mem, List·Memᴰ·head as here, List·Memᴰ·tail as there, List·Memᴰ·not-nil as not-nil, List·Memᴰ·cases-cons as cases-cons, List·Memᴰ·append-cases as append-cases, List·Memᴰ·eq-of-singleton as eq-of-singleton, Memᴰ·append-left as mem-append-left, Memᴰ·append-right as mem-append-right, Memᴰ·map as mem-map, Memᴰ·of-map as mem-of-map}
 use native.Mathlib.Nat.{pow-suc, div-one}
 use native.Mathlib.Numerals.{add-one}
 use native.Mathlib.Omega.{arith}
@@ -16,13 +16,18 @@ use lib.ListN.{length, getD, take, drop, set, length-append, length-map, length-
 use lib.Seq.{length-take-le, take-suc, take-suc-set, drop-cons, getD-take}
 use Rattle.records.specs.Bytes.{upFrom, tabulate}
 use Rattle.records.specs.Netlist.{netAt}
-use Rattle.records.specs.Job.{Job}
-use Rattle.records.proofs.Laws.Bytes.{false-of}
+use Rattle.records.specs.Job.{Job, Candidate}
+use Rattle.records.specs.Refusal.{ascending}
+use Rattle.records.specs.Service.{candidatesFrom}
+use Rattle.records.specs.Sheet.{weightOf, costOf}
+use Rattle.records.proofs.Laws.Bytes.{and-left, and-right, false-of}
+use Rattle.records.proofs.Laws.Job.{tabulate-getD}
 use Rattle.engine.specs.Eval.{bit, bits, numberOf, oldValues}
-use Rattle.engine.specs.Support.{reading, subsets, earlier}
-use Rattle.engine.specs.Sets.{picked, narrow, total}
+use Rattle.engine.specs.Support.{reading, subsets, cost, earlier, better}
+use Rattle.engine.specs.Sets.{picked, narrow, total, betterBy}
 use Rattle.engine.proofs.Laws.Choice.{map-agree}
 use Rattle.engine.proofs.Laws.Eval.{Bits, bits-nil, bits-cons, bits-map, netAt-lt, oldValues-bits}
+use Rattle.engine.proofs.Laws.Support.{subsets-among}
 use Rattle.engine.proofs.Laws.Word.{bit-shift}
 
 -- ---- bits
@@ -290,6 +295,22 @@ module _ (xs ps : List ℕ) (s i len : ℕ) (h : i < length xs) (n : len ≡ len
 
 -- ---- lists compared place by place
 
+-- a number first, then another test
+module _ (a b : ℕ) (t : Bool) where
+  pub below-first : a < b → (ltb a b || (eqb a b && t)) ≡ true
+  below-first h = rw (lt-ltb a b h)
+
+  not-below : b ≤ a → ltb a b ≡ false
+  not-below h = false-of (ltb a b) (λ e. let f : ⊥ = omega (arith, ltb-true a b e) in f)
+
+  pub above-first : b < a → (ltb a b || (eqb a b && t)) ≡ false
+  above-first h =
+      let q : eqb a b ≡ false = false-of (eqb a b) (λ e. let f : ⊥ = omega (arith, eqb-true a b e) in f) in
+      rw (not-below (omega arith), q)
+
+  pub equal-first : a ≡ b → (ltb a b || (eqb a b && t)) ≡ t
+  equal-first e = rw (not-below (omega arith), eq-eqb a b e)
+
 module _ (a b : List ℕ) (len i : ℕ) (la : len ≤ length a) (lb : len ≤ length b) (h : i < len) where
   left : (xs : List ℕ) → len ≤ length xs → drop i (take len xs) ≡ getD xs i 0 ∷ drop (i + 1) (take len xs)
   left xs l =
@@ -303,23 +324,106 @@ module _ (a b : List ℕ) (len i : ℕ) (la : len ≤ length a) (lb : len ≤ le
   earlier-step = rw (left a la, left b lb)
 
   pub earlier-here : getD a i 0 < getD b i 0 → earlier (drop i (take len a)) (drop i (take len b)) ≡ true
-  earlier-here l = earlier-step ∙ rw (lt-ltb (getD a i 0) (getD b i 0) l)
+  earlier-here l = earlier-step ∙ below-first (getD a i 0) (getD b i 0) _ l
 
   pub earlier-not : getD b i 0 < getD a i 0 → earlier (drop i (take len a)) (drop i (take len b)) ≡ false
-  earlier-not l =
-      let p : ltb (getD a i 0) (getD b i 0) ≡ false = false-of _ (λ e. let f : ⊥ = omega (arith, ltb-true (getD a i 0) (getD b i 0) e) in f) in
-      let q : eqb (getD a i 0) (getD b i 0) ≡ false = false-of _ (λ e. let f : ⊥ = omega (arith, eqb-true (getD a i 0) (getD b i 0) e) in f) in
-      earlier-step ∙ rw (p, q)
+  earlier-not l = earlier-step ∙ above-first (getD a i 0) (getD b i 0) _ l
 
   pub earlier-next : getD a i 0 ≡ getD b i 0
       → earlier (drop i (take len a)) (drop i (take len b)) ≡ earlier (drop (i + 1) (take len a)) (drop (i + 1) (take len b))
-  earlier-next e =
-      let p : ltb (getD a i 0) (getD b i 0) ≡ false = false-of _ (λ l. let f : ⊥ = omega (arith, ltb-true (getD a i 0) (getD b i 0) l) in f) in
-      let q : eqb (getD a i 0) (getD b i 0) ≡ true = eq-eqb _ _ e in
-      earlier-step ∙ rw (p, q)
+  earlier-next e = earlier-step ∙ equal-first (getD a i 0) (getD b i 0) _ e
 
 pub earlier-end : (a : List ℕ) (len i : ℕ) (ks : List ℕ) → len ≤ i → earlier (drop i (take len a)) ks ≡ false
 unfolding earlier
 earlier-end a len i ks h =
     let l : length (take len a) ≤ i = omega (arith, length-take len a) in
     rw (drop-of-length-le (take len a) l)
+
+-- ---- the choice of two supports
+
+module _ (c d : ℕ) (is ks : List ℕ) where
+  pub betterBy-cheaper : c < d → betterBy c is d ks ≡ true
+  unfolding betterBy
+  betterBy-cheaper h = below-first c d _ h
+
+  pub betterBy-dearer : d < c → betterBy c is d ks ≡ false
+  unfolding betterBy
+  betterBy-dearer h = above-first c d _ h
+
+  pub betterBy-fewer : c ≡ d → length is < length ks → betterBy c is d ks ≡ true
+  unfolding betterBy
+  betterBy-fewer e h = equal-first c d _ e ∙ below-first (length is) (length ks) _ h
+
+  pub betterBy-more : c ≡ d → length ks < length is → betterBy c is d ks ≡ false
+  unfolding betterBy
+  betterBy-more e h = equal-first c d _ e ∙ above-first (length is) (length ks) _ h
+
+  pub betterBy-earlier : c ≡ d → length is ≡ length ks → betterBy c is d ks ≡ earlier is ks
+  unfolding betterBy
+  betterBy-earlier e h = equal-first c d _ e ∙ equal-first (length is) (length ks) _ h
+
+pub better-by : (j : Job) (is ks : List ℕ) → better j is ks ≡ betterBy (cost j is) is (cost j ks) ks
+unfolding better betterBy
+better-by j is ks = refl
+
+-- ---- costs
+
+ascending-tail : (x : ℕ) (xs : List ℕ) → ascending (x ∷ xs) ≡ true → ascending xs ≡ true
+unfolding ascending
+ascending-tail x [] e = refl
+ascending-tail x (y ∷ ys) e = and-right (ltb x y) (ascending (y ∷ ys)) e
+
+ascending-below : (x : ℕ) (xs : List ℕ) → ascending (x ∷ xs) ≡ true → (i : ℕ) → Mem i xs → x < i
+unfolding ascending
+ascending-below x [] e i m = absurd (not-nil m)
+ascending-below x (y ∷ ys) e i m =
+    let l : x < y = ltb-true x y (and-left (ltb x y) (ascending (y ∷ ys)) e) in
+    ⊎-elim
+    (λ (q : i ≡ y). omega arith)
+    (λ (n : Mem i ys). omega (arith, ascending-below y ys (and-right (ltb x y) (ascending (y ∷ ys)) e) i n))
+    (cases-cons m)
+
+-- a candidate below all of the nets has no say in their cost
+cost-skip : (c : Candidate) (cs : List Candidate) (is : List ℕ) → ((i : ℕ) → Mem i is → c .net < i)
+    → costOf (c ∷ cs) is ≡ costOf cs is
+unfolding costOf weightOf
+cost-skip c cs [] h = refl
+cost-skip c cs (i ∷ is) h =
+    let l : c .net < i = h i (here refl) in
+    let d : eqb (c .net) i ≡ false = false-of (eqb (c .net) i) (λ e. let f : ⊥ = omega (arith, eqb-true (c .net) i e) in f) in
+    let r : costOf (c ∷ cs) is ≡ costOf cs is = cost-skip c cs is (λ k m. h k (there m)) in
+    rw (d, r)
+
+abbrev nets : List Candidate → List ℕ
+nets cs = map (λ (c : Candidate). c .net) cs
+
+abbrev weights : List Candidate → List ℕ
+weights cs = map (λ (c : Candidate). c .weight) cs
+
+-- the cost of picked nets is the sum of the weights at their places
+pub cost-picked : (cs : List Candidate) (s : ℕ) → ascending (nets cs) ≡ true
+    → costOf cs (picked (nets cs) s) ≡ total (picked (weights cs) s)
+unfolding picked costOf weightOf total
+cost-picked [] s e = refl
+cost-picked (c ∷ cs) s e =
+    let is = picked (nets cs) (s / 2) in
+    let r : costOf cs is ≡ total (picked (weights cs) (s / 2)) =
+    cost-picked cs (s / 2) (ascending-tail (c .net) (nets cs) e) in
+    let k : costOf (c ∷ cs) is ≡ costOf cs is =
+    cost-skip c cs is
+    (λ i m. ascending-below (c .net) (nets cs) e i (subsets-among (nets cs) is (picked-subset (nets cs) (s / 2)) i m)) in
+    let q : eqb (c .net) (c .net) ≡ true = eq-eqb (c .net) (c .net) refl in
+    ⊎-elim
+    (λ i. rw (picked-in (c .net) (nets cs) s i, picked-in (c .weight) (weights cs) s i, q, k, r))
+    (λ i. rw (picked-out (c .net) (nets cs) s i, picked-out (c .weight) (weights cs) s i) (k ∙ r))
+    (in-or-out s)
+
+-- the candidates that stand in places
+module _ (k : ℕ) (is ws : List ℕ) where
+  pub nets-from : k ≤ length is → nets (candidatesFrom k is ws) ≡ take k is
+  unfolding candidatesFrom tabulate
+  nets-from h = map-map (λ (c : Candidate). c .net) _ (upFrom 0 k) ∙ tabulate-getD is k h
+
+  pub weights-from : k ≤ length ws → weights (candidatesFrom k is ws) ≡ take k ws
+  unfolding candidatesFrom tabulate
+  weights-from h = map-map (λ (c : Candidate). c .weight) _ (upFrom 0 k) ∙ tabulate-getD ws k h

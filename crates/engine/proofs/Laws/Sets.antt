@@ -1,9 +1,9 @@
 -- What the sets of vectors of all readings say of the supports: at each reading of the picked candidates the shared vector is the
 -- lowest of the projected set, so the picked candidates are a sound support where no projected set is empty. Assumes nothing.
-use Prim.Native.Nat.{ℕ, zero, suc, _+_, _/_, _%_, _^_, min, _≤_, _<_}
+use Prim.Native.Nat.{ℕ, zero, suc, _+_, _-_, _/_, _%_, _^_, min, _≤_, _<_}
 use mathlib.Core.Path.{_≡_, refl, sym, _∙_, ap, subst}
 use mathlib.Core.Logic.{_↔_, _⊎_, inl, inr, ⊎-elim}
-use mathlib.Core.List.{List, [], _∷_}
+use mathlib.Core.List.{List, map}
 use mathlib.Core.Bool.{Bool, true, false}
 use mathlib.Core.Option.{Option, none, some}
 use native.Mathlib.Nat.{pow-suc, eq-or-lt-of-le}
@@ -12,21 +12,24 @@ use borrow.Author.Tests.{eqb-true, eq-eqb}
 use lib.Bits.{bitAnd, and-le-l}
 use lib.Dec.{eqb}
 use lib.Pow.{pow-mono}
-use lib.ListN.{length, getD, take, set, replicate, getD-replicate}
+use lib.ListN.{length, getD, take, set, replicate, getD-replicate, length-take}
 use lib.Seq.{length-take-le, getD-take, getD-set-same, getD-set-other, ext-getD}
 use Rattle.records.specs.Bytes.{upFrom, all}
-use Rattle.records.specs.Job.{Job}
+use Rattle.records.specs.Job.{Job, Candidate}
 use Rattle.records.proofs.Laws.Bytes.{false-of}
 use Rattle.engine.specs.Choice.{first, found, orZero}
 use Rattle.engine.specs.Eval.{bit}
 use Rattle.engine.specs.Rectify.{rectifies}
-use Rattle.engine.specs.Support.{reading, shared, sound, tableOf, candidateNets}
+use Rattle.engine.specs.Support as Support
+use Rattle.engine.specs.Support.{reading, shared, sound, tableOf, candidateNets, cost, better, chosen}
 use Rattle.engine.specs.Verdict.{blindReading}
 use Rattle.engine.specs.Walk.{maxVectors, maxReadings, lowest}
-use Rattle.engine.specs.Sets.{picked, narrow, RectifiesAll, ReadingSets, SetsFor, Projected, HoldsSome, FirstEmpty}
+use Rattle.engine.specs.Sets.{picked, narrow, RectifiesAll, ReadingSets, SetsFor, Projected, HoldsSome, FirstEmpty, total, betterBy, HeldSupport, Built, Choosable, ChosenOf}
+use Rattle.engine.specs.declared.choose.Chosen.{Chosen}
+use Rattle.engine.proofs.Laws.Best.{better-irrefl, better-trans, chosen-unique}
 use Rattle.engine.proofs.Laws.Choice.{all-iff-below, Least, first-least, first-none-below, found-none, found-some, found-first, none-or-some, not-both, true-or-false}
 use Rattle.engine.proofs.Laws.Eval.{bit-lt}
-use Rattle.engine.proofs.Laws.Picked.{in-or-out, bit-first, bit-suc, reading-picked, and-narrow, narrow-lt, narrow-onto}
+use Rattle.engine.proofs.Laws.Picked.{in-or-out, bit-first, bit-suc, reading-picked, and-narrow, narrow-lt, narrow-onto, length-picked-le, picked-all, picked-subset, subset-picked, cost-picked, nets-from, weights-from, better-by}
 use Rattle.engine.proofs.Laws.Support.{LeastShared, shared-least, shared-none, found-shared, sound-iff-found, reading-lt, length-tableOf, getD-tableOf}
 use Rattle.engine.proofs.Laws.Verdict.{LeastBlind, blind-least, blind-unique, unsound-of-blind}
 use Rattle.engine.proofs.Laws.Word.{bit-zero, bit-and}
@@ -314,3 +317,114 @@ module _ (j : Job) (k : ℕ) (ss : List ℕ) (h : SetsFor j k ss) (r : ℕ) (f :
       (λ i. absurd (not-both (sound-iff-full .0 i) e))
       (λ (i : r < 2 ^ k). blind-unique j r (blindReading j) (least-blind i) (blind-least j e))
       (eq-or-lt-of-le (f .most))
+
+-- ---- the choice, set by set
+
+-- what a support that a set picks has
+module _ (k : ℕ) (is ws : List ℕ) (few : k ≤ 10) (c : Chosen) (b : Built k is ws c) where
+  pub built-held : HeldSupport (c .support)
+  built-held =
+      let n = length-picked-le (take k is) (c .set) in
+      let l = ap length (b .support .nets) in
+      record {
+        few = omega (arith, b .support .len, length-take k is);
+        held = omega (arith, b .support .len, length-take (c .support .len) (c .support .nets));
+      }
+
+-- of the sets below n, none that is sound is better than the sound support c
+pub record Best (j : Job) (n : ℕ) (c : Chosen) : Type 0 where
+  pub sound : sound j (picked (candidateNets j) (c .set)) ≡ true
+  pub least : (s : ℕ) → s < n → Support.sound j (picked (candidateNets j) s) ≡ true
+      → better j (picked (candidateNets j) s) (picked (candidateNets j) (c .set)) ≡ false
+
+module _ (j : Job) (n : ℕ) (b : Chosen) (h : Best j n b) where
+  abbrev at : ℕ → List ℕ
+  at s = picked (candidateNets j) s
+
+  -- the next set is not better, or not sound
+  pub best-kept : (Support.sound j (at n) ≡ true → better j (at n) (at (b .set)) ≡ false) → Best j (n + 1) b
+  best-kept w =
+      record {
+        sound = h .sound;
+        least =
+            λ s l t.
+            ⊎-elim
+            (λ (e : s ≡ n). rw e (w (rw e at t)))
+            (λ (i : s < n). h .least s i t)
+            (eq-or-lt-of-le (omega arith));
+      }
+
+  -- it is both
+  pub best-next : (c : Chosen) → c .set ≡ n → better j (at n) (at (b .set)) ≡ true → Support.sound j (at n) ≡ true
+      → Best j (n + 1) c
+  best-next c q w v =
+      record {
+        sound = rw q v;
+        least =
+            λ s l t.
+            rw q
+            (⊎-elim
+            (λ (e : s ≡ n). rw e (better-irrefl j (at n)))
+            (λ (i : s < n).
+            false-of (better j (at s) (at n))
+            (λ u. not-both (better-trans j (at s) (at n) (at (b .set)) u w) (h .least s i t)))
+            (eq-or-lt-of-le (omega arith)));
+      }
+
+module _ (j : Job) (k : ℕ) (is ws ss : List ℕ) (ni : k ≤ length is) (nw : k ≤ length ws) (h : Choosable j k is ws ss) where
+  choosable-nets : candidateNets j ≡ take k is
+  unfolding candidateNets
+  choosable-nets = ap (map (λ (c : Candidate). c .net)) (h .candidates) ∙ nets-from k is ws ni
+
+  choosable-length : length (candidateNets j) ≡ k
+  choosable-length = ap length choosable-nets ∙ length-take-le k is ni
+
+  pub choosable-sets : SetsFor j k ss
+  choosable-sets = record { candidates = choosable-length; targets = h .targets; sets = h .sets }
+
+  choosable-cost : (s : ℕ) → cost j (picked (candidateNets j) s) ≡ total (picked (take k ws) s)
+  unfolding candidateNets cost
+  choosable-cost s =
+      cost-picked (j .candidates) s (h .ascends)
+      ∙ ap (λ (l : List ℕ). total (picked l s))
+      (ap (map (λ (c : Candidate). c .weight)) (h .candidates) ∙ weights-from k is ws nw)
+
+  module _ (c : Chosen) (b : Built k is ws c) where
+    built-nets : take (c .support .len) (c .support .nets) ≡ picked (candidateNets j) (c .set)
+    built-nets = rw choosable-nets (b .support .nets)
+
+    built-cost : c .cost ≡ cost j (picked (candidateNets j) (c .set))
+    built-cost = b .cost ∙ sym (choosable-cost (c .set))
+
+  pub built-better : (c d : Chosen) → Built k is ws c → Built k is ws d
+      → betterBy (c .cost) (take (c .support .len) (c .support .nets)) (d .cost) (take (d .support .len) (d .support .nets))
+      ≡ better j (picked (candidateNets j) (c .set)) (picked (candidateNets j) (d .set))
+  built-better c d p q =
+      let a = better-by j (picked (candidateNets j) (c .set)) (picked (candidateNets j) (d .set)) in
+      rw (built-nets c p, built-nets d q, built-cost c p, built-cost d q) (sym a)
+
+  -- all candidates together
+  pub best-start : (c : Chosen) → c .set ≡ 2 ^ k - 1 → Best j 0 c
+  best-start c e =
+      record {
+        sound = rw (e, ← choosable-length, picked-all (candidateNets j)) (h .sound);
+        least = λ s l. let f : ⊥ = omega arith in absurd f;
+      }
+
+  pub best-chosen : (c : Chosen) → c .set < 2 ^ k → Built k is ws c → Best j (2 ^ k) c → ChosenOf j c
+  best-chosen c l p b =
+      let ns = candidateNets j in
+      let e : picked ns (c .set) ≡ chosen j =
+      chosen-unique j (h .sound) (picked ns (c .set)) (picked-subset ns (c .set)) (b .sound)
+      (λ ls m s.
+      let t = subset-picked ns ls m in
+      let i : t .0 < 2 ^ k = rw choosable-length at (t .1) in
+      rw (t .2) (b .least (t .0) i (rw (t .2) at s))) in
+      let n = built-nets c p ∙ e in
+      record {
+        set = rw choosable-length l;
+        picked = e;
+        len = p .support .len ∙ ap length (sym (p .support .nets) ∙ n);
+        support = n;
+        cost = built-cost c p ∙ ap (cost j) e;
+      }
