@@ -9,7 +9,12 @@ pub mod Outputs
 pub mod Picked
 pub mod Rectify
 pub mod Sets
+pub mod Stream
 pub mod Support
 pub mod Ternary
+pub mod VectorSets
 pub mod Verdict
+pub mod Walk
+pub mod WalkList
+pub mod WalkSets
 pub mod Word

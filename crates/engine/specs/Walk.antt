@@ -14,6 +14,7 @@
 --   setsFrom f g ss x k          .. after the k inputs from x on, where g says the reading of each
 --   startList, startSets         what the walk starts from
 --   listedOf v, Held v           the vector list that a struct holds; its places hold vectors
+--   Appended, Stepped, Noted     what the code gives for one vector more, for one input, and for the inputs of a block
 --   Progress j x v ss            what stands after the inputs below x
 --   Masks, ReadingWords          a block's words: a mask a vector, a word a candidate
 use Prim.Native.Nat.{ℕ, zero, suc, _+_, _-_, _*_, _^_, _≤_, _<_}
@@ -98,6 +99,14 @@ pub record Held (v : Vectors) : Type 0 where
   pub long : v .len ≤ maxVectors
   pub below : (i : ℕ) → getD (v .list) i 0 < maxVectors
 
+pub record Appended (v : Vectors) (x : ℕ) (after : Vectors) : Type 0 where
+  pub held : Held after
+  pub listed : listedOf after ≡ record { vectors = listedOf v .vectors ++ (x ∷ []); stuck = listedOf v .stuck }
+
+pub record Stepped (v : Vectors) (s x : ℕ) (after : Vectors) : Type 0 where
+  pub held : Held after
+  pub listed : listedOf after ≡ listStep (listedOf v) s x
+
 -- ---- the sets of all readings
 
 unfoldable pub narrowed : List ℕ → ℕ → ℕ → List ℕ
@@ -109,6 +118,18 @@ setsFrom f g ss x (suc k) = setsFrom f g (narrowed ss (g x) (f x)) (suc x) k
 
 unfoldable pub startSets : ℕ → List ℕ
 startSets m = replicate maxReadings (2 ^ 2 ^ m - 1)
+
+-- for each of the count inputs from first on, the number made of bit i of the words ws is what f says of input first + i
+abbrev pub Gathered : List ℕ → ℕ → ℕ → (ℕ → ℕ) → Type 0
+Gathered ws first count f = (i : ℕ) → i < count → numberOf (map (bit i) ws) ≡ f (first + i)
+
+-- from the list v and the sets ss, the list w and the sets ts after them: masks say what rectifies each input, words its reading
+pub record Noted (masks words : List ℕ) (first count : ℕ) (v : Vectors) (ss : List ℕ) (w : Vectors) (ts : List ℕ) : Type 0 where
+  pub held : Held w
+  pub long : length ts ≡ length ss
+  pub listed : (f : ℕ → ℕ) → Gathered masks first count f → listedOf w ≡ listedFrom f (listedOf v) first count
+  pub sets : (f g : ℕ → ℕ) → Gathered masks first count f → Gathered words first count g
+      → ts ≡ setsFrom f g ss first count
 
 -- ---- what stands after the inputs below x
 

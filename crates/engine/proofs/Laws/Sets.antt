@@ -31,6 +31,7 @@ use Rattle.engine.proofs.Laws.Choice.{all-iff-below, Least, first-least
 use Rattle.engine.proofs.Laws.Eval.{bit-lt}
 use Rattle.engine.proofs.Laws.Picked.{in-or-out, bit-first, bit-suc, reading-picked, and-narrow, narrow-lt, narrow-onto, length-picked-le, picked-all, picked-subset, subset-picked, cost-picked, nets-from, weights-from, better-by}
 use Rattle.engine.proofs.Laws.Support.{LeastShared, shared-least, shared-none, found-shared, sound-iff-found, reading-lt, length-tableOf, getD-tableOf}
+use Rattle.engine.proofs.Laws.VectorSets.{lowest-zero, lowest-some, bit-ones}
 use Rattle.engine.proofs.Laws.Verdict.{LeastBlind, blind-least, blind-unique, unsound-of-blind}
 use Rattle.engine.proofs.Laws.Word.{bit-zero, bit-and}
 
@@ -50,41 +51,12 @@ module _ (t : ℕ) where
   unfolding lowest
   found-lowest h = found-first (λ u. eqb (bit u t) 1) maxVectors (h .0) (h .1) (eq-eqb (bit (h .0) t) 1 (h .2))
 
-  pub lowest-lt : orZero (lowest t) < maxVectors
-  unfolding orZero
-  lowest-lt =
-      ⊎-elim
-      (λ e. rw e (omega arith))
-      (λ (e : (v : ℕ) × (lowest t ≡ some v)). rw (e .1) (lowest-least (e .0) (e .1) .below))
-      (none-or-some (lowest t))
-
-pub lowest-zero : lowest 0 ≡ none
-lowest-zero =
-    ⊎-elim
-    (λ e. e)
-    (λ (e : (v : ℕ) × (lowest 0 ≡ some v)).
-    let b = eqb-true (bit (e .0) 0) 1 (lowest-least 0 (e .0) (e .1) .holds) in
-    let f : ⊥ = omega (arith, bit-zero (e .0)) in absurd f)
-    (none-or-some (lowest 0))
-
--- a number with no bit below k is a multiple of 2 ^ k
-no-bits : (k t : ℕ) → t < 2 ^ k → ((v : ℕ) → v < k → bit v t ≡ 1 → ⊥) → t ≡ 0
-no-bits zero t h f = omega arith
-no-bits (suc k) t h f =
-    let p = pow-suc 2 k in
-    let z : t / 2 ≡ 0 = no-bits k (t / 2) (omega arith) (λ v l e. f (suc v) (omega arith) (bit-suc v t ∙ e)) in
-    let o : (t % 2 ≡ 1 → ⊥) = λ e. f 0 (omega arith) (bit-first t ∙ e) in
-    ⊎-elim (λ e. absurd (o e)) (λ e. omega arith) (in-or-out t)
-
 -- a set that is not 0 has a vector
 pub holds-some : (t : ℕ) → t < 2 ^ maxVectors → (t ≡ 0 → ⊥) → HoldsSome t
 holds-some t h z =
-    ⊎-elim
-    (λ e. absurd (z (no-bits maxVectors t h (lowest-none t e))))
-    (λ (e : (v : ℕ) × (lowest t ≡ some v)).
-    let l = lowest-least t (e .0) (e .1) in
-    (e .0, l .below, eqb-true (bit (e .0) t) 1 (l .holds)))
-    (none-or-some (lowest t))
+    let v = orZero (lowest t) in
+    let l = lowest-least t v (lowest-some t h z) in
+    (v, l .below, eqb-true (bit v t) 1 (l .holds))
 
 -- ---- the shared vector at a reading
 
@@ -122,13 +94,6 @@ module _ (j : Job) (is : List ℕ) (r t : ℕ) (few : j .targets ≤ 4)
 
 -- ---- projected sets, reading by reading
 
-full-bits : (v : ℕ) → v < maxVectors → bit v 65535 ≡ 1
-unfolding bit all upFrom
-full-bits v h = eqb-true (65535 / 2 ^ v % 2) 1 (all-iff-below (λ u. eqb (65535 / 2 ^ u % 2) 1) maxVectors .0 full v h)
-  where
-    full : all (λ u. eqb (65535 / 2 ^ u % 2) 1) (upFrom 0 maxVectors) ≡ true
-    full = refl
-
 full-below : (n q : ℕ) → getD (replicate n 65535) q 0 < 2 ^ maxVectors
 full-below zero q = omega arith
 full-below (suc n) zero = omega arith
@@ -141,7 +106,7 @@ projected-none ss keep =
       sets =
           λ q v h l. (
             λ e r i. let f : ⊥ = omega arith in absurd f,
-            λ f. rw (getD-replicate {A = ℕ} maxReadings q 65535 0 h) (full-bits v l),
+            λ f. rw (getD-replicate {A = ℕ} maxReadings q 65535 0 h) (bit-ones maxVectors v .1 l),
           );
     }
 
