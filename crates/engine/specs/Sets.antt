@@ -9,6 +9,7 @@
 --   Projected ss n s ps    place q of ps holds the vectors that are in the set of each reading below n whose part in s is q
 --   HoldsSome t            the set of vectors t has one
 --   FirstEmpty ss n r      r is the least place below n whose set is empty, or n
+--   TableFilled ss k s ..  the first places have become the table of the support that the set s picks of k candidates
 --   PickedNets is s r      the support r has the nets of is whose places are in s
 --   total xs               the sum of xs
 --   betterBy c is d ks     a support is of cost c is chosen before ks of cost d (specs/Support, better)
@@ -30,7 +31,7 @@ use Rattle.records.specs.Service.{candidatesFrom}
 use Rattle.records.specs.declared.sheet.Support.{Support}
 use Rattle.engine.specs.Eval.{bit, bits, numberOf}
 use Rattle.engine.specs.Rectify.{rectifies}
-use Rattle.engine.specs.Support.{reading, sound, candidateNets, cost, earlier, chosen}
+use Rattle.engine.specs.Support.{reading, sound, tableOf, candidateNets, cost, earlier, chosen}
 use Rattle.engine.specs.Walk.{maxVectors, maxReadings}
 use Rattle.engine.specs.declared.choose.Chosen.{Chosen}
 
@@ -68,6 +69,11 @@ pub record FirstEmpty (ss : List ℕ) (count r : ℕ) : Type 0 where
   pub most : r ≤ count
   pub empty : r < count → getD ss r 0 ≡ 0
   pub filled : (q : ℕ) → q < r → HoldsSome (getD ss q 0)
+
+pub record TableFilled (ss : List ℕ) (k s : ℕ) (before after : List ℕ) : Type 0 where
+  pub long : length after ≡ length before
+  pub table : (j : Job) → SetsFor j k ss
+      → take (2 ^ length (picked (candidateNets j) s)) after ≡ tableOf j (picked (candidateNets j) s)
 
 -- ---- the choice
 

@@ -153,7 +153,7 @@ fn build(nets: &[u16], weights: &[u16], candidates: usize, set: usize) -> Chosen
 }
 
 // How many readings k nets have.
-fn reading_count(k: usize) -> usize
+pub(super) fn reading_count(k: usize) -> usize
     requires { ⌜ k ≤ 10 ⌝ }
     ensures { λ r. ⌜ r ≡ 2 ^ k ⌝ }
 {

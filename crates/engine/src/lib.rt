@@ -4,6 +4,7 @@ mod block;
 mod choose;
 mod list;
 mod rectify;
+mod table;
 mod ternary;
 mod word;
 

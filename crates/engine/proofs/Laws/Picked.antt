@@ -10,7 +10,7 @@ use native.Mathlib.Numerals.{add-one}
 use native.Mathlib.Omega.{arith}
 use borrow.Author.Tests.{ltb-true, eqb-true, lt-ltb, eq-eqb}
 use lib.Bits.{bitAnd, and-step}
-use lib.Pow.{pow-pos, shr-shr}
+use lib.Pow.{pow-pos, pow-mono, shr-shr}
 use lib.Dec.{ltb, eqb}
 use lib.ListN.{length, getD, take, drop, set, length-append, length-map, length-take, drop-of-length-le}
 use lib.Seq.{length-take-le, take-suc, take-suc-set, drop-cons, getD-take}
@@ -26,9 +26,8 @@ use Rattle.engine.specs.Eval.{bit, bits, numberOf, oldValues}
 use Rattle.engine.specs.Support.{reading, subsets, cost, earlier, better}
 use Rattle.engine.specs.Sets.{picked, narrow, total, betterBy}
 use Rattle.engine.proofs.Laws.Choice.{map-agree}
-use Rattle.engine.proofs.Laws.Eval.{Bits, bits-nil, bits-cons, bits-map, netAt-lt, oldValues-bits}
+use Rattle.engine.proofs.Laws.Eval.{Bits, bits-nil, bits-cons, bits-map, bit-lt, netAt-lt, oldValues-bits}
 use Rattle.engine.proofs.Laws.Support.{subsets-among}
-use Rattle.engine.proofs.Laws.Word.{bit-shift}
 
 -- ---- bits
 
@@ -241,6 +240,49 @@ module _ {A : Type 0} where
       (2 * r, omega arith, narrow-out (length xs) s (2 * r) e ∙ rw u (t .2)))
       (in-or-out s)
 
+pub narrow-below : (k s r : ℕ) → narrow k s r < 2 ^ k
+narrow-below zero s r = rw (narrow-none s r) (omega arith)
+narrow-below (suc k) s r =
+    let h = narrow-below k (s / 2) (r / 2) in
+    let p = pow-suc 2 k in
+    ⊎-elim (λ e. rw (narrow-in k s r e) (omega arith)) (λ e. rw (narrow-out k s r e) (omega arith)) (in-or-out s)
+
+-- ---- narrowing place by place
+
+module _ (k s r : ℕ) where
+  -- the reading of the places from i on
+  abbrev pub narrowFrom : ℕ → ℕ
+  narrowFrom i = narrow (k - i) (s / 2 ^ i) (r / 2 ^ i)
+
+  pub narrowFrom-none : narrowFrom k ≡ 0
+  narrowFrom-none =
+      let e : k - k ≡ 0 = omega arith in
+      rw e (narrow-none (s / 2 ^ k) (r / 2 ^ k))
+
+  pub narrowFrom-all : narrowFrom 0 ≡ narrow k s r
+  narrowFrom-all =
+      let e : k - 0 ≡ k = omega arith in
+      rw (e, div-one s, div-one r)
+
+  pub narrowFrom-lt : (i : ℕ) → narrowFrom i < 2 ^ k
+  narrowFrom-lt i = let l : k - i ≤ k = omega arith in omega (arith, narrow-below (k - i) (s / 2 ^ i) (r / 2 ^ i), pow-mono l)
+
+  module _ (i : ℕ) (h : suc i ≤ k) where
+    half : (x : ℕ) → x / 2 ^ i / 2 ≡ x / 2 ^ suc i
+    half x = let e : i + 1 ≡ suc i = omega arith in rw e at (shr-shr x i 1)
+
+    left-over : k - i ≡ suc (k - suc i)
+    left-over = omega arith
+
+    pub narrowFrom-in : s / 2 ^ i % 2 ≡ 1 → narrowFrom i ≡ r / 2 ^ i % 2 + 2 * narrowFrom (suc i)
+    narrowFrom-in e =
+        rw (left-over, narrow-in (k - suc i) (s / 2 ^ i) (r / 2 ^ i) e, half s, half r)
+
+    pub narrowFrom-out : (s / 2 ^ i % 2 ≡ 1 → ⊥) → narrowFrom i ≡ narrowFrom (suc i)
+    narrowFrom-out e =
+        let z : s / 2 ^ i % 2 ≡ 0 = ⊎-elim (λ o. absurd (e o)) (λ o. o) (in-or-out (s / 2 ^ i)) in
+        rw (left-over, narrow-out (k - suc i) (s / 2 ^ i) (r / 2 ^ i) z, half s, half r)
+
 -- ---- picking place by place
 
 total-snoc : (xs : List ℕ) (x : ℕ) → total (xs ++ (x ∷ [])) ≡ total xs + x
@@ -278,7 +320,7 @@ module _ (xs : List ℕ) (s i : ℕ) (h : i < length xs) where
 
   pub picked-take-out : (bit i s ≡ 1 → ⊥) → picked (take (i + 1) xs) s ≡ picked (take i xs) s
   picked-take-out e =
-      let z : bit i s ≡ 0 = ⊎-elim (λ o. absurd (e (sym (bit-shift i s) ∙ bit-first (s / 2 ^ i) ∙ o))) (λ o. sym (bit-shift i s) ∙ bit-first (s / 2 ^ i) ∙ o) (in-or-out (s / 2 ^ i)) in
+      let z : bit i s ≡ 0 = omega (arith, bit-lt i s) in
       rw (add-one i, take-suc xs i 0 h) (picked-snoc-out (take i xs) (getD xs i 0) s (rw front z))
 
   pub length-picked-in : bit i s ≡ 1 → length (picked (take (i + 1) xs) s) ≡ length (picked (take i xs) s) + 1

@@ -110,6 +110,9 @@ projected-none ss keep =
           );
     }
 
+equal-or-not : (a b : ℕ) → (a ≡ b) ⊎ (a ≡ b → ⊥)
+equal-or-not a b = ⊎-elim (λ e. inl (eqb-true a b e)) (λ e. inr (λ q. not-both (eq-eqb a b q) e)) (true-or-false (eqb a b))
+
 both-one : (a b : ℕ) → a < 2 → b < 2 → (min a b ≡ 1) ↔ ((a ≡ 1) × (b ≡ 1))
 both-one a b h l = (λ e. (omega arith, omega arith), λ e. omega (arith, e .0, e .1))
 
@@ -123,9 +126,6 @@ module _ (ss ps : List ℕ) (r keep : ℕ) (n : length ps ≡ maxReadings) (h : 
 
   joined-other : (q : ℕ) → (q ≡ bitAnd r keep → ⊥) → getD joined q 0 ≡ getD ps q 0
   joined-other q d = getD-set-other ps (bitAnd r keep) q (bitAnd (getD ps (bitAnd r keep) 0) (getD ss r 0)) 0 d
-
-  equal-or-not : (a b : ℕ) → (a ≡ b) ⊎ (a ≡ b → ⊥)
-  equal-or-not a b = ⊎-elim (λ e. inl (eqb-true a b e)) (λ e. inr (λ q. not-both (eq-eqb a b q) e)) (true-or-false (eqb a b))
 
   pub projected-next : Projected ss (r + 1) keep joined
   projected-next =
@@ -246,6 +246,26 @@ module _ (j : Job) (k : ℕ) (ss : List ℕ) (h : SetsFor j k ss) (room : 2 ^ k 
       let a : getD ts q 0 ≡ orZero (lowest (getD ps (bitAnd (n .0) s) 0)) = rw (n .2) at (f (n .0) (n .1)) in
       let c : shared j is q ≡ lowest (getD ps (bitAnd (n .0) s) 0) = rw (n .2) at (shared-picked (n .0) (n .1)) in
       getD-take (2 ^ length is) ts q 0 b ∙ a ∙ sym (ap orZero c) ∙ sym (getD-tableOf j is q b))
+
+-- ---- the table, reading by reading
+
+-- the table so far: the lowest vectors of the readings below n
+abbrev pub TableTo : ℕ → ℕ → List ℕ → List ℕ → ℕ → Type 0
+TableTo k s ps ts n = (r : ℕ) → r < n → getD ts (narrow k s r) 0 ≡ orZero (lowest (getD ps (bitAnd r s) 0))
+
+pub table-next : (k s : ℕ) (ps ts : List ℕ) (n : ℕ) → n < 2 ^ k → narrow k s n < length ts → TableTo k s ps ts n
+    → TableTo k s ps (set ts (narrow k s n) (orZero (lowest (getD ps (bitAnd n s) 0)))) (n + 1)
+table-next k s ps ts n h l f r i =
+    let at = narrow k s n in
+    let v = orZero (lowest (getD ps (bitAnd n s) 0)) in
+    ⊎-elim
+    (λ (e : narrow k s r ≡ at).
+    let a : bitAnd r s ≡ bitAnd n s = and-narrow k s r n (omega arith) h .1 e in
+    rw (e, a) (getD-set-same ts at v 0 l))
+    (λ (d : narrow k s r ≡ at → ⊥).
+    getD-set-other ts at (narrow k s r) v 0 d
+    ∙ ⊎-elim (λ (e : r ≡ n). absurd (d (ap (narrow k s) e))) (λ (u : r < n). f r u) (eq-or-lt-of-le (omega arith)))
+    (equal-or-not (narrow k s r) at)
 
 -- ---- the first empty set of all
 
