@@ -5,7 +5,8 @@ ghost use Prim.Native.Nat.{ℕ, _^_, _≤_, _<_};
 ghost use lib.ListN.{length, take};
 ghost use Rattle.records.specs.Job.{Job};
 ghost use Rattle.engine.specs.Support.{sound, candidateNets, earlier};
-ghost use Rattle.engine.specs.Sets.{picked, SetsFor, Projected, FirstEmpty, PickedNets, total, betterBy, HeldSupport, Built, Choosable, ChosenOf};
+ghost use Rattle.engine.specs.Sets.{picked, SetsFor, Projected, FirstEmpty, PickedNets, total, betterBy};
+ghost use Rattle.engine.specs.Sets.{HeldSupport, Built, Choosable, ChosenOf};
 use records::Support;
 
 // A support, its cost, and the set of its candidates: bit i is 1 where candidate i is in it.
@@ -16,7 +17,7 @@ pub struct Chosen {
 }
 
 // The sets of the candidates in keep: at r & keep, the vectors in the set of every reading below count that agrees with r on
-// keep. It costs count steps.
+// keep. It costs 1,024 and count steps.
 pub(super) fn project(sets: &[u16], count: usize, keep: usize) -> [u16; 1024]
     requires { ⌜ (count ≤ 1024) × (count ≤ length (now sets)) ⌝ }
     ensures { λ r. ⌜ Projected (now (sets .entry)) count keep r ⌝ }
@@ -31,7 +32,7 @@ pub(super) fn project(sets: &[u16], count: usize, keep: usize) -> [u16; 1024]
     out
 }
 
-// The smallest place below count whose set is empty, else count.
+// The smallest place below count whose set is empty, else count: the blind reading, or that all candidates are sound.
 pub(super) fn first_empty(sets: &[u16], count: usize) -> usize
     requires { ⌜ count ≤ length (now sets) ⌝ }
     ensures { λ r. ⌜ FirstEmpty (now (sets .entry)) count r ⌝ }
@@ -160,9 +161,9 @@ pub(super) fn reading_count(k: usize) -> usize
     1usize << k
 }
 
-// The chosen support, of the candidates that stand in places: the best sound one, as the definition orders them. It takes at
-// most 2 ^ k times 2 ^ k steps for k candidates, and evaluates no gate; a set is tested for soundness only where it is better
-// than the best so far.
+// The chosen support of the candidates that stand in places: the best sound one. Each of the 2 ^ k sets of k candidates is built
+// and compared, and tested for soundness only where it is better than the best so far; that is at most 2 ^ k times 1,024 and
+// twice 2 ^ k steps. It evaluates no gate.
 pub(super) fn choose(nets: &[u16], weights: &[u16], candidates: usize, sets: &[u16]) -> Chosen
     requires { ⌜ (candidates ≤ 10) × (candidates ≤ length (now nets)) × (candidates ≤ length (now weights)) ⌝ }
     requires { ⌜ length (now sets) ≡ 1024 ⌝ }

@@ -25,8 +25,8 @@ fn narrow(r: usize, set: usize, k: usize) -> usize
 }
 
 // The table of the support that the set picks, in the first places of table: at each reading the smallest vector that rectifies
-// every input giving it, 0 where there is none. Readings of all candidates that agree on the set write the same vector. It
-// evaluates no gate.
+// every input giving it, 0 where there is none. Readings of all candidates that agree on the set write the same vector. For k
+// candidates it takes 2 ^ k turns, and evaluates no gate.
 pub(super) fn fill_table(sets: &[u16], candidates: usize, set: usize, table: &mut [u8])
     requires { ⌜ (candidates ≤ 10) × (length (now sets) ≡ 1024) × (1024 ≤ length (now table)) ⌝ }
     ensures { λ _. ⌜ TableFilled (now (sets .entry)) candidates set (now (table .entry)) (now (table .exit)) ⌝ }

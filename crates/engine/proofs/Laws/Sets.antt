@@ -1,12 +1,12 @@
 -- What the sets of vectors of all readings say of the supports: at each reading of the picked candidates the shared vector is the
 -- lowest of the projected set, so the picked candidates are a sound support where no projected set is empty. Assumes nothing.
-use Prim.Native.Nat.{ℕ, zero, suc, _+_, _-_, _/_, _%_, _^_, min, _≤_, _<_}
-use mathlib.Core.Path.{_≡_, refl, sym, _∙_, ap, subst}
+use Prim.Native.Nat.{ℕ, zero, suc, _+_, _-_, _^_, min, _≤_, _<_}
+use mathlib.Core.Path.{_≡_, refl, sym, _∙_, ap}
 use mathlib.Core.Logic.{_↔_, _⊎_, inl, inr, ⊎-elim}
 use mathlib.Core.List.{List, map}
-use mathlib.Core.Bool.{Bool, true, false}
+use mathlib.Core.Bool.{true, false}
 use mathlib.Core.Option.{Option, none, some}
-use native.Mathlib.Nat.{pow-suc, eq-or-lt-of-le}
+use native.Mathlib.Nat.{eq-or-lt-of-le}
 use native.Mathlib.Omega.{arith}
 use borrow.Author.Tests.{eqb-true, eq-eqb}
 use lib.Bits.{bitAnd, and-le-l}
@@ -14,26 +14,25 @@ use lib.Dec.{eqb}
 use lib.Pow.{pow-mono}
 use lib.ListN.{length, getD, take, set, replicate, getD-replicate, length-take}
 use lib.Seq.{length-take-le, getD-take, getD-set-same, getD-set-other, ext-getD}
-use Rattle.records.specs.Bytes.{upFrom, all}
 use Rattle.records.specs.Job.{Job, Candidate}
 use Rattle.records.proofs.Laws.Bytes.{false-of}
-use Rattle.engine.specs.Choice.{first, found, orZero}
+use Rattle.engine.specs.Choice.{found, orZero}
 use Rattle.engine.specs.Eval.{bit}
 use Rattle.engine.specs.Rectify.{rectifies}
 use Rattle.engine.specs.Support as Support
 use Rattle.engine.specs.Support.{reading, shared, sound, tableOf, candidateNets, cost, better, chosen}
 use Rattle.engine.specs.Verdict.{blindReading}
 use Rattle.engine.specs.Walk.{maxVectors, maxReadings, lowest}
-use Rattle.engine.specs.Sets.{picked, narrow, RectifiesAll, ReadingSets, SetsFor, Projected, HoldsSome, FirstEmpty, total, betterBy, HeldSupport, Built, Choosable, ChosenOf}
+use Rattle.engine.specs.Sets.{picked, narrow, RectifiesAll, SetsFor, Projected, HoldsSome, FirstEmpty, total, betterBy, HeldSupport, Built, Choosable, ChosenOf}
 use Rattle.engine.specs.declared.choose.Chosen.{Chosen}
 use Rattle.engine.proofs.Laws.Best.{better-irrefl, better-trans, chosen-unique}
-use Rattle.engine.proofs.Laws.Choice.{all-iff-below, Least, first-least, first-none-below, found-none, found-some, found-first, none-or-some, not-both, true-or-false}
+use Rattle.engine.proofs.Laws.Choice.{Least, first-least, first-none-below, found-first, not-both, true-or-false}
 use Rattle.engine.proofs.Laws.Eval.{bit-lt}
-use Rattle.engine.proofs.Laws.Picked.{in-or-out, bit-first, bit-suc, reading-picked, and-narrow, narrow-lt, narrow-onto, length-picked-le, picked-all, picked-subset, subset-picked, cost-picked, nets-from, weights-from, better-by}
-use Rattle.engine.proofs.Laws.Support.{LeastShared, shared-least, shared-none, found-shared, sound-iff-found, reading-lt, length-tableOf, getD-tableOf}
+use Rattle.engine.proofs.Laws.Picked.{reading-picked, and-narrow, narrow-lt, narrow-onto, length-picked-le, picked-all, picked-subset, subset-picked, cost-picked, nets-from, weights-from, better-by}
+use Rattle.engine.proofs.Laws.Support.{shared-least, shared-none, sound-iff-found, reading-lt, length-tableOf, getD-tableOf}
 use Rattle.engine.proofs.Laws.VectorSets.{lowest-zero, lowest-some, bit-ones}
 use Rattle.engine.proofs.Laws.Verdict.{LeastBlind, blind-least, blind-unique, unsound-of-blind}
-use Rattle.engine.proofs.Laws.Word.{bit-zero, bit-and}
+use Rattle.engine.proofs.Laws.Word.{bit-and}
 
 -- ---- the lowest vector of a set
 

@@ -1,8 +1,8 @@
--- `engine::choose::choose` meets its contract. The invariant: the best so far is what its set picks, it is sound, and no sound set
--- before this one is better. Assumes nothing.
+-- `engine::choose::choose` meets its contract. The invariant: the best so far is what its set picks, it is sound, and no sound
+-- set before this one is better. Assumes nothing.
 use Prim.Native.Nat.{ℕ, _+_, _-_, _^_, _≤_, _<_}
-use mathlib.Core.Path.{_≡_, refl, sym, _∙_}
-use mathlib.Core.Logic.{⊎-elim}
+use mathlib.Core.Path.{_≡_, sym, _∙_}
+use mathlib.Core.Logic.{_⊎_, inl, inr, ⊎-elim}
 use mathlib.Core.List.{List}
 use mathlib.Core.Bool.{Bool, true, false}
 use borrow.Author.Needs.{needs}
@@ -18,12 +18,6 @@ use Rattle.engine.proofs.Laws.Choice.{not-both}
 use Rattle.engine.proofs.Laws.Sets.{Best, built-held, built-better, best-kept, best-next, best-start, best-chosen, choosable-sets}
 use Rattle.engine.proofs.choose.choose.Statement.{statement}
 use Rattle.engine.proofs.choose.choose.Tie as tie
-use Rattle.engine.proofs.choose.choose.Reads as reads
-use Rattle.engine.proofs.choose.choose.Lts as lts
-use Rattle.engine.proofs.choose.build.Reads as build-reads
-use Rattle.engine.proofs.choose.precedes.Reads as precedes-reads
-use Rattle.engine.proofs.choose.reading_count.Reads as reading-count-reads
-use Rattle.engine.proofs.choose.sound_set.Reads as sound-set-reads
 
 record Choosing (k count : ℕ) (is ws ss : List ℕ) (n : ℕ) (b : Chosen) : Type 0 where
   most : n ≤ count
@@ -31,47 +25,51 @@ record Choosing (k count : ℕ) (is ws ss : List ℕ) (n : ℕ) (b : Chosen) : T
   built : Built k is ws b
   best : (j : Job) → Choosable j k is ws ss → Best j n b
 
--- a turn at set n, which picks c: p says whether c is chosen before b, and s whether it is sound
-module _ (k count : ℕ) (is ws ss : List ℕ) (n : ℕ) (b c : Chosen) (p : Bool) (ni : k ≤ length is) (nw : k ≤ length ws)
-    (h : Choosing k count is ws ss n b) (l : n < count) (e : c .set ≡ n) (u : Built k is ws c)
+-- a turn at set n, which picks c: p says whether c is chosen before b
+module _ (k count : ℕ) (is ws ss : List ℕ) (n : ℕ) (b c : Chosen) (p : Bool) (m : count ≡ 2 ^ k) (ni : k ≤ length is)
+    (nw : k ≤ length ws) (h : Choosing k count is ws ss n b) (l : n < count) (e : c .set ≡ n) (u : Built k is ws c)
     (o : p ≡ betterBy (c .cost) (take (c .support .len) (c .support .nets)) (b .cost) (take (b .support .len) (b .support .nets)))
   where
+    SoundSet : Bool → Type 0
+    SoundSet s = (j : Job) (i : ℕ) → SetsFor j i ss → count ≡ 2 ^ i → s ≡ sound j (picked (candidateNets j) n)
+
     precedes-better : (j : Job) → Choosable j k is ws ss
         → p ≡ better j (picked (candidateNets j) n) (picked (candidateNets j) (b .set))
     precedes-better j q = rw (← e) (o ∙ built-better j k is ws ss ni nw q c b u (h .built))
 
-    turn-worse : p ≡ false → Choosing k count is ws ss (n + 1) b
-    turn-worse f =
+    kept : ((j : Job) → Choosable j k is ws ss → sound j (picked (candidateNets j) n) ≡ true
+        → better j (picked (candidateNets j) n) (picked (candidateNets j) (b .set)) ≡ false)
+        → Choosing k count is ws ss (n + 1) b
+    kept f =
         record {
           most = omega arith;
           set = h .set;
           built = h .built;
-          best = λ j q. best-kept j n b (h .best j q) (λ t. sym (precedes-better j q) ∙ f);
+          best = λ j q. best-kept j n b (h .best j q) (f j q);
         }
 
-    module _ (s : Bool)
-        (g : (j : Job) (m : ℕ) → SetsFor j m ss → count ≡ 2 ^ m → s ≡ sound j (picked (candidateNets j) n))
-        (m : count ≡ 2 ^ k) where
-      sound-set : (j : Job) → Choosable j k is ws ss → s ≡ sound j (picked (candidateNets j) n)
-      sound-set j q = g j k (choosable-sets j k is ws ss ni nw q) m
-
-      turn-unsound : s ≡ false → Choosing k count is ws ss (n + 1) b
-      turn-unsound f =
-          record {
-            most = omega arith;
-            set = h .set;
-            built = h .built;
-            best = λ j q. best-kept j n b (h .best j q) (λ t. absurd (not-both t (sym (sound-set j q) ∙ f)));
-          }
-
-      turn-better : p ≡ true → s ≡ true → Choosing k count is ws ss (n + 1) c
-      turn-better t f =
-          record {
-            most = omega arith;
-            set = omega arith;
-            built = u;
-            best = λ j q. best-next j n b (h .best j q) c e (sym (precedes-better j q) ∙ t) (sym (sound-set j q) ∙ f);
-          }
+    -- c is chosen before b and sound; chosen before b and not sound; not chosen before b
+    turned : (d : Chosen)
+        → ((p ≡ true) × ((s : Bool) × SoundSet s × (s ≡ true)) × (d ≡ c))
+        ⊎ ((((s : Bool) × SoundSet s × (s ≡ false)) × (d ≡ b)) ⊎ ((p ≡ false) × (d ≡ b)))
+        → Choosing k count is ws ss (n + 1) d
+    unfolding SoundSet
+    turned d (inl w) =
+        rw (w .2)
+        record {
+          most = omega arith;
+          set = omega arith;
+          built = u;
+          best =
+              λ j q.
+              best-next j n b (h .best j q) c e (sym (precedes-better j q) ∙ w .0)
+              (sym (w .1 .1 j k (choosable-sets j k is ws ss ni nw q) m) ∙ w .1 .2);
+        }
+    turned d (inr (inl w)) =
+        rw (w .1)
+        (kept
+        (λ j q t. absurd (not-both t (sym (w .0 .1 j k (choosable-sets j k is ws ss ni nw q) m) ∙ w .0 .2))))
+    turned d (inr (inr w)) = rw (w .1) (kept (λ j q t. sym (precedes-better j q) ∙ w .0))
 
 abbrev Inv-loop : tie.InvT-loop
 Inv-loop nets weights candidates sets count best₀ set₀ best set = Choosing candidates count nets weights sets set best
@@ -134,6 +132,7 @@ loop-less : tie.Need-loop-less Inv-loop μ-loop
 loop-less c = omega arith
 
 loop-again : tie.Need-loop-again Inv-loop μ-loop
+unfolding SoundSet
 loop-again c =
     let o = c .before .before .before .before .before .before .before .before .before .before in
     let a = o .args in
@@ -144,46 +143,21 @@ loop-again c =
     let d = c .before .before .build2 in
     let p = c .before .precedes in
     let m = c .before .before .before .before .before .before .reading-count in
-    ⊎-elim
-    (λ w.
-    rw (w .3)
-    (turn-better (a .candidates) (m .result) is ws (now (a .sets)) (l .set) (l .best) (d .result) (p .result) (o .pre .0 .1)
+    turned (a .candidates) (m .result) is ws (now (a .sets)) (l .set) (l .best) (d .result) (p .result) (m .ensures)
+    (o .pre .0 .1)
     (o .pre .0 .2)
     (l .inv)
     t
     (d .ensures .0)
     (d .ensures .1)
     (p .ensures)
-    (w .1 .result)
-    (w .1 .ensures)
-    (m .ensures)
-    (w .0 .taken)
-    (w .2 .taken)))
+    (c .if1 .best)
     (⊎-elim
-    (λ w.
-    rw (w .3)
-    (turn-unsound (a .candidates) (m .result) is ws (now (a .sets)) (l .set) (l .best) (d .result) (p .result) (o .pre .0 .1)
-    (o .pre .0 .2)
-    (l .inv)
-    t
-    (d .ensures .0)
-    (d .ensures .1)
-    (p .ensures)
-    (w .1 .result)
-    (w .1 .ensures)
-    (m .ensures)
-    (w .2 .left)))
-    (λ w.
-    rw (w .1)
-    (turn-worse (a .candidates) (m .result) is ws (now (a .sets)) (l .set) (l .best) (d .result) (p .result) (o .pre .0 .1)
-    (o .pre .0 .2)
-    (l .inv)
-    t
-    (d .ensures .0)
-    (d .ensures .1)
-    (p .ensures)
-    (w .0 .left))))
-    (c .if1 .came)
+    (λ w. inl (w .0 .taken, (w .1 .result, w .1 .ensures, w .2 .taken), w .3))
+    (⊎-elim
+    (λ w. inr (inl ((w .1 .result, w .1 .ensures, w .2 .left), w .3)))
+    (λ w. inr (inr (w .0 .left, w .1))))
+    (c .if1 .came))
 
 returns : tie.Need-returns Inv-loop μ-loop
 returns c =

@@ -1,15 +1,13 @@
 -- `engine::choose::comes_earlier` meets its contract. The invariant: what is left of the lists from place i on decides.
 -- Assumes nothing.
-use Prim.Native.Nat.{ℕ, _-_, _≤_, _<_}
+use Prim.Native.Nat.{_-_, _≤_}
 use mathlib.Core.Path.{_≡_, refl, sym, _∙_}
 use native.Mathlib.Omega.{arith}
-use lib.ListN.{length, getD, take, drop}
+use lib.ListN.{getD, take, drop}
 use Rattle.engine.specs.Support.{earlier}
 use Rattle.engine.proofs.Laws.Picked.{earlier-here, earlier-not, earlier-next, earlier-end}
 use Rattle.engine.proofs.choose.comes_earlier.Statement.{statement}
 use Rattle.engine.proofs.choose.comes_earlier.Tie as tie
-use Rattle.engine.proofs.choose.comes_earlier.Reads as reads
-use Rattle.engine.proofs.choose.comes_earlier.Lts as lts
 
 abbrev Inv-loop : tie.InvT-loop
 Inv-loop len a b i₀ i = (i ≤ len) × (earlier (drop i (take len a)) (drop i (take len b)) ≡ earlier (take len a) (take len b))

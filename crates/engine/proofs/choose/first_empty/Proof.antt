@@ -1,7 +1,6 @@
 -- `engine::choose::first_empty` meets its contract. The invariant: every set before r has a vector. Assumes nothing.
 use Prim.Native.Nat.{ℕ, _-_, _≤_, _<_}
 use borrow.Author.Count.{below-more}
-use borrow.Author.Needs.{needs}
 use native.Mathlib.Omega.{arith}
 use denote.Ref.{now}
 use lib.ListN.{getD}
@@ -9,8 +8,6 @@ use Rattle.engine.specs.Sets.{HoldsSome}
 use Rattle.engine.proofs.Laws.Sets.{holds-some}
 use Rattle.engine.proofs.choose.first_empty.Statement.{statement}
 use Rattle.engine.proofs.choose.first_empty.Tie as tie
-use Rattle.engine.proofs.choose.first_empty.Reads as reads
-use Rattle.engine.proofs.choose.first_empty.Lts as lts
 
 abbrev Inv-loop : tie.InvT-loop
 Inv-loop sets count r₀ r = (r ≤ count) × ((q : ℕ) → q < r → HoldsSome (getD sets q 0))

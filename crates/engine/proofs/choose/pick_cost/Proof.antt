@@ -12,8 +12,6 @@ use Rattle.engine.specs.Sets.{picked, total}
 use Rattle.engine.proofs.Laws.Picked.{total-picked-in, picked-take-out}
 use Rattle.engine.proofs.choose.pick_cost.Statement.{statement}
 use Rattle.engine.proofs.choose.pick_cost.Tie as tie
-use Rattle.engine.proofs.choose.pick_cost.Reads as reads
-use Rattle.engine.proofs.choose.pick_cost.Lts as lts
 
 abbrev Inv-loop : tie.InvT-loop
 Inv-loop weights count set sum₀ i₀ sum i = (i ≤ count) × (sum ≤ 65535 * i) × (sum ≡ total (picked (take i weights) set))
@@ -60,13 +58,13 @@ unfolding bit
 loop-again c =
     let a = c .before .before .before .args in
     let l = c .before .before .loop in
-    let h : l .i < length (now (a .weights)) = omega arith in
-    let t : (c .if1 .sum ≤ 65535 * (l .i + 1)) × (c .if1 .sum ≡ total (picked (take (l .i + 1) (now (a .weights))) (a .set))) =
+    let ws = now (a .weights) in
+    let h : l .i < length ws = omega arith in
+    let t : (c .if1 .sum ≤ 65535 * (l .i + 1)) × (c .if1 .sum ≡ total (picked (take (l .i + 1) ws) (a .set))) =
     ⊎-elim
     (λ w.
-    turn-in (now (a .weights)) (a .set) (l .i) (l .sum) (c .if1 .sum) h (l .inv .1) (l .inv .2) (w .1 .given (l .i) .fits) (w .0 .taken)
-    (w .2))
-    (λ w. turn-out (now (a .weights)) (a .set) (l .i) (l .sum) (c .if1 .sum) h (l .inv .1) (l .inv .2) (w .0 .left) (w .1))
+    turn-in ws (a .set) (l .i) (l .sum) (c .if1 .sum) h (l .inv .1) (l .inv .2) (w .1 .given (l .i) .fits) (w .0 .taken) (w .2))
+    (λ w. turn-out ws (a .set) (l .i) (l .sum) (c .if1 .sum) h (l .inv .1) (l .inv .2) (w .0 .left) (w .1))
     (c .if1 .came) in
     (omega arith, t .0, t .1)
 

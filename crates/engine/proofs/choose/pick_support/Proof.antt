@@ -12,8 +12,6 @@ use Rattle.engine.specs.Sets.{picked}
 use Rattle.engine.proofs.Laws.Picked.{picks-in, length-picked-in, picked-take-out}
 use Rattle.engine.proofs.choose.pick_support.Statement.{statement}
 use Rattle.engine.proofs.choose.pick_support.Tie as tie
-use Rattle.engine.proofs.choose.pick_support.Reads as reads
-use Rattle.engine.proofs.choose.pick_support.Lts as lts
 
 record Picking (is : List ℕ) (s i : ℕ) (picks : List ℕ) (len : ℕ) : Type 0 where
   places : length picks ≡ 10
@@ -82,12 +80,13 @@ unfolding bit
 loop-again c =
     let a = c .before .before .before .args in
     let l = c .before .before .loop in
-    let h : l .i < length (now (a .nets)) = omega arith in
+    let is = now (a .nets) in
+    let h : l .i < length is = omega arith in
     let k : l .i < 10 = omega arith in (
       omega arith,
       ⊎-elim
-          (λ w. turn-in (now (a .nets)) (a .set) (l .i) (l .picks) (l .len) (c .if1 .picks) (c .if1 .len) h k (l .inv .1) (w .0 .taken) (w .2) (w .3))
-          (λ w. turn-out (now (a .nets)) (a .set) (l .i) (l .picks) (l .len) (c .if1 .picks) (c .if1 .len) h k (l .inv .1) (w .0 .left) (w .1) (w .2))
+          (λ w. turn-in is (a .set) (l .i) (l .picks) (l .len) (c .if1 .picks) (c .if1 .len) h k (l .inv .1) (w .0 .taken) (w .2) (w .3))
+          (λ w. turn-out is (a .set) (l .i) (l .picks) (l .len) (c .if1 .picks) (c .if1 .len) h k (l .inv .1) (w .0 .left) (w .1) (w .2))
           (c .if1 .came),
     )
 

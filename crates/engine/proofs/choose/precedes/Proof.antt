@@ -12,9 +12,6 @@ use Rattle.engine.proofs.Laws.Picked.{betterBy-cheaper, betterBy-dearer
 use borrow.Author.Needs.{needs}
 use Rattle.engine.proofs.choose.precedes.Statement.{statement}
 use Rattle.engine.proofs.choose.precedes.Tie as tie
-use Rattle.engine.proofs.choose.precedes.Reads as reads
-use Rattle.engine.proofs.choose.precedes.Lts as lts
-use Rattle.engine.proofs.choose.comes_earlier.Reads as comes-earlier-reads
 
 abbrev nets : Support → List ℕ
 nets r = take (r .len) (r .nets)
@@ -55,7 +52,8 @@ comes-earlier-requires c κs = search needs
 
 returns-5 : tie.Need-returns-5
 returns-5 c =
-    let o = c .before .before .before .before .before .before .before .before .before .before .before .before .before .before .before .before .before in
+    let d = c .before .before .before .before .before .before .before .before in
+    let o = d .before .before .before .before .before .before .before .before .before in
     let s = o .args in
     let p = o .pre in
     let n : s .a .support .len ≡ s .b .support .len = omega arith in

@@ -1,7 +1,6 @@
 -- `engine::choose::project` meets its contract. The invariant: the places hold what the readings below r leave. Assumes nothing.
-use Prim.Native.Nat.{ℕ, _-_, _≤_, _<_}
+use Prim.Native.Nat.{_-_, _≤_}
 use mathlib.Core.Path.{_≡_, refl, _∙_}
-use borrow.Author.Needs.{needs}
 use native.Mathlib.Omega.{arith}
 use denote.Ref.{now}
 use lib.Bits.{bitAnd, and-le-l}
@@ -10,8 +9,6 @@ use Rattle.engine.specs.Sets.{Projected}
 use Rattle.engine.proofs.Laws.Sets.{projected-none, projected-next}
 use Rattle.engine.proofs.choose.project.Statement.{statement}
 use Rattle.engine.proofs.choose.project.Tie as tie
-use Rattle.engine.proofs.choose.project.Reads as reads
-use Rattle.engine.proofs.choose.project.Lts as lts
 
 abbrev Inv-loop : tie.InvT-loop
 Inv-loop sets count keep out₀ r₀ out r = (r ≤ count) × (length out ≡ 1024) × Projected sets r keep out

@@ -6,8 +6,6 @@ use lib.Pow.{shl-exact}
 use borrow.Author.Needs.{needs}
 use Rattle.engine.proofs.choose.reading_count.Statement.{statement}
 use Rattle.engine.proofs.choose.reading_count.Tie as tie
-use Rattle.engine.proofs.choose.reading_count.Reads as reads
-use Rattle.engine.proofs.choose.reading_count.Lts as lts
 
 shl-result : tie.Need-shl-result
 shl-result c = search needs

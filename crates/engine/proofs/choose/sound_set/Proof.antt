@@ -1,7 +1,7 @@
 -- `engine::choose::sound_set` meets its contract. The invariant: the projected set of each reading before r has a vector.
 -- Assumes nothing.
-use Prim.Native.Nat.{ℕ, _+_, _-_, _^_, _≤_, _<_}
-use mathlib.Core.Path.{_≡_, refl, sym, _∙_}
+use Prim.Native.Nat.{ℕ, _-_, _^_, _≤_, _<_}
+use mathlib.Core.Path.{sym}
 use borrow.Author.Count.{below-more}
 use borrow.Author.Needs.{needs}
 use native.Mathlib.Omega.{arith}
@@ -12,9 +12,6 @@ use Rattle.engine.specs.Sets.{HoldsSome}
 use Rattle.engine.proofs.Laws.Sets.{holds-some, sound-picked, unsound-picked}
 use Rattle.engine.proofs.choose.sound_set.Statement.{statement}
 use Rattle.engine.proofs.choose.sound_set.Tie as tie
-use Rattle.engine.proofs.choose.sound_set.Reads as reads
-use Rattle.engine.proofs.choose.sound_set.Lts as lts
-use Rattle.engine.proofs.choose.project.Reads as project-reads
 
 abbrev Inv-loop : tie.InvT-loop
 Inv-loop sets count keep projected r₀ r = (r ≤ count) × ((q : ℕ) → q < r → HoldsSome (getD projected (bitAnd q keep) 0))

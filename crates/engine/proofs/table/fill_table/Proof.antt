@@ -1,7 +1,7 @@
 -- `engine::table::fill_table` meets its contract. The invariant: the readings before r have their vectors in the table.
 -- Assumes nothing.
-use Prim.Native.Nat.{ℕ, _+_, _-_, _^_, _≤_, _<_}
-use mathlib.Core.Path.{_≡_, refl, sym, _∙_, ap}
+use Prim.Native.Nat.{ℕ, _-_, _^_, _≤_, _<_}
+use mathlib.Core.Path.{_≡_, refl, _∙_}
 use borrow.Author.Needs.{needs}
 use native.Mathlib.Omega.{arith}
 use denote.Ref.{now}
@@ -15,12 +15,6 @@ use Rattle.engine.proofs.Laws.Sets.{TableTo, table-next, table-picked}
 use Rattle.engine.proofs.Laws.VectorSets.{lowest-lt}
 use Rattle.engine.proofs.table.fill_table.Statement.{statement}
 use Rattle.engine.proofs.table.fill_table.Tie as tie
-use Rattle.engine.proofs.table.fill_table.Reads as reads
-use Rattle.engine.proofs.table.fill_table.Lts as lts
-use Rattle.engine.proofs.choose.project.Reads as project-reads
-use Rattle.engine.proofs.choose.reading_count.Reads as reading-count-reads
-use Rattle.engine.proofs.list.lowest_of.Reads as lowest-of-reads
-use Rattle.engine.proofs.table.narrow.Reads as narrow-reads
 
 abbrev Inv-loop : tie.InvT-loop
 Inv-loop sets candidates set table₀ count projected r₀ table r =
@@ -49,7 +43,8 @@ narrow-requires : tie.Need-narrow-requires Inv-loop μ-loop
 narrow-requires c κs = search needs
 
 -- a reading's part in the set, and its narrowed reading, stand among the 1,024 places
-part-lt : (c : tie.In-loop Inv-loop μ-loop) → bitAnd (c .before .loop .r) (c .before .before .before .before .before .before .args .set) < 1024
+part-lt : (c : tie.In-loop Inv-loop μ-loop)
+    → bitAnd (c .before .loop .r) (c .before .before .before .before .before .before .args .set) < 1024
 part-lt c =
     let o = c .before .before .before .before .before .before in
     let n = c .before .before .before .reading-count in
@@ -73,7 +68,8 @@ lowest-of-requires c κs = search needs
 cast-table : tie.Need-cast-table Inv-loop μ-loop
 cast-table c =
     let o = c .before .before .before .before .before .before .before .before in
-    let s = getD (c .before .before .before .before .project .result) (bitAnd (c .before .before .before .loop .r) (o .args .set)) 0 in
+    let ps = c .before .before .before .before .project .result in
+    let s = getD ps (bitAnd (c .before .before .before .loop .r) (o .args .set)) 0 in
     omega (arith, c .lowest-of .ensures, lowest-lt s)
 
 place-lt : (c : tie.After-narrow Inv-loop μ-loop) → c .narrow .result < length (c .before .before .loop .table)
@@ -101,11 +97,12 @@ loop-again c =
     let l = c .before .before .before .loop in
     let at = c .before .narrow in
     let ps = c .before .before .before .before .project .result in
-    let n = c .before .before .before .before .before .reading-count .ensures in (
+    let n = c .before .before .before .before .before .reading-count .ensures in
+    let b = rw (at .ensures) at (place-lt (c .before)) in (
       omega arith,
       length-set (l .table) (at .result) (c .lowest-of .result) ∙ l .inv .1,
       rw (at .ensures, c .lowest-of .ensures)
-          (table-next (a .candidates) (a .set) ps (l .table) (l .r) (omega arith) (rw (at .ensures) at (place-lt (c .before))) (l .inv .2)),
+          (table-next (a .candidates) (a .set) ps (l .table) (l .r) (omega arith) b (l .inv .2)),
     )
 
 same-length : tie.Need-same-length Inv-loop μ-loop

@@ -1,14 +1,12 @@
 -- `engine::table::narrow` meets its contract. The invariant: the number so far is the reading of the set's places from i on.
 -- Assumes nothing.
-use Prim.Native.Nat.{ℕ, suc, _-_, _^_, _≤_, _<_}
+use Prim.Native.Nat.{suc, _-_, _^_, _≤_, _<_}
 use mathlib.Core.Path.{_≡_, sym, _∙_, ap}
 use native.Mathlib.Omega.{arith}
 use lib.Pow.{pow-mono}
 use Rattle.engine.proofs.Laws.Picked.{narrowFrom, narrowFrom-none, narrowFrom-all, narrowFrom-lt, narrowFrom-in, narrowFrom-out}
 use Rattle.engine.proofs.table.narrow.Statement.{statement}
 use Rattle.engine.proofs.table.narrow.Tie as tie
-use Rattle.engine.proofs.table.narrow.Reads as reads
-use Rattle.engine.proofs.table.narrow.Lts as lts
 
 abbrev Inv-loop : tie.InvT-loop
 Inv-loop r set k q₀ i₀ q i = (i ≤ k) × (q ≡ narrowFrom k set r i)
