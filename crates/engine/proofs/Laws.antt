@@ -9,10 +9,12 @@ pub mod Loop
 pub mod Masks
 pub mod Outputs
 pub mod Partial
+pub mod Picked
 pub mod Read
 pub mod Ready
 pub mod Rectify
 pub mod Search
+pub mod Sets
 pub mod Stream
 pub mod Support
 pub mod Survey

@@ -10,6 +10,7 @@ mod partial;
 mod rectify;
 mod search;
 mod survey;
+mod table;
 mod ternary;
 mod visit;
 mod word;

@@ -31,7 +31,7 @@ pub(super) fn gather(words: &[u64], count: usize, j: usize) -> usize
 }
 
 // The smallest vector of a set, 0 where it is empty.
-fn lowest_of(set: usize) -> usize
+pub(super) fn lowest_of(set: usize) -> usize
     ensures { λ r. ⌜ r ≡ orZero (lowest set) ⌝ }
 {
     let mut v = 0usize;

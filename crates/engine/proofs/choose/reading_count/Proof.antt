@@ -1,0 +1,17 @@
+-- `engine::choose::reading_count` meets its contract: the shift loses no bit. Assumes nothing.
+use mathlib.Core.Path.{_∙_}
+use native.Mathlib.Nat.{one-mul}
+use native.Mathlib.Omega.{arith}
+use lib.Pow.{shl-exact}
+use borrow.Author.Needs.{needs}
+use Rattle.engine.proofs.choose.reading_count.Statement.{statement}
+use Rattle.engine.proofs.choose.reading_count.Tie as tie
+
+shl-result : tie.Need-shl-result
+shl-result c = search needs
+
+returns : tie.Need-returns
+returns c = shl-exact {a = 1} 1 (c .args .k) 64 (omega arith) (omega arith) ∙ one-mul _
+
+pub reading-count-spec : {M : Type 1} → statement M
+reading-count-spec = tie.close (tie.spec shl-result returns)
