@@ -13,6 +13,7 @@ pub mod Picked
 pub mod Read
 pub mod Ready
 pub mod Rectify
+pub mod Rule
 pub mod Search
 pub mod Sets
 pub mod Stream

@@ -14,4 +14,5 @@ pub mod Cases
 pub mod Inner
 pub mod Walk
 pub mod Sets
+pub mod Rule
 pub mod Partial

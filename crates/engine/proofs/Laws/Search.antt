@@ -130,9 +130,13 @@ progress-at {j} {x} {y} {v} {ss} p e = subst (λ (z : ℕ). Progress j z v ss) e
 upTo : {x y : ℕ} → x ≤ y → x + (y - x) ≡ y
 upTo h = omega arith
 
-listed-stuck : (v : Vectors) → v .stuck ≡ true → listedOf v .stuck ≡ some (v .input)
+pub listed-stuck : (v : Vectors) → v .stuck ≡ true → listedOf v .stuck ≡ some (v .input)
 unfolding listedOf
 listed-stuck v e = ap (λ (b : Bool). cond b (some (v .input)) none) e
+
+pub listed-free : (v : Vectors) → v .stuck ≡ false → listedOf v .stuck ≡ none
+unfolding listedOf
+listed-free v e = ap (λ (b : Bool). cond b (some (v .input)) none) e
 
 pub progress-stuck : {j : Job} {x y : ℕ} {v : Vectors} {ss : List ℕ} → Progress j x v ss → x ≤ y → v .stuck ≡ true
     → Progress j y v ss
