@@ -7,6 +7,7 @@ pub mod EvalWords
 pub mod Loop
 pub mod Outputs
 pub mod Rectify
+pub mod Sheet
 pub mod Support
 pub mod Ternary
 pub mod Verdict

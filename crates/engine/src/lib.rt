@@ -6,6 +6,7 @@ mod compare;
 mod decide;
 mod list;
 mod rectify;
+mod sheet;
 mod ternary;
 mod word;
 

@@ -1,11 +1,11 @@
 -- `records::put::put_field` meets its contract: four tests, then the head, and the bytes behind it. Assumes nothing.
+use Prim.Native.Nat.{_+_, _<_}
+use mathlib.Core.Path.{_≡_}
+use mathlib.Core.Bool.{false}
 use native.Mathlib.Omega.{arith}
 use borrow.Author.Needs.{needs}
 use denote.Ref.{now}
-use Prim.Native.Nat.{_+_, _<_}
-use mathlib.Core.Path.{_≡_}
 use lib.ListN.{length}
-use mathlib.Core.Bool.{false}
 use Rattle.records.specs.Service.{fieldFits}
 use Rattle.records.proofs.Laws.Put.{FieldPut, field-left, field-put, put-field-full, put-field-long}
 use Rattle.records.proofs.put.put_field.Statement.{statement}
