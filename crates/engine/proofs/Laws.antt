@@ -16,6 +16,7 @@ pub mod Rectify
 pub mod Rule
 pub mod Search
 pub mod Sets
+pub mod Sheet
 pub mod Stream
 pub mod Support
 pub mod Survey

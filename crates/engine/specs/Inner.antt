@@ -5,13 +5,16 @@
 --   Evaluated ..     in each of 64 scenarios the words of the nets are the values that the leaves' words give; words beyond the
 --                    nets are as before
 --   Unmarked ..      the words of the gates with mark 0 are such values already
+--   patchBytes is t c vs, unfixableBytes x vs, blindBytes r vs     the bytes of the three sheets: of the support is, its table
+--                    t and its cost c; of an input x; of a reading r; each with the vector list vs
+--   BytesPut ..      bytes put into a buffer from a position on, and the position behind them
 use Prim.Native.Nat.{ℕ, _+_, _*_, _^_, _≤_, _<_}
 use mathlib.Core.Path.{_≡_}
 use mathlib.Core.List.{List, _++_, map}
 use mathlib.Core.Bool.{true, cond}
 use lib.Dec.{ltb}
 use lib.ListN.{length, getD, take, drop}
-use Rattle.records.specs.Bytes.{all}
+use Rattle.records.specs.Bytes.{all, flat, bytePair, placed, field}
 use Rattle.records.specs.Gate.{Gate}
 use Rattle.records.specs.Netlist
 use Rattle.records.specs.Netlist.{netAt, values}
@@ -19,6 +22,7 @@ use Rattle.records.specs.Refusal.{gatesGood}
 use Rattle.records.specs.Service.{gatesFrom}
 use Rattle.engine.specs.Choice.{same}
 use Rattle.engine.specs.Eval.{bit, bits, numberOf}
+use Rattle.engine.specs.Verdict.{fourBytes}
 
 pub record Evaluable (kinds firsts seconds : List ℕ) (count base words : ℕ) : Type 0 where
   pub kinds-held : count ≤ length kinds
@@ -109,3 +113,17 @@ pub record VectorMasks (gs : List Gate) (os golden ps : List ℕ) (count n m b :
   pub long : length after ≡ length before
   pub masks : (v : ℕ) → v < 2 ^ m → RectifiesWord gs os golden ps count n m b v (getD after v 0)
   pub held : HoldsBlock gs n m b nets
+-- ---- sheets
+
+unfoldable pub patchBytes : List ℕ → List ℕ → ℕ → List ℕ → List ℕ
+patchBytes is t c vs = field 16 (flat bytePair is) ++ field 17 t ++ field 18 (fourBytes c) ++ field 19 vs
+
+unfoldable pub unfixableBytes : ℕ → List ℕ → List ℕ
+unfixableBytes x vs = field 20 (fourBytes x) ++ field 19 vs
+
+unfoldable pub blindBytes : ℕ → List ℕ → List ℕ
+blindBytes r vs = field 21 (bytePair r) ++ field 19 vs
+
+pub record BytesPut (before : List ℕ) (at : ℕ) (bs after : List ℕ) (r : ℕ) : Type 0 where
+  pub bytes : after ≡ placed before at bs
+  pub end : r ≡ at + length bs

@@ -11,6 +11,7 @@ mod rectify;
 mod search;
 mod survey;
 mod table;
+mod sheet;
 mod ternary;
 mod visit;
 mod word;

@@ -7,6 +7,7 @@ pub mod Field
 pub mod Gate
 pub mod Job
 pub mod Netlist
+pub mod Put
 pub mod Refusal
 pub mod Reply
 pub mod RoundTrip

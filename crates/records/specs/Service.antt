@@ -12,11 +12,12 @@
 --   writeNumber, writeReply, writtenBytes  what write replies, and the reply buffer afterwards
 --   sheetRoomy            number 3 for read_sheet: target and candidate counts within their ranges and places
 --   sheetNumber, sheetReply                what read_sheet replies
+--   fieldFits d at xs     a field of the bytes xs fits into the buffer d from position at on, and its length into two bytes
 use Prim.Native.Nat.{ℕ, _+_, _-_}
 use mathlib.Core.List.{List, [], _∷_, _++_, map}
 use mathlib.Core.Bool.{Bool, true, cond, _&&_}
 use lib.ListN.{length, getD, take, replicate}
-use lib.Dec.{leb, eqb}
+use lib.Dec.{leb, ltb, eqb}
 use Rattle.records.specs.Bytes.{tabulate, placed, headSize, nth}
 use Rattle.records.specs.Gate.{Gate, gateOf}
 use Rattle.records.specs.Netlist.{Netlist}
@@ -194,3 +195,8 @@ sheetReply m k nets weights s =
       cost = patchOf s .cost;
     })
     (record { number = number; support = record { nets = replicate maxCandidates 0; len = 0 }; table = 0; cost = 0 })
+
+-- ---- put_field
+
+unfoldable pub fieldFits : List ℕ → ℕ → List ℕ → Bool
+fieldFits d at xs = leb (at + headSize + length xs) (length d) && ltb (length xs) 65536

@@ -1,6 +1,6 @@
 // The record library: a job's bytes read into lent places, parts written as a job's bytes, a patch sheet read against
-// a job's candidates, and the gates' values. Every service answers with a number of document 01, 0 where it accepts,
-// and leaves every lent place as it was where it does not.
+// a job's candidates, the gates' values, and a field put into a buffer. Every service answers with a number of document
+// 01, 0 where it accepts, and leaves every lent place as it was where it does not.
 mod candidate;
 mod field;
 mod fill;
@@ -15,6 +15,7 @@ mod writing;
 pub use gate::value;
 pub use job::Counts;
 pub use job::SideCounts;
+pub use put::put_field;
 pub use reading::ReadReply;
 pub use reading::read;
 pub use sheet::SheetReply;

@@ -1,12 +1,14 @@
-// A job's bytes put into a buffer, from a position on.
+// A job's bytes, and any field, put into a buffer, from a position on.
 ghost use mathlib.Core.Path.{_≡_};
 ghost use mathlib.Core.List.{[], _∷_, _++_};
 ghost use Prim.Native.Nat.{_+_, _*_, _<_, _≤_};
+ghost use mathlib.Core.Bool.{cond};
 ghost use lib.ListN.{length, take};
-ghost use Rattle.records.specs.Bytes.{flat, bytePair, placed};
+ghost use Rattle.records.specs.Bytes.{flat, bytePair, placed, headSize, field};
 ghost use Rattle.records.specs.Job.{gateBytes, candidateBytes};
-ghost use Rattle.records.specs.Service.{netlistFrom, gatesFrom, candidatesFrom, sidePlaces, places};
+ghost use Rattle.records.specs.Service.{netlistFrom, gatesFrom, candidatesFrom, sidePlaces, places, fieldFits};
 ghost use Rattle.records.specs.Inner.{SidePut, JobPut, JobBytesPut, sideBytes};
+use super::fill::fill_bytes;
 use super::job::Counts;
 use super::job::SideCounts;
 
@@ -19,6 +21,35 @@ pub(super) fn put_head(buf: &mut [u8], at: usize, tag: u8, len: usize) -> usize
     buf[at + 1] = (len / 256 % 256) as u8;
     buf[at + 2] = (len % 256) as u8;
     at + 3
+}
+
+// One field put into a buffer, from position at on: tag, length and bytes. Where there is no room for it, or it is longer
+// than a field can say, the buffer is left as it was. The position behind the field, or at.
+pub fn put_field(buf: &mut [u8], at: usize, tag: u8, bytes: &[u8]) -> usize
+    ensures end { λ r. ⌜ r ≡ cond (fieldFits (now (buf .entry)) at (now (bytes .entry)))
+        (at + headSize + length (now (bytes .entry)))
+        at ⌝ }
+    ensures lent { λ _. ⌜ now (buf .exit) ≡ cond (fieldFits (now (buf .entry)) at (now (bytes .entry)))
+        (placed (now (buf .entry)) at (field tag (now (bytes .entry))))
+        (now (buf .entry)) ⌝ }
+{
+    let len = bytes.len();
+    if buf.len() < at {
+        return at;
+    }
+    let room = buf.len() - at;
+    if room < 3 {
+        return at;
+    }
+    if room - 3 < len {
+        return at;
+    }
+    if 65535 < len {
+        return at;
+    }
+    let a = put_head(buf, at, tag, len);
+    fill_bytes(bytes, 1, len, &mut buf[a..]);
+    a + len
 }
 
 // A two-byte number.

@@ -1,0 +1,166 @@
+-- Laws of the sheets' bytes: put one after the other, how many they are, and whose verdict they say. Assumes nothing.
+use Prim.Native.Nat.{ℕ, _+_, _*_, _/_, _%_, _^_, _≤_, _<_}
+use mathlib.Core.Path.{_≡_, refl, sym, _∙_, ap}
+use mathlib.Core.List.{List, [], _∷_, _++_, map}
+use native.Mathlib.Nat.{zero-add, one-mul, mod-eq-of-lt}
+use native.Mathlib.Numerals.{add-one}
+use native.Mathlib.Omega.{arith}
+use lib.ListN.{length, getD, take, set, length-append, length-map}
+use lib.Pow.{pow-lt, pow-mono}
+use lib.Seq.{length-take-le}
+use Rattle.records.specs.Bytes.{flat, bytePair, placed, field}
+use Rattle.records.specs.Job.{Job}
+use Rattle.records.proofs.Laws.Bytes.{take-placed}
+use Rattle.records.proofs.Laws.Job.{Put, sets-placed, placed-then, tabulate-getD, length-field, length-bytePair, length-outputs}
+use Rattle.records.proofs.Laws.Put.{FieldPut, put-field-put}
+use Rattle.engine.specs.Rectify.{vectorLoop}
+use Rattle.engine.specs.Support.{tableOf, cost}
+use Rattle.engine.specs.Verdict.{Ruling, patch, unfixable, blind, ruling, fourBytes, rulingFields, sheetOf, longestSheet}
+use Rattle.engine.specs.Inner.{BytesPut, patchBytes, unfixableBytes, blindBytes}
+
+-- ---- numbers as bytes
+
+-- how many places a support has, as the parameter that holds them tells it
+pub ten : (ns : List ℕ) → length (map (λ v. v) ns) ≡ 10 → length ns ≡ 10
+ten ns e = sym (length-map ns (λ v. v)) ∙ e
+
+-- the code's power of two
+pub shl-pow : (n : ℕ) → n ≤ 10 → 1 * 2 ^ n % 2 ^ 64 ≡ 2 ^ n
+shl-pow n h =
+    let l : 2 ^ n < 2 ^ 64 = pow-lt {j = 64} (omega arith) in
+    ap (λ (k : ℕ). k % 2 ^ 64) (one-mul (2 ^ n)) ∙ mod-eq-of-lt l
+
+pub pow-table : (n : ℕ) → n ≤ 10 → 2 ^ n ≤ 1024
+pow-table n h = pow-mono h
+
+pub pair-placed : (d : List ℕ) (at x : ℕ) {r : List ℕ} → r ≡ bytePair x → at + 2 ≤ length d
+    → set (set d at (getD r 0 0)) (at + 1) (getD r 1 0) ≡ placed d at (bytePair x)
+unfolding bytePair
+pair-placed d at x e h = rw (e, add-one) (sets-placed d at (x / 256 ∷ x % 256 ∷ []) h)
+
+pub length-nets : (ns : List ℕ) (n : ℕ) → n ≤ length ns → length (flat bytePair (take n ns)) ≡ 2 * n
+length-nets ns n h = length-outputs (take n ns) ∙ ap (λ (k : ℕ). 2 * k) (length-take-le n ns h)
+
+-- the pairs of n numbers at the start of a list
+pub pairs-take : (d₀ : List ℕ) {d : List ℕ} (ns : List ℕ) (n : ℕ) → n ≤ length ns → 2 * n ≤ length d₀
+    → Put bytePair (λ k. getD ns k 0) d₀ 0 d n → take (2 * n) d ≡ flat bytePair (take n ns)
+pairs-take d₀ {d} ns n h m w =
+    let xs : List ℕ = flat bytePair (take n ns) in
+    let l : 0 + length xs ≡ 2 * n = zero-add (length xs) ∙ length-nets ns n h in
+    let e : d ≡ placed d₀ 0 xs = w .1 ∙ ap (λ (r : List ℕ). placed d₀ 0 (flat bytePair r)) (tabulate-getD ns n h) in
+    ap (λ (k : ℕ). take k d) (sym l) ∙ ap (λ (r : List ℕ). take (0 + length xs) r) e ∙ take-placed d₀ 0 xs (omega arith)
+
+-- ---- bytes put one after the other
+
+module _ {d d₁ : List ℕ} {at p : ℕ} {xs : List ℕ} (w : BytesPut d at xs d₁ p) where
+  pub put-then : {d₂ : List ℕ} {r : ℕ} {ys : List ℕ} → at + length xs + length ys ≤ length d
+      → BytesPut d₁ p ys d₂ r → BytesPut d at (xs ++ ys) d₂ r
+  put-then {d₂} {r} {ys} h u =
+      record {
+        bytes = placed-then d at xs ys p (w .end) (omega (arith, w .end)) (w .bytes) (u .bytes);
+        end = omega (arith, length-append xs ys, w .end, u .end);
+      }
+
+-- a field, where there is room for it
+pub field-bytes : (d : List ℕ) {d′ : List ℕ} (at t : ℕ) {r : ℕ} (xs : List ℕ) {ys : List ℕ} → xs ≡ ys
+    → at + 3 + length ys ≤ length d → length ys < 65536 → FieldPut d at xs t r d′ → BytesPut d at (field t ys) d′ r
+field-bytes d at t {r} xs {ys} e h l w =
+    let v = put-field-put d at ys t r h l (rw e at w) in
+    record { bytes = v .1; end = v .0 }
+
+-- ---- how many bytes
+
+pub length-fourBytes : (x : ℕ) → length (fourBytes x) ≡ 4
+unfolding fourBytes bytePair
+length-fourBytes x = refl
+
+-- where a field ends
+module _ {d d′ : List ℕ} {at r : ℕ} (t : ℕ) where
+  pub support-end : (ns : List ℕ) (n : ℕ) → n ≤ length ns → BytesPut d at (field t (flat bytePair (take n ns))) d′ r
+      → r ≡ at + 3 + 2 * n
+  support-end ns n h w = omega (arith, w .end, length-field t (flat bytePair (take n ns)), length-nets ns n h)
+
+  pub list-end : (xs : List ℕ) (n : ℕ) → n ≤ length xs → BytesPut d at (field t (take n xs)) d′ r → r ≡ at + 3 + n
+  list-end xs n h w = omega (arith, w .end, length-field t (take n xs), length-take-le n xs h)
+
+  pub number-end : (x : ℕ) → BytesPut d at (field t (fourBytes x)) d′ r → r ≡ at + 7
+  number-end x w = omega (arith, w .end, length-field t (fourBytes x), length-fourBytes x)
+
+  pub pair-end : (x : ℕ) → BytesPut d at (field t (bytePair x)) d′ r → r ≡ at + 5
+  pair-end x w = omega (arith, w .end, length-field t (bytePair x), length-bytePair x)
+
+module _ (vs : List ℕ) where
+  pub length-patchBytes : (is t : List ℕ) (c : ℕ) → length (patchBytes is t c vs) ≡ 16 + 2 * length is + length t + length vs
+  unfolding patchBytes
+  length-patchBytes is t c = simp (length-append, length-field, length-outputs, length-fourBytes) (omega arith)
+
+  pub length-unfixableBytes : (x : ℕ) → length (unfixableBytes x vs) ≡ 10 + length vs
+  unfolding unfixableBytes
+  length-unfixableBytes x = simp (length-append, length-field, length-fourBytes) (omega arith)
+
+  pub length-blindBytes : (r : ℕ) → length (blindBytes r vs) ≡ 8 + length vs
+  unfolding blindBytes
+  length-blindBytes r = simp (length-append, length-field, length-bytePair) (omega arith)
+
+  pub patchBytes-le : (is t : List ℕ) (c : ℕ) → length is ≤ 10 → length t ≤ 1024 → length vs ≤ 16
+      → length (patchBytes is t c vs) ≤ longestSheet
+  patchBytes-le is t c h k l = omega (arith, length-patchBytes is t c)
+
+  pub unfixableBytes-le : (x : ℕ) → length vs ≤ 16 → length (unfixableBytes x vs) ≤ longestSheet
+  unfixableBytes-le x l = omega (arith, length-unfixableBytes x)
+
+  pub blindBytes-le : (r : ℕ) → length vs ≤ 16 → length (blindBytes r vs) ≤ longestSheet
+  blindBytes-le r l = omega (arith, length-blindBytes r)
+
+-- ---- the sheets put field by field
+
+module _ {d d₁ d₂ : List ℕ} {a b : ℕ} (vs : List ℕ) (l : length vs ≤ 16) (h : longestSheet ≤ length d) where
+  pub unfixable-put : (x : ℕ) → BytesPut d 0 (field 20 (fourBytes x)) d₁ a → BytesPut d₁ a (field 19 vs) d₂ b
+      → BytesPut d 0 (unfixableBytes x vs) d₂ b
+  unfolding unfixableBytes
+  unfixable-put x u w =
+      put-then u (omega (arith, length-field 20 (fourBytes x), length-fourBytes x, length-field 19 vs)) w
+
+  pub blind-put : (r : ℕ) → BytesPut d 0 (field 21 (bytePair r)) d₁ a → BytesPut d₁ a (field 19 vs) d₂ b
+      → BytesPut d 0 (blindBytes r vs) d₂ b
+  unfolding blindBytes
+  blind-put r u w = put-then u (omega (arith, length-field 21 (bytePair r), length-bytePair r, length-field 19 vs)) w
+
+  pub patch-put : {d₃ d₄ : List ℕ} {c r : ℕ} (is t : List ℕ) (x : ℕ) → length is ≤ 10 → length t ≤ 1024
+      → BytesPut d 0 (field 16 (flat bytePair is)) d₁ a → BytesPut d₁ a (field 17 t) d₂ b
+      → BytesPut d₂ b (field 18 (fourBytes x)) d₃ c → BytesPut d₃ c (field 19 vs) d₄ r
+      → BytesPut d 0 (patchBytes is t x vs) d₄ r
+  unfolding patchBytes
+  patch-put is t x m n u₁ u₂ u₃ u₄ =
+      let f₁ : List ℕ = field 16 (flat bytePair is) in
+      let f₂ : List ℕ = field 17 t in
+      let f₃ : List ℕ = field 18 (fourBytes x) in
+      let n₁ : length f₁ ≡ 3 + 2 * length is = length-field 16 (flat bytePair is) ∙ rw (length-outputs is) in
+      let n₂ : length f₂ ≡ 3 + length t = length-field 17 t in
+      let n₃ : length f₃ ≡ 7 = length-field 18 (fourBytes x) ∙ rw (length-fourBytes x) in
+      let n₄ = length-field 19 vs in
+      let n₁₂ = length-append f₁ f₂ in
+      let n₁₃ = length-append (f₁ ++ f₂) f₃ in
+      put-then (put-then (put-then u₁ (omega arith) u₂) (omega arith) u₃) (omega arith) u₄
+
+-- ---- whose verdict they say
+
+module _ (j : Job) (vs : List ℕ) where
+  pub patchBytes-ruling : (is : List ℕ) {t : List ℕ} {c : ℕ} → t ≡ tableOf j is → c ≡ cost j is
+      → patchBytes is t c vs ≡ rulingFields j (patch is) ++ field 19 vs
+  unfolding patchBytes rulingFields
+  patchBytes-ruling is e f = rw (e, f)
+
+  pub unfixableBytes-ruling : (x : ℕ) → unfixableBytes x vs ≡ rulingFields j (unfixable x) ++ field 19 vs
+  unfolding unfixableBytes rulingFields
+  unfixableBytes-ruling x = refl
+
+  pub blindBytes-ruling : (r : ℕ) → blindBytes r vs ≡ rulingFields j (blind r) ++ field 19 vs
+  unfolding blindBytes rulingFields
+  blindBytes-ruling r = refl
+
+-- .. and the job's own verdict is its sheet
+pub sheet-ruling : (j : Job) {v : Ruling} {vs : List ℕ} → ruling j ≡ v → vectorLoop j .vectors ≡ vs
+    → rulingFields j v ++ field 19 vs ≡ sheetOf j
+unfolding sheetOf
+sheet-ruling j e f = rw (e, f)

@@ -1,0 +1,107 @@
+-- `engine::sheet::put_patch` meets its contract: four fields, one behind the other. Assumes nothing.
+use Prim.Native.Nat.{_+_, _*_, _^_, _≤_}
+use mathlib.Core.Path.{_≡_}
+use native.Mathlib.Omega.{arith}
+use borrow.Author.Needs.{needs}
+use denote.Ref.{now}
+use lib.ListN.{length, take}
+use lib.Seq.{length-take-le}
+use Rattle.engine.proofs.Laws.Sheet.{ten, pow-table, support-end, list-end, number-end, patch-put}
+use Rattle.engine.proofs.sheet.put_patch.Statement.{statement}
+use Rattle.engine.proofs.sheet.put_patch.Tie as tie
+
+abbrev start : tie.After-put-support → tie.Start
+start u = u .before .before .before .before
+
+-- what the arrays hold, and how long the table is
+pub record Sizes (s : tie.Start) : Type 0 where
+  pub nets : length (s .args .support .nets) ≡ 10
+  pub list : length (s .args .list) ≡ 16
+  pub table : 2 ^ s .args .support .len ≤ 1024
+  pub room : 1076 ≤ length (now (s .args .reply))
+  pub few : s .args .support .len ≤ 10
+  pub held : 2 ^ s .args .support .len ≤ length (now (s .args .table))
+  pub short : s .args .len ≤ 16
+
+sizes : (s : tie.Start) → Sizes s
+sizes s =
+    let p = s .pre in
+    record {
+      nets = ten (s .args .support .nets) (s .good .1 .0 .1 .1 .0 .1 .0 .1);
+      list = s .good .1 .1 .1 .1 .0 .1 .0 .1;
+      table = pow-table (s .args .support .len) (p .1);
+      room = p .0;
+      few = p .1;
+      held = p .2;
+      short = p .3;
+    }
+
+-- where the fields end
+past-support : (u : tie.After-put-support) → u .put-support .result ≡ 3 + 2 * start u .args .support .len
+past-support u =
+    let a = start u .args in
+    let z = sizes (start u) in
+    omega (arith, support-end 16 (a .support .nets) (a .support .len) (omega arith) (u .put-support .ensures))
+
+abbrev support : tie.After-put-table → tie.After-put-support
+support t = t .before .before .before .before
+
+past-table : (t : tie.After-put-table)
+    → let a = start (support t) .args in t .put-table .result ≡ 6 + 2 * a .support .len + 2 ^ a .support .len
+past-table t =
+    let a = start (support t) .args in
+    let z = sizes (start (support t)) in
+    let e = list-end 17 (now (a .table)) (2 ^ a .support .len) (z .held) (t .put-table .ensures) in
+    omega (arith, past-support (support t))
+
+put-support-requires : tie.Need-put-support-requires
+put-support-requires c κs = search needs
+
+put-table-requires : tie.Need-put-table-requires
+put-table-requires c κs =
+    let u = c .before .before .before in
+    let z = sizes (start u) in
+    omega (arith, past-support u)
+
+put-number-requires : tie.Need-put-number-requires
+put-number-requires c κs =
+    let t = c .before .before .before in
+    let z = sizes (start (support t)) in
+    omega (arith, past-table t)
+
+put-vectors-requires : tie.Need-put-vectors-requires
+put-vectors-requires c κs =
+    let v = c .before .before .before in
+    let t = v .before .before .before .before in
+    let s = start (support t) in
+    let z = sizes s in
+    omega (arith, past-table t, number-end 18 (s .args .cost) (v .put-number .ensures))
+
+same-length : tie.Need-same-length
+same-length c = search needs
+
+returns : tie.Need-returns
+returns c =
+    let w = c .before .before in
+    let v = w .before .before .before .before in
+    let t = v .before .before .before .before in
+    let u = support t in
+    let a = start u .args in
+    let z = sizes (start u) in
+    let n = length-take-le (a .len) (a .list) (omega arith) in
+    let k = length-take-le (a .support .len) (a .support .nets) (omega arith) in
+    let m = length-take-le (2 ^ a .support .len) (now (a .table)) (omega arith) in
+    patch-put (take (a .len) (a .list)) (omega arith) (omega arith)
+    (take (a .support .len) (a .support .nets)) (take (2 ^ a .support .len) (now (a .table))) (a .cost) (omega arith) (omega arith)
+    (u .put-support .ensures) (t .put-table .ensures) (v .put-number .ensures) (w .put-vectors .ensures)
+
+pub put-patch-spec : {M : Type 1} → statement M
+put-patch-spec =
+    tie.close
+    (tie.spec
+    put-support-requires
+    put-table-requires
+    put-number-requires
+    put-vectors-requires
+    same-length
+    returns)

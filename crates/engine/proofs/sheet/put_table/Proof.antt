@@ -1,0 +1,44 @@
+-- `engine::sheet::put_table` meets its contract. Assumes nothing.
+use Prim.Native.Nat.{ℕ, _^_}
+use mathlib.Core.Path.{sym, ap}
+use native.Mathlib.Omega.{arith}
+use borrow.Author.Needs.{needs}
+use denote.Ref.{now}
+use lib.ListN.{take}
+use lib.Seq.{length-take-le}
+use Rattle.engine.proofs.Laws.Sheet.{field-bytes, shl-pow, pow-table}
+use Rattle.engine.proofs.sheet.put_table.Statement.{statement}
+use Rattle.engine.proofs.sheet.put_table.Tie as tie
+
+shl-count : tie.Need-shl-count
+shl-count c = search needs
+
+slice-aggregate-put-field : tie.Need-slice-aggregate-put-field
+slice-aggregate-put-field c =
+    let a = c .before .before .before .before .args in
+    sym (length-take-le _ _ (rw (shl-pow (a .len) (omega arith)) (omega arith)))
+
+put-field-requires : tie.Need-put-field-requires
+put-field-requires c κs = search needs
+
+same-length : tie.Need-same-length
+same-length c = search needs
+
+returns : tie.Need-returns
+returns c =
+    let s = c .before .before .before .before .before .before .before in
+    let a = s .args in
+    let p = pow-table (a .len) (omega arith) in
+    let n = length-take-le (2 ^ a .len) (now (a .table)) (omega arith) in
+    field-bytes (now (a .reply)) (a .at) 17 _ (ap (λ (k : ℕ). take k (now (a .table))) (shl-pow (a .len) (omega arith)))
+    (omega arith) (omega arith) (c .before .before .put-field .ensures)
+
+pub put-table-spec : {M : Type 1} → statement M
+put-table-spec =
+    tie.close
+    (tie.spec
+    shl-count
+    slice-aggregate-put-field
+    put-field-requires
+    same-length
+    returns)

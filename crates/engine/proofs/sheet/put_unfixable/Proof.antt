@@ -1,0 +1,42 @@
+-- `engine::sheet::put_unfixable` meets its contract: two fields, one behind the other. Assumes nothing.
+use native.Mathlib.Omega.{arith}
+use borrow.Author.Needs.{needs}
+use lib.ListN.{take}
+use lib.Seq.{length-take-le}
+use Rattle.engine.proofs.Laws.Sheet.{number-end, unfixable-put}
+use Rattle.engine.proofs.sheet.put_unfixable.Statement.{statement}
+use Rattle.engine.proofs.sheet.put_unfixable.Tie as tie
+
+cast-put-number : tie.Need-cast-put-number
+cast-put-number c = search needs
+
+put-number-requires : tie.Need-put-number-requires
+put-number-requires c κs = search needs
+
+put-vectors-requires : tie.Need-put-vectors-requires
+put-vectors-requires c κs =
+    let a = c .before .before .before .before .before .before .args in
+    let e = number-end 20 (a .input) (c .before .before .before .put-number .ensures) in
+    omega arith
+
+same-length : tie.Need-same-length
+same-length c = search needs
+
+returns : tie.Need-returns
+returns c =
+    let w = c .before .before in
+    let u = w .before .before .before .before in
+    let s = u .before .before .before in
+    let a = s .args in
+    let n = length-take-le (a .len) (a .list) (omega arith) in
+    unfixable-put (take (a .len) (a .list)) (omega arith) (omega arith) (a .input) (u .put-number .ensures) (w .put-vectors .ensures)
+
+pub put-unfixable-spec : {M : Type 1} → statement M
+put-unfixable-spec =
+    tie.close
+    (tie.spec
+    cast-put-number
+    put-number-requires
+    put-vectors-requires
+    same-length
+    returns)
