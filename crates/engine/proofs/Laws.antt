@@ -9,5 +9,6 @@ pub mod Outputs
 pub mod Rectify
 pub mod Support
 pub mod Ternary
+pub mod Text
 pub mod Verdict
 pub mod Word

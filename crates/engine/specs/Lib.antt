@@ -10,6 +10,7 @@ pub mod Reply
 pub mod Tree
 pub mod Fit
 pub mod Claims
+pub mod Text
 pub mod Cases
 pub mod Inner
 pub mod Walk

@@ -7,6 +7,7 @@ mod decide;
 mod list;
 mod rectify;
 mod ternary;
+mod text;
 mod word;
 
 pub use ternary::ternary_entry;

@@ -1,0 +1,164 @@
+-- What the program `rectify` prints (document 01, "Jobs on file"), as ASCII bytes. Assumes nothing.
+--
+--   digits x               the decimal digits of x, the highest first
+--   patchWord .. refusedWord    the words that lines start with
+--   numbers xs             for each number of xs a space and its digits
+--   line w xs              the word w, the numbers xs and a line feed
+--   patchText p            the four lines of a patch
+--   unfixableText x vs, blindText r vs     the two lines of an unfixable input and of a blind reading
+--   sheetText s            the lines of the sheet s, by its first tag
+--   refusedText n          the line of a refusal with number n
+--   inputLimit             more bytes than these are refused with 2
+--   rectifyText s          what is printed for the job bytes s
+--   textA                  the four lines that document 01 gives for job A
+--   PatchSheet s, InputSheet s, ReadingSheet s, WholeSheet s    s is the fields of a verdict's sheet, of lengths in their ranges
+--   longestText            no such sheet and no refusal has a longer text
+--   Printed d at xs r d′   d′ is d with xs placed from position at on, and r is the position behind
+--   Texted d xs r d′       the same at the start of d
+use Prim.Native.Nat.{ℕ, zero, suc, _+_, _/_, _%_, _≤_}
+use mathlib.Core.Path.{_≡_}
+use mathlib.Core.List.{List, [], _∷_, _++_}
+use mathlib.Core.Bool.{true, false, cond}
+use lib.ListN.{length, getD, replicate}
+use lib.Dec.{ltb, eqb}
+use Rattle.records.specs.Bytes.{flat, word, placed, whole, nth}
+use Rattle.records.specs.Job.{jobOf}
+use Rattle.records.specs.Sheet.{Patch, quad, sheetTags, patchOf}
+use Rattle.engine.specs.Verdict.{sheetOf, longestSheet, decideNumber}
+
+-- ---- numbers
+
+-- the digits of x where x ≤ k; 48 is `0`
+unfoldable pub digitsWithin : ℕ → ℕ → List ℕ
+digitsWithin zero x = 48 ∷ []
+digitsWithin (suc k) x =
+    elim (ltb x 10) [ true ↦ (48 + x) ∷ [] | false ↦ digitsWithin k (x / 10) ++ ((48 + x % 10) ∷ []) ]
+
+unfoldable pub digits : ℕ → List ℕ
+digits x = digitsWithin x x
+
+-- ---- lines
+
+-- `patch cost`
+abbrev pub patchWord : List ℕ
+patchWord = 112 ∷ 97 ∷ 116 ∷ 99 ∷ 104 ∷ 32 ∷ 99 ∷ 111 ∷ 115 ∷ 116 ∷ []
+
+-- `support`
+abbrev pub supportWord : List ℕ
+supportWord = 115 ∷ 117 ∷ 112 ∷ 112 ∷ 111 ∷ 114 ∷ 116 ∷ []
+
+-- `table`
+abbrev pub tableWord : List ℕ
+tableWord = 116 ∷ 97 ∷ 98 ∷ 108 ∷ 101 ∷ []
+
+-- `vectors`
+abbrev pub vectorsWord : List ℕ
+vectorsWord = 118 ∷ 101 ∷ 99 ∷ 116 ∷ 111 ∷ 114 ∷ 115 ∷ []
+
+-- `unfixable`
+abbrev pub unfixableWord : List ℕ
+unfixableWord = 117 ∷ 110 ∷ 102 ∷ 105 ∷ 120 ∷ 97 ∷ 98 ∷ 108 ∷ 101 ∷ []
+
+-- `blind`
+abbrev pub blindWord : List ℕ
+blindWord = 98 ∷ 108 ∷ 105 ∷ 110 ∷ 100 ∷ []
+
+-- `refused`
+abbrev pub refusedWord : List ℕ
+refusedWord = 114 ∷ 101 ∷ 102 ∷ 117 ∷ 115 ∷ 101 ∷ 100 ∷ []
+
+-- 32 is a space
+unfoldable pub number : ℕ → List ℕ
+number x = 32 ∷ digits x
+
+unfoldable pub numbers : List ℕ → List ℕ
+numbers xs = flat number xs
+
+-- 10 is a line feed
+unfoldable pub line : List ℕ → List ℕ → List ℕ
+line w xs = w ++ numbers xs ++ (10 ∷ [])
+
+-- ---- texts
+
+unfoldable pub patchText : Patch → List ℕ
+patchText p =
+    line patchWord (p .cost ∷ [])
+    ++ line supportWord (p .support)
+    ++ line tableWord (p .table)
+    ++ line vectorsWord (p .vectors)
+
+unfoldable pub unfixableText : ℕ → List ℕ → List ℕ
+unfixableText x vs = line unfixableWord (x ∷ []) ++ line vectorsWord vs
+
+unfoldable pub blindText : ℕ → List ℕ → List ℕ
+blindText r vs = line blindWord (r ∷ []) ++ line vectorsWord vs
+
+unfoldable pub sheetText : List ℕ → List ℕ
+sheetText s =
+    let tag = getD s 0 0 in
+    cond (eqb tag 16)
+    (patchText (patchOf s))
+    (cond (eqb tag 20) (unfixableText (quad (nth 0 s)) (nth 1 s)) (blindText (word (nth 0 s) 0) (nth 1 s)))
+
+unfoldable pub refusedText : ℕ → List ℕ
+refusedText n = line refusedWord (n ∷ [])
+
+abbrev pub inputLimit : ℕ
+inputLimit = 65535
+
+unfoldable pub rectifyText : List ℕ → List ℕ
+rectifyText s =
+    let n = decideNumber (replicate longestSheet 0) s in
+    cond (ltb inputLimit (length s))
+    (refusedText 2)
+    (cond (eqb n 0) (sheetText (sheetOf (jobOf s))) (refusedText n))
+
+-- what is printed for job A: `patch cost 7`, `support 0 1`, `table 0 0 0 1`, `vectors 0 1`
+abbrev pub textA : List ℕ
+textA =
+    patchWord
+    ++ (32 ∷ 55 ∷ 10 ∷ [])
+    ++ supportWord
+    ++ (32 ∷ 48 ∷ 32 ∷ 49 ∷ 10 ∷ [])
+    ++ tableWord
+    ++ (32 ∷ 48 ∷ 32 ∷ 48 ∷ 32 ∷ 48 ∷ 32 ∷ 49 ∷ 10 ∷ [])
+    ++ vectorsWord
+    ++ (32 ∷ 48 ∷ 32 ∷ 49 ∷ 10 ∷ [])
+
+-- ---- whole sheets
+
+pub record PatchSheet (s : List ℕ) : Type 0 where
+  pub fields : whole sheetTags s ≡ true
+  pub support : length (nth 0 s) ≤ 20
+  pub table : length (nth 1 s) ≤ 1024
+  pub cost : length (nth 2 s) ≡ 4
+  pub vectors : length (nth 3 s) ≤ 16
+
+pub record InputSheet (s : List ℕ) : Type 0 where
+  pub fields : whole (20 ∷ 19 ∷ []) s ≡ true
+  pub input : length (nth 0 s) ≡ 4
+  pub vectors : length (nth 1 s) ≤ 16
+
+pub record ReadingSheet (s : List ℕ) : Type 0 where
+  pub fields : whole (21 ∷ 19 ∷ []) s ≡ true
+  pub reading : length (nth 0 s) ≡ 2
+  pub vectors : length (nth 1 s) ≤ 16
+
+pub data WholeSheet (s : List ℕ) : Type 0 where
+  isPatch : PatchSheet s → WholeSheet s
+  isInput : InputSheet s → WholeSheet s
+  isReading : ReadingSheet s → WholeSheet s
+
+-- A cost has at most ten digits, a net five, a byte three: 22 + 68 + 4102 + 72.
+abbrev pub longestText : ℕ
+longestText = 4264
+
+-- ---- what the functions that write text give
+
+pub record Printed (d : List ℕ) (at : ℕ) (xs : List ℕ) (r : ℕ) (d′ : List ℕ) : Type 0 where
+  pub end : r ≡ at + length xs
+  pub text : d′ ≡ placed d at xs
+
+pub record Texted (d xs : List ℕ) (r : ℕ) (d′ : List ℕ) : Type 0 where
+  pub len : r ≡ length xs
+  pub text : d′ ≡ placed d 0 xs
