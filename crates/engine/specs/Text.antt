@@ -5,13 +5,15 @@
 --   numbers xs             for each number of xs a space and its digits
 --   line w xs              the word w, the numbers xs and a line feed
 --   patchText p            the four lines of a patch
---   unfixableText x vs, blindText r vs     the two lines of an unfixable input and of a blind reading
+--   valueText w x vs       the two lines of an unfixable input or a blind reading x
 --   sheetText s            the lines of the sheet s, by its first tag
 --   refusedText n          the line of a refusal with number n
 --   inputLimit             more bytes than these are refused with 2
 --   rectifyText s          what is printed for the job bytes s
 --   textA                  the four lines that document 01 gives for job A
---   PatchSheet s, InputSheet s, ReadingSheet s, WholeSheet s    s is the fields of a verdict's sheet, of lengths in their ranges
+--   PatchSheet s           s is the fields of a patch's sheet, of lengths in their ranges
+--   ValueSheet t size s    the same for the sheet of an unfixable input or a blind reading, whose first field has tag t
+--   WholeSheet s           s is the sheet of a verdict
 --   longestText            no such sheet and no refusal has a longer text
 --   Printed d at xs r d′   d′ is d with xs placed from position at on, and r is the position behind
 --   Texted d xs r d′       the same at the start of d
@@ -87,18 +89,17 @@ patchText p =
     ++ line tableWord (p .table)
     ++ line vectorsWord (p .vectors)
 
-unfoldable pub unfixableText : ℕ → List ℕ → List ℕ
-unfixableText x vs = line unfixableWord (x ∷ []) ++ line vectorsWord vs
-
-unfoldable pub blindText : ℕ → List ℕ → List ℕ
-blindText r vs = line blindWord (r ∷ []) ++ line vectorsWord vs
+unfoldable pub valueText : List ℕ → ℕ → List ℕ → List ℕ
+valueText w x vs = line w (x ∷ []) ++ line vectorsWord vs
 
 unfoldable pub sheetText : List ℕ → List ℕ
 sheetText s =
     let tag = getD s 0 0 in
     cond (eqb tag 16)
     (patchText (patchOf s))
-    (cond (eqb tag 20) (unfixableText (quad (nth 0 s)) (nth 1 s)) (blindText (word (nth 0 s) 0) (nth 1 s)))
+    (cond (eqb tag 20)
+    (valueText unfixableWord (quad (nth 0 s)) (nth 1 s))
+    (valueText blindWord (word (nth 0 s) 0) (nth 1 s)))
 
 unfoldable pub refusedText : ℕ → List ℕ
 refusedText n = line refusedWord (n ∷ [])
@@ -134,20 +135,16 @@ pub record PatchSheet (s : List ℕ) : Type 0 where
   pub cost : length (nth 2 s) ≡ 4
   pub vectors : length (nth 3 s) ≤ 16
 
-pub record InputSheet (s : List ℕ) : Type 0 where
-  pub fields : whole (20 ∷ 19 ∷ []) s ≡ true
-  pub input : length (nth 0 s) ≡ 4
-  pub vectors : length (nth 1 s) ≤ 16
-
-pub record ReadingSheet (s : List ℕ) : Type 0 where
-  pub fields : whole (21 ∷ 19 ∷ []) s ≡ true
-  pub reading : length (nth 0 s) ≡ 2
+-- a value of this size with tag t, and the vector list
+pub record ValueSheet (t size : ℕ) (s : List ℕ) : Type 0 where
+  pub fields : whole (t ∷ 19 ∷ []) s ≡ true
+  pub value : length (nth 0 s) ≡ size
   pub vectors : length (nth 1 s) ≤ 16
 
 pub data WholeSheet (s : List ℕ) : Type 0 where
   isPatch : PatchSheet s → WholeSheet s
-  isInput : InputSheet s → WholeSheet s
-  isReading : ReadingSheet s → WholeSheet s
+  isUnfixable : ValueSheet 20 4 s → WholeSheet s
+  isBlind : ValueSheet 21 2 s → WholeSheet s
 
 -- A cost has at most ten digits, a net five, a byte three: 22 + 68 + 4102 + 72.
 abbrev pub longestText : ℕ

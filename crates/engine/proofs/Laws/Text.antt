@@ -4,21 +4,27 @@ use mathlib.Core.Path.{_≡_, refl, sym, _∙_, ap}
 use mathlib.Core.List.{List, [], _∷_, _++_, append-assoc, append-nil}
 use mathlib.Core.Bool.{Bool, true, false}
 use mathlib.Core.Logic.{⊎-elim}
-use native.Mathlib.Nat.{add-assoc, pow-suc}
+use native.Mathlib.Nat.{add-assoc, mul-suc, pow-suc}
 use native.Mathlib.Numerals.{add-one}
 use native.Mathlib.Omega.{arith}
 use borrow.Author.Tests.{lt-ltb, le-ltb, ne-eqb, ltb-true, ltb-false, eqb-true, eqb-false}
 use lib.Dec.{ltb, eqb}
-use lib.ListN.{length, getD, take, drop, set, replicate, length-append, take-append-drop}
+use lib.ListN.{length, getD, take, drop, set, replicate, length-append, take-append-drop, List·getD-eq-default}
 use lib.Seq.{length-take-le, take-all, take-suc}
-use Rattle.records.specs.Bytes.{upFrom, tabulate, flat, word, placed, bodyLength, body, rest, nth}
+use Rattle.records.specs.Bytes.{upFrom, tabulate, flat, word, placed, bodyLength, body, rest, whole, nth}
 use Rattle.records.specs.Job.{jobOf, netsOf}
-use Rattle.records.specs.Sheet.{quad, patchOf}
+use Rattle.records.specs.Sheet.{quad, sheetTags, patchOf}
+use Rattle.records.specs.Claims.{Below}
+use Rattle.records.specs.Inner.{startOf}
 use Rattle.records.proofs.Laws.Bytes.{all-cons, placed-nil, length-placed, set-placed}
+use Rattle.records.proofs.Laws.Field.{skip, positionOf, skip-drop, bodyLength-drop, startOf-position, positionOf-suc, startOf-suc, whole-end, nth-slice}
+use Rattle.records.proofs.Laws.Shape.{length-netsOf}
+use Rattle.records.proofs.Laws.Sheet.{word-lt, net-at}
+use Rattle.records.proofs.Laws.RoundTrip.{below-take, below-drop}
 use Rattle.records.proofs.Laws.Job.{placed-then, flat-append, flat-snoc}
 use Rattle.engine.specs.Verdict.{sheetOf, longestSheet, decideNumber}
 use Rattle.engine.specs.Cases.{jobA, sheetA, replied, cases, casesHold}
-use Rattle.engine.specs.Text.{digitsWithin, digits, number, numbers, line, patchText, sheetText, refusedText, inputLimit, rectifyText, textA, Printed}
+use Rattle.engine.specs.Text.{digitsWithin, digits, patchWord, supportWord, tableWord, vectorsWord, number, numbers, line, patchText, valueText, sheetText, refusedText, inputLimit, rectifyText, textA, PatchSheet, ValueSheet, WholeSheet, longestText, Printed, Texted}
 use Rattle.engine.proofs.Laws.Choice.{true-or-false, same-true}
 use Rattle.engine.proofs.Cases.{cases-hold}
 
@@ -186,6 +192,257 @@ pub printed-number : (d : List ℕ) (at x : ℕ) → at + length (number x) ≤ 
     → Printed (set d at 32) (at + 1) (digits x) r d₁ → Printed d at (number x) r d₁
 unfolding number
 printed-number d at x h a = printed-then (printed-set (printed-none d at) 32 (omega arith)) a h
+
+-- ---- lines
+
+pub numbers-one : (x : ℕ) → numbers (x ∷ []) ≡ number x
+unfolding numbers flat
+numbers-one x = append-nil (number x)
+
+pub length-line : (w xs : List ℕ) → length (line w xs) ≡ length w + length (numbers xs) + 1
+unfolding line
+length-line w xs =
+    length-append (w ++ numbers xs) (10 ∷ []) ∙ ap (λ (k : ℕ). k + 1) (length-append w (numbers xs))
+
+pub printed-line : {d d₁ d₂ : List ℕ} {at p q : ℕ} (w xs : List ℕ) → at + length (line w xs) ≤ length d
+    → Printed d at w p d₁ → Printed d₁ p (numbers xs) q d₂ → Printed d at (line w xs) (q + 1) (set d₂ q 10)
+unfolding line
+printed-line w xs h a b =
+    let e = length-append (w ++ numbers xs) (10 ∷ []) in
+    printed-set (printed-then a b (omega arith)) 10 h
+
+-- ---- how long numbers are
+
+pub length-numbers-le : (k : ℕ) (xs : List ℕ) → Below (10 ^ suc k) xs → length (numbers xs) ≤ (k + 2) * length xs
+unfolding numbers flat number
+length-numbers-le k [] b = omega arith
+length-numbers-le k (x ∷ xs) b =
+    let n = length-digits-le k x (b 0) in
+    let m = length-numbers-le k xs (λ i. b (suc i)) in
+    omega (arith, length-append (number x) (numbers xs), mul-suc (k + 2) (length xs))
+
+below-nets : (s : List ℕ) → Below 256 s → Below 65536 (netsOf s)
+below-nets s b i =
+    ⊎-elim
+    (λ l. rw (net-at s i (ltb-true i (length s / 2) l)) (word-lt s (2 * i) (b (2 * i)) (b (2 * i + 1))))
+    (λ m.
+      let n = ltb-false i (length s / 2) m in
+      let g : length (netsOf s) ≤ i = omega (arith, length-netsOf s) in
+      rw (List·getD-eq-default (netsOf s) 0 g) (omega arith))
+    (true-or-false (ltb i (length s / 2)))
+
+-- ---- the fields of a whole sheet
+
+module _ (ts s : List ℕ) (w : whole ts s ≡ true) (k : ℕ) (h : k < length ts) where
+  pub field-length : (a : ℕ) → a ≡ startOf k s → word s (a - 2) ≡ length (nth k s)
+  field-length a e =
+      let at = positionOf k s in
+      let p : a - 2 ≡ at + 1 = omega (arith, startOf-position k s) in
+      let n : word s (at + 1) ≡ bodyLength (skip k s) = sym (bodyLength-drop s at) ∙ ap bodyLength (sym (skip-drop k s)) in
+      rw p (n ∙ omega (arith, startOf-suc ts s w k h, startOf-position k s, startOf-position (suc k) s, positionOf-suc k s))
+
+  pub field-part : (a b : ℕ) → a ≡ startOf k s → b ≡ a + length (nth k s) → take (b - a) (drop a s) ≡ nth k s
+  field-part a b e f =
+      let n : b - a ≡ length (nth k s) = omega arith in
+      rw (n, e) (nth-slice ts s w k h)
+
+  pub below-field : Below 256 s → Below 256 (nth k s)
+  below-field b =
+      let e = nth-slice ts s w k h in
+      rw e at (below-take 256 (drop (startOf k s) s) (length (nth k s)) (below-drop 256 s (startOf k s) b))
+
+start-zero : (s : List ℕ) → startOf 0 s ≡ 3
+unfolding startOf
+start-zero s = refl
+
+-- the fields of a whole sheet end where it ends
+fields-end : (ts s : List ℕ) → whole ts s ≡ true → startOf (length ts) s ≡ length s + 3
+fields-end ts s w = omega (arith, whole-end ts s w, startOf-position (length ts) s)
+
+-- ---- a patch's sheet
+
+module _ (s : List ℕ) (p : PatchSheet s) where
+  patch-start : (k : ℕ) → k < 4 → startOf (suc k) s ≡ startOf k s + length (nth k s) + 3
+  patch-start k h = startOf-suc sheetTags s (p .fields) k h
+
+  pub patch-first : word s 1 ≡ length (nth 0 s)
+  patch-first = field-length sheetTags s (p .fields) 0 (omega arith) 3 (sym (start-zero s))
+
+  pub patch-length : length s ≡ length (nth 0 s) + length (nth 1 s) + length (nth 3 s) + 16
+  patch-length =
+      omega (
+        arith,
+        p .cost,
+        start-zero s,
+        patch-start 0 (omega arith),
+        patch-start 1 (omega arith),
+        patch-start 2 (omega arith),
+        patch-start 3 (omega arith),
+        fields-end sheetTags s (p .fields),
+      )
+
+  module _ (table : ℕ) (e : table ≡ length (nth 0 s) + 6) where
+    table-start : table ≡ startOf 1 s
+    table-start = omega (arith, start-zero s, patch-start 0 (omega arith))
+
+    pub patch-second : word s (table - 2) ≡ length (nth 1 s)
+    patch-second = field-length sheetTags s (p .fields) 1 (omega arith) table table-start
+
+    pub patch-nets : take (table - 3 - 3) (drop 3 s) ≡ nth 0 s
+    patch-nets = field-part sheetTags s (p .fields) 0 (omega arith) 3 (table - 3) (sym (start-zero s)) (omega arith)
+
+    module _ (cost : ℕ) (f : cost ≡ table + length (nth 1 s) + 3) where
+      cost-start : cost ≡ startOf 2 s
+      cost-start = omega (arith, table-start, patch-start 1 (omega arith))
+
+      pub patch-table : take (cost - 3 - table) (drop table s) ≡ nth 1 s
+      patch-table = field-part sheetTags s (p .fields) 1 (omega arith) table (cost - 3) table-start (omega arith)
+
+      pub patch-cost : take (cost + 7 - 3 - cost) (drop cost s) ≡ nth 2 s
+      patch-cost =
+          field-part sheetTags s (p .fields) 2 (omega arith) cost (cost + 7 - 3) cost-start (omega (arith, p .cost))
+
+      pub patch-vectors : take (length s - (cost + 7)) (drop (cost + 7) s) ≡ nth 3 s
+      patch-vectors =
+          field-part sheetTags s (p .fields) 3 (omega arith) (cost + 7) (length s)
+          (omega (arith, cost-start, p .cost, patch-start 2 (omega arith)))
+          (omega (arith, patch-length))
+
+-- ---- the sheet of an unfixable input or a blind reading
+
+module _ (t size : ℕ) (s : List ℕ) (v : ValueSheet t size s) where
+  value-start : (k : ℕ) → k < 2 → startOf (suc k) s ≡ startOf k s + length (nth k s) + 3
+  value-start k h = startOf-suc (t ∷ 19 ∷ []) s (v .fields) k h
+
+  pub value-length : length s ≡ size + length (nth 1 s) + 6
+  value-length =
+      omega (
+        arith,
+        v .value,
+        start-zero s,
+        value-start 0 (omega arith),
+        value-start 1 (omega arith),
+        fields-end (t ∷ 19 ∷ []) s (v .fields),
+      )
+
+  pub value-part : take size (drop 3 s) ≡ nth 0 s
+  value-part =
+      let e : 3 + size - 3 ≡ size = omega arith in
+      rw e at (field-part (t ∷ 19 ∷ []) s (v .fields) 0 (omega arith) 3 (3 + size) (sym (start-zero s)) (omega (arith, v .value)))
+
+  pub value-vectors : (a : ℕ) → a ≡ size + 6 → take (length s - a) (drop a s) ≡ nth 1 s
+  value-vectors a e =
+      field-part (t ∷ 19 ∷ []) s (v .fields) 1 (omega arith) a (length s)
+      (omega (arith, v .value, start-zero s, value-start 0 (omega arith)))
+      (omega (arith, value-length))
+
+-- ---- texts
+
+pub texted : {d d′ xs : List ℕ} {r : ℕ} → Printed d 0 xs r d′ → Texted d xs r d′
+texted a = let e = a .end in record { len = omega arith; text = a .text }
+
+below-one : (n x : ℕ) → x < n → Below n (x ∷ [])
+below-one n x h zero = h
+below-one n x h (suc i) = omega arith
+
+-- a line of one number with at most ten digits, of nets, of bytes
+pub length-number-line : (w : List ℕ) (x : ℕ) → x < 4294967296 → length (line w (x ∷ [])) ≤ length w + 12
+length-number-line w x h =
+    omega (arith, length-line w (x ∷ []), length-numbers-le 9 (x ∷ []) (below-one (10 ^ 10) x (omega arith)))
+
+length-nets-line : (w xs : List ℕ) → Below 65536 xs → length (line w xs) ≤ length w + 6 * length xs + 1
+length-nets-line w xs b = omega (arith, length-line w xs, length-numbers-le 4 xs (λ i. omega (arith, b i)))
+
+length-bytes-line : (w xs : List ℕ) → Below 256 xs → length (line w xs) ≤ length w + 4 * length xs + 1
+length-bytes-line w xs b = omega (arith, length-line w xs, length-numbers-le 2 xs (λ i. omega (arith, b i)))
+
+pub quad-lt : (s : List ℕ) → Below 256 s → quad s < 4294967296
+unfolding quad
+quad-lt s b = omega (arith, word-lt s 0 (b 0) (b 1), word-lt s 2 (b 2) (b 3))
+
+module _ (w : List ℕ) (x : ℕ) (vs : List ℕ) where
+  pub length-valueText : length (valueText w x vs) ≡ length (line w (x ∷ [])) + length (line vectorsWord vs)
+  unfolding valueText
+  length-valueText = length-append (line w (x ∷ [])) (line vectorsWord vs)
+
+  pub value-texted : {d d₁ d₂ : List ℕ} {p r : ℕ} → length (valueText w x vs) ≤ length d
+      → Printed d 0 (line w (x ∷ [])) p d₁ → Printed d₁ p (line vectorsWord vs) r d₂ → Texted d (valueText w x vs) r d₂
+  unfolding valueText
+  value-texted h a b = texted (printed-then a b (omega arith))
+
+pub value-room : (t size : ℕ) (s : List ℕ) → ValueSheet t size s → Below 256 s
+    → (w : List ℕ) {x y : ℕ} {vs : List ℕ} → length w ≤ 9 → y < 4294967296 → x ≡ y → vs ≡ nth 1 s
+    → length (valueText w x vs) ≤ longestText
+value-room t size s v b w {x} {y} h l e f =
+    rw (e, f)
+    (omega (
+      arith,
+      v .vectors,
+      length-valueText w y (nth 1 s),
+      length-number-line w y l,
+      length-bytes-line vectorsWord (nth 1 s) (below-field (t ∷ 19 ∷ []) s (v .fields) 1 (omega arith) b),
+    ))
+
+pub value-bytes : (t size : ℕ) (s : List ℕ) → ValueSheet t size s → Below 256 s → Below 256 (nth 0 s)
+value-bytes t size s v b = below-field (t ∷ 19 ∷ []) s (v .fields) 0 (omega arith) b
+
+pub word-quad-lt : (s : List ℕ) → Below 256 s → word s 0 < 4294967296
+word-quad-lt s b = omega (arith, word-lt s 0 (b 0) (b 1))
+
+module _ (s : List ℕ) where
+  abbrev costLine : List ℕ
+  costLine = line patchWord (quad (nth 2 s) ∷ [])
+
+  abbrev netsLine : List ℕ
+  netsLine = line supportWord (netsOf (nth 0 s))
+
+  abbrev tableLine : List ℕ
+  tableLine = line tableWord (nth 1 s)
+
+  abbrev vectorsLine : List ℕ
+  vectorsLine = line vectorsWord (nth 3 s)
+
+  patchText-lines : patchText (patchOf s) ≡ costLine ++ netsLine ++ tableLine ++ vectorsLine
+  unfolding patchText patchOf
+  patchText-lines = refl
+
+  pub length-patchText : length (patchText (patchOf s))
+      ≡ length costLine + length netsLine + length tableLine + length vectorsLine
+  length-patchText =
+      ap length patchText-lines
+      ∙ omega (
+        arith,
+        length-append (costLine ++ netsLine ++ tableLine) vectorsLine,
+        length-append (costLine ++ netsLine) tableLine,
+        length-append costLine netsLine,
+      )
+
+  pub patch-room : PatchSheet s → Below 256 s → length (patchText (patchOf s)) ≤ longestText
+  patch-room p b =
+      let bytes : (k : ℕ) → k < 4 → Below 256 (nth k s) = λ k h. below-field sheetTags s (p .fields) k h b in
+      omega (
+        arith,
+        p .support,
+        p .table,
+        p .vectors,
+        length-patchText,
+        length-netsOf (nth 0 s),
+        length-number-line patchWord (quad (nth 2 s)) (quad-lt (nth 2 s) (bytes 2 (omega arith))),
+        length-nets-line supportWord (netsOf (nth 0 s)) (below-nets (nth 0 s) (bytes 0 (omega arith))),
+        length-bytes-line tableWord (nth 1 s) (bytes 1 (omega arith)),
+        length-bytes-line vectorsWord (nth 3 s) (bytes 3 (omega arith)),
+      )
+
+  pub patch-texted : {d d₁ d₂ d₃ d₄ : List ℕ} {a b c r : ℕ} → length (patchText (patchOf s)) ≤ length d
+      → Printed d 0 costLine a d₁ → Printed d₁ a netsLine b d₂ → Printed d₂ b tableLine c d₃ → Printed d₃ c vectorsLine r d₄
+      → Texted d (patchText (patchOf s)) r d₄
+  patch-texted h i j k l =
+      let n = length-patchText in
+      let x = length-append costLine netsLine in
+      let y = length-append (costLine ++ netsLine) tableLine in
+      let z = length-append (costLine ++ netsLine ++ tableLine) vectorsLine in
+      rw patchText-lines
+      (texted (printed-then (printed-then (printed-then i j (omega arith)) k (omega arith)) l (omega arith)))
 
 -- ---- what is printed for job bytes
 

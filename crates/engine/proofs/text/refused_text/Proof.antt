@@ -1,0 +1,45 @@
+use Prim.Native.Nat.{_+_, _-_, _<_, _≤_}
+use mathlib.Core.Path.{_≡_}
+use native.Mathlib.Omega.{arith}
+use lib.ListN.{length}
+use Rattle.engine.specs.Text.{refusedWord, refusedText}
+use Rattle.engine.proofs.Laws.Text.{length-number-line, texted}
+use borrow.Author.Needs.{needs}
+use Rattle.engine.proofs.text.refused_text.Statement.{statement}
+use Rattle.engine.proofs.text.refused_text.Tie as tie
+use Rattle.engine.proofs.text.refused_text.Reads as reads
+use Rattle.engine.proofs.text.refused_text.Lts as lts
+use Rattle.engine.proofs.text.put_number_line.Reads as put-number-line-reads
+use Rattle.engine.proofs.text.wide.Reads as wide-reads
+
+slice-aggregate-put-number-line : tie.Need-slice-aggregate-put-number-line
+slice-aggregate-put-number-line c = search needs
+
+wide-requires : tie.Need-wide-requires
+wide-requires c κs = search needs
+
+put-number-line-requires : tie.Need-put-number-line-requires
+put-number-line-requires c κs =
+    let n = c .before .before .before .before .args .number in
+    let x = c .wide .result in
+    let e = c .wide .ensures in
+    omega (arith, length-number-line refusedWord x (omega arith))
+
+same-length : tie.Need-same-length
+same-length c = search needs
+
+returns : tie.Need-returns
+unfolding refusedText
+returns c =
+    let w = c .before .before in
+    texted (rw (w .before .wide .ensures) at (w .put-number-line .ensures))
+
+pub refused-text-spec : {M : Type 1} → statement M
+refused-text-spec =
+    tie.close
+    (tie.spec
+    slice-aggregate-put-number-line
+    wide-requires
+    put-number-line-requires
+    same-length
+    returns)
