@@ -4,7 +4,8 @@
 --   patchWord .. refusedWord    the words that lines start with
 --   numbers xs             for each number of xs a space and its digits
 --   line w xs              the word w, the numbers xs and a line feed
---   patchText p            the four lines of a patch
+--   patchText c is es vs   the four lines of a patch: cost, support nets, table, vector list
+--   patchSheetText s       the lines of the patch sheet s
 --   valueText w x vs       the two lines of an unfixable input or a blind reading x
 --   sheetText s            the lines of the sheet s, by its first tag
 --   refusedText n          the line of a refusal with number n
@@ -25,7 +26,7 @@ use lib.ListN.{length, getD, replicate}
 use lib.Dec.{ltb, eqb}
 use Rattle.records.specs.Bytes.{flat, word, placed, whole, nth}
 use Rattle.records.specs.Job.{jobOf}
-use Rattle.records.specs.Sheet.{Patch, quad, sheetTags, patchOf}
+use Rattle.records.specs.Sheet.{quad, sheetTags, patchOf}
 use Rattle.engine.specs.Verdict.{sheetOf, longestSheet, decideNumber}
 
 -- ---- numbers
@@ -82,21 +83,22 @@ line w xs = w ++ numbers xs ++ (10 ∷ [])
 
 -- ---- texts
 
-unfoldable pub patchText : Patch → List ℕ
-patchText p =
-    line patchWord (p .cost ∷ [])
-    ++ line supportWord (p .support)
-    ++ line tableWord (p .table)
-    ++ line vectorsWord (p .vectors)
+unfoldable pub patchText : ℕ → List ℕ → List ℕ → List ℕ → List ℕ
+patchText c is es vs = line patchWord (c ∷ []) ++ line supportWord is ++ line tableWord es ++ line vectorsWord vs
 
 unfoldable pub valueText : List ℕ → ℕ → List ℕ → List ℕ
 valueText w x vs = line w (x ∷ []) ++ line vectorsWord vs
+
+unfoldable pub patchSheetText : List ℕ → List ℕ
+patchSheetText s =
+    let p = patchOf s in
+    patchText (p .cost) (p .support) (p .table) (p .vectors)
 
 unfoldable pub sheetText : List ℕ → List ℕ
 sheetText s =
     let tag = getD s 0 0 in
     cond (eqb tag 16)
-    (patchText (patchOf s))
+    (patchSheetText s)
     (cond (eqb tag 20)
     (valueText unfixableWord (quad (nth 0 s)) (nth 1 s))
     (valueText blindWord (word (nth 0 s) 0) (nth 1 s)))

@@ -5,8 +5,8 @@ ghost use Prim.Native.Nat.{_+_, _-_, _<_, _≤_};
 ghost use lib.ListN.{length};
 ghost use Rattle.records.specs.Bytes.{nth, word as word′};
 ghost use Rattle.records.specs.Job.{netsOf};
-ghost use Rattle.records.specs.Sheet.{quad, patchOf};
-ghost use Rattle.engine.specs.Text.{digits, number, numbers, line, unfixableWord, blindWord, patchText, valueText, sheetText, refusedText, longestText, PatchSheet, ValueSheet, WholeSheet, Printed, Texted};
+ghost use Rattle.records.specs.Sheet.{quad};
+ghost use Rattle.engine.specs.Text.{digits, number, numbers, line, unfixableWord, blindWord, patchText, patchSheetText, valueText, sheetText, refusedText, longestText, PatchSheet, ValueSheet, WholeSheet, Printed, Texted};
 
 fn wide(x: u8) -> usize
     ensures { λ r. ⌜ r ≡ x ⌝ }
@@ -144,22 +144,38 @@ fn field_end(s: &[u8], start: usize) -> usize
     start + word_at(s, start - 2)
 }
 
+// The lines of a patch.
+fn patch_lines(text: &mut [u8], cost: usize, support: &[u8], table: &[u8], vectors: &[u8]) -> usize
+    requires { ⌜ length (patchText cost (netsOf (now support)) (now table) (now vectors)) ≤ length (now text) ⌝ }
+    ensures { λ r. ⌜ Texted (now (text .entry))
+        (patchText cost (netsOf (now (support .entry))) (now (table .entry)) (now (vectors .entry))) r (now (text .exit)) ⌝ }
+{
+    let a = put_number_line(text, 0, b"patch cost", cost);
+    let b = put_nets_line(text, a, b"support", support);
+    let c = put_bytes_line(text, b, b"table", table);
+    put_bytes_line(text, c, b"vectors", vectors)
+}
+
 // The text of a patch's sheet.
 fn patch_text(sheet: &[u8], text: &mut [u8]) -> usize
     requires { ⌜ (PatchSheet (now sheet)) × (longestText ≤ length (now text)) ⌝ }
-    ensures { λ r. ⌜ Texted (now (text .entry)) (patchText (patchOf (now (sheet .entry)))) r (now (text .exit)) ⌝ }
+    ensures { λ r. ⌜ Texted (now (text .entry)) (patchSheetText (now (sheet .entry))) r (now (text .exit)) ⌝ }
 {
     let table = field_end(sheet, 3) + 3;
     let cost = field_end(sheet, table) + 3;
     let vectors = cost + 7;
-    let a = put_number_line(text, 0, b"patch cost", quad_at(&sheet[cost..vectors - 3]));
-    let b = put_nets_line(text, a, b"support", &sheet[3..table - 3]);
-    let c = put_bytes_line(text, b, b"table", &sheet[table..cost - 3]);
-    put_bytes_line(text, c, b"vectors", &sheet[vectors..])
+    let paid = quad_at(&sheet[cost..vectors - 3]);
+    patch_lines(
+        text,
+        paid,
+        &sheet[3..table - 3],
+        &sheet[table..cost - 3],
+        &sheet[vectors..],
+    )
 }
 
 // The lines of an unfixable input or a blind reading x.
-fn value_text(text: &mut [u8], word: &[u8], x: usize, vectors: &[u8]) -> usize
+fn value_lines(text: &mut [u8], word: &[u8], x: usize, vectors: &[u8]) -> usize
     requires { ⌜ length (valueText (now word) x (now vectors)) ≤ length (now text) ⌝ }
     ensures { λ r. ⌜ Texted (now (text .entry)) (valueText (now (word .entry)) x (now (vectors .entry))) r (now (text .exit)) ⌝ }
 {
@@ -173,7 +189,7 @@ fn unfixable_text(sheet: &[u8], text: &mut [u8]) -> usize
     ensures { λ r. ⌜ Texted (now (text .entry))
         (valueText unfixableWord (quad (nth 0 (now (sheet .entry)))) (nth 1 (now (sheet .entry)))) r (now (text .exit)) ⌝ }
 {
-    value_text(text, b"unfixable", quad_at(&sheet[3..7]), &sheet[10..])
+    value_lines(text, b"unfixable", quad_at(&sheet[3..7]), &sheet[10..])
 }
 
 // The text of a blind reading's sheet.
@@ -182,7 +198,7 @@ fn blind_text(sheet: &[u8], text: &mut [u8]) -> usize
     ensures { λ r. ⌜ Texted (now (text .entry))
         (valueText blindWord (word′ (nth 0 (now (sheet .entry))) 0) (nth 1 (now (sheet .entry)))) r (now (text .exit)) ⌝ }
 {
-    value_text(text, b"blind", word_at(&sheet[3..5], 0), &sheet[8..])
+    value_lines(text, b"blind", word_at(&sheet[3..5], 0), &sheet[8..])
 }
 
 // The text of a verdict's sheet.

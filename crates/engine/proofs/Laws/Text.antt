@@ -7,16 +7,16 @@ use mathlib.Core.Logic.{⊎-elim}
 use native.Mathlib.Nat.{add-assoc, mul-suc, pow-suc}
 use native.Mathlib.Numerals.{add-one}
 use native.Mathlib.Omega.{arith}
-use borrow.Author.Tests.{lt-ltb, le-ltb, ne-eqb, ltb-true, ltb-false, eqb-true, eqb-false}
-use lib.Dec.{ltb, eqb}
+use borrow.Author.Tests.{lt-ltb, le-ltb, ne-eqb, ltb-true, ltb-false, eqb-true, eqb-false, leb-true}
+use lib.Dec.{ltb, leb, eqb}
 use lib.ListN.{length, getD, take, drop, set, replicate, length-append, take-append-drop, List·getD-eq-default}
 use lib.Seq.{length-take-le, take-all, take-suc}
-use Rattle.records.specs.Bytes.{upFrom, tabulate, flat, word, placed, bodyLength, body, rest, whole, nth}
+use Rattle.records.specs.Bytes.{upFrom, tabulate, flat, word, placed, bodyLength, body, rest, fits, whole, nth}
 use Rattle.records.specs.Job.{jobOf, netsOf}
 use Rattle.records.specs.Sheet.{quad, sheetTags, patchOf}
 use Rattle.records.specs.Claims.{Below}
 use Rattle.records.specs.Inner.{startOf}
-use Rattle.records.proofs.Laws.Bytes.{all-cons, placed-nil, length-placed, set-placed}
+use Rattle.records.proofs.Laws.Bytes.{and-left, row-at, all-cons, placed-nil, length-placed, set-placed}
 use Rattle.records.proofs.Laws.Field.{skip, positionOf, skip-drop, bodyLength-drop, startOf-position, positionOf-suc, startOf-suc, whole-end, nth-slice}
 use Rattle.records.proofs.Laws.Shape.{length-netsOf}
 use Rattle.records.proofs.Laws.Sheet.{word-lt, net-at}
@@ -24,7 +24,7 @@ use Rattle.records.proofs.Laws.RoundTrip.{below-take, below-drop}
 use Rattle.records.proofs.Laws.Job.{placed-then, flat-append, flat-snoc}
 use Rattle.engine.specs.Verdict.{sheetOf, longestSheet, decideNumber}
 use Rattle.engine.specs.Cases.{jobA, sheetA, replied, cases, casesHold}
-use Rattle.engine.specs.Text.{digitsWithin, digits, patchWord, supportWord, tableWord, vectorsWord, number, numbers, line, patchText, valueText, sheetText, refusedText, inputLimit, rectifyText, textA, PatchSheet, ValueSheet, WholeSheet, longestText, Printed, Texted}
+use Rattle.engine.specs.Text.{digitsWithin, digits, patchWord, supportWord, tableWord, vectorsWord, unfixableWord, blindWord, number, numbers, line, patchText, patchSheetText, valueText, sheetText, refusedText, inputLimit, rectifyText, textA, PatchSheet, ValueSheet, WholeSheet, isPatch, isUnfixable, isBlind, longestText, Printed, Texted}
 use Rattle.engine.proofs.Laws.Choice.{true-or-false, same-true}
 use Rattle.engine.proofs.Cases.{cases-hold}
 
@@ -226,9 +226,9 @@ below-nets s b i =
     ⊎-elim
     (λ l. rw (net-at s i (ltb-true i (length s / 2) l)) (word-lt s (2 * i) (b (2 * i)) (b (2 * i + 1))))
     (λ m.
-      let n = ltb-false i (length s / 2) m in
-      let g : length (netsOf s) ≤ i = omega (arith, length-netsOf s) in
-      rw (List·getD-eq-default (netsOf s) 0 g) (omega arith))
+    let n = ltb-false i (length s / 2) m in
+    let g : length (netsOf s) ≤ i = omega (arith, length-netsOf s) in
+    rw (List·getD-eq-default (netsOf s) 0 g) (omega arith))
     (true-or-false (ltb i (length s / 2)))
 
 -- ---- the fields of a whole sheet
@@ -261,9 +261,22 @@ fields-end ts s w = omega (arith, whole-end ts s w, startOf-position (length ts)
 
 -- ---- a patch's sheet
 
+-- where the first two fields end, and where the bytes of each field stand
+pub record PatchSpans (s : List ℕ) (first second : ℕ) : Type 0 where
+  pub first-end : first ≡ 3 + length (nth 0 s)
+  pub second-end : second ≡ first + 3 + length (nth 1 s)
+  pub end : length s ≡ second + 10 + length (nth 3 s)
+  pub nets : take (first + 3 - 3 - 3) (drop 3 s) ≡ nth 0 s
+  pub table : take (second + 3 - 3 - (first + 3)) (drop (first + 3) s) ≡ nth 1 s
+  pub cost : take (second + 3 + 7 - 3 - (second + 3)) (drop (second + 3) s) ≡ nth 2 s
+  pub vectors : take (length s - (second + 3 + 7)) (drop (second + 3 + 7) s) ≡ nth 3 s
+
 module _ (s : List ℕ) (p : PatchSheet s) where
   patch-start : (k : ℕ) → k < 4 → startOf (suc k) s ≡ startOf k s + length (nth k s) + 3
   patch-start k h = startOf-suc sheetTags s (p .fields) k h
+
+  patch-part : (k : ℕ) → k < 4 → (a b : ℕ) → a ≡ startOf k s → b ≡ a + length (nth k s) → take (b - a) (drop a s) ≡ nth k s
+  patch-part k h a b e f = field-part sheetTags s (p .fields) k h a b e f
 
   pub patch-first : word s 1 ≡ length (nth 0 s)
   patch-first = field-length sheetTags s (p .fields) 0 (omega arith) 3 (sym (start-zero s))
@@ -281,32 +294,30 @@ module _ (s : List ℕ) (p : PatchSheet s) where
         fields-end sheetTags s (p .fields),
       )
 
-  module _ (table : ℕ) (e : table ≡ length (nth 0 s) + 6) where
-    table-start : table ≡ startOf 1 s
-    table-start = omega (arith, start-zero s, patch-start 0 (omega arith))
+  module _ (first : ℕ) (e : first ≡ 3 + word s 1) where
+    table-start : first + 3 ≡ startOf 1 s
+    table-start = omega (arith, patch-first, start-zero s, patch-start 0 (omega arith))
 
-    pub patch-second : word s (table - 2) ≡ length (nth 1 s)
-    patch-second = field-length sheetTags s (p .fields) 1 (omega arith) table table-start
+    pub patch-second : word s (first + 3 - 2) ≡ length (nth 1 s)
+    patch-second = field-length sheetTags s (p .fields) 1 (omega arith) (first + 3) table-start
 
-    pub patch-nets : take (table - 3 - 3) (drop 3 s) ≡ nth 0 s
-    patch-nets = field-part sheetTags s (p .fields) 0 (omega arith) 3 (table - 3) (sym (start-zero s)) (omega arith)
-
-    module _ (cost : ℕ) (f : cost ≡ table + length (nth 1 s) + 3) where
-      cost-start : cost ≡ startOf 2 s
-      cost-start = omega (arith, table-start, patch-start 1 (omega arith))
-
-      pub patch-table : take (cost - 3 - table) (drop table s) ≡ nth 1 s
-      patch-table = field-part sheetTags s (p .fields) 1 (omega arith) table (cost - 3) table-start (omega arith)
-
-      pub patch-cost : take (cost + 7 - 3 - cost) (drop cost s) ≡ nth 2 s
-      patch-cost =
-          field-part sheetTags s (p .fields) 2 (omega arith) cost (cost + 7 - 3) cost-start (omega (arith, p .cost))
-
-      pub patch-vectors : take (length s - (cost + 7)) (drop (cost + 7) s) ≡ nth 3 s
-      patch-vectors =
-          field-part sheetTags s (p .fields) 3 (omega arith) (cost + 7) (length s)
-          (omega (arith, cost-start, p .cost, patch-start 2 (omega arith)))
-          (omega (arith, patch-length))
+    pub patch-spans : (second : ℕ) → second ≡ first + 3 + word s (first + 3 - 2) → PatchSpans s first second
+    patch-spans second f =
+        let l : first ≡ 3 + length (nth 0 s) = omega (arith, patch-first) in
+        let m : second ≡ first + 3 + length (nth 1 s) = omega (arith, patch-second) in
+        let n : length s ≡ second + 10 + length (nth 3 s) = omega (arith, patch-length) in
+        let t = table-start in
+        let c : second + 3 ≡ startOf 2 s = omega (arith, patch-start 1 (omega arith)) in
+        let v : second + 3 + 7 ≡ startOf 3 s = omega (arith, p .cost, patch-start 2 (omega arith)) in
+        record {
+          first-end = l;
+          second-end = m;
+          end = n;
+          nets = patch-part 0 (omega arith) 3 (first + 3 - 3) (sym (start-zero s)) (omega arith);
+          table = patch-part 1 (omega arith) (first + 3) (second + 3 - 3) t (omega arith);
+          cost = patch-part 2 (omega arith) (second + 3) (second + 3 + 7 - 3) c (omega (arith, p .cost));
+          vectors = patch-part 3 (omega arith) (second + 3 + 7) (length s) v (omega arith);
+        }
 
 -- ---- the sheet of an unfixable input or a blind reading
 
@@ -389,60 +400,111 @@ value-bytes t size s v b = below-field (t ∷ 19 ∷ []) s (v .fields) 0 (omega 
 pub word-quad-lt : (s : List ℕ) → Below 256 s → word s 0 < 4294967296
 word-quad-lt s b = omega (arith, word-lt s 0 (b 0) (b 1))
 
-module _ (s : List ℕ) where
+module _ (c : ℕ) (is es vs : List ℕ) where
   abbrev costLine : List ℕ
-  costLine = line patchWord (quad (nth 2 s) ∷ [])
+  costLine = line patchWord (c ∷ [])
 
   abbrev netsLine : List ℕ
-  netsLine = line supportWord (netsOf (nth 0 s))
+  netsLine = line supportWord is
 
   abbrev tableLine : List ℕ
-  tableLine = line tableWord (nth 1 s)
+  tableLine = line tableWord es
 
   abbrev vectorsLine : List ℕ
-  vectorsLine = line vectorsWord (nth 3 s)
+  vectorsLine = line vectorsWord vs
 
-  patchText-lines : patchText (patchOf s) ≡ costLine ++ netsLine ++ tableLine ++ vectorsLine
-  unfolding patchText patchOf
-  patchText-lines = refl
-
-  pub length-patchText : length (patchText (patchOf s))
+  pub length-patchText : length (patchText c is es vs)
       ≡ length costLine + length netsLine + length tableLine + length vectorsLine
+  unfolding patchText
   length-patchText =
-      ap length patchText-lines
-      ∙ omega (
+      omega (
         arith,
         length-append (costLine ++ netsLine ++ tableLine) vectorsLine,
         length-append (costLine ++ netsLine) tableLine,
         length-append costLine netsLine,
       )
 
-  pub patch-room : PatchSheet s → Below 256 s → length (patchText (patchOf s)) ≤ longestText
-  patch-room p b =
-      let bytes : (k : ℕ) → k < 4 → Below 256 (nth k s) = λ k h. below-field sheetTags s (p .fields) k h b in
-      omega (
-        arith,
-        p .support,
-        p .table,
-        p .vectors,
-        length-patchText,
-        length-netsOf (nth 0 s),
-        length-number-line patchWord (quad (nth 2 s)) (quad-lt (nth 2 s) (bytes 2 (omega arith))),
-        length-nets-line supportWord (netsOf (nth 0 s)) (below-nets (nth 0 s) (bytes 0 (omega arith))),
-        length-bytes-line tableWord (nth 1 s) (bytes 1 (omega arith)),
-        length-bytes-line vectorsWord (nth 3 s) (bytes 3 (omega arith)),
-      )
-
-  pub patch-texted : {d d₁ d₂ d₃ d₄ : List ℕ} {a b c r : ℕ} → length (patchText (patchOf s)) ≤ length d
-      → Printed d 0 costLine a d₁ → Printed d₁ a netsLine b d₂ → Printed d₂ b tableLine c d₃ → Printed d₃ c vectorsLine r d₄
-      → Texted d (patchText (patchOf s)) r d₄
+  pub patch-texted : {d d₁ d₂ d₃ d₄ : List ℕ} {p q o r : ℕ} → length (patchText c is es vs) ≤ length d
+      → Printed d 0 costLine p d₁ → Printed d₁ p netsLine q d₂ → Printed d₂ q tableLine o d₃ → Printed d₃ o vectorsLine r d₄
+      → Texted d (patchText c is es vs) r d₄
+  unfolding patchText
   patch-texted h i j k l =
-      let n = length-patchText in
       let x = length-append costLine netsLine in
       let y = length-append (costLine ++ netsLine) tableLine in
       let z = length-append (costLine ++ netsLine ++ tableLine) vectorsLine in
-      rw patchText-lines
-      (texted (printed-then (printed-then (printed-then i j (omega arith)) k (omega arith)) l (omega arith)))
+      texted (printed-then (printed-then (printed-then i j (omega arith)) k (omega arith)) l (omega arith))
+
+-- the lines of the parts of a patch's sheet
+module _ (s : List ℕ) {c : ℕ} {is es vs : List ℕ} (p : c ≡ quad (nth 2 s)) (q : is ≡ nth 0 s) (o : es ≡ nth 1 s) (r : vs ≡ nth 3 s) where
+  pub patch-same : patchText c (netsOf is) es vs ≡ patchSheetText s
+  unfolding patchSheetText patchOf
+  patch-same = rw (p, q, o, r)
+
+pub patch-room : (s : List ℕ) → PatchSheet s → Below 256 s → length (patchSheetText s) ≤ longestText
+unfolding patchSheetText patchOf
+patch-room s p b =
+    let bytes : (k : ℕ) → k < 4 → Below 256 (nth k s) = λ k h. below-field sheetTags s (p .fields) k h b in
+    omega (
+      arith,
+      p .support,
+      p .table,
+      p .vectors,
+      length-patchText (quad (nth 2 s)) (netsOf (nth 0 s)) (nth 1 s) (nth 3 s),
+      length-netsOf (nth 0 s),
+      length-number-line patchWord (quad (nth 2 s)) (quad-lt (nth 2 s) (bytes 2 (omega arith))),
+      length-nets-line supportWord (netsOf (nth 0 s)) (below-nets (nth 0 s) (bytes 0 (omega arith))),
+      length-bytes-line tableWord (nth 1 s) (bytes 1 (omega arith)),
+      length-bytes-line vectorsWord (nth 3 s) (bytes 3 (omega arith)),
+    )
+
+-- ---- the sheet of a verdict
+
+whole-front : (t : ℕ) (ts s : List ℕ) → whole (t ∷ ts) s ≡ true → (3 ≤ length s) × (getD s 0 0 ≡ t)
+unfolding whole fits
+whole-front t ts s w =
+    let f = and-left _ _ w in
+    let u = row-at (leb 3 (length s)) (eqb (getD s 0 0) t ∷ leb (3 + bodyLength s) (length s) ∷ []) f in
+    (leb-true 3 (length s) (u 0), eqb-true (getD s 0 0) t (u 1))
+
+module _ (s : List ℕ) where
+  pub sheet-some : WholeSheet s → 0 < length s
+  sheet-some (isPatch p) = omega (arith, whole-front 16 (17 ∷ 18 ∷ 19 ∷ []) s (p .fields) .0)
+  sheet-some (isUnfixable v) = omega (arith, whole-front 20 (19 ∷ []) s (v .fields) .0)
+  sheet-some (isBlind v) = omega (arith, whole-front 21 (19 ∷ []) s (v .fields) .0)
+
+  patch-tag : PatchSheet s → getD s 0 0 ≡ 16
+  patch-tag p = whole-front 16 (17 ∷ 18 ∷ 19 ∷ []) s (p .fields) .1
+
+  value-tag : (t size : ℕ) → ValueSheet t size s → getD s 0 0 ≡ t
+  value-tag t size v = whole-front t (19 ∷ []) s (v .fields) .1
+
+  pub sheet-patch : WholeSheet s → getD s 0 0 ≡ 16 → PatchSheet s
+  sheet-patch (isPatch p) e = p
+  sheet-patch (isUnfixable v) e = absurd (omega (arith, value-tag 20 4 v))
+  sheet-patch (isBlind v) e = absurd (omega (arith, value-tag 21 2 v))
+
+  pub sheet-unfixable : WholeSheet s → getD s 0 0 ≡ 20 → ValueSheet 20 4 s
+  sheet-unfixable (isPatch p) e = absurd (omega (arith, patch-tag p))
+  sheet-unfixable (isUnfixable v) e = v
+  sheet-unfixable (isBlind v) e = absurd (omega (arith, value-tag 21 2 v))
+
+  pub sheet-blind : WholeSheet s → (getD s 0 0 ≡ 16 → ⊥) → (getD s 0 0 ≡ 20 → ⊥) → ValueSheet 21 2 s
+  sheet-blind (isPatch p) m n = absurd (m (patch-tag p))
+  sheet-blind (isUnfixable v) m n = absurd (n (value-tag 20 4 v))
+  sheet-blind (isBlind v) m n = v
+
+  pub text-patch : getD s 0 0 ≡ 16 → sheetText s ≡ patchSheetText s
+  unfolding sheetText
+  text-patch e = rw e
+
+  pub text-unfixable : getD s 0 0 ≡ 20 → sheetText s ≡ valueText unfixableWord (quad (nth 0 s)) (nth 1 s)
+  unfolding sheetText
+  text-unfixable e = rw e
+
+  pub text-blind : (getD s 0 0 ≡ 16 → ⊥) → (getD s 0 0 ≡ 20 → ⊥)
+      → sheetText s ≡ valueText blindWord (word (nth 0 s) 0) (nth 1 s)
+  unfolding sheetText
+  text-blind m n = rw (ne-eqb (getD s 0 0) 16 m, ne-eqb (getD s 0 0) 20 n)
 
 -- ---- what is printed for job bytes
 
@@ -483,7 +545,7 @@ unfolding casesHold cases
 a-replied = same-true _ _ (all-cons _ _ _ cases-hold .0)
 
 a-sheet : sheetText sheetA ≡ textA
-unfolding sheetText patchText line numbers number digits digitsWithin flat patchOf quad word nth body rest bodyLength netsOf tabulate upFrom
+unfolding sheetText patchSheetText patchText line numbers number digits digitsWithin flat patchOf quad word nth body rest bodyLength netsOf tabulate upFrom
 a-sheet = refl
 
 pub a-printed : rectifyText jobA ≡ textA

@@ -1,31 +1,55 @@
+-- `engine::text::patch_text` meets its contract: the parts of the sheet are its fields' bytes.
+-- Assumes nothing.
+use Prim.Native.Nat.{_-_}
+use mathlib.Core.Path.{_≡_, ap}
+use native.Mathlib.Omega.{arith}
+use lib.ListN.{length}
+use Rattle.records.specs.Bytes.{nth}
+use Rattle.records.specs.Sheet.{quad}
+use Rattle.records.specs.Claims.{Below}
+use Rattle.engine.proofs.Laws.Text.{PatchSpans, patch-first, patch-length, patch-second, patch-spans, patch-same, patch-room}
 use borrow.Author.Needs.{needs}
 use Rattle.engine.proofs.text.patch_text.Statement.{statement}
 use Rattle.engine.proofs.text.patch_text.Tie as tie
-use Rattle.engine.proofs.text.patch_text.Reads as reads
-use Rattle.engine.proofs.text.patch_text.Lts as lts
-use Rattle.engine.proofs.text.field_end.Reads as field-end-reads
-use Rattle.engine.proofs.text.put_bytes_line.Reads as put-bytes-line-reads
-use Rattle.engine.proofs.text.put_nets_line.Reads as put-nets-line-reads
-use Rattle.engine.proofs.text.put_number_line.Reads as put-number-line-reads
-use Rattle.engine.proofs.text.quad_at.Reads as quad-at-reads
+
+spans : (c : tie.After-field-end2)
+    → PatchSpans (c .before .before .before .before .args .sheet .now) (c .before .field-end .result) (c .field-end2 .result)
+spans c =
+    let s = c .before .before .before .before in
+    patch-spans (s .args .sheet .now) (s .pre .0) (c .before .field-end .result) (c .before .field-end .ensures)
+    (c .field-end2 .result)
+    (c .field-end2 .ensures)
+
+-- the cost that the code reads
+paid : (c : tie.After-quad-at)
+    → c .quad-at .result ≡ quad (nth 2 (c .before .before .before .before .before .before .args .sheet .now))
+paid c = let f = c .before .before in rw (spans f .cost) at (c .quad-at .ensures)
 
 field-end-requires : tie.Need-field-end-requires
-field-end-requires c κs = ?
+field-end-requires c κs =
+    let s = c .before .before in
+    let a = s .args .sheet .now in
+    (omega arith, omega (arith, patch-first a (s .pre .0), patch-length a (s .pre .0)))
 
 add-table : tie.Need-add-table
-add-table c = ?
+add-table c =
+    let s = c .before .before .before in
+    let a = s .args .sheet .now in
+    omega (arith, c .field-end .ensures, patch-first a (s .pre .0), patch-length a (s .pre .0))
 
 field-end-requires-2 : tie.Need-field-end-requires-2
-field-end-requires-2 c κs = ?
+field-end-requires-2 c κs =
+    let s = c .before .before .before in
+    let a = s .args .sheet .now in
+    let p = s .pre .0 in
+    let e = c .field-end .ensures in
+    (omega arith, omega (arith, patch-first a p, patch-second a p (c .field-end .result) e, patch-length a p))
 
 add-cost : tie.Need-add-cost
-add-cost c = ?
+add-cost c = let p = spans c in omega arith
 
 add-vectors : tie.Need-add-vectors
-add-vectors c = ?
-
-slice-aggregate-put-number-line : tie.Need-slice-aggregate-put-number-line
-slice-aggregate-put-number-line c = search needs
+add-vectors c = let p = spans c in omega arith
 
 sub-quad-at : tie.Need-sub-quad-at
 sub-quad-at c = search needs
@@ -37,70 +61,66 @@ part-quad-at-start : tie.Need-part-quad-at-start
 part-quad-at-start c = search needs
 
 part-quad-at-end : tie.Need-part-quad-at-end
-part-quad-at-end c = ?
+part-quad-at-end c = let p = spans c in omega arith
 
 quad-at-requires : tie.Need-quad-at-requires
 quad-at-requires c κs = search needs
 
-put-number-line-requires : tie.Need-put-number-line-requires
-put-number-line-requires c κs = ?
+sub-patch-lines : tie.Need-sub-patch-lines
+sub-patch-lines c = search needs
 
-slice-aggregate-put-nets-line : tie.Need-slice-aggregate-put-nets-line
-slice-aggregate-put-nets-line c = search needs
+sub-patch-lines-2 : tie.Need-sub-patch-lines-2
+sub-patch-lines-2 c = search needs
 
-sub-put-nets-line : tie.Need-sub-put-nets-line
-sub-put-nets-line c = search needs
+part-patch-lines-start : tie.Need-part-patch-lines-start
+part-patch-lines-start c = search needs
 
-sub-put-nets-line-2 : tie.Need-sub-put-nets-line-2
-sub-put-nets-line-2 c = search needs
+part-patch-lines-end : tie.Need-part-patch-lines-end
+part-patch-lines-end c = let p = spans (c .before .before .before) in omega arith
 
-part-put-nets-line-start : tie.Need-part-put-nets-line-start
-part-put-nets-line-start c = search needs
+sub-patch-lines-3 : tie.Need-sub-patch-lines-3
+sub-patch-lines-3 c = search needs
 
-part-put-nets-line-end : tie.Need-part-put-nets-line-end
-part-put-nets-line-end c = ?
+sub-patch-lines-4 : tie.Need-sub-patch-lines-4
+sub-patch-lines-4 c = search needs
 
-put-nets-line-requires : tie.Need-put-nets-line-requires
-put-nets-line-requires c κs = ?
+part-patch-lines-start-2 : tie.Need-part-patch-lines-start-2
+part-patch-lines-start-2 c = search needs
 
-slice-aggregate-put-bytes-line : tie.Need-slice-aggregate-put-bytes-line
-slice-aggregate-put-bytes-line c = search needs
+part-patch-lines-end-2 : tie.Need-part-patch-lines-end-2
+part-patch-lines-end-2 c = let p = spans (c .before .before .before .before) in omega arith
 
-sub-put-bytes-line : tie.Need-sub-put-bytes-line
-sub-put-bytes-line c = search needs
+sub-patch-lines-5 : tie.Need-sub-patch-lines-5
+sub-patch-lines-5 c = let p = spans (c .before .before .before .before .before) in omega arith
 
-sub-put-bytes-line-2 : tie.Need-sub-put-bytes-line-2
-sub-put-bytes-line-2 c = search needs
+part-patch-lines-start-3 : tie.Need-part-patch-lines-start-3
+part-patch-lines-start-3 c = let p = spans (c .before .before .before .before .before) in omega arith
 
-part-put-bytes-line-start : tie.Need-part-put-bytes-line-start
-part-put-bytes-line-start c = search needs
+part-patch-lines-end-3 : tie.Need-part-patch-lines-end-3
+part-patch-lines-end-3 c = search needs
 
-part-put-bytes-line-end : tie.Need-part-put-bytes-line-end
-part-put-bytes-line-end c = ?
-
-put-bytes-line-requires : tie.Need-put-bytes-line-requires
-put-bytes-line-requires c κs = ?
-
-slice-aggregate-put-bytes-line-2 : tie.Need-slice-aggregate-put-bytes-line-2
-slice-aggregate-put-bytes-line-2 c = search needs
-
-sub-put-bytes-line-3 : tie.Need-sub-put-bytes-line-3
-sub-put-bytes-line-3 c = ?
-
-part-put-bytes-line-start-2 : tie.Need-part-put-bytes-line-start-2
-part-put-bytes-line-start-2 c = ?
-
-part-put-bytes-line-end-2 : tie.Need-part-put-bytes-line-end-2
-part-put-bytes-line-end-2 c = search needs
-
-put-bytes-line-requires-2 : tie.Need-put-bytes-line-requires-2
-put-bytes-line-requires-2 c κs = ?
+patch-lines-requires : tie.Need-patch-lines-requires
+patch-lines-requires c κs =
+    let q = c .before .before .before .before in
+    let f = q .before .before in
+    let s = f .before .before .before .before in
+    let a = s .args .sheet .now in
+    let p = spans f in
+    let bytes : Below 256 a = λ i. f .before .before .before .shared-slice-known .given i .fits in
+    let e = patch-same a (paid q) (p .nets) (p .table) (p .vectors) in
+    omega (arith, ap length e, patch-room a (s .pre .0) bytes)
 
 same-length : tie.Need-same-length
 same-length c = search needs
 
 returns : tie.Need-returns
-returns c = ?
+returns c =
+    let w = c .before .before in
+    let q = w .before .before .before .before .before in
+    let f = q .before .before in
+    let p = spans f in
+    let a = f .before .before .before .before .args .sheet .now in
+    rw (patch-same a (paid q) (p .nets) (p .table) (p .vectors)) at (w .patch-lines .ensures)
 
 pub patch-text-spec : {M : Type 1} → statement M
 patch-text-spec =
@@ -111,29 +131,22 @@ patch-text-spec =
     field-end-requires-2
     add-cost
     add-vectors
-    slice-aggregate-put-number-line
     sub-quad-at
     sub-quad-at-2
     part-quad-at-start
     part-quad-at-end
     quad-at-requires
-    put-number-line-requires
-    slice-aggregate-put-nets-line
-    sub-put-nets-line
-    sub-put-nets-line-2
-    part-put-nets-line-start
-    part-put-nets-line-end
-    put-nets-line-requires
-    slice-aggregate-put-bytes-line
-    sub-put-bytes-line
-    sub-put-bytes-line-2
-    part-put-bytes-line-start
-    part-put-bytes-line-end
-    put-bytes-line-requires
-    slice-aggregate-put-bytes-line-2
-    sub-put-bytes-line-3
-    part-put-bytes-line-start-2
-    part-put-bytes-line-end-2
-    put-bytes-line-requires-2
+    sub-patch-lines
+    sub-patch-lines-2
+    part-patch-lines-start
+    part-patch-lines-end
+    sub-patch-lines-3
+    sub-patch-lines-4
+    part-patch-lines-start-2
+    part-patch-lines-end-2
+    sub-patch-lines-5
+    part-patch-lines-start-3
+    part-patch-lines-end-3
+    patch-lines-requires
     same-length
     returns)

@@ -1,15 +1,12 @@
-use Prim.Native.Nat.{_+_, _-_, _<_, _≤_}
-use mathlib.Core.Path.{_≡_}
+-- `engine::text::quad_at` meets its contract: both two-byte numbers are below 65536.
+-- Assumes nothing.
+use Prim.Native.Nat.{_-_}
 use native.Mathlib.Omega.{arith}
-use lib.ListN.{length}
 use Rattle.records.specs.Sheet.{quad}
 use Rattle.records.proofs.Laws.Sheet.{word-lt}
 use borrow.Author.Needs.{needs}
 use Rattle.engine.proofs.text.quad_at.Statement.{statement}
 use Rattle.engine.proofs.text.quad_at.Tie as tie
-use Rattle.engine.proofs.text.quad_at.Reads as reads
-use Rattle.engine.proofs.text.quad_at.Lts as lts
-use Rattle.engine.proofs.text.word_at.Reads as word-at-reads
 
 word-at-requires : tie.Need-word-at-requires
 word-at-requires c κs = search needs

@@ -1,16 +1,12 @@
-use Prim.Native.Nat.{_+_, _-_, _<_, _≤_}
-use mathlib.Core.Path.{_≡_}
+-- `engine::text::refused_text` meets its contract: one line, of a number below 256.
+-- Assumes nothing.
+use Prim.Native.Nat.{_-_}
 use native.Mathlib.Omega.{arith}
-use lib.ListN.{length}
 use Rattle.engine.specs.Text.{refusedWord, refusedText}
 use Rattle.engine.proofs.Laws.Text.{length-number-line, texted}
 use borrow.Author.Needs.{needs}
 use Rattle.engine.proofs.text.refused_text.Statement.{statement}
 use Rattle.engine.proofs.text.refused_text.Tie as tie
-use Rattle.engine.proofs.text.refused_text.Reads as reads
-use Rattle.engine.proofs.text.refused_text.Lts as lts
-use Rattle.engine.proofs.text.put_number_line.Reads as put-number-line-reads
-use Rattle.engine.proofs.text.wide.Reads as wide-reads
 
 slice-aggregate-put-number-line : tie.Need-slice-aggregate-put-number-line
 slice-aggregate-put-number-line c = search needs

@@ -1,22 +1,19 @@
-use Prim.Native.Nat.{_+_, _-_, _<_, _≤_}
+-- `engine::text::unfixable_text` meets its contract: the parts of the sheet are its fields' bytes.
+-- Assumes nothing.
+use Prim.Native.Nat.{_-_}
 use mathlib.Core.Path.{_≡_}
 use native.Mathlib.Omega.{arith}
-use lib.ListN.{length}
-use Rattle.records.specs.Bytes.{word, nth}
+use Rattle.records.specs.Bytes.{nth}
 use Rattle.records.specs.Sheet.{quad}
 use Rattle.records.specs.Claims.{Below}
 use Rattle.engine.specs.Text.{unfixableWord}
-use Rattle.engine.proofs.Laws.Text.{value-length, value-part, value-vectors, value-room, value-bytes, quad-lt, word-quad-lt}
+use Rattle.engine.proofs.Laws.Text.{value-length, value-part, value-vectors, value-room, value-bytes, quad-lt}
 use borrow.Author.Needs.{needs}
 use Rattle.engine.proofs.text.unfixable_text.Statement.{statement}
 use Rattle.engine.proofs.text.unfixable_text.Tie as tie
-use Rattle.engine.proofs.text.unfixable_text.Reads as reads
-use Rattle.engine.proofs.text.unfixable_text.Lts as lts
-use Rattle.engine.proofs.text.quad_at.Reads as quad-at-reads
-use Rattle.engine.proofs.text.value_text.Reads as value-text-reads
 
-slice-aggregate-value-text : tie.Need-slice-aggregate-value-text
-slice-aggregate-value-text c = search needs
+slice-aggregate-value-lines : tie.Need-slice-aggregate-value-lines
+slice-aggregate-value-lines c = search needs
 
 sub-quad-at : tie.Need-sub-quad-at
 sub-quad-at c = search needs
@@ -32,21 +29,21 @@ part-quad-at-end c =
 quad-at-requires : tie.Need-quad-at-requires
 quad-at-requires c κs = search needs
 
-sub-value-text : tie.Need-sub-value-text
-sub-value-text c =
+sub-value-lines : tie.Need-sub-value-lines
+sub-value-lines c =
     let s = c .before .before .before .before .before .before in
     omega (arith, value-length 20 4 (s .args .sheet .now) (s .pre .0))
 
-part-value-text-start : tie.Need-part-value-text-start
-part-value-text-start c =
+part-value-lines-start : tie.Need-part-value-lines-start
+part-value-lines-start c =
     let s = c .before .before .before .before .before .before in
     omega (arith, value-length 20 4 (s .args .sheet .now) (s .pre .0))
 
-part-value-text-end : tie.Need-part-value-text-end
-part-value-text-end c = search needs
+part-value-lines-end : tie.Need-part-value-lines-end
+part-value-lines-end c = search needs
 
-value-text-requires : tie.Need-value-text-requires
-value-text-requires c κs =
+value-lines-requires : tie.Need-value-lines-requires
+value-lines-requires c κs =
     let t = c .before .before .before .before .before .before in
     let a = t .before .args .sheet .now in
     let v = t .before .pre .0 in
@@ -67,20 +64,20 @@ returns c =
     let a = s .args .sheet .now in
     let v = s .pre .0 in
     let e : w .before .before .quad-at .result ≡ quad (nth 0 a) = rw (value-part 20 4 a v) at (w .before .before .quad-at .ensures) in
-    rw (e, value-vectors 20 4 a v 10 (omega arith)) at (w .value-text .ensures)
+    rw (e, value-vectors 20 4 a v 10 (omega arith)) at (w .value-lines .ensures)
 
 pub unfixable-text-spec : {M : Type 1} → statement M
 unfixable-text-spec =
     tie.close
     (tie.spec
-    slice-aggregate-value-text
+    slice-aggregate-value-lines
     sub-quad-at
     part-quad-at-start
     part-quad-at-end
     quad-at-requires
-    sub-value-text
-    part-value-text-start
-    part-value-text-end
-    value-text-requires
+    sub-value-lines
+    part-value-lines-start
+    part-value-lines-end
+    value-lines-requires
     same-length
     returns)

@@ -1,15 +1,11 @@
-use Prim.Native.Nat.{_+_, _-_, _<_, _≤_}
-use mathlib.Core.Path.{_≡_}
+-- `engine::text::value_lines` meets its contract: two lines, the second behind the first.
+-- Assumes nothing.
+use Prim.Native.Nat.{_-_}
 use native.Mathlib.Omega.{arith}
-use lib.ListN.{length}
 use Rattle.engine.proofs.Laws.Text.{length-valueText, value-texted}
 use borrow.Author.Needs.{needs}
-use Rattle.engine.proofs.text.value_text.Statement.{statement}
-use Rattle.engine.proofs.text.value_text.Tie as tie
-use Rattle.engine.proofs.text.value_text.Reads as reads
-use Rattle.engine.proofs.text.value_text.Lts as lts
-use Rattle.engine.proofs.text.put_bytes_line.Reads as put-bytes-line-reads
-use Rattle.engine.proofs.text.put_number_line.Reads as put-number-line-reads
+use Rattle.engine.proofs.text.value_lines.Statement.{statement}
+use Rattle.engine.proofs.text.value_lines.Tie as tie
 
 put-number-line-requires : tie.Need-put-number-line-requires
 put-number-line-requires c κs =
@@ -36,8 +32,8 @@ returns c =
     (w .before .before .before .before .before .put-number-line .ensures)
     (w .put-bytes-line .ensures)
 
-pub value-text-spec : {M : Type 1} → statement M
-value-text-spec =
+pub value-lines-spec : {M : Type 1} → statement M
+value-lines-spec =
     tie.close
     (tie.spec
     put-number-line-requires
