@@ -17,7 +17,7 @@
 --   WholeSheet s           s is the sheet of a verdict
 --   longestText            no such sheet and no refusal has a longer text
 --   Printed d at xs r d′   d′ is d with xs placed from position at on, and r is the position behind
---   Texted d xs r d′       the same at the start of d
+--   Texted d xs r d′       the same at the start of d, which has room for it
 use Prim.Native.Nat.{ℕ, zero, suc, _+_, _/_, _%_, _≤_}
 use mathlib.Core.Path.{_≡_}
 use mathlib.Core.List.{List, [], _∷_, _++_}
@@ -159,5 +159,6 @@ pub record Printed (d : List ℕ) (at : ℕ) (xs : List ℕ) (r : ℕ) (d′ : L
   pub text : d′ ≡ placed d at xs
 
 pub record Texted (d xs : List ℕ) (r : ℕ) (d′ : List ℕ) : Type 0 where
+  pub room : length xs ≤ length d
   pub len : r ≡ length xs
   pub text : d′ ≡ placed d 0 xs

@@ -24,7 +24,7 @@ use Rattle.records.proofs.Laws.RoundTrip.{below-take, below-drop}
 use Rattle.records.proofs.Laws.Job.{placed-then, flat-append, flat-snoc}
 use Rattle.engine.specs.Verdict.{sheetOf, longestSheet, decideNumber}
 use Rattle.engine.specs.Cases.{jobA, sheetA, replied, cases, casesHold}
-use Rattle.engine.specs.Text.{digitsWithin, digits, patchWord, supportWord, tableWord, vectorsWord, unfixableWord, blindWord, number, numbers, line, patchText, patchSheetText, valueText, sheetText, refusedText, inputLimit, rectifyText, textA, PatchSheet, ValueSheet, WholeSheet, isPatch, isUnfixable, isBlind, longestText, Printed, Texted}
+use Rattle.engine.specs.Text.{digitsWithin, digits, patchWord, supportWord, tableWord, vectorsWord, unfixableWord, blindWord, refusedWord, number, numbers, line, patchText, patchSheetText, valueText, sheetText, refusedText, inputLimit, rectifyText, textA, PatchSheet, ValueSheet, WholeSheet, isPatch, isUnfixable, isBlind, longestText, Printed, Texted}
 use Rattle.engine.proofs.Laws.Choice.{true-or-false, same-true}
 use Rattle.engine.proofs.Cases.{cases-hold}
 
@@ -349,8 +349,8 @@ module _ (t size : ℕ) (s : List ℕ) (v : ValueSheet t size s) where
 
 -- ---- texts
 
-pub texted : {d d′ xs : List ℕ} {r : ℕ} → Printed d 0 xs r d′ → Texted d xs r d′
-texted a = let e = a .end in record { len = omega arith; text = a .text }
+pub texted : {d d′ xs : List ℕ} {r : ℕ} → length xs ≤ length d → Printed d 0 xs r d′ → Texted d xs r d′
+texted h a = let e = a .end in record { room = h; len = omega arith; text = a .text }
 
 below-one : (n x : ℕ) → x < n → Below n (x ∷ [])
 below-one n x h zero = h
@@ -371,6 +371,13 @@ pub quad-lt : (s : List ℕ) → Below 256 s → quad s < 4294967296
 unfolding quad
 quad-lt s b = omega (arith, word-lt s 0 (b 0) (b 1), word-lt s 2 (b 2) (b 3))
 
+pub refused-texted : {d d′ : List ℕ} {x n r : ℕ} → n < 256 → longestText ≤ length d → x ≡ n
+    → Printed d 0 (line refusedWord (x ∷ [])) r d′ → Texted d (refusedText n) r d′
+unfolding refusedText
+refused-texted {d} {d′} {x} {n} l h e a =
+    let m : length (line refusedWord (n ∷ [])) ≤ length d = omega (arith, length-number-line refusedWord n (omega arith)) in
+    texted m (rw e at a)
+
 module _ (w : List ℕ) (x : ℕ) (vs : List ℕ) where
   pub length-valueText : length (valueText w x vs) ≡ length (line w (x ∷ [])) + length (line vectorsWord vs)
   unfolding valueText
@@ -379,7 +386,7 @@ module _ (w : List ℕ) (x : ℕ) (vs : List ℕ) where
   pub value-texted : {d d₁ d₂ : List ℕ} {p r : ℕ} → length (valueText w x vs) ≤ length d
       → Printed d 0 (line w (x ∷ [])) p d₁ → Printed d₁ p (line vectorsWord vs) r d₂ → Texted d (valueText w x vs) r d₂
   unfolding valueText
-  value-texted h a b = texted (printed-then a b (omega arith))
+  value-texted h a b = texted h (printed-then a b (omega arith))
 
 pub value-room : (t size : ℕ) (s : List ℕ) → ValueSheet t size s → Below 256 s
     → (w : List ℕ) {x y : ℕ} {vs : List ℕ} → length w ≤ 9 → y < 4294967296 → x ≡ y → vs ≡ nth 1 s
@@ -432,7 +439,7 @@ module _ (c : ℕ) (is es vs : List ℕ) where
       let x = length-append costLine netsLine in
       let y = length-append (costLine ++ netsLine) tableLine in
       let z = length-append (costLine ++ netsLine ++ tableLine) vectorsLine in
-      texted (printed-then (printed-then (printed-then i j (omega arith)) k (omega arith)) l (omega arith))
+      texted h (printed-then (printed-then (printed-then i j (omega arith)) k (omega arith)) l (omega arith))
 
 -- the lines of the parts of a patch's sheet
 module _ (s : List ℕ) {c : ℕ} {is es vs : List ℕ} (p : c ≡ quad (nth 2 s)) (q : is ≡ nth 0 s) (o : es ≡ nth 1 s) (r : vs ≡ nth 3 s) where

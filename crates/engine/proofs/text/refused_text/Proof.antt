@@ -1,9 +1,8 @@
 -- `engine::text::refused_text` meets its contract: one line, of a number below 256.
 -- Assumes nothing.
-use Prim.Native.Nat.{_-_}
 use native.Mathlib.Omega.{arith}
-use Rattle.engine.specs.Text.{refusedWord, refusedText}
-use Rattle.engine.proofs.Laws.Text.{length-number-line, texted}
+use Rattle.engine.specs.Text.{refusedWord}
+use Rattle.engine.proofs.Laws.Text.{length-number-line, refused-texted}
 use borrow.Author.Needs.{needs}
 use Rattle.engine.proofs.text.refused_text.Statement.{statement}
 use Rattle.engine.proofs.text.refused_text.Tie as tie
@@ -16,19 +15,16 @@ wide-requires c κs = search needs
 
 put-number-line-requires : tie.Need-put-number-line-requires
 put-number-line-requires c κs =
-    let n = c .before .before .before .before .args .number in
-    let x = c .wide .result in
     let e = c .wide .ensures in
-    omega (arith, length-number-line refusedWord x (omega arith))
+    omega (arith, length-number-line refusedWord (c .wide .result) (omega arith))
 
 same-length : tie.Need-same-length
 same-length c = search needs
 
 returns : tie.Need-returns
-unfolding refusedText
 returns c =
     let w = c .before .before in
-    texted (rw (w .before .wide .ensures) at (w .put-number-line .ensures))
+    refused-texted (omega arith) (omega arith) (w .before .wide .ensures) (w .put-number-line .ensures)
 
 pub refused-text-spec : {M : Type 1} → statement M
 refused-text-spec =
