@@ -10,8 +10,8 @@ pub mod Reply
 pub mod Tree
 pub mod Fit
 pub mod Claims
-pub mod Text
 pub mod Cases
+pub mod Text
 pub mod Inner
 pub mod Walk
 pub mod Sets

@@ -12,6 +12,7 @@
 --   inputLimit             more bytes than these are refused with 2
 --   rectifyText s          what is printed for the job bytes s
 --   textA                  the four lines that document 01 gives for job A
+--   textCases, textCasesHold    further texts, and that each is what it must be
 --   PatchSheet s           s is the fields of a patch's sheet, of lengths in their ranges
 --   ValueSheet t size s    the same for the sheet of an unfixable input or a blind reading, whose first field has tag t
 --   WholeSheet s           s is the sheet of a verdict
@@ -21,13 +22,15 @@
 use Prim.Native.Nat.{ℕ, zero, suc, _+_, _/_, _%_, _≤_}
 use mathlib.Core.Path.{_≡_}
 use mathlib.Core.List.{List, [], _∷_, _++_}
-use mathlib.Core.Bool.{true, false, cond}
+use mathlib.Core.Bool.{Bool, true, false, cond}
 use lib.ListN.{length, getD, replicate}
 use lib.Dec.{ltb, eqb}
-use Rattle.records.specs.Bytes.{flat, word, placed, whole, nth}
+use Rattle.records.specs.Bytes.{all, flat, word, placed, field, whole, nth}
 use Rattle.records.specs.Job.{jobOf}
 use Rattle.records.specs.Sheet.{quad, sheetTags, patchOf}
+use Rattle.engine.specs.Choice.{same}
 use Rattle.engine.specs.Verdict.{sheetOf, longestSheet, decideNumber}
+use Rattle.engine.specs.Cases.{Case}
 
 -- ---- numbers
 
@@ -116,7 +119,9 @@ rectifyText s =
     (refusedText 2)
     (cond (eqb n 0) (sheetText (sheetOf (jobOf s))) (refusedText n))
 
--- what is printed for job A: `patch cost 7`, `support 0 1`, `table 0 0 0 1`, `vectors 0 1`
+-- ---- examples
+
+-- document 01's four lines for job A: `patch cost 7`, `support 0 1`, `table 0 0 0 1`, `vectors 0 1`
 abbrev pub textA : List ℕ
 textA =
     patchWord
@@ -127,6 +132,34 @@ textA =
     ++ (32 ∷ 48 ∷ 32 ∷ 48 ∷ 32 ∷ 48 ∷ 32 ∷ 49 ∷ 10 ∷ [])
     ++ vectorsWord
     ++ (32 ∷ 48 ∷ 32 ∷ 49 ∷ 10 ∷ [])
+
+abbrev is : List ℕ → List ℕ → Case
+is xs ys = record { given = xs; expected = ys }
+
+unfoldable pub textCases : List Case
+textCases =
+    -- case 3's sheet: `blind 1`, `vectors 0 1`
+    is (sheetText (field 21 (0 ∷ 1 ∷ []) ++ field 19 (0 ∷ 1 ∷ [])))
+    (blindWord ++ (32 ∷ 49 ∷ 10 ∷ []) ++ vectorsWord ++ (32 ∷ 48 ∷ 32 ∷ 49 ∷ 10 ∷ []))
+    -- the sheet of input 1,048,575, the highest: `unfixable 1048575`, `vectors 0`
+    ∷ is (sheetText (field 20 (0 ∷ 15 ∷ 255 ∷ 255 ∷ []) ++ field 19 (0 ∷ [])))
+    (unfixableWord ++ (32 ∷ 49 ∷ 48 ∷ 52 ∷ 56 ∷ 53 ∷ 55 ∷ 53 ∷ 10 ∷ []) ++ vectorsWord ++ (32 ∷ 48 ∷ 10 ∷ []))
+    -- case 6's sheet: `patch cost 0`, `support`, `table 0`, `vectors 0`
+    ∷ is (sheetText (field 16 [] ++ field 17 (0 ∷ []) ++ field 18 (0 ∷ 0 ∷ 0 ∷ 0 ∷ []) ++ field 19 (0 ∷ [])))
+    (patchWord
+    ++ (32 ∷ 48 ∷ 10 ∷ [])
+    ++ supportWord
+    ++ (10 ∷ [])
+    ++ tableWord
+    ++ (32 ∷ 48 ∷ 10 ∷ [])
+    ++ vectorsWord
+    ++ (32 ∷ 48 ∷ 10 ∷ []))
+    -- `refused 3`
+    ∷ is (refusedText 3) (refusedWord ++ (32 ∷ 51 ∷ 10 ∷ []))
+    ∷ []
+
+unfoldable pub textCasesHold : Bool
+textCasesHold = all (λ (c : Case). same (c .given) (c .expected)) textCases
 
 -- ---- whole sheets
 

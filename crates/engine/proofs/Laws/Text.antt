@@ -1,31 +1,41 @@
 -- Laws of specs/Text: digits, numbers and lines placed one after the other, and how long a sheet's text is. Assumes nothing.
 use Prim.Native.Nat.{ℕ, zero, suc, _+_, _-_, _*_, _/_, _%_, _^_, _≤_, _<_}
 use mathlib.Core.Path.{_≡_, refl, sym, _∙_, ap}
-use mathlib.Core.List.{List, [], _∷_, _++_, append-assoc, append-nil}
+use mathlib.Core.List.{List, [], _∷_, _++_, map, append-assoc, append-nil, List·Memᴰ as Mem, List·Memᴰ·append-cases as append-cases, List·Memᴰ·eq-of-singleton as eq-of-singleton, Memᴰ·of-map as mem-of-map}
 use mathlib.Core.Bool.{Bool, true, false}
 use mathlib.Core.Logic.{⊎-elim}
-use native.Mathlib.Nat.{add-assoc, mul-suc, pow-suc}
+use native.Mathlib.Nat.{add-assoc, mul-suc, pow-suc, div-add-mod}
 use native.Mathlib.Numerals.{add-one}
 use native.Mathlib.Omega.{arith}
 use borrow.Author.Tests.{lt-ltb, le-ltb, ne-eqb, ltb-true, ltb-false, eqb-true, eqb-false, leb-true}
 use lib.Dec.{ltb, leb, eqb}
-use lib.ListN.{length, getD, take, drop, set, replicate, length-append, take-append-drop, List·getD-eq-default}
-use lib.Seq.{length-take-le, take-all, take-suc}
-use Rattle.records.specs.Bytes.{upFrom, tabulate, flat, word, placed, bodyLength, body, rest, fits, whole, nth}
-use Rattle.records.specs.Job.{jobOf, netsOf}
+use lib.Pow.{pow-mono}
+use lib.ListN.{length, getD, take, drop, set, replicate, length-append, length-map, take-append-drop, List·getD-eq-default}
+use lib.Seq.{length-take-le, take-all, take-suc, drop-at, take-append-seam}
+use Rattle.records.specs.Bytes.{upFrom, tabulate, all, flat, bytePair, word, placed, field, bodyLength, body, rest, fits, whole, nth}
+use Rattle.records.specs.Job.{Candidate, Job, jobOf, netsOf}
+use Rattle.records.specs.Service.{countsOf}
 use Rattle.records.specs.Sheet.{quad, sheetTags, patchOf}
-use Rattle.records.specs.Claims.{Below}
+use Rattle.records.specs.Claims.{Below, PartsGood}
 use Rattle.records.specs.Inner.{startOf}
 use Rattle.records.proofs.Laws.Bytes.{and-left, row-at, all-cons, placed-nil, length-placed, set-placed}
-use Rattle.records.proofs.Laws.Field.{skip, positionOf, skip-drop, bodyLength-drop, startOf-position, positionOf-suc, startOf-suc, whole-end, nth-slice}
+use Rattle.records.proofs.Laws.Field.{skip, positionOf, skip-drop, bodyLength-drop, startOf-position, positionOf-suc, startOf-suc, whole-end, nth-slice, fits-whole}
+use Rattle.records.proofs.Laws.Counts.{countsWithin-facts, countsWithin-countsOf}
 use Rattle.records.proofs.Laws.Shape.{length-netsOf}
 use Rattle.records.proofs.Laws.Sheet.{word-lt, net-at}
 use Rattle.records.proofs.Laws.RoundTrip.{below-take, below-drop}
-use Rattle.records.proofs.Laws.Job.{placed-then, flat-append, flat-snoc}
-use Rattle.engine.specs.Verdict.{sheetOf, longestSheet, decideNumber}
+use Rattle.records.proofs.Laws.Job.{placed-then, flat-append, flat-snoc, length-flat, length-bytePair, length-field}
+use Rattle.engine.specs.Choice.{same}
+use Rattle.engine.specs.Rectify.{vectorLoop}
+use Rattle.engine.specs.Support.{sound, subsets, candidateNets, cost, chosen, tableOf}
+use Rattle.engine.specs.Verdict.{Ruling, patch, unfixable, blind, ruling, fourBytes, rulingFields, sheetOf, longestSheet, decideNumber}
 use Rattle.engine.specs.Cases.{jobA, sheetA, replied, cases, casesHold}
-use Rattle.engine.specs.Text.{digitsWithin, digits, patchWord, supportWord, tableWord, vectorsWord, unfixableWord, blindWord, refusedWord, number, numbers, line, patchText, patchSheetText, valueText, sheetText, refusedText, inputLimit, rectifyText, textA, PatchSheet, ValueSheet, WholeSheet, isPatch, isUnfixable, isBlind, longestText, Printed, Texted}
+use Rattle.engine.specs.Text.{digitsWithin, digits, patchWord, supportWord, tableWord, vectorsWord, unfixableWord, blindWord, refusedWord, number, numbers, line, patchText, patchSheetText, valueText, sheetText, refusedText, inputLimit, rectifyText, textA, textCases, textCasesHold, PatchSheet, ValueSheet, WholeSheet, isPatch, isUnfixable, isBlind, longestText, Printed, Texted}
 use Rattle.engine.proofs.Laws.Choice.{true-or-false, same-true}
+use Rattle.engine.proofs.Laws.Best.{chosen-sound}
+use Rattle.engine.proofs.Laws.Loop.{length-vectors-le}
+use Rattle.engine.proofs.Laws.Support.{length-tableOf}
+use Rattle.engine.proofs.Laws.Verdict.{patch-chosen}
 use Rattle.engine.proofs.Cases.{cases-hold}
 
 -- ---- digits
@@ -513,6 +523,116 @@ module _ (s : List ℕ) where
   unfolding sheetText
   text-blind m n = rw (ne-eqb (getD s 0 0) 16 m, ne-eqb (getD s 0 0) 20 n)
 
+-- ---- the sheet of an accepted job is whole
+
+-- a field at the front
+module _ (t : ℕ) (xs r : List ℕ) where
+  field-bodyLength : bodyLength (field t xs ++ r) ≡ length xs
+  unfolding bodyLength field bytePair word
+  field-bodyLength = div-add-mod (length xs) 256
+
+  field-rest : rest (field t xs ++ r) ≡ r
+  unfolding rest
+  field-rest = rw field-bodyLength (drop-at (field t xs) r (3 + length xs) (length-field t xs))
+
+  field-nth : nth 0 (field t xs ++ r) ≡ xs
+  unfolding nth body field bytePair
+  field-nth = rw field-bodyLength (take-append-seam xs r)
+
+  field-nth-suc : (k : ℕ) → nth (suc k) (field t xs ++ r) ≡ nth k r
+  unfolding nth
+  field-nth-suc k = ap (nth k) field-rest
+
+  field-whole : (ts : List ℕ) → whole ts r ≡ true → whole (t ∷ ts) (field t xs ++ r) ≡ true
+  unfolding whole bodyLength field
+  field-whole ts w =
+      let e : word (field t xs ++ r) 1 ≡ length xs = field-bodyLength in
+      let f : fits t (field t xs ++ r) ≡ true =
+      fits-whole (field t xs ++ r) 0 t refl (omega (arith, length-append (field t xs) r, length-field t xs)) in
+      rw (f, field-rest) w
+
+field-last : (t : ℕ) (xs : List ℕ) → (whole (t ∷ []) (field t xs) ≡ true) × (nth 0 (field t xs) ≡ xs)
+unfolding whole
+field-last t xs = (
+  rw append-nil at (field-whole t xs [] [] refl),
+  rw append-nil at (field-nth t xs []),
+)
+
+value-whole : (t : ℕ) (xs vs : List ℕ) → length vs ≤ 16 → ValueSheet t (length xs) (field t xs ++ field 19 vs)
+value-whole t xs vs h =
+    let l = field-last 19 vs in
+    record {
+      fields = field-whole t xs (field 19 vs) (19 ∷ []) (l .0);
+      value = ap length (field-nth t xs (field 19 vs));
+      vectors = rw (field-nth-suc t xs (field 19 vs) 0, l .1) h;
+    }
+
+patch-whole : (is es cs vs : List ℕ) → length is ≤ 20 → length es ≤ 1024 → length cs ≡ 4 → length vs ≤ 16
+    → PatchSheet (field 16 is ++ field 17 es ++ field 18 cs ++ field 19 vs)
+patch-whole is es cs vs h i c v =
+    let l = field-last 19 vs in
+    let r₂ = field 18 cs ++ field 19 vs in
+    let r₁ = field 17 es ++ r₂ in
+    let e : field 16 is ++ field 17 es ++ field 18 cs ++ field 19 vs ≡ field 16 is ++ r₁ = simp append-assoc in
+    rw e
+    (record {
+      fields = field-whole 16 is r₁ _ (field-whole 17 es r₂ _ (field-whole 18 cs (field 19 vs) _ (l .0)));
+      support = rw (field-nth 16 is r₁) h;
+      table = rw (field-nth-suc 16 is r₁ 0, field-nth 17 es r₂) i;
+      cost = rw (field-nth-suc 16 is r₁ 1, field-nth-suc 17 es r₂ 0, field-nth 18 cs (field 19 vs)) c;
+      vectors = rw (field-nth-suc 16 is r₁ 2, field-nth-suc 17 es r₂ 1, field-nth-suc 18 cs (field 19 vs) 0, l .1) v;
+    })
+
+length-subset-le : (ks is : List ℕ) → Mem is (subsets ks) → length is ≤ length ks
+unfolding subsets
+length-subset-le [] is m = rw (eq-of-singleton m) (omega arith)
+length-subset-le (k ∷ ks) is m =
+    ⊎-elim
+    (λ (a : Mem is (map (λ (ls : List ℕ). k ∷ ls) (subsets ks))).
+    let r = mem-of-map (λ (ls : List ℕ). k ∷ ls) (subsets ks) a in
+    omega (arith, ap length (r .2), length-subset-le ks (r .0) (r .1)))
+    (λ (a : Mem is (subsets ks)). omega (arith, length-subset-le ks is a))
+    (append-cases (map (λ (ls : List ℕ). k ∷ ls) (subsets ks)) m)
+
+module _ (j : Job) (g : PartsGood j) where
+  targets-le : j .targets ≤ 4
+  unfolding countsOf
+  targets-le = countsWithin-facts (countsOf j) (countsWithin-countsOf j ∙ g .counts) .targets
+
+  candidates-le : length (candidateNets j) ≤ 10
+  unfolding countsOf candidateNets
+  candidates-le =
+      omega (
+        arith,
+        length-map (j .candidates) (λ (c : Candidate). c .net),
+        countsWithin-facts (countsOf j) (countsWithin-countsOf j ∙ g .counts) .candidates,
+      )
+
+  vectors-le : length (vectorLoop j .vectors) ≤ 16
+  vectors-le = omega (arith, length-vectors-le j, pow-mono targets-le)
+
+  chosen-le : sound j (candidateNets j) ≡ true → length (chosen j) ≤ 10
+  chosen-le s = omega (arith, candidates-le, length-subset-le (candidateNets j) (chosen j) (chosen-sound j s .1))
+
+  ruling-whole : (v : Ruling) → ruling j ≡ v → WholeSheet (rulingFields j v ++ field 19 (vectorLoop j .vectors))
+  unfolding rulingFields fourBytes bytePair
+  ruling-whole (patch is) e =
+      let c = patch-chosen j is e in
+      let n : length is ≤ 10 = rw (c .2) (chosen-le (c .1)) in
+      isPatch
+      (patch-whole (flat bytePair is) (tableOf j is) (fourBytes (cost j is)) (vectorLoop j .vectors)
+      (omega (arith, length-flat bytePair 2 length-bytePair is))
+      (omega (arith, length-tableOf j is, pow-mono n))
+      refl
+      vectors-le)
+  ruling-whole (unfixable x) e = isUnfixable (value-whole 20 (fourBytes x) (vectorLoop j .vectors) vectors-le)
+  ruling-whole (blind r) e = isBlind (value-whole 21 (bytePair r) (vectorLoop j .vectors) vectors-le)
+
+  -- the sheet of an accepted job is one that has a text
+  pub whole-sheet : WholeSheet (sheetOf j)
+  unfolding sheetOf
+  whole-sheet = ruling-whole (ruling j) refl
+
 -- ---- what is printed for job bytes
 
 module _ (s : List ℕ) where
@@ -559,3 +679,10 @@ pub a-printed : rectifyText jobA ≡ textA
 a-printed =
     let r = replied-accepted longestSheet jobA sheetA a-replied in
     rectify-accepted jobA (omega arith) (r .0) ∙ ap sheetText (r .1) ∙ a-sheet
+
+-- ---- further texts
+
+pub text-cases-hold : textCasesHold ≡ true
+unfolding textCasesHold textCases sheetText patchSheetText patchText valueText refusedText line numbers number digits digitsWithin
+    flat all same patchOf quad word nth body rest bodyLength field bytePair netsOf tabulate upFrom
+text-cases-hold = refl
