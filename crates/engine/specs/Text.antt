@@ -2,7 +2,7 @@
 --
 --   digits x               the decimal digits of x, the highest first
 --   patchWord .. refusedWord    the words that lines start with
---   numbers xs             for each number of xs a space and its digits
+--   number x, numbers xs   a space and the digits of x; the same for each number of xs
 --   line w xs              the word w, the numbers xs and a line feed
 --   patchText c is es vs   the four lines of a patch: cost, support nets, table, vector list
 --   patchSheetText s       the lines of the patch sheet s
@@ -34,7 +34,7 @@ use Rattle.engine.specs.Cases.{Case}
 
 -- ---- numbers
 
--- the digits of x where x ≤ k; 48 is `0`
+-- the same with at most k + 1 of them, which is enough where x ≤ k; 48 is `0`
 unfoldable pub digitsWithin : ℕ → ℕ → List ℕ
 digitsWithin zero x = 48 ∷ []
 digitsWithin (suc k) x =
@@ -161,7 +161,7 @@ textCases =
 unfoldable pub textCasesHold : Bool
 textCasesHold = all (λ (c : Case). same (c .given) (c .expected)) textCases
 
--- ---- whole sheets
+-- ---- whole sheets: what the functions that write text require
 
 pub record PatchSheet (s : List ℕ) : Type 0 where
   pub fields : whole sheetTags s ≡ true
@@ -185,7 +185,7 @@ pub data WholeSheet (s : List ℕ) : Type 0 where
 abbrev pub longestText : ℕ
 longestText = 4264
 
--- ---- what the functions that write text give
+-- ---- what they give
 
 pub record Printed (d : List ℕ) (at : ℕ) (xs : List ℕ) (r : ℕ) (d′ : List ℕ) : Type 0 where
   pub end : r ≡ at + length xs

@@ -112,7 +112,8 @@ fn put_bytes_line(text: &mut [u8], at: usize, word: &[u8], bytes: &[u8]) -> usiz
 // A line: a word, the number of each net.
 fn put_nets_line(text: &mut [u8], at: usize, word: &[u8], nets: &[u8]) -> usize
     requires { ⌜ at + length (line (now word) (netsOf (now nets))) ≤ length (now text) ⌝ }
-    ensures { λ r. ⌜ Printed (now (text .entry)) at (line (now (word .entry)) (netsOf (now (nets .entry)))) r (now (text .exit)) ⌝ }
+    ensures { λ r. ⌜ Printed (now (text .entry)) at
+        (line (now (word .entry)) (netsOf (now (nets .entry)))) r (now (text .exit)) ⌝ }
 {
     let a = put_word(text, at, word);
     let b = put_nets(text, a, nets);

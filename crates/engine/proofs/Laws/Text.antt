@@ -1,4 +1,5 @@
--- Laws of specs/Text: digits, numbers and lines placed one after the other, and how long a sheet's text is. Assumes nothing.
+-- Laws of specs/Text: digits, numbers and lines placed one after the other, where the fields of a sheet stand and how long its
+-- text is, that the sheet of an accepted job is whole, and what is printed for job A. Assumes nothing.
 use Prim.Native.Nat.{ℕ, zero, suc, _+_, _-_, _*_, _/_, _%_, _^_, _≤_, _<_}
 use mathlib.Core.Path.{_≡_, refl, sym, _∙_, ap}
 use mathlib.Core.List.{List, [], _∷_, _++_, map, append-assoc, append-nil, List·Memᴰ as Mem, List·Memᴰ·append-cases as append-cases, List·Memᴰ·eq-of-singleton as eq-of-singleton, Memᴰ·of-map as mem-of-map}
@@ -12,7 +13,7 @@ use lib.Dec.{ltb, leb, eqb}
 use lib.Pow.{pow-mono}
 use lib.ListN.{length, getD, take, drop, set, replicate, length-append, length-map, take-append-drop, List·getD-eq-default}
 use lib.Seq.{length-take-le, take-all, take-suc, drop-at, take-append-seam}
-use Rattle.records.specs.Bytes.{upFrom, tabulate, all, flat, bytePair, word, placed, field, bodyLength, body, rest, fits, whole, nth}
+use Rattle.records.specs.Bytes.{upFrom, tabulate, all, flat, bytePair, word, field, bodyLength, body, rest, fits, whole, nth}
 use Rattle.records.specs.Job.{Candidate, Job, jobOf, netsOf}
 use Rattle.records.specs.Service.{countsOf}
 use Rattle.records.specs.Sheet.{quad, sheetTags, patchOf}
@@ -452,10 +453,10 @@ module _ (c : ℕ) (is es vs : List ℕ) where
       texted h (printed-then (printed-then (printed-then i j (omega arith)) k (omega arith)) l (omega arith))
 
 -- the lines of the parts of a patch's sheet
-module _ (s : List ℕ) {c : ℕ} {is es vs : List ℕ} (p : c ≡ quad (nth 2 s)) (q : is ≡ nth 0 s) (o : es ≡ nth 1 s) (r : vs ≡ nth 3 s) where
-  pub patch-same : patchText c (netsOf is) es vs ≡ patchSheetText s
-  unfolding patchSheetText patchOf
-  patch-same = rw (p, q, o, r)
+pub patch-same : (s : List ℕ) {c : ℕ} {is es vs : List ℕ} → c ≡ quad (nth 2 s) → is ≡ nth 0 s → es ≡ nth 1 s → vs ≡ nth 3 s
+    → patchText c (netsOf is) es vs ≡ patchSheetText s
+unfolding patchSheetText patchOf
+patch-same s p q o r = rw (p, q, o, r)
 
 pub patch-room : (s : List ℕ) → PatchSheet s → Below 256 s → length (patchSheetText s) ≤ longestText
 unfolding patchSheetText patchOf

@@ -1,6 +1,5 @@
 -- `engine::text::blind_text` meets its contract: the parts of the sheet are its fields' bytes.
 -- Assumes nothing.
-use Prim.Native.Nat.{_-_}
 use mathlib.Core.Path.{_≡_}
 use native.Mathlib.Omega.{arith}
 use Rattle.records.specs.Bytes.{word, nth}
@@ -48,10 +47,8 @@ value-lines-requires c κs =
     let v = t .before .pre .0 in
     let bytes : Below 256 a = λ i. t .shared-slice-known .given i .fits in
     let e : c .before .word-at .result ≡ word (nth 0 a) 0 = rw (value-part 21 2 a v) at (c .before .word-at .ensures) in
-    omega (
-      arith,
-      value-room 21 2 a v bytes blindWord (omega arith) (word-quad-lt (nth 0 a) (value-bytes 21 2 a v bytes)) e (value-vectors 21 2 a v 8 (omega arith)),
-    )
+    let l = word-quad-lt (nth 0 a) (value-bytes 21 2 a v bytes) in
+    omega (arith, value-room 21 2 a v bytes blindWord (omega arith) l e (value-vectors 21 2 a v 8 (omega arith)))
 
 same-length : tie.Need-same-length
 same-length c = search needs
@@ -62,7 +59,8 @@ returns c =
     let s = w .before .before .before .before .before .before .before .before in
     let a = s .args .sheet .now in
     let v = s .pre .0 in
-    let e : w .before .before .word-at .result ≡ word (nth 0 a) 0 = rw (value-part 21 2 a v) at (w .before .before .word-at .ensures) in
+    let q = w .before .before in
+    let e : q .word-at .result ≡ word (nth 0 a) 0 = rw (value-part 21 2 a v) at (q .word-at .ensures) in
     rw (e, value-vectors 21 2 a v 8 (omega arith)) at (w .value-lines .ensures)
 
 pub blind-text-spec : {M : Type 1} → statement M

@@ -1,12 +1,21 @@
 -- `engine::text::patch_lines` meets its contract: four lines, each behind the one before.
 -- Assumes nothing.
-use Prim.Native.Nat.{_-_}
 use native.Mathlib.Omega.{arith}
 use Rattle.records.specs.Job.{netsOf}
 use Rattle.engine.proofs.Laws.Text.{length-patchText, patch-texted}
 use borrow.Author.Needs.{needs}
 use Rattle.engine.proofs.text.patch_lines.Statement.{statement}
 use Rattle.engine.proofs.text.patch_lines.Tie as tie
+
+-- the places passed on the way
+abbrev start : tie.After-put-number-line → tie.Start
+start w = w .before .before .before .before .before .before .before
+
+abbrev second : tie.After-put-nets-line → tie.After-put-number-line
+second w = w .before .before .before .before .before
+
+abbrev third : tie.After-put-bytes-line → tie.After-put-nets-line
+third w = w .before .before .before .before .before
 
 slice-aggregate-put-number-line : tie.Need-slice-aggregate-put-number-line
 slice-aggregate-put-number-line c = search needs
@@ -21,7 +30,7 @@ slice-aggregate-put-nets-line c = search needs
 
 put-nets-line-requires : tie.Need-put-nets-line-requires
 put-nets-line-requires c κs =
-    let a = c .before .before .before .before .before .before .before .before .before .before .before .args in
+    let a = start (c .before .before .before .before) .args in
     omega (arith, length-patchText (a .cost) (netsOf (a .support .now)) (a .table .now) (a .vectors .now))
 
 slice-aggregate-put-bytes-line : tie.Need-slice-aggregate-put-bytes-line
@@ -29,7 +38,7 @@ slice-aggregate-put-bytes-line c = search needs
 
 put-bytes-line-requires : tie.Need-put-bytes-line-requires
 put-bytes-line-requires c κs =
-    let a = c .before .before .before .before .before .before .before .before .before .before .before .before .before .before .before .before .args in
+    let a = start (second (c .before .before .before .before)) .args in
     omega (arith, length-patchText (a .cost) (netsOf (a .support .now)) (a .table .now) (a .vectors .now))
 
 slice-aggregate-put-bytes-line-2 : tie.Need-slice-aggregate-put-bytes-line-2
@@ -37,7 +46,7 @@ slice-aggregate-put-bytes-line-2 c = search needs
 
 put-bytes-line-requires-2 : tie.Need-put-bytes-line-requires-2
 put-bytes-line-requires-2 c κs =
-    let a = c .before .before .before .before .before .before .before .before .before .before .before .before .before .before .before .before .before .before .before .before .before .args in
+    let a = start (second (third (c .before .before .before .before))) .args in
     omega (arith, length-patchText (a .cost) (netsOf (a .support .now)) (a .table .now) (a .vectors .now))
 
 same-length : tie.Need-same-length
@@ -47,9 +56,9 @@ returns : tie.Need-returns
 returns c =
     let w₄ = c .before .before in
     let w₃ = w₄ .before .before .before .before .before in
-    let w₂ = w₃ .before .before .before .before .before in
-    let w₁ = w₂ .before .before .before .before .before in
-    let s = w₁ .before .before .before .before .before .before .before in
+    let w₂ = third w₃ in
+    let w₁ = second w₂ in
+    let s = start w₁ in
     let a = s .args in
     patch-texted (a .cost) (netsOf (a .support .now)) (a .table .now) (a .vectors .now) (s .pre)
     (w₁ .put-number-line .ensures)

@@ -1,6 +1,5 @@
 -- `engine::text::patch_text` meets its contract: the parts of the sheet are its fields' bytes.
 -- Assumes nothing.
-use Prim.Native.Nat.{_-_}
 use mathlib.Core.Path.{_≡_, ap}
 use native.Mathlib.Omega.{arith}
 use lib.ListN.{length}

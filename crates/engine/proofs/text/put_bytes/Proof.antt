@@ -51,7 +51,9 @@ loop-again c =
     let s = t .before .before .before in
     let a = s .args in (
       omega arith,
-      printing-next number (a .bytes .now) (a .text .now) (a .at) (s .pre) (omega arith) (l .inv .1) (w .before .wide .ensures) (w .put-number .ensures),
+      printing-next number (a .bytes .now) (a .text .now) (a .at) (s .pre) (omega arith) (l .inv .1)
+          (w .before .wide .ensures)
+          (w .put-number .ensures),
     )
 
 same-length : tie.Need-same-length Inv-loop μ-loop

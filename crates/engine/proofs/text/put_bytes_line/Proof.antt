@@ -30,12 +30,12 @@ returns c =
     let w = c .before .before in
     let s = w .before .before .before .before .before .before .before .before .before in
     let a = s .args in
-    printed-line (a .word .now) (a .bytes .now) (s .pre) (w .before .before .before .before .put-word .ensures) (w .put-bytes .ensures)
+    let v = w .before .before .before .before in
+    printed-line (a .word .now) (a .bytes .now) (s .pre) (v .put-word .ensures) (w .put-bytes .ensures)
 
 same-length : tie.Need-same-length
 same-length c =
     let s = c .before .before .before .before .before .before .before .before .before .before .before in
-    let a = s .args in
     printed-length (returns c) (s .pre)
 
 pub put-bytes-line-spec : {M : Type 1} → statement M

@@ -36,7 +36,9 @@ put-number-requires c κs =
     let l = t .loop in
     let s = t .before .before .before in
     let a = s .args in
-    printing-room number (netsOf (a .nets .now)) (a .text .now) (a .at) (s .pre) (omega (arith, length-netsOf (a .nets .now))) (l .inv .1) (c .word-at .ensures ∙ sym (net-at (a .nets .now) (l .i) (omega arith)))
+    let n = length-netsOf (a .nets .now) in
+    let e = c .word-at .ensures ∙ sym (net-at (a .nets .now) (l .i) (omega arith)) in
+    printing-room number (netsOf (a .nets .now)) (a .text .now) (a .at) (s .pre) (omega arith) (l .inv .1) e
 
 add-i : tie.Need-add-i Inv-loop μ-loop
 add-i c = omega arith
@@ -51,9 +53,12 @@ loop-again c =
     let t = w .before .before .before .before in
     let l = t .loop in
     let s = t .before .before .before in
-    let a = s .args in (
+    let a = s .args in
+    let n = length-netsOf (a .nets .now) in
+    let e = w .before .word-at .ensures ∙ sym (net-at (a .nets .now) (l .i) (omega arith)) in (
       omega arith,
-      printing-next number (netsOf (a .nets .now)) (a .text .now) (a .at) (s .pre) (omega (arith, length-netsOf (a .nets .now))) (l .inv .1) (w .before .word-at .ensures ∙ sym (net-at (a .nets .now) (l .i) (omega arith))) (w .put-number .ensures),
+      printing-next number (netsOf (a .nets .now)) (a .text .now) (a .at) (s .pre) (omega arith) (l .inv .1) e
+          (w .put-number .ensures),
     )
 
 same-length : tie.Need-same-length Inv-loop μ-loop
@@ -64,7 +69,8 @@ unfolding numbers
 returns c =
     let s = c .before .before .before .before in
     let a = s .args in
-    printing-all number (netsOf (a .nets .now)) (a .text .now) (a .at) (s .pre) (omega (arith, length-netsOf (a .nets .now))) (c .before .loop .inv .1)
+    let n = length-netsOf (a .nets .now) in
+    printing-all number (netsOf (a .nets .now)) (a .text .now) (a .at) (s .pre) (omega arith) (c .before .loop .inv .1)
 
 pub put-nets-spec : {M : Type 1} → statement M
 put-nets-spec =

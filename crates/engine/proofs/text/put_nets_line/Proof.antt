@@ -31,12 +31,12 @@ returns c =
     let w = c .before .before in
     let s = w .before .before .before .before .before .before .before .before .before in
     let a = s .args in
-    printed-line (a .word .now) (netsOf (a .nets .now)) (s .pre) (w .before .before .before .before .put-word .ensures) (w .put-nets .ensures)
+    let v = w .before .before .before .before in
+    printed-line (a .word .now) (netsOf (a .nets .now)) (s .pre) (v .put-word .ensures) (w .put-nets .ensures)
 
 same-length : tie.Need-same-length
 same-length c =
     let s = c .before .before .before .before .before .before .before .before .before .before .before in
-    let a = s .args in
     printed-length (returns c) (s .pre)
 
 pub put-nets-line-spec : {M : Type 1} → statement M

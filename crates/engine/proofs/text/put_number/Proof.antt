@@ -8,7 +8,9 @@ use Rattle.engine.proofs.text.put_number.Statement.{statement}
 use Rattle.engine.proofs.text.put_number.Tie as tie
 
 slice-write-text : tie.Need-slice-write-text
-slice-write-text c = omega (arith, number-room (c .before .args .text .now) (c .before .args .at) (c .before .args .x) (c .before .pre))
+slice-write-text c =
+    let a = c .before .args in
+    omega (arith, number-room (a .text .now) (a .at) (a .x) (c .before .pre))
 
 add-put-digits : tie.Need-add-put-digits
 add-put-digits c = search needs
@@ -18,15 +20,14 @@ put-digits-requires c κs =
     let a = c .before .before .args in
     simp length-set (omega (arith, number-room (a .text .now) (a .at) (a .x) (c .before .before .pre)))
 
-same-length : tie.Need-same-length
-same-length c =
-    let s = c .before .before .before .before .before in
-    printed-length (printed-number (s .args .text .now) (s .args .at) (s .args .x) (s .pre) (c .before .before .put-digits .ensures)) (s .pre)
-
 returns : tie.Need-returns
 returns c =
     let s = c .before .before .before .before .before in
     printed-number (s .args .text .now) (s .args .at) (s .args .x) (s .pre) (c .before .before .put-digits .ensures)
+
+same-length : tie.Need-same-length
+same-length c =
+    printed-length (returns c) (c .before .before .before .before .before .pre)
 
 pub put-number-spec : {M : Type 1} → statement M
 put-number-spec =

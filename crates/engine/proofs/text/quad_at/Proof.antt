@@ -1,6 +1,5 @@
 -- `engine::text::quad_at` meets its contract: both two-byte numbers are below 65536.
 -- Assumes nothing.
-use Prim.Native.Nat.{_-_}
 use native.Mathlib.Omega.{arith}
 use Rattle.records.specs.Sheet.{quad}
 use Rattle.records.proofs.Laws.Sheet.{word-lt}

@@ -1,6 +1,5 @@
 -- `engine::text::unfixable_text` meets its contract: the parts of the sheet are its fields' bytes.
 -- Assumes nothing.
-use Prim.Native.Nat.{_-_}
 use mathlib.Core.Path.{_≡_}
 use native.Mathlib.Omega.{arith}
 use Rattle.records.specs.Bytes.{nth}
@@ -49,10 +48,8 @@ value-lines-requires c κs =
     let v = t .before .pre .0 in
     let bytes : Below 256 a = λ i. t .shared-slice-known .given i .fits in
     let e : c .before .quad-at .result ≡ quad (nth 0 a) = rw (value-part 20 4 a v) at (c .before .quad-at .ensures) in
-    omega (
-      arith,
-      value-room 20 4 a v bytes unfixableWord (omega arith) (quad-lt (nth 0 a) (value-bytes 20 4 a v bytes)) e (value-vectors 20 4 a v 10 (omega arith)),
-    )
+    let l = quad-lt (nth 0 a) (value-bytes 20 4 a v bytes) in
+    omega (arith, value-room 20 4 a v bytes unfixableWord (omega arith) l e (value-vectors 20 4 a v 10 (omega arith)))
 
 same-length : tie.Need-same-length
 same-length c = search needs
@@ -63,7 +60,8 @@ returns c =
     let s = w .before .before .before .before .before .before .before .before in
     let a = s .args .sheet .now in
     let v = s .pre .0 in
-    let e : w .before .before .quad-at .result ≡ quad (nth 0 a) = rw (value-part 20 4 a v) at (w .before .before .quad-at .ensures) in
+    let q = w .before .before in
+    let e : q .quad-at .result ≡ quad (nth 0 a) = rw (value-part 20 4 a v) at (q .quad-at .ensures) in
     rw (e, value-vectors 20 4 a v 10 (omega arith)) at (w .value-lines .ensures)
 
 pub unfixable-text-spec : {M : Type 1} → statement M

@@ -1,6 +1,5 @@
 -- `engine::text::value_lines` meets its contract: two lines, the second behind the first.
 -- Assumes nothing.
-use Prim.Native.Nat.{_-_}
 use native.Mathlib.Omega.{arith}
 use Rattle.engine.proofs.Laws.Text.{length-valueText, value-texted}
 use borrow.Author.Needs.{needs}
