@@ -636,22 +636,22 @@ module _ (j : Job) (g : PartsGood j) where
 
 -- ---- what is printed for job bytes
 
+-- decide's number for the bytes s and a buffer for the longest sheet
+abbrev pub decided : List ℕ → ℕ
+decided s = decideNumber (replicate longestSheet 0) s
+
 module _ (s : List ℕ) where
   pub rectify-long : inputLimit < length s → rectifyText s ≡ refusedText 2
   unfolding rectifyText
   rectify-long h = rw (lt-ltb inputLimit (length s) h)
 
-  module _ (h : length s ≤ inputLimit) where
-    abbrev decided : ℕ
-    decided = decideNumber (replicate longestSheet 0) s
+  pub rectify-accepted : length s ≤ inputLimit → decided s ≡ 0 → rectifyText s ≡ sheetText (sheetOf (jobOf s))
+  unfolding rectifyText
+  rectify-accepted h e = rw (le-ltb inputLimit (length s) h, e)
 
-    pub rectify-accepted : decided ≡ 0 → rectifyText s ≡ sheetText (sheetOf (jobOf s))
-    unfolding rectifyText
-    rectify-accepted e = rw (le-ltb inputLimit (length s) h, e)
-
-    pub rectify-refused : (decided ≡ 0 → ⊥) → rectifyText s ≡ refusedText decided
-    unfolding rectifyText
-    rectify-refused n = rw (le-ltb inputLimit (length s) h, ne-eqb decided 0 n)
+  pub rectify-refused : length s ≤ inputLimit → (decided s ≡ 0 → ⊥) → rectifyText s ≡ refusedText (decided s)
+  unfolding rectifyText
+  rectify-refused h n = rw (le-ltb inputLimit (length s) h, ne-eqb (decided s) 0 n)
 
 -- ---- job A
 
