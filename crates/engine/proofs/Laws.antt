@@ -21,6 +21,7 @@ pub mod Stream
 pub mod Support
 pub mod Survey
 pub mod Ternary
+pub mod Text
 pub mod VectorSets
 pub mod Verdict
 pub mod Visit

@@ -11,6 +11,7 @@ pub mod Tree
 pub mod Fit
 pub mod Claims
 pub mod Cases
+pub mod Text
 pub mod Inner
 pub mod Walk
 pub mod Sets

@@ -14,6 +14,7 @@ mod table;
 mod sheet;
 mod ternary;
 mod visit;
+mod text;
 mod word;
 
 pub use ternary::ternary_entry;
