@@ -113,6 +113,7 @@ pub record VectorMasks (gs : List Gate) (os golden ps : List ℕ) (count n m b :
   pub long : length after ≡ length before
   pub masks : (v : ℕ) → v < 2 ^ m → RectifiesWord gs os golden ps count n m b v (getD after v 0)
   pub held : HoldsBlock gs n m b nets
+
 -- ---- sheets
 
 unfoldable pub patchBytes : List ℕ → List ℕ → ℕ → List ℕ → List ℕ

@@ -4,6 +4,7 @@
 --   verdictOf j            the verdict on job j as decide replies it
 --   verdictFields v        document 01's tag and value of each case of a verdict: 18 and the cost, 20 and the input, 21 and the
 --                          reading; none where the call is declined
+--   declinedReply n        what decide replies when it declines with number n
 --   decideReply d s        what decide replies to job bytes s and a reply buffer d
 --   comparisonOf o         the result of a comparison, by the smallest differing input if there is one
 --   comparisonFields c     its values: none where equal, else that input
@@ -42,13 +43,16 @@ verdictFields (Verdict.Unfixable u) = 20 ∷ u .input ∷ []
 verdictFields (Verdict.Blind b) = 21 ∷ b .reading ∷ []
 verdictFields Verdict.Declined = []
 
+unfoldable pub declinedReply : ℕ → DecideReply
+declinedReply n = record { number = n; len = 0; verdict = Verdict.Declined }
+
 unfoldable pub decideReply : List ℕ → List ℕ → DecideReply
 decideReply d s =
     let number = decideNumber d s in
     let j = jobOf s in
     cond (eqb number 0)
     (record { number = 0; len = length (sheetOf j); verdict = verdictOf j })
-    (record { number = number; len = 0; verdict = Verdict.Declined })
+    (declinedReply number)
 
 -- ---- compare
 

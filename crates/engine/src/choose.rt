@@ -167,6 +167,7 @@ pub(super) fn reading_count(k: usize) -> usize
 pub(super) fn choose(nets: &[u16], weights: &[u16], candidates: usize, sets: &[u16]) -> Chosen
     requires { ⌜ (candidates ≤ 10) × (candidates ≤ length (now nets)) × (candidates ≤ length (now weights)) ⌝ }
     requires { ⌜ length (now sets) ≡ 1024 ⌝ }
+    ensures { λ r. ⌜ HeldSupport (r .support) ⌝ }
     ensures { λ r. ⌜ ((j : Job)
         → Choosable j candidates (now (nets .entry)) (now (weights .entry)) (now (sets .entry)) → ChosenOf j r) ⌝ }
 {

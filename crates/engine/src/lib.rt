@@ -1,5 +1,6 @@
-// The engine. So far: the three by three tables of the gates for the search, and the values of all nets in 64 scenarios at
-// once, a word a net.
+// The engine: the verdict on a job (decide), the old circuit driven by a sheet's table against the golden one (compare), and the
+// three by three tables of the gates for the search. Values of all nets are in 64 scenarios at once, a word a net. Every service
+// answers with a number of document 01, 0 where it accepts, and leaves every lent byte as it was where it does not.
 mod block;
 mod choose;
 mod compare;
@@ -9,13 +10,19 @@ mod list;
 mod partial;
 mod rectify;
 mod search;
+mod sheet;
 mod survey;
 mod table;
-mod sheet;
 mod ternary;
-mod visit;
 mod text;
+mod visit;
 mod word;
 
+pub use decide::BlindReading;
+pub use decide::DecideReply;
+pub use decide::PatchCost;
+pub use decide::UnfixableInput;
+pub use decide::Verdict;
+pub use decide::decide;
 pub use ternary::ternary_entry;
 pub use ternary::ternary_table;

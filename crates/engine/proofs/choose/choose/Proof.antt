@@ -161,16 +161,19 @@ loop-again c =
 
 returns : tie.Need-returns Inv-loop μ-loop
 returns c =
-    λ j q.
     let o = c .before .before .before .before .before .before .before in
     let a = o .args in
     let l = c .before .loop in
     let m = c .before .before .before .reading-count .ensures in
-    let e : l .set ≡ 2 ^ a .candidates = omega arith in
-    best-chosen j (a .candidates) (now (a .nets)) (now (a .weights)) (now (a .sets)) (o .pre .0 .1) (o .pre .0 .2) q (l .best)
-    (omega arith)
-    (l .inv .built)
-    (rw e at (l .inv .best j q))
+    let e : l .set ≡ 2 ^ a .candidates = omega arith in (
+      built-held (a .candidates) (now (a .nets)) (now (a .weights)) (o .pre .0 .0) (l .best) (l .inv .built),
+      λ j q.
+          best-chosen j (a .candidates) (now (a .nets)) (now (a .weights)) (now (a .sets)) (o .pre .0 .1) (o .pre .0 .2) q
+          (l .best)
+          (omega arith)
+          (l .inv .built)
+          (rw e at (l .inv .best j q)),
+    )
 
 pub choose-spec : {M : Type 1} → statement M
 choose-spec =
