@@ -22,9 +22,9 @@ use Rattle.records.specs.Sheet.{patchOf}
 use Rattle.engine.specs.Support.{cost}
 use Rattle.engine.specs.Verdict.{Ruling, patch, unfixable, blind, ruling, sheetOf, decideNumber}
 use Rattle.engine.specs.Compare.{difference, pairTests}
-use Rattle.engine.specs.declared.decide.Verdict.{Verdict}
-use Rattle.engine.specs.declared.decide.Verdict.the-variants as Verdict
-use Rattle.engine.specs.declared.decide.DecideReply.{DecideReply}
+use Rattle.engine.specs.declared.deciding.Verdict.{Verdict}
+use Rattle.engine.specs.declared.deciding.Verdict.the-variants as Verdict
+use Rattle.engine.specs.declared.deciding.DecideReply.{DecideReply}
 use Rattle.engine.specs.declared.compare.Comparison.{Comparison}
 use Rattle.engine.specs.declared.compare.Comparison.the-variants as Comparison
 use Rattle.engine.specs.declared.compare.CompareReply.{CompareReply}

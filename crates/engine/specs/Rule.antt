@@ -17,7 +17,7 @@ use Rattle.engine.specs.Verdict.{sheetOf}
 use Rattle.engine.specs.Reply.{verdictOf}
 use Rattle.engine.specs.Walk.{listedOf}
 use Rattle.engine.specs.Sets.{ReadingSets}
-use Rattle.engine.specs.declared.decide.DecideReply.{DecideReply}
+use Rattle.engine.specs.declared.deciding.DecideReply.{DecideReply}
 use Rattle.engine.specs.declared.list.Vectors.{Vectors}
 
 pub record Decided (j : Job) (before : List ℕ) (r : DecideReply) (after : List ℕ) : Type 0 where

@@ -4,7 +4,7 @@
 mod block;
 mod choose;
 mod compare;
-mod decide;
+mod deciding;
 mod fanout;
 mod list;
 mod partial;
@@ -18,11 +18,11 @@ mod text;
 mod visit;
 mod word;
 
-pub use decide::BlindReading;
-pub use decide::DecideReply;
-pub use decide::PatchCost;
-pub use decide::UnfixableInput;
-pub use decide::Verdict;
-pub use decide::decide;
+pub use deciding::BlindReading;
+pub use deciding::DecideReply;
+pub use deciding::PatchCost;
+pub use deciding::UnfixableInput;
+pub use deciding::Verdict;
+pub use deciding::decide;
 pub use ternary::ternary_entry;
 pub use ternary::ternary_table;

@@ -14,7 +14,7 @@ use Rattle.records.specs.declared.reading.ReadReply.{ReadReply}
 use Rattle.engine.specs.Verdict.{longestSheet, decideNumber, decidedBytes}
 use Rattle.engine.specs.Reply.{declinedReply, decideReply}
 use Rattle.engine.specs.Rule.{Decided}
-use Rattle.engine.specs.declared.decide.DecideReply.{DecideReply}
+use Rattle.engine.specs.declared.deciding.DecideReply.{DecideReply}
 
 -- ---- numbers
 

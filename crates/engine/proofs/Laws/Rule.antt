@@ -20,9 +20,9 @@ use Rattle.engine.specs.Walk.{circuits, Ready, listedOf, Progress}
 use Rattle.engine.specs.Sets.{picked, SetsFor, FirstEmpty, Choosable, ChosenOf}
 use Rattle.engine.specs.Rule.{Decided, Ruleable}
 use Rattle.engine.specs.declared.choose.Chosen.{Chosen}
-use Rattle.engine.specs.declared.decide.DecideReply.{DecideReply}
-use Rattle.engine.specs.declared.decide.Verdict.{Verdict}
-use Rattle.engine.specs.declared.decide.Verdict.the-variants as Verdict
+use Rattle.engine.specs.declared.deciding.DecideReply.{DecideReply}
+use Rattle.engine.specs.declared.deciding.Verdict.{Verdict}
+use Rattle.engine.specs.declared.deciding.Verdict.the-variants as Verdict
 use Rattle.engine.specs.declared.list.Vectors.{Vectors}
 use Rattle.records.proofs.Laws.Bytes.{false-of}
 use lib.Seq.{length-take-le}

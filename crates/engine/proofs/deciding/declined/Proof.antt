@@ -1,10 +1,10 @@
--- `engine::decide::declined` meets its contract by computing. Assumes nothing.
+-- `engine::deciding::declined` meets its contract by computing. Assumes nothing.
 use native.Mathlib.Omega.{arith}
 use borrow.Author.Needs.{needs}
 use mathlib.Core.Path.{refl}
 use Rattle.engine.specs.Reply.{declinedReply}
-use Rattle.engine.proofs.decide.declined.Statement.{statement}
-use Rattle.engine.proofs.decide.declined.Tie as tie
+use Rattle.engine.proofs.deciding.declined.Statement.{statement}
+use Rattle.engine.proofs.deciding.declined.Tie as tie
 
 returns : tie.Need-returns
 unfolding declinedReply

@@ -1,10 +1,10 @@
--- `engine::decide::rule` meets its contract: unfixable comes first, blind where some reading's set is empty. Assumes nothing.
+-- `engine::deciding::rule` meets its contract: unfixable comes first, blind where some reading's set is empty. Assumes nothing.
 use native.Mathlib.Omega.{arith}
 use borrow.Author.Needs.{needs}
 use denote.Ref.{now}
 use Rattle.engine.proofs.Laws.Rule.{readings-many, rule-blind, rule-sound}
-use Rattle.engine.proofs.decide.rule.Statement.{statement}
-use Rattle.engine.proofs.decide.rule.Tie as tie
+use Rattle.engine.proofs.deciding.rule.Statement.{statement}
+use Rattle.engine.proofs.deciding.rule.Tie as tie
 
 rule-unfixable-requires : tie.Need-rule-unfixable-requires
 rule-unfixable-requires c κs =

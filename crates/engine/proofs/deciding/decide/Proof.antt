@@ -1,12 +1,12 @@
--- `engine::decide::decide` meets its contract. Assumes nothing.
+-- `engine::deciding::decide` meets its contract. Assumes nothing.
 use mathlib.Core.Path.{_∙_}
 use native.Mathlib.Omega.{arith}
 use denote.Ref.{now}
 use borrow.Author.Needs.{needs}
 use Rattle.engine.proofs.Laws.Decide.{lentPlaces, lent-refusal, read-number, decided-job, decide-short, decide-refused, decide-accepted}
 use Rattle.engine.proofs.Laws.Read.{read-job}
-use Rattle.engine.proofs.decide.decide.Statement.{statement}
-use Rattle.engine.proofs.decide.decide.Tie as tie
+use Rattle.engine.proofs.deciding.decide.Statement.{statement}
+use Rattle.engine.proofs.deciding.decide.Tie as tie
 
 declined-requires : tie.Need-declined-requires
 declined-requires c κs = search needs

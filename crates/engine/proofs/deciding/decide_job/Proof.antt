@@ -1,11 +1,11 @@
--- `engine::decide::decide_job` meets its contract: the walk, then the verdict. Assumes nothing.
+-- `engine::deciding::decide_job` meets its contract: the walk, then the verdict. Assumes nothing.
 use native.Mathlib.Omega.{arith}
 use borrow.Author.Needs.{needs}
 use denote.Ref.{now}
 use Rattle.engine.proofs.Laws.Ready.{ready-within}
 use Rattle.engine.proofs.Laws.Rule.{ruleable, stuck-small}
-use Rattle.engine.proofs.decide.decide_job.Statement.{statement}
-use Rattle.engine.proofs.decide.decide_job.Tie as tie
+use Rattle.engine.proofs.deciding.decide_job.Statement.{statement}
+use Rattle.engine.proofs.deciding.decide_job.Tie as tie
 
 slice-aggregate-survey : tie.Need-slice-aggregate-survey
 slice-aggregate-survey c = search needs

@@ -1,9 +1,9 @@
--- `engine::decide::rule_blind` meets its contract. Assumes nothing.
+-- `engine::deciding::rule_blind` meets its contract. Assumes nothing.
 use native.Mathlib.Omega.{arith}
 use borrow.Author.Needs.{needs}
 use Rattle.engine.proofs.Laws.Rule.{blind-decided}
-use Rattle.engine.proofs.decide.rule_blind.Statement.{statement}
-use Rattle.engine.proofs.decide.rule_blind.Tie as tie
+use Rattle.engine.proofs.deciding.rule_blind.Statement.{statement}
+use Rattle.engine.proofs.deciding.rule_blind.Tie as tie
 
 put-blind-requires : tie.Need-put-blind-requires
 put-blind-requires c κs = search needs

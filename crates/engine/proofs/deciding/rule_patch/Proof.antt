@@ -1,11 +1,11 @@
--- `engine::decide::rule_patch` meets its contract: the chosen support, its table and its cost. Assumes nothing.
+-- `engine::deciding::rule_patch` meets its contract: the chosen support, its table and its cost. Assumes nothing.
 use native.Mathlib.Omega.{arith}
 use borrow.Author.Needs.{needs}
 use denote.Ref.{now}
 use Rattle.engine.proofs.Laws.Rule.{readings-many, patch-decided, table-of-chosen, cost-of-chosen}
 use Rattle.engine.proofs.Laws.Sets.{choosable-sets}
-use Rattle.engine.proofs.decide.rule_patch.Statement.{statement}
-use Rattle.engine.proofs.decide.rule_patch.Tie as tie
+use Rattle.engine.proofs.deciding.rule_patch.Statement.{statement}
+use Rattle.engine.proofs.deciding.rule_patch.Tie as tie
 
 choose-requires : tie.Need-choose-requires
 choose-requires c κs = search needs

@@ -1,9 +1,9 @@
--- `engine::decide::rule_unfixable` meets its contract. Assumes nothing.
+-- `engine::deciding::rule_unfixable` meets its contract. Assumes nothing.
 use native.Mathlib.Omega.{arith}
 use borrow.Author.Needs.{needs}
 use Rattle.engine.proofs.Laws.Rule.{unfixable-decided}
-use Rattle.engine.proofs.decide.rule_unfixable.Statement.{statement}
-use Rattle.engine.proofs.decide.rule_unfixable.Tie as tie
+use Rattle.engine.proofs.deciding.rule_unfixable.Statement.{statement}
+use Rattle.engine.proofs.deciding.rule_unfixable.Tie as tie
 
 put-unfixable-requires : tie.Need-put-unfixable-requires
 put-unfixable-requires c κs = search needs
