@@ -6,9 +6,9 @@ pub mod Rectify
 pub mod Support
 pub mod Verdict
 pub mod Compare
-pub mod Reply
 pub mod Tree
 pub mod Fit
+pub mod Reply
 pub mod Claims
 pub mod Cases
 pub mod Text

@@ -1,4 +1,4 @@
--- What decide and compare reply, and what the lent buffer holds afterwards (document 01, "Verdicts", "Fitting and comparing"
+-- What decide, compare and fit reply, and what the lent buffer holds afterwards (document 01, "Verdicts", "Fitting and comparing"
 -- and "Numbers given when a call is declined"). Assumes nothing.
 --
 --   verdictOf j            the verdict on job j as decide replies it
@@ -10,14 +10,17 @@
 --   comparisonFields c     its values: none where equal, else that input
 --   compareNumber s p      the number for job bytes s and sheet bytes p
 --   compareReply s p       what compare replies
+--   fitTests d s p         the tests of a reply buffer d, a job's bytes s and a sheet's bytes p, numbers 1 to 9
+--   fitNumber, fitReply, fittedBuffer d s p     the number, what fit replies, and the reply buffer afterwards
 use Prim.Native.Nat.{ℕ}
-use mathlib.Core.List.{List, [], _∷_}
+use mathlib.Core.List.{List, [], _∷_, _++_}
 use mathlib.Core.Bool.{Bool, cond}
 use mathlib.Core.Option.{Option, none, some}
 use lib.ListN.{length}
-use lib.Dec.{eqb}
+use lib.Dec.{leb, eqb}
+use Rattle.records.specs.Bytes.{placed}
 use Rattle.records.specs.Job.{Job, jobOf}
-use Rattle.records.specs.Refusal.{firstFailing}
+use Rattle.records.specs.Refusal.{Test, firstFailing}
 use Rattle.records.specs.Sheet.{patchOf}
 use Rattle.engine.specs.Support.{cost}
 use Rattle.engine.specs.Verdict.{Ruling, patch, unfixable, blind, ruling, sheetOf, decideNumber}
@@ -27,7 +30,9 @@ use Rattle.engine.specs.declared.deciding.Verdict.the-variants as Verdic
 use Rattle.engine.specs.declared.deciding.DecideReply.{DecideReply}
 use Rattle.engine.specs.declared.compare.Comparison.{Comparison}
 use Rattle.engine.specs.declared.compare.Comparison.the-variants as Comparison
+use Rattle.engine.specs.Fit.{fittedBytes, fits, longestFit}
 use Rattle.engine.specs.declared.compare.CompareReply.{CompareReply}
+use Rattle.engine.specs.declared.fitting.FitReply.{FitReply}
 
 unfoldable pub verdictFrom : Job → Ruling → Verdict
 verdictFrom j (patch is) = Verdict.Patch (record { cost = cost j is })
@@ -75,3 +80,28 @@ compareReply s p =
     cond (eqb number 0)
     (record { number = 0; result = comparisonOf (difference (jobOf s) (patch .support) (patch .table)) })
     (record { number = number; result = Comparison.Declined })
+
+-- ---- fit
+
+unfoldable pub fitTests : List ℕ → List ℕ → List ℕ → List Test
+fitTests d s p =
+    let patch = patchOf p in
+    record { number = 1; passes = leb longestFit (length d) }
+    ∷ pairTests s p
+    ++ (record { number = 9; passes = fits (jobOf s) (patch .support) (patch .table) } ∷ [])
+
+unfoldable pub fitNumber : List ℕ → List ℕ → List ℕ → ℕ
+fitNumber d s p = firstFailing (fitTests d s p)
+
+unfoldable pub fitReply : List ℕ → List ℕ → List ℕ → FitReply
+fitReply d s p =
+    let patch = patchOf p in
+    record {
+      number = fitNumber d s p;
+      len = cond (eqb (fitNumber d s p) 0) (length (fittedBytes (jobOf s) (patch .support) (patch .table))) 0;
+    }
+
+unfoldable pub fittedBuffer : List ℕ → List ℕ → List ℕ → List ℕ
+fittedBuffer d s p =
+    let patch = patchOf p in
+    cond (eqb (fitNumber d s p) 0) (placed d 0 (fittedBytes (jobOf s) (patch .support) (patch .table))) d

@@ -3,6 +3,7 @@
 --   column t k           the bits of target k in the table t, from reading 0 up
 --   tree k next is col   the gates of the tree over the column col and the first k nets of is, the first gate driving net next.
 --                        The last gate drives the tree's net
+--   treeSize k col       how many gates that tree has
 use Prim.Native.Nat.{ℕ, zero, suc, _+_, _-_, _^_}
 use mathlib.Core.List.{List, [], _∷_, _++_, map}
 use mathlib.Core.Bool.{Bool, true, false, cond}
@@ -39,5 +40,19 @@ tree (suc k) next is col =
                       let n = h + 1 in
                       ls ++ hs ++ (gateOf 3 s 0 ∷ gateOf 4 n l ∷ gateOf 4 s h ∷ gateOf 6 (n + 1) (n + 2) ∷ [])
                 ]
+          ]
+    ]
+
+unfoldable pub treeSize : ℕ → List ℕ → ℕ
+treeSize zero col = 1
+treeSize (suc k) col =
+    let low = take (2 ^ k) col in
+    let high = drop (2 ^ k) col in
+    elim (all (eqb 0) col) [
+      | true ↦ 1
+      | false ↦
+          elim (all (eqb 1) col) [
+            | true ↦ 1
+            | false ↦ elim (same low high) [ true ↦ treeSize k low | false ↦ treeSize k low + treeSize k high + 4 ]
           ]
     ]

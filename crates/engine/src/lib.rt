@@ -6,6 +6,7 @@ mod choose;
 mod compare;
 mod deciding;
 mod fanout;
+mod fitting;
 mod list;
 mod partial;
 mod rectify;
