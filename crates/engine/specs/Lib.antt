@@ -15,3 +15,4 @@ pub mod Inner
 pub mod Walk
 pub mod Sets
 pub mod Partial
+pub mod Driven
