@@ -2,6 +2,7 @@
 pub mod Best
 pub mod Block
 pub mod Choice
+pub mod Compare
 pub mod Drive
 pub mod Eval
 pub mod EvalWords

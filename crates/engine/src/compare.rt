@@ -63,3 +63,85 @@ fn drive_block(
     drive_words(&words, count, table, targets, inputs, nets);
     eval_fanout(kinds, firsts, seconds, gates, inputs + targets, marks, nets);
 }
+
+// Where the old outputs driven by the table differ from the golden ones in block b: bit i is 1 exactly when they do at input
+// 64 * b + i. It costs one gate evaluation a gate of both netlists, and one more for each gate that a target leads to.
+fn driven_word(
+    kinds: &[u8],
+    firsts: &[u16],
+    seconds: &[u16],
+    outputs: &[u16],
+    golden_kinds: &[u8],
+    golden_firsts: &[u16],
+    golden_seconds: &[u16],
+    golden_outputs: &[u16],
+    counts: Counts,
+    support: Support,
+    table: &[u8],
+    marks: &[u8],
+    b: usize,
+) -> u64
+    requires { ⌜ Drivable counts
+        (sidePlaces (now kinds) (now firsts) (now seconds) (now outputs))
+        (sidePlaces (now «golden_kinds») (now «golden_firsts») (now «golden_seconds») (now «golden_outputs»))
+        (now marks) support (now table) ⌝ }
+    ensures { λ r. ⌜ DifferingBits
+        (differing
+        (circuits counts
+        (sidePlaces (now (kinds .entry)) (now (firsts .entry)) (now (seconds .entry)) (now (outputs .entry)))
+        (sidePlaces (now («golden_kinds» .entry)) (now («golden_firsts» .entry)) (now («golden_seconds» .entry)) (now («golden_outputs» .entry)))
+        [])
+        (take (support .len) (support .nets)) (now (table .entry)))
+        b r ⌝ }
+{
+    let old = counts.old;
+    let other = counts.golden;
+    let inputs = counts.inputs;
+    let picks = support.nets;
+    let mut golden = [0u64; 424];
+    let mut words = [0u64; 424];
+    eval_block(
+        golden_kinds,
+        golden_firsts,
+        golden_seconds,
+        other.gates,
+        inputs,
+        0,
+        b,
+        0,
+        &mut golden,
+    );
+    drive_block(
+        kinds,
+        firsts,
+        seconds,
+        old.gates,
+        inputs,
+        counts.targets,
+        marks,
+        &picks,
+        support.len,
+        table,
+        b,
+        &mut words,
+    );
+    differ_word(&words, outputs, &golden, golden_outputs, old.outputs)
+}
+
+// The lowest of the first count places whose bit is 1, count where there is none.
+fn lowest_bit(word: u64, count: usize) -> usize
+    requires { ⌜ count ≤ 64 ⌝ }
+    ensures { λ r. ⌜ LowestBit word count r ⌝ }
+{
+    if word == 0 {
+        return count;
+    }
+    let mut i = 0usize;
+    while i < count {
+        if (word >> i) % 2 == 1 {
+            return i;
+        }
+        i += 1;
+    }
+    count
+}
