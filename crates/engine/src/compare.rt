@@ -5,6 +5,8 @@ ghost use Prim.Native.Nat.{_+_, _*_, _^_, _≤_, _<_};
 ghost use lib.ListN.{length, take};
 ghost use Rattle.records.specs.Service.{sidePlaces, gatesFrom};
 ghost use Rattle.engine.specs.Inner.{Evaluable, Outputs, BlockValues};
+ghost use Rattle.engine.specs.Compare.{difference};
+ghost use Rattle.engine.specs.Reply.{comparisonOf};
 ghost use Rattle.engine.specs.Walk.{circuits, FanoutMarks};
 ghost use Rattle.engine.specs.Driven.{vectorAt, Drivable, differing, DifferingBits, LowestBit};
 use super::block::drive_words;
@@ -144,4 +146,63 @@ fn lowest_bit(word: u64, count: usize) -> usize
         i += 1;
     }
     count
+}
+
+// The smallest input at which the old outputs driven by the table differ from the golden ones. It costs, for each block of 64
+// inputs up to the one with the difference, one gate evaluation a gate of both netlists and one more for each gate that a target
+// leads to.
+fn first_difference(
+    kinds: &[u8],
+    firsts: &[u16],
+    seconds: &[u16],
+    outputs: &[u16],
+    golden_kinds: &[u8],
+    golden_firsts: &[u16],
+    golden_seconds: &[u16],
+    golden_outputs: &[u16],
+    counts: Counts,
+    support: Support,
+    table: &[u8],
+    marks: &[u8],
+) -> Comparison
+    requires { ⌜ Drivable counts
+        (sidePlaces (now kinds) (now firsts) (now seconds) (now outputs))
+        (sidePlaces (now «golden_kinds») (now «golden_firsts») (now «golden_seconds») (now «golden_outputs»))
+        (now marks) support (now table) ⌝ }
+    ensures { λ r. ⌜ r ≡ comparisonOf (difference
+        (circuits counts
+        (sidePlaces (now (kinds .entry)) (now (firsts .entry)) (now (seconds .entry)) (now (outputs .entry)))
+        (sidePlaces (now («golden_kinds» .entry)) (now («golden_firsts» .entry)) (now («golden_seconds» .entry)) (now («golden_outputs» .entry)))
+        [])
+        (take (support .len) (support .nets)) (now (table .entry))) ⌝ }
+{
+    let size = 1usize << counts.inputs;
+    let mut b = 0usize;
+    while 64 * b < size {
+        let word = driven_word(
+            kinds,
+            firsts,
+            seconds,
+            outputs,
+            golden_kinds,
+            golden_firsts,
+            golden_seconds,
+            golden_outputs,
+            counts,
+            support,
+            table,
+            marks,
+            b,
+        );
+        let left = size - 64 * b;
+        let count = if left < 64 { left } else { 64 };
+        let i = lowest_bit(word, count);
+        if i < count {
+            return Comparison::Differs(DifferingInput {
+                input: (64 * b + i) as u32,
+            });
+        }
+        b += 1;
+    }
+    Comparison::Equal
 }
