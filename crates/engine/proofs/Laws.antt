@@ -17,6 +17,7 @@ pub mod Ready
 pub mod Rectify
 pub mod Search
 pub mod Sets
+pub mod SheetRead
 pub mod Stream
 pub mod Support
 pub mod Survey

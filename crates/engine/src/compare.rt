@@ -3,19 +3,22 @@ ghost use mathlib.Core.Path.{_≡_};
 ghost use mathlib.Core.List.{[]};
 ghost use Prim.Native.Nat.{_+_, _*_, _^_, _≤_, _<_};
 ghost use lib.ListN.{length, take};
-ghost use Rattle.records.specs.Service.{sidePlaces, gatesFrom};
+ghost use Rattle.records.specs.Service.{sidePlaces, places, gatesFrom, jobFrom};
 ghost use Rattle.engine.specs.Inner.{Evaluable, Outputs, BlockValues};
 ghost use Rattle.engine.specs.Compare.{difference};
 ghost use Rattle.engine.specs.Reply.{comparisonOf};
-ghost use Rattle.engine.specs.Walk.{circuits, FanoutMarks};
-ghost use Rattle.engine.specs.Driven.{vectorAt, Drivable, differing, DifferingBits, LowestBit};
+ghost use Rattle.engine.specs.Walk.{circuits, Ready, FanoutMarks};
+ghost use Rattle.engine.specs.Driven.{vectorAt, Drivable, differing, DifferingBits, LowestBit, sheetComparison};
 use super::block::drive_words;
 use super::block::eval_block;
+use super::choose::reading_count;
 use super::fanout::eval_fanout;
+use super::fanout::mark_fanout;
 use super::word::differ_word;
 use super::word::select_words;
 use records::Counts;
 use records::Support;
+use records::read_sheet;
 
 pub struct DifferingInput {
     pub input: u32,
@@ -205,4 +208,69 @@ fn first_difference(
         b += 1;
     }
     Comparison::Equal
+}
+
+// The comparison of a good job in places with a sheet's bytes.
+fn compare_sheet(
+    kinds: &[u8],
+    firsts: &[u16],
+    seconds: &[u16],
+    outputs: &[u16],
+    golden_kinds: &[u8],
+    golden_firsts: &[u16],
+    golden_seconds: &[u16],
+    golden_outputs: &[u16],
+    nets: &[u16],
+    weights: &[u16],
+    counts: Counts,
+    sheet: &[u8],
+) -> CompareReply
+    requires { ⌜ Ready counts
+        (sidePlaces (now kinds) (now firsts) (now seconds) (now outputs))
+        (sidePlaces (now «golden_kinds») (now «golden_firsts») (now «golden_seconds») (now «golden_outputs»)) (now nets) ⌝ }
+    requires { ⌜ counts .candidates ≤ length (now weights) ⌝ }
+    ensures { λ r. ⌜ r ≡ sheetComparison
+        (jobFrom counts
+        (places
+        (sidePlaces (now (kinds .entry)) (now (firsts .entry)) (now (seconds .entry)) (now (outputs .entry)))
+        (sidePlaces (now («golden_kinds» .entry)) (now («golden_firsts» .entry)) (now («golden_seconds» .entry)) (now («golden_outputs» .entry)))
+        (now (nets .entry)) (now (weights .entry))))
+        (now (sheet .entry)) ⌝ }
+{
+    let read = read_sheet(counts.targets, counts.candidates, nets, weights, sheet);
+    if read.number != 0 {
+        return CompareReply {
+            number: read.number,
+            result: Comparison::Declined,
+        };
+    }
+    let support = read.support;
+    let start = read.table;
+    let end = start + reading_count(support.len);
+    let old = counts.old;
+    let mut marks = [0u8; 424];
+    mark_fanout(
+        kinds,
+        firsts,
+        seconds,
+        old.gates,
+        counts.inputs,
+        counts.targets,
+        &mut marks,
+    );
+    let result = first_difference(
+        kinds,
+        firsts,
+        seconds,
+        outputs,
+        golden_kinds,
+        golden_firsts,
+        golden_seconds,
+        golden_outputs,
+        counts,
+        support,
+        &sheet[start..end],
+        &marks,
+    );
+    CompareReply { number: 0, result }
 }

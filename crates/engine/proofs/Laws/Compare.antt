@@ -2,34 +2,43 @@
 use Prim.Native.Nat.{ℕ, _+_, _-_, _*_, _%_, _^_, min, _≤_, _<_}
 use mathlib.Core.Path.{_≡_, refl, sym, _∙_, ap, subst}
 use mathlib.Core.Logic.{⊎-elim}
-use mathlib.Core.List.{List, [], _++_, map}
-use mathlib.Core.Bool.{Bool, true, false, cond, not}
+use mathlib.Core.List.{List, [], _∷_, _++_, map}
+use mathlib.Core.Bool.{Bool, true, false, cond, not, false≢true}
 use native.Mathlib.Nat.{one-mul}
 use native.Mathlib.Omega.{arith}
-use borrow.Author.Tests.{ltb-true, ltb-false}
-use lib.Dec.{ltb, lit<}
-use lib.ListN.{length, take}
+use borrow.Author.Tests.{ltb-true, ltb-false, le-leb, eqb-true, eq-eqb, ne-eqb}
+use lib.Dec.{ltb, eqb, lit<}
+use lib.ListN.{length, take, drop, length-drop}
 use lib.Pow.{pow-mono, shl-exact}
+use lib.Seq.{length-take-le}
 use Rattle.records.specs.Bytes.{upFrom, all}
 use Rattle.records.specs.Gate.{Gate}
 use Rattle.records.specs.Netlist.{netAt, values}
-use Rattle.records.specs.Service.{SidePlaces, gatesFrom, netlistFrom, jobFrom}
+use Rattle.records.specs.Job.{Candidate}
+use Rattle.records.specs.Refusal.{firstFailing}
+use Rattle.records.specs.Sheet.{patchOf, isCandidate, sheetTests}
+use Rattle.records.specs.Service.{SidePlaces, places, gatesFrom, netlistFrom, candidatesFrom, jobFrom, sheetRoomy, sheetNumber, sheetReply}
 use Rattle.records.specs.declared.job.Counts.{Counts}
+use Rattle.records.specs.declared.sheet.SheetReply.{SheetReply}
+use Rattle.records.proofs.Laws.Bytes.{and-both, all-cons, length-tabulate}
 use Rattle.engine.specs.Choice.{first, same}
 use Rattle.engine.specs.Eval.{bit, bits, allInputs, oldValues, oldOutputs, goldenOutputs}
 use Rattle.engine.specs.Rectify.{rectifies}
-use Rattle.engine.specs.Support.{reading, drivenBy}
+use Rattle.engine.specs.Support.{reading, drivenBy, candidateNets}
 use Rattle.engine.specs.Compare.{difference}
 use Rattle.engine.specs.Reply.{comparisonOf}
-use Rattle.engine.specs.Inner.{outputBits, differs, BlockValues, GoldenWords}
-use Rattle.engine.specs.Walk.{circuits, Ready}
-use Rattle.engine.specs.Driven.{vectorAt, differing, DifferingBits, LowestBit}
+use Rattle.engine.specs.Inner.{outputBits, differs, Outputs, BlockValues, GoldenWords}
+use Rattle.engine.specs.Walk.{circuits, Ready, FanoutMarks}
+use Rattle.engine.specs.Driven.{vectorAt, Drivable, differing, DifferingBits, LowestBit, declinedComparison, sheetComparison}
+use Rattle.engine.specs.declared.compare.Comparison.{Comparison}
 use Rattle.engine.specs.declared.compare.Comparison.the-variants as Comparison
-use Rattle.engine.proofs.Laws.Choice.{true-or-false, Least}
+use Rattle.engine.proofs.Laws.Choice.{true-or-false, or-cases, all-true, all-of-members, Least}
 use Rattle.engine.proofs.Laws.EvalWords.{length-gates}
-use Rattle.engine.proofs.Laws.Ready.{ready-outputs-equal, ready-outputs, ready-golden-outputs}
+use Rattle.engine.proofs.Laws.Ready.{ready-within, ready-outputs-equal, ready-outputs, ready-golden-outputs, ready-candidates, ready-candidates-below}
 use Rattle.engine.proofs.Laws.Rectify.{outputs-of-words}
+use Rattle.engine.proofs.Laws.SheetRead.{ReadSheet, sheet-number, read-sheet}
 use Rattle.engine.proofs.Laws.WalkList.{first-of-least, first-of-none}
+use Rattle.engine.proofs.Laws.Weights.{nets-weights}
 
 -- ---- a block's word
 
@@ -168,3 +177,125 @@ module _ (c : Counts) (old golden : SidePlaces) (is table : List ℕ) where
         difference-places,
         first-of-none (differing (circuits c old golden []) is table) (2 ^ c .inputs) (λ y l. s .passed y (omega arith) l),
       )
+
+-- ---- a sheet
+
+-- a candidate is below what all candidates are below
+candidate-below : (n : ℕ) (cs : List Candidate) → all (λ i. ltb i n) (map (λ (k : Candidate). k .net) cs) ≡ true → (i : ℕ)
+    → isCandidate cs i ≡ true → ltb i n ≡ true
+unfolding isCandidate
+candidate-below n [] h i e = absurd (false≢true e)
+candidate-below n (k ∷ cs) h i e =
+    let p = all-cons (λ x. ltb x n) (k .net) (map (λ (d : Candidate). d .net) cs) h in
+    ⊎-elim
+    (λ (t : eqb (k .net) i ≡ true). subst (λ (x : ℕ). ltb x n ≡ true) (eqb-true (k .net) i t) (p .0))
+    (λ (t : isCandidate cs i ≡ true). candidate-below n cs (p .1) i t)
+    (or-cases (eqb (k .net) i) (isCandidate cs i) e)
+
+module _ {c : Counts} {old golden : SidePlaces} {nets : List ℕ} (r : Ready c old golden nets) (weights p : List ℕ)
+    (h : c .candidates ≤ length weights) {s : SheetReply} (e : s ≡ sheetReply (c .targets) (c .candidates) nets weights p) where
+  abbrev candidates : List Candidate
+  candidates = candidatesFrom (c .candidates) nets weights
+
+  room : sheetRoomy (c .targets) (c .candidates) nets weights ≡ true
+  unfolding sheetRoomy
+  room =
+      let w = ready-within r in
+      and-both _ _
+      (and-both _ _ (and-both _ _ (le-leb _ _ (w .targets)) (le-leb _ _ (w .candidates))) (le-leb _ _ (r .nets-held)))
+      (le-leb _ _ h)
+
+  tests-number : sheetNumber (c .targets) (c .candidates) nets weights p ≡ firstFailing (sheetTests (c .targets) candidates p)
+  unfolding sheetNumber firstFailing
+  tests-number = rw room
+
+  reply-number : firstFailing (sheetTests (c .targets) candidates p) ≡ s .number
+  reply-number =
+      sym tests-number
+      ∙ sym (sheet-number (c .targets) (c .candidates) nets weights p)
+      ∙ ap (λ (x : SheetReply). x .number) (sym e)
+
+  pub declined-sheet : (s .number ≡ 0 → ⊥)
+      → record { number = s .number; result = Comparison.Declined }
+      ≡ sheetComparison (jobFrom c (places old golden nets weights)) p
+  unfolding sheetComparison declinedComparison jobFrom
+  declined-sheet z = rw (reply-number, ne-eqb (s .number) 0 z)
+
+  module _ (z : s .number ≡ 0) where
+    pub accepted-sheet : ReadSheet candidates p s
+    accepted-sheet = read-sheet (c .targets) (c .candidates) nets weights p e z
+
+    length-candidates : length candidates ≡ c .candidates
+    unfolding candidatesFrom
+    length-candidates = length-tabulate (c .candidates) _
+
+    pub support-few : s .support .len ≤ 10
+    support-few = omega (arith, accepted-sheet .few, length-candidates, ready-within r .candidates)
+
+    candidates-nets : map (λ (k : Candidate). k .net) candidates ≡ take (c .candidates) nets
+    unfolding candidateNets jobFrom
+    candidates-nets = nets-weights c old golden nets weights ∙ ready-candidates r
+
+    support-below : Outputs (s .support .nets) (s .support .len) (c .inputs + c .targets + c .old .gates)
+    support-below =
+        let n = c .inputs + c .targets + c .old .gates in
+        let a = accepted-sheet in
+        let is = patchOf p .support in
+        record {
+          held = a .long;
+          below =
+              rw (a .nets)
+              (all-of-members (λ i. ltb i n) is
+              (λ i m.
+              candidate-below n candidates (rw candidates-nets (ready-candidates-below r .below)) i
+              (all-true (isCandidate candidates) is (a .candidates) i m)));
+        }
+
+    -- the bytes from the table's start to its end
+    table-part : (k : ℕ) → k ≡ 2 ^ s .support .len
+        → take (s .table + k - s .table) (drop (s .table) p) ≡ take (2 ^ s .support .len) (drop (s .table) p)
+    table-part k q =
+        let u : s .table + k - s .table ≡ 2 ^ s .support .len = omega arith in
+        ap (λ (i : ℕ). take i (drop (s .table) p)) u
+
+    pub drivable : {marks : List ℕ} (k : ℕ) → k ≡ 2 ^ s .support .len
+        → FanoutMarks (c .inputs) (c .targets) (gatesFrom (c .old .gates) (old .kinds) (old .firsts) (old .seconds)) marks
+        → Drivable c old golden marks (s .support) (take (s .table + k - s .table) (drop (s .table) p))
+    drivable k q f =
+        let b = accepted-sheet .end in
+        let d = length-drop (s .table) p in
+        let l = length-take-le (2 ^ s .support .len) (drop (s .table) p) (omega arith) in
+        record {
+          candidates = nets;
+          ready = r;
+          fanout = f;
+          few = support-few;
+          nets = support-below;
+          entries = rw (table-part k q) (omega arith);
+        }
+
+    bare-difference : (is t : List ℕ)
+        → difference (circuits c old golden []) is t ≡ difference (jobFrom c (places old golden nets weights)) is t
+    unfolding difference allInputs rectifies oldOutputs goldenOutputs oldValues drivenBy reading circuits jobFrom
+    bare-difference is t = refl
+
+    sheet-accepted : (o : Comparison)
+        → o ≡ comparisonOf (difference (jobFrom c (places old golden nets weights)) (patchOf p .support) (patchOf p .table))
+        → record { number = 0; result = o } ≡ sheetComparison (jobFrom c (places old golden nets weights)) p
+    unfolding sheetComparison jobFrom
+    sheet-accepted o q = rw (reply-number, eq-eqb (s .number) 0 z, q)
+
+    pub compared-sheet : (k : ℕ) → k ≡ 2 ^ s .support .len → {o : Comparison}
+        → o
+        ≡ comparisonOf
+        (difference (circuits c old golden []) (take (s .support .len) (s .support .nets))
+        (take (s .table + k - s .table) (drop (s .table) p)))
+        → record { number = 0; result = o } ≡ sheetComparison (jobFrom c (places old golden nets weights)) p
+    compared-sheet k q {o} d =
+        let a = accepted-sheet in
+        let j = circuits c old golden [] in
+        sheet-accepted o
+        (d
+        ∙ ap (λ (is : List ℕ). comparisonOf (difference j is (take (s .table + k - s .table) (drop (s .table) p)))) (a .nets)
+        ∙ ap (λ (t : List ℕ). comparisonOf (difference j (patchOf p .support) t)) (table-part k q ∙ a .table)
+        ∙ ap comparisonOf (bare-difference (patchOf p .support) (patchOf p .table)))
