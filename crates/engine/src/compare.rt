@@ -6,7 +6,7 @@ ghost use lib.ListN.{length, take};
 ghost use Rattle.records.specs.Service.{sidePlaces, places, gatesFrom, jobFrom};
 ghost use Rattle.engine.specs.Inner.{Evaluable, Outputs, BlockValues};
 ghost use Rattle.engine.specs.Compare.{difference};
-ghost use Rattle.engine.specs.Reply.{comparisonOf};
+ghost use Rattle.engine.specs.Reply.{comparisonOf, compareReply};
 ghost use Rattle.engine.specs.Walk.{circuits, Ready, FanoutMarks};
 ghost use Rattle.engine.specs.Driven.{vectorAt, Drivable, differing, DifferingBits, LowestBit, sheetComparison};
 use super::block::drive_words;
@@ -18,6 +18,7 @@ use super::word::differ_word;
 use super::word::select_words;
 use records::Counts;
 use records::Support;
+use records::read;
 use records::read_sheet;
 
 pub struct DifferingInput {
@@ -237,15 +238,15 @@ fn compare_sheet(
         (now (nets .entry)) (now (weights .entry))))
         (now (sheet .entry)) ⌝ }
 {
-    let read = read_sheet(counts.targets, counts.candidates, nets, weights, sheet);
-    if read.number != 0 {
+    let answer = read_sheet(counts.targets, counts.candidates, nets, weights, sheet);
+    if answer.number != 0 {
         return CompareReply {
-            number: read.number,
+            number: answer.number,
             result: Comparison::Declined,
         };
     }
-    let support = read.support;
-    let start = read.table;
+    let support = answer.support;
+    let start = answer.table;
     let end = start + reading_count(support.len);
     let old = counts.old;
     let mut marks = [0u8; 424];
@@ -273,4 +274,56 @@ fn compare_sheet(
         &marks,
     );
     CompareReply { number: 0, result }
+}
+
+// The service compare: whether the old circuit driven by the sheet's table has the golden outputs, or the smallest input at
+// which it has not. Refused are what read refuses of the job and read_sheet of the sheet. It costs, for each block of 64 inputs
+// up to the one with the difference, one gate evaluation a gate of both netlists and one more for each gate that a target leads
+// to.
+pub fn compare(job: &[u8], sheet: &[u8]) -> CompareReply
+    ensures { λ r. ⌜ r ≡ compareReply (now (job .entry)) (now (sheet .entry)) ⌝ }
+{
+    let mut kinds = [0u8; 400];
+    let mut firsts = [0u16; 400];
+    let mut seconds = [0u16; 400];
+    let mut outputs = [0u16; 32];
+    let mut golden_kinds = [0u8; 400];
+    let mut golden_firsts = [0u16; 400];
+    let mut golden_seconds = [0u16; 400];
+    let mut golden_outputs = [0u16; 32];
+    let mut nets = [0u16; 10];
+    let mut weights = [0u16; 10];
+    let answer = read(
+        job,
+        &mut kinds,
+        &mut firsts,
+        &mut seconds,
+        &mut outputs,
+        &mut golden_kinds,
+        &mut golden_firsts,
+        &mut golden_seconds,
+        &mut golden_outputs,
+        &mut nets,
+        &mut weights,
+    );
+    if answer.number != 0 {
+        return CompareReply {
+            number: answer.number,
+            result: Comparison::Declined,
+        };
+    }
+    compare_sheet(
+        &kinds,
+        &firsts,
+        &seconds,
+        &outputs,
+        &golden_kinds,
+        &golden_firsts,
+        &golden_seconds,
+        &golden_outputs,
+        &nets,
+        &weights,
+        answer.counts,
+        sheet,
+    )
 }

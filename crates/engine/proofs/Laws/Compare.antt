@@ -8,25 +8,27 @@ use native.Mathlib.Nat.{one-mul}
 use native.Mathlib.Omega.{arith}
 use borrow.Author.Tests.{ltb-true, ltb-false, le-leb, eqb-true, eq-eqb, ne-eqb}
 use lib.Dec.{ltb, eqb, lit<}
-use lib.ListN.{length, take, drop, length-drop}
+use lib.ListN.{length, take, drop, replicate, length-drop}
 use lib.Pow.{pow-mono, shl-exact}
 use lib.Seq.{length-take-le}
 use Rattle.records.specs.Bytes.{upFrom, all}
 use Rattle.records.specs.Gate.{Gate}
 use Rattle.records.specs.Netlist.{netAt, values}
-use Rattle.records.specs.Job.{Candidate}
-use Rattle.records.specs.Refusal.{firstFailing}
+use Rattle.records.specs.Job.{Candidate, jobOf}
+use Rattle.records.specs.Refusal.{Test, firstFailing, partTests, jobTests}
 use Rattle.records.specs.Sheet.{patchOf, isCandidate, sheetTests}
-use Rattle.records.specs.Service.{SidePlaces, places, gatesFrom, netlistFrom, candidatesFrom, jobFrom, sheetRoomy, sheetNumber, sheetReply}
+use Rattle.records.specs.Service.{SidePlaces, Places, sidePlaces, places, sideRoomy, roomy, readNumber, readReply, gatesFrom, netlistFrom, candidatesFrom, jobFrom, sheetRoomy, sheetNumber, sheetReply}
 use Rattle.records.specs.declared.job.Counts.{Counts}
+use Rattle.records.specs.declared.reading.ReadReply.{ReadReply}
 use Rattle.records.specs.declared.sheet.SheetReply.{SheetReply}
+use Rattle.records.proofs.Laws.Accepted.{read-accepts}
 use Rattle.records.proofs.Laws.Bytes.{and-both, all-cons, length-tabulate}
 use Rattle.engine.specs.Choice.{first, same}
 use Rattle.engine.specs.Eval.{bit, bits, allInputs, oldValues, oldOutputs, goldenOutputs}
 use Rattle.engine.specs.Rectify.{rectifies}
 use Rattle.engine.specs.Support.{reading, drivenBy, candidateNets}
-use Rattle.engine.specs.Compare.{difference}
-use Rattle.engine.specs.Reply.{comparisonOf}
+use Rattle.engine.specs.Compare.{difference, pairTests}
+use Rattle.engine.specs.Reply.{comparisonOf, compareNumber, compareReply}
 use Rattle.engine.specs.Inner.{outputBits, differs, Outputs, BlockValues, GoldenWords}
 use Rattle.engine.specs.Walk.{circuits, Ready, FanoutMarks}
 use Rattle.engine.specs.Driven.{vectorAt, Drivable, differing, DifferingBits, LowestBit, declinedComparison, sheetComparison}
@@ -299,3 +301,50 @@ module _ {c : Counts} {old golden : SidePlaces} {nets : List ℕ} (r : Ready c o
         ∙ ap (λ (is : List ℕ). comparisonOf (difference j is (take (s .table + k - s .table) (drop (s .table) p)))) (a .nets)
         ∙ ap (λ (t : List ℕ). comparisonOf (difference j (patchOf p .support) t)) (table-part k q ∙ a .table)
         ∙ ap comparisonOf (bare-difference (patchOf p .support) (patchOf p .table)))
+
+-- ---- a job's bytes and a sheet's
+
+-- what the places of read hold before it
+abbrev pub emptySide : SidePlaces
+emptySide = sidePlaces (replicate 400 0) (replicate 400 0) (replicate 400 0) (replicate 32 0)
+
+abbrev pub emptyPlaces : Places
+emptyPlaces = places emptySide emptySide (replicate 10 0) (replicate 10 0)
+
+roomy-empty : roomy emptyPlaces ≡ true
+unfolding roomy sideRoomy
+roomy-empty = refl
+
+-- where a test fails, later ones play no part
+failing-append : (ts us : List Test) → (firstFailing ts ≡ 0 → ⊥) → firstFailing (ts ++ us) ≡ firstFailing ts
+unfolding firstFailing
+failing-append [] us z = absurd (z refl)
+failing-append (t ∷ ts) us z = go (t .number) (t .passes) (failing-append ts us) z
+  where
+    go : {m n : ℕ} (k : ℕ) (b : Bool) → ((n ≡ 0 → ⊥) → m ≡ n) → (cond b n k ≡ 0 → ⊥) → cond b m k ≡ cond b n k
+    go k true f y = f y
+    go k false f y = refl
+
+module _ (s q : List ℕ) {r : ReadReply} (e : r ≡ readReply emptyPlaces s) where
+  read-number : r .number ≡ readNumber emptyPlaces s
+  unfolding readReply
+  read-number = ap (λ (x : ReadReply). x .number) e
+
+  job-number : readNumber emptyPlaces s ≡ firstFailing (jobTests s)
+  unfolding readNumber firstFailing
+  job-number = rw roomy-empty
+
+  pub declined-job : (r .number ≡ 0 → ⊥) → record { number = r .number; result = Comparison.Declined } ≡ compareReply s q
+  unfolding compareReply compareNumber pairTests
+  declined-job z =
+      let n : firstFailing (jobTests s) ≡ r .number = sym (read-number ∙ job-number) in
+      rw (failing-append (jobTests s) _ (λ a. z (sym n ∙ a)), n, ne-eqb (r .number) 0 z)
+
+  pub accepted-job : r .number ≡ 0 → readNumber emptyPlaces s ≡ 0
+  accepted-job z = sym read-number ∙ z
+
+  pub compared-job : r .number ≡ 0 → sheetComparison (jobOf s) q ≡ compareReply s q
+  unfolding compareReply compareNumber pairTests jobTests partTests firstFailing sheetComparison declinedComparison
+  compared-job z =
+      let a = read-accepts emptyPlaces s .0 (accepted-job z) in
+      rw (a .1, a .2 .counts, a .2 .gates, a .2 .outputs, a .2 .candidates)
