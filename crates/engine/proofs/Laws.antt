@@ -2,7 +2,9 @@
 pub mod Best
 pub mod Block
 pub mod Choice
+pub mod Compare
 pub mod Decide
+pub mod Drive
 pub mod Eval
 pub mod EvalWords
 pub mod Fanout
@@ -18,6 +20,7 @@ pub mod Rule
 pub mod Search
 pub mod Sets
 pub mod Sheet
+pub mod SheetRead
 pub mod Stream
 pub mod Support
 pub mod Survey

@@ -29,7 +29,7 @@ any-agree p q [] h = refl
 any-agree p q (x ∷ xs) h = rw (h x (here refl), any-agree p q xs (λ y m. h y (there m)))
 
 module _ (p : ℕ → Bool) (n : ℕ) where
-  first-of-least : (x : ℕ) → Least p n x → first p (upFrom 0 n) ≡ some x
+  pub first-of-least : (x : ℕ) → Least p n x → first p (upFrom 0 n) ≡ some x
   first-of-least x l =
       ⊎-elim
       (λ (e : first p (upFrom 0 n) ≡ none). absurd (not-both (l .holds) (first-none-below p n e x (l .below))))
@@ -42,7 +42,7 @@ module _ (p : ℕ → Bool) (n : ℕ) where
       r .1 ∙ ap some q)
       (none-or-some (first p (upFrom 0 n)))
 
-  first-of-none : ((x : ℕ) → x < n → p x ≡ false) → first p (upFrom 0 n) ≡ none
+  pub first-of-none : ((x : ℕ) → x < n → p x ≡ false) → first p (upFrom 0 n) ≡ none
   first-of-none h =
       ⊎-elim
       (λ (e : first p (upFrom 0 n) ≡ none). e)

@@ -1,0 +1,102 @@
+-- What read_sheet replies: its number, and of an accepted sheet the support and where its table stands. Assumes nothing.
+use Prim.Native.Nat.{ℕ, _+_, _-_, _^_, _≤_}
+use mathlib.Core.Path.{_≡_, refl, sym, _∙_, ap, subst}
+use mathlib.Core.Logic.{⊎-elim}
+use mathlib.Core.List.{List, [], _∷_, _++_}
+use mathlib.Core.Bool.{true, false, cond}
+use native.Mathlib.Omega.{arith}
+use borrow.Author.Tests.{eqb-true, eq-eqb}
+use lib.Dec.{eqb, ltb}
+use lib.ListN.{length, take, drop, replicate, length-append}
+use lib.Seq.{take-append-seam}
+use Rattle.records.specs.Bytes.{all, nth}
+use Rattle.records.specs.Job.{Candidate, netsOf}
+use Rattle.records.specs.Refusal.{ascending}
+use Rattle.records.specs.Sheet.{Patch, sheetTags, patchOf, sheetWhole, costOf, isCandidate, patchGood}
+use Rattle.records.specs.Service.{candidatesFrom, sheetNumber, sheetReply}
+use Rattle.records.specs.Inner.{startOf}
+use Rattle.records.specs.declared.sheet.SheetReply.{SheetReply}
+use Rattle.records.proofs.Laws.Bytes.{row-at}
+use Rattle.records.proofs.Laws.Accepted.{sheet-accepts}
+use Rattle.records.proofs.Laws.Field.{startOf-suc, startOf-le, nth-slice}
+use Rattle.records.proofs.Laws.Shape.{length-netsOf}
+use Rattle.records.proofs.Laws.Sheet.{support-length}
+use Rattle.records.proofs.Laws.SheetShape.{SheetWhole, sheetWhole-facts}
+use Rattle.engine.proofs.Laws.Choice.{true-or-false}
+
+-- an accepted sheet's reply: its support is of candidates, and the table stands among the sheet's bytes
+pub record ReadSheet (cs : List Candidate) (p : List ℕ) (r : SheetReply) : Type 0 where
+  pub few : r .support .len ≤ length cs
+  pub long : r .support .len ≤ length (r .support .nets)
+  pub nets : take (r .support .len) (r .support .nets) ≡ patchOf p .support
+  pub candidates : all (isCandidate cs) (patchOf p .support) ≡ true
+  pub end : r .table + 2 ^ r .support .len ≤ length p
+  pub table : take (2 ^ r .support .len) (drop (r .table) p) ≡ patchOf p .table
+
+-- ---- where the table stands
+
+module _ (m : ℕ) (p : List ℕ) (w : SheetWhole m p) where
+  table-start : 3 + length (nth 0 p) + 3 ≡ startOf 1 p
+  unfolding startOf
+  table-start = sym (startOf-suc sheetTags p (w .fields) 0 (omega arith))
+
+  table-size : 2 ^ length (netsOf (nth 0 p)) ≡ length (nth 1 p)
+  table-size = ap (λ (k : ℕ). 2 ^ k) (length-netsOf (nth 0 p)) ∙ sym (w .table)
+
+  table-end : 3 + length (nth 0 p) + 3 + 2 ^ length (netsOf (nth 0 p)) ≤ length p
+  table-end = rw (table-start, table-size) (startOf-le sheetTags p (w .fields) 1 (omega arith))
+
+  table-bytes : take (2 ^ length (netsOf (nth 0 p))) (drop (3 + length (nth 0 p) + 3) p) ≡ nth 1 p
+  table-bytes = rw (table-start, table-size) (nth-slice sheetTags p (w .fields) 1 (omega arith))
+
+-- ---- the support
+
+good-support : (m : ℕ) (cs : List Candidate) (q : Patch) → patchGood m cs q ≡ true
+    → (ascending (q .support) ≡ true) × (all (isCandidate cs) (q .support) ≡ true)
+unfolding patchGood
+good-support m cs q h =
+    let t =
+    row-at (ascending (q .support))
+    (all (isCandidate cs) (q .support)
+    ∷ all (λ v. ltb v (2 ^ m)) (q .table)
+    ∷ all (λ v. ltb v (2 ^ m)) (q .vectors)
+    ∷ eqb (q .cost) (costOf cs (q .support))
+    ∷ [])
+    h in
+    (t 0, t 1)
+
+module _ (m k : ℕ) (nets weights p : List ℕ) where
+  cond-number : (n : ℕ) (x y : SheetReply) → x .number ≡ 0 → y .number ≡ n → cond (eqb n 0) x y .number ≡ n
+  cond-number n x y a b =
+      ⊎-elim
+      (λ (t : eqb n 0 ≡ true). rw t (a ∙ sym (eqb-true n 0 t)))
+      (λ (t : eqb n 0 ≡ false). rw t b)
+      (true-or-false (eqb n 0))
+
+  pub sheet-number : sheetReply m k nets weights p .number ≡ sheetNumber m k nets weights p
+  unfolding sheetReply
+  sheet-number = cond-number (sheetNumber m k nets weights p) _ _ refl refl
+
+  sheet-accepted : sheetNumber m k nets weights p ≡ 0 → ReadSheet (candidatesFrom k nets weights) p (sheetReply m k nets weights p)
+  unfolding sheetReply patchOf
+  sheet-accepted n =
+      let cs = candidatesFrom k nets weights in
+      let is = netsOf (nth 0 p) in
+      let a = sheet-accepts m k nets weights p .0 n in
+      let w = sheetWhole-facts m p (a .1) in
+      let g = good-support m cs (patchOf p) (a .2) in
+      rw (eq-eqb (sheetNumber m k nets weights p) 0 n)
+      (record {
+        few = support-length cs is (g .0) (g .1);
+        long = omega (arith, length-append is (replicate (10 - length is) 0));
+        nets = take-append-seam is (replicate (10 - length is) 0);
+        candidates = g .1;
+        end = table-end m p w;
+        table = table-bytes m p w;
+      })
+
+  pub read-sheet : {r : SheetReply} → r ≡ sheetReply m k nets weights p → r .number ≡ 0
+      → ReadSheet (candidatesFrom k nets weights) p r
+  read-sheet {r} e z =
+      let n : sheetNumber m k nets weights p ≡ 0 = sym sheet-number ∙ ap (λ (x : SheetReply). x .number) (sym e) ∙ z in
+      subst (λ (x : SheetReply). ReadSheet (candidatesFrom k nets weights) p x) (sym e) (sheet-accepted n)

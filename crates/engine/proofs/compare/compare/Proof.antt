@@ -1,0 +1,126 @@
+-- `engine::compare::compare` meets its contract: the job is read into places, and the sheet compared with it there. Assumes
+-- nothing.
+use mathlib.Core.Path.{_∙_, ap}
+use borrow.Author.Needs.{needs}
+use denote.Ref.{now}
+use Rattle.engine.specs.Driven.{sheetComparison}
+use Rattle.engine.proofs.Laws.Compare.{emptyPlaces, declined-job, accepted-job, compared-job}
+use Rattle.engine.proofs.Laws.Read.{read-job}
+use Rattle.engine.proofs.compare.compare.Statement.{statement}
+use Rattle.engine.proofs.compare.compare.Tie as tie
+
+slice-aggregate-read : tie.Need-slice-aggregate-read
+slice-aggregate-read c = search needs
+
+slice-aggregate-read-2 : tie.Need-slice-aggregate-read-2
+slice-aggregate-read-2 c = search needs
+
+slice-aggregate-read-3 : tie.Need-slice-aggregate-read-3
+slice-aggregate-read-3 c = search needs
+
+slice-aggregate-read-4 : tie.Need-slice-aggregate-read-4
+slice-aggregate-read-4 c = search needs
+
+slice-aggregate-read-5 : tie.Need-slice-aggregate-read-5
+slice-aggregate-read-5 c = search needs
+
+slice-aggregate-read-6 : tie.Need-slice-aggregate-read-6
+slice-aggregate-read-6 c = search needs
+
+slice-aggregate-read-7 : tie.Need-slice-aggregate-read-7
+slice-aggregate-read-7 c = search needs
+
+slice-aggregate-read-8 : tie.Need-slice-aggregate-read-8
+slice-aggregate-read-8 c = search needs
+
+slice-aggregate-read-9 : tie.Need-slice-aggregate-read-9
+slice-aggregate-read-9 c = search needs
+
+slice-aggregate-read-10 : tie.Need-slice-aggregate-read-10
+slice-aggregate-read-10 c = search needs
+
+read-requires : tie.Need-read-requires
+read-requires c κs = tt
+
+returns : tie.Need-returns
+returns c =
+    let a = c .before .before .before .before .before .before .before .before .before .before .before .before .before .before .before .before .before .before .before .before .before .before .before .before .before .args in
+    declined-job (now (a .job)) (now (a .sheet)) (c .before .before .before .before .before .before .before .before .before .before .before .before .read .ensures .0) (c .if1 .taken)
+
+slice-aggregate-compare-sheet : tie.Need-slice-aggregate-compare-sheet
+slice-aggregate-compare-sheet c = search needs
+
+slice-aggregate-compare-sheet-2 : tie.Need-slice-aggregate-compare-sheet-2
+slice-aggregate-compare-sheet-2 c = search needs
+
+slice-aggregate-compare-sheet-3 : tie.Need-slice-aggregate-compare-sheet-3
+slice-aggregate-compare-sheet-3 c = search needs
+
+slice-aggregate-compare-sheet-4 : tie.Need-slice-aggregate-compare-sheet-4
+slice-aggregate-compare-sheet-4 c = search needs
+
+slice-aggregate-compare-sheet-5 : tie.Need-slice-aggregate-compare-sheet-5
+slice-aggregate-compare-sheet-5 c = search needs
+
+slice-aggregate-compare-sheet-6 : tie.Need-slice-aggregate-compare-sheet-6
+slice-aggregate-compare-sheet-6 c = search needs
+
+slice-aggregate-compare-sheet-7 : tie.Need-slice-aggregate-compare-sheet-7
+slice-aggregate-compare-sheet-7 c = search needs
+
+slice-aggregate-compare-sheet-8 : tie.Need-slice-aggregate-compare-sheet-8
+slice-aggregate-compare-sheet-8 c = search needs
+
+slice-aggregate-compare-sheet-9 : tie.Need-slice-aggregate-compare-sheet-9
+slice-aggregate-compare-sheet-9 c = search needs
+
+slice-aggregate-compare-sheet-10 : tie.Need-slice-aggregate-compare-sheet-10
+slice-aggregate-compare-sheet-10 c = search needs
+
+compare-sheet-requires : tie.Need-compare-sheet-requires
+compare-sheet-requires c κs =
+    let a = c .before .before .before .before .before .before .before .before .before .before .before .before .before .before .before .before .before .before .before .before .before .before .before .before .before .before .before .before .before .before .before .before .before .before .before .args in
+    let e = c .before .before .before .before .before .before .before .before .before .before .before .before .before .before .before .before .before .before .before .before .before .before .read .ensures in
+    let z = accepted-job (now (a .job)) (now (a .job)) (e .0) (c .before .before .before .before .before .before .before .before .before .before .if1 .left) in
+    let r = read-job emptyPlaces (now (a .job)) (e .0) (e .1) z in
+    (r .ready, r .weights)
+
+returns-2 : tie.Need-returns-2
+returns-2 c =
+    let a = c .before .before .before .before .before .before .before .before .before .before .before .before .before .before .before .before .before .before .before .before .before .before .before .before .before .before .before .before .before .before .before .before .before .before .before .before .args in
+    let e = c .before .before .before .before .before .before .before .before .before .before .before .before .before .before .before .before .before .before .before .before .before .before .before .read .ensures in
+    let y = c .before .before .before .before .before .before .before .before .before .before .before .if1 .left in
+    let z = accepted-job (now (a .job)) (now (a .sheet)) (e .0) y in
+    let r = read-job emptyPlaces (now (a .job)) (e .0) (e .1) z in
+    c .compare-sheet .ensures
+    ∙ ap (λ j. sheetComparison j (now (a .sheet))) (r .job)
+    ∙ compared-job (now (a .job)) (now (a .sheet)) (e .0) y
+
+pub compare-spec : {M : Type 1} → statement M
+compare-spec =
+    tie.close
+    (tie.spec
+    slice-aggregate-read
+    slice-aggregate-read-2
+    slice-aggregate-read-3
+    slice-aggregate-read-4
+    slice-aggregate-read-5
+    slice-aggregate-read-6
+    slice-aggregate-read-7
+    slice-aggregate-read-8
+    slice-aggregate-read-9
+    slice-aggregate-read-10
+    read-requires
+    returns
+    slice-aggregate-compare-sheet
+    slice-aggregate-compare-sheet-2
+    slice-aggregate-compare-sheet-3
+    slice-aggregate-compare-sheet-4
+    slice-aggregate-compare-sheet-5
+    slice-aggregate-compare-sheet-6
+    slice-aggregate-compare-sheet-7
+    slice-aggregate-compare-sheet-8
+    slice-aggregate-compare-sheet-9
+    slice-aggregate-compare-sheet-10
+    compare-sheet-requires
+    returns-2)
