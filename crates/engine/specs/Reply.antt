@@ -28,10 +28,10 @@ use Rattle.engine.specs.Compare.{difference, pairTests}
 use Rattle.engine.specs.declared.deciding.Verdict.{Verdict}
 use Rattle.engine.specs.declared.deciding.Verdict.the-variants as Verdict
 use Rattle.engine.specs.declared.deciding.DecideReply.{DecideReply}
-use Rattle.engine.specs.declared.compare.Comparison.{Comparison}
-use Rattle.engine.specs.declared.compare.Comparison.the-variants as Comparison
+use Rattle.engine.specs.declared.comparing.Comparison.{Comparison}
+use Rattle.engine.specs.declared.comparing.Comparison.the-variants as Comparison
 use Rattle.engine.specs.Fit.{fittedBytes, fits, longestFit}
-use Rattle.engine.specs.declared.compare.CompareReply.{CompareReply}
+use Rattle.engine.specs.declared.comparing.CompareReply.{CompareReply}
 use Rattle.engine.specs.declared.fitting.FitReply.{FitReply}
 
 unfoldable pub verdictFrom : Job → Ruling → Verdict

@@ -16,6 +16,7 @@
 --   PatchSheet s           s is the fields of a patch's sheet, of lengths in their ranges
 --   ValueSheet t size s    the same for the sheet of an unfixable input or a blind reading, whose first field has tag t
 --   WholeSheet s           s is the sheet of a verdict
+--   printedLength, printedBytes d s     the length of the text and the lent buffer d afterwards
 --   longestText            no such sheet and no refusal has a longer text
 --   Printed d at xs r d′   d′ is d with xs placed from position at on, and r is the position behind
 --   Texted d xs r d′       the same at the start of d, which has room for it
@@ -184,6 +185,13 @@ pub data WholeSheet (s : List ℕ) : Type 0 where
 -- A cost has at most ten digits, a net five, a byte three: 22 + 68 + 4102 + 72.
 abbrev pub longestText : ℕ
 longestText = 4264
+
+-- what rectify_text gives where the buffer d is long enough for every text, else nothing
+unfoldable pub printedLength : List ℕ → List ℕ → ℕ
+printedLength d s = cond (ltb (length d) longestText) 0 (length (rectifyText s))
+
+unfoldable pub printedBytes : List ℕ → List ℕ → List ℕ
+printedBytes d s = cond (ltb (length d) longestText) d (placed d 0 (rectifyText s))
 
 -- ---- what they give
 

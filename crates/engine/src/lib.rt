@@ -3,7 +3,7 @@
 // answers with a number of document 01, 0 where it accepts, and leaves every lent byte as it was where it does not.
 mod block;
 mod choose;
-mod compare;
+mod comparing;
 mod deciding;
 mod fanout;
 mod fitting;
@@ -19,6 +19,10 @@ mod text;
 mod visit;
 mod word;
 
+pub use comparing::CompareReply;
+pub use comparing::Comparison;
+pub use comparing::DifferingInput;
+pub use comparing::compare;
 pub use deciding::BlindReading;
 pub use deciding::DecideReply;
 pub use deciding::PatchCost;
@@ -27,3 +31,4 @@ pub use deciding::Verdict;
 pub use deciding::decide;
 pub use ternary::ternary_entry;
 pub use ternary::ternary_table;
+pub use text::rectify_text;

@@ -6,7 +6,8 @@ ghost use lib.ListN.{length};
 ghost use Rattle.records.specs.Bytes.{nth, word as word′};
 ghost use Rattle.records.specs.Job.{netsOf};
 ghost use Rattle.records.specs.Sheet.{quad};
-ghost use Rattle.engine.specs.Text.{digits, number, numbers, line, unfixableWord, blindWord, patchText, patchSheetText, valueText, sheetText, refusedText, longestText, PatchSheet, ValueSheet, WholeSheet, Printed, Texted};
+ghost use Rattle.engine.specs.Text.{digits, number, numbers, line, unfixableWord, blindWord, patchText, patchSheetText, valueText, sheetText, refusedText, longestText, printedLength, printedBytes, PatchSheet, ValueSheet, WholeSheet, Printed, Texted};
+use super::deciding::decide;
 
 fn wide(x: u8) -> usize
     ensures { λ r. ⌜ r ≡ x ⌝ }
@@ -215,4 +216,25 @@ pub(super) fn sheet_text(sheet: &[u8], text: &mut [u8]) -> usize
         return unfixable_text(sheet, text);
     }
     blind_text(sheet, text)
+}
+
+// What the program `rectify` prints for a job's bytes. Where text has fewer than 4,264 bytes nothing is printed and the length is 0;
+// else the length of the text, which stands at the start. Costs what decide costs.
+pub fn rectify_text(job: &[u8], text: &mut [u8]) -> usize
+    ensures { λ r. ⌜ r ≡ printedLength (now (text .entry)) (now (job .entry)) ⌝ }
+    ensures { λ _. ⌜ now (text .exit) ≡ printedBytes (now (text .entry)) (now (job .entry)) ⌝ }
+{
+    if text.len() < 4264 {
+        return 0;
+    }
+    if 65535 < job.len() {
+        return refused_text(2, text);
+    }
+    let mut sheet = [0u8; 1076];
+    let found = decide(job, &mut sheet);
+    if found.number != 0 {
+        return refused_text(found.number, text);
+    }
+    let len = found.len;
+    sheet_text(&sheet[..len], text)
 }

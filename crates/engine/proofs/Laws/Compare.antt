@@ -32,8 +32,8 @@ use Rattle.engine.specs.Reply.{comparisonOf, compareNumber, compareReply
 use Rattle.engine.specs.Inner.{outputBits, differs, Outputs, BlockValues, GoldenWords}
 use Rattle.engine.specs.Walk.{circuits, Ready, FanoutMarks}
 use Rattle.engine.specs.Driven.{vectorAt, Drivable, differing, DifferingBits, LowestBit, declinedComparison, sheetComparison}
-use Rattle.engine.specs.declared.compare.Comparison.{Comparison}
-use Rattle.engine.specs.declared.compare.Comparison.the-variants as Comparison
+use Rattle.engine.specs.declared.comparing.Comparison.{Comparison}
+use Rattle.engine.specs.declared.comparing.Comparison.the-variants as Comparison
 use Rattle.engine.proofs.Laws.Choice.{true-or-false, or-cases, all-true, all-of-members, Least}
 use Rattle.engine.proofs.Laws.EvalWords.{length-gates}
 use Rattle.engine.proofs.Laws.Ready.{ready-within, ready-outputs-equal, ready-outputs, ready-golden-outputs, ready-candidates, ready-candidates-below}
