@@ -339,7 +339,8 @@ module _ (s : List ℕ) {r : ReadReply} (e : r ≡ readReply emptyPlaces s) wher
   unfolding readNumber firstFailing
   job-number = rw roomy-empty
 
-  pub declined-job : (q : List ℕ) → (r .number ≡ 0 → ⊥) → record { number = r .number; result = Comparison.Declined } ≡ compareReply s q
+  pub declined-job : (q : List ℕ) → (r .number ≡ 0 → ⊥)
+      → record { number = r .number; result = Comparison.Declined } ≡ compareReply s q
   unfolding compareReply compareNumber pairTests
   declined-job q z =
       let n : firstFailing (jobTests s) ≡ r .number = sym (read-number ∙ job-number) in

@@ -27,7 +27,8 @@ reading-count-requires c κs =
 -- the table's end
 ended : (c : tie.After-reading-count)
     → let u = c .before .before .before .before in
-    u .read-sheet .result .table + c .reading-count .result ≤ length (now (u .before .before .before .before .before .before .before .before .before .before .before .before .args .sheet))
+    let s = u .before .before .before .before .before .before .before .before .before .before .before .before in
+    u .read-sheet .result .table + c .reading-count .result ≤ length (now (s .args .sheet))
 ended c =
     let u = c .before .before .before .before in
     let s = u .before .before .before .before .before .before .before .before .before .before .before .before in
@@ -37,7 +38,8 @@ ended c =
 add-end : tie.Need-add-end
 add-end c =
     let u = c .before .before .before .before in
-    let g = u .before .before .before .before .before .before .before .before .before .before .before .before .good .1 .1 .1 .1 .1 .1 .1 .1 .1 .1 .1 .0 in
+    let s = u .before .before .before .before .before .before .before .before .before .before .before .before in
+    let g = s .good .1 .1 .1 .1 .1 .1 .1 .1 .1 .1 .1 .0 in
     omega (arith, ended c)
 
 slice-aggregate-mark-fanout : tie.Need-slice-aggregate-mark-fanout

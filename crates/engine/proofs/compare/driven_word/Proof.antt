@@ -49,7 +49,8 @@ slice-aggregate-differ-word-2 c = search needs
 differ-word-requires : tie.Need-differ-word-requires
 differ-word-requires c κs =
     let u = c .before .before .before .before .before .before .before in
-    let s = u .before .before .before .before .before .before .before .before .before .before .before .before .before .before .before in
+    let s = u .before .before .before .before
+    .before .before .before .before .before .before .before .before .before .before .before in
     let r = s .pre .ready in
     let old = c .before .before .before .drive-block .ensures in
     let golden = u .eval-block .ensures in (
@@ -60,7 +61,8 @@ differ-word-requires c κs =
 returns : tie.Need-returns
 returns c =
     let u = c .before .before .before .before .before .before .before .before in
-    let s = u .before .before .before .before .before .before .before .before .before .before .before .before .before .before .before in
+    let s = u .before .before .before .before
+    .before .before .before .before .before .before .before .before .before .before .before in
     let r = s .pre .ready in
     let golden = u .eval-block .ensures in
     differing-bits r _ _ (s .args .b) _
