@@ -27,8 +27,8 @@ use Rattle.engine.specs.Compare.{difference}
 use Rattle.engine.specs.Reply.{comparisonOf}
 use Rattle.engine.specs.Inner.{Outputs}
 use Rattle.engine.specs.Walk.{Ready, FanoutMarks}
-use Rattle.engine.specs.declared.compare.Comparison.the-variants as Comparison
-use Rattle.engine.specs.declared.compare.CompareReply.{CompareReply}
+use Rattle.engine.specs.declared.comparing.Comparison.the-variants as Comparison
+use Rattle.engine.specs.declared.comparing.CompareReply.{CompareReply}
 
 unfoldable pub vectorAt : List Gate → ℕ → ℕ → List ℕ → List ℕ → ℕ → ℕ
 vectorAt gs n m is t x = getD t (numberOf (map (netAt (values (bits n x ++ bits m 0) gs)) is)) 0

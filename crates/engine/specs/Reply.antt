@@ -24,9 +24,9 @@ use Rattle.engine.specs.Compare.{difference, pairTests}
 use Rattle.engine.specs.declared.decide.Verdict.{Verdict}
 use Rattle.engine.specs.declared.decide.Verdict.the-variants as Verdict
 use Rattle.engine.specs.declared.decide.DecideReply.{DecideReply}
-use Rattle.engine.specs.declared.compare.Comparison.{Comparison}
-use Rattle.engine.specs.declared.compare.Comparison.the-variants as Comparison
-use Rattle.engine.specs.declared.compare.CompareReply.{CompareReply}
+use Rattle.engine.specs.declared.comparing.Comparison.{Comparison}
+use Rattle.engine.specs.declared.comparing.Comparison.the-variants as Comparison
+use Rattle.engine.specs.declared.comparing.CompareReply.{CompareReply}
 
 unfoldable pub verdictFrom : Job → Ruling → Verdict
 verdictFrom j (patch is) = Verdict.Patch (record { cost = cost j is })

@@ -2,7 +2,7 @@
 // once, a word a net.
 mod block;
 mod choose;
-mod compare;
+mod comparing;
 mod decide;
 mod fanout;
 mod list;
@@ -15,5 +15,9 @@ mod ternary;
 mod visit;
 mod word;
 
+pub use comparing::CompareReply;
+pub use comparing::Comparison;
+pub use comparing::DifferingInput;
+pub use comparing::compare;
 pub use ternary::ternary_entry;
 pub use ternary::ternary_table;

@@ -1,4 +1,4 @@
--- `engine::compare::first_difference` meets its contract. The invariant: at no input of the blocks passed do the driven outputs
+-- `engine::comparing::first_difference` meets its contract. The invariant: at no input of the blocks passed do the driven outputs
 -- differ. Assumes nothing.
 use Prim.Native.Nat.{_-_, _*_, _^_, min}
 use mathlib.Core.Path.{_≡_}
@@ -11,8 +11,8 @@ use Rattle.engine.specs.Walk.{circuits}
 use Rattle.engine.specs.Driven.{differing}
 use Rattle.engine.proofs.Laws.Compare.{Scanning, scanning-none, scanning-next, scanned-least, differs-least, equal-passed}
 use Rattle.engine.proofs.Laws.Ready.{ready-within}
-use Rattle.engine.proofs.compare.first_difference.Statement.{statement}
-use Rattle.engine.proofs.compare.first_difference.Tie as tie
+use Rattle.engine.proofs.comparing.first_difference.Statement.{statement}
+use Rattle.engine.proofs.comparing.first_difference.Tie as tie
 
 abbrev Inv-loop : tie.InvT-loop
 Inv-loop kinds firsts seconds outputs golden-kinds golden-firsts golden-seconds golden-outputs counts support table marks size b₀

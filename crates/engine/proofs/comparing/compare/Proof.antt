@@ -1,4 +1,4 @@
--- `engine::compare::compare` meets its contract: the job is read into places, and the sheet compared with it there. Assumes
+-- `engine::comparing::compare` meets its contract: the job is read into places, and the sheet compared with it there. Assumes
 -- nothing.
 use mathlib.Core.Path.{_∙_, ap}
 use borrow.Author.Needs.{needs}
@@ -6,8 +6,8 @@ use denote.Ref.{now}
 use Rattle.engine.specs.Driven.{sheetComparison}
 use Rattle.engine.proofs.Laws.Compare.{emptyPlaces, declined-job, accepted-job, compared-job}
 use Rattle.engine.proofs.Laws.Read.{read-job}
-use Rattle.engine.proofs.compare.compare.Statement.{statement}
-use Rattle.engine.proofs.compare.compare.Tie as tie
+use Rattle.engine.proofs.comparing.compare.Statement.{statement}
+use Rattle.engine.proofs.comparing.compare.Tie as tie
 
 slice-aggregate-read : tie.Need-slice-aggregate-read
 slice-aggregate-read c = search needs

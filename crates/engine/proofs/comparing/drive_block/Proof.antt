@@ -1,4 +1,4 @@
--- `engine::compare::drive_block` meets its contract: the support's words at vector 0 give each scenario its vector, and the gates
+-- `engine::comparing::drive_block` meets its contract: the support's words at vector 0 give each scenario its vector, and the gates
 -- that a target leads to are evaluated again. Assumes nothing.
 use borrow.Author.Needs.{needs}
 use native.Mathlib.Omega.{arith}
@@ -8,8 +8,8 @@ use Rattle.engine.proofs.Laws.EvalWords.{length-gates}
 use Rattle.engine.proofs.Laws.Fanout.{unmarked-of-held}
 use Rattle.engine.proofs.Laws.Rectify.{outputs-more}
 use Rattle.engine.proofs.Laws.Visit.{evaluable-long}
-use Rattle.engine.proofs.compare.drive_block.Statement.{statement}
-use Rattle.engine.proofs.compare.drive_block.Tie as tie
+use Rattle.engine.proofs.comparing.drive_block.Statement.{statement}
+use Rattle.engine.proofs.comparing.drive_block.Tie as tie
 
 eval-block-requires : tie.Need-eval-block-requires
 eval-block-requires c κs = search needs

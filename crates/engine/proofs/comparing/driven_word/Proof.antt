@@ -1,4 +1,4 @@
--- `engine::compare::driven_word` meets its contract: the words of both netlists' outputs, compared. Assumes nothing.
+-- `engine::comparing::driven_word` meets its contract: the words of both netlists' outputs, compared. Assumes nothing.
 use mathlib.Core.Path.{sym}
 use borrow.Author.Needs.{needs}
 use native.Mathlib.Omega.{arith}
@@ -10,8 +10,8 @@ use Rattle.engine.proofs.Laws.Ready.{ready-outputs, ready-golden-output
 use Rattle.engine.proofs.Laws.Rectify.{outputs-more}
 use Rattle.engine.proofs.Laws.Stream.{places}
 use Rattle.engine.proofs.Laws.Visit.{golden-of-block}
-use Rattle.engine.proofs.compare.driven_word.Statement.{statement}
-use Rattle.engine.proofs.compare.driven_word.Tie as tie
+use Rattle.engine.proofs.comparing.driven_word.Statement.{statement}
+use Rattle.engine.proofs.comparing.driven_word.Tie as tie
 
 slice-aggregate-eval-block : tie.Need-slice-aggregate-eval-block
 slice-aggregate-eval-block c = search needs

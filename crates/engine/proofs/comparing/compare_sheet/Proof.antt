@@ -1,4 +1,4 @@
--- `engine::compare::compare_sheet` meets its contract: the support of an accepted sheet is of candidates, and the table stands
+-- `engine::comparing::compare_sheet` meets its contract: the support of an accepted sheet is of candidates, and the table stands
 -- where the reply says. Assumes nothing.
 use Prim.Native.Nat.{_+_, _≤_}
 use borrow.Author.Needs.{needs}
@@ -7,8 +7,8 @@ use denote.Ref.{now}
 use lib.ListN.{length}
 use Rattle.engine.proofs.Laws.Compare.{declined-sheet, accepted-sheet, support-few, drivable, compared-sheet}
 use Rattle.engine.proofs.Laws.Ready.{ready-evaluable}
-use Rattle.engine.proofs.compare.compare_sheet.Statement.{statement}
-use Rattle.engine.proofs.compare.compare_sheet.Tie as tie
+use Rattle.engine.proofs.comparing.compare_sheet.Statement.{statement}
+use Rattle.engine.proofs.comparing.compare_sheet.Tie as tie
 
 read-sheet-requires : tie.Need-read-sheet-requires
 read-sheet-requires c κs = tt
