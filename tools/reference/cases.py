@@ -1,0 +1,146 @@
+#!/usr/bin/env python3
+"""Prints the twelve numbered cases of document 01 as this reference answers them, with what the document says beside each.
+
+    python3 tools/reference/cases.py
+
+Then it tries the reference against itself where a second way is at hand: the values of gates on sets of inputs beside
+gates.py, and, on small random jobs, the verdict beside every table over every set of priced nets, and the fitted
+netlist beside the driven old one. Where something differs, it stops.
+"""
+
+import copy
+import random
+from itertools import combinations, product
+
+import compare
+import gates
+import job as jobs
+import random_jobs as rj
+import random_sheets as rs
+import sheet as sheets
+import simulate
+from decide import decide, verdict_of
+from fit import fit, patched
+from job import Candidate, Gate, Job, Netlist
+
+
+def changed(**parts):
+    """Job A with some parts exchanged."""
+    job = copy.deepcopy(rj.job_a())
+    for name, value in parts.items():
+        setattr(job, name, value)
+    return job
+
+
+def said(reply):
+    """What the program rectify prints, on one line."""
+    verdict = reply.verdict
+    if reply.number:
+        return f"refused {reply.number}"
+    vectors = " ".join(str(vector) for vector in verdict.vectors)
+    if verdict.name != "patch":
+        return f"{verdict.name} {verdict.value}, vectors {vectors}"
+    support = "".join(f" {net}" for net in verdict.patch.support)
+    table = " ".join(str(entry) for entry in verdict.patch.table)
+    return f"patch cost {verdict.value}, support{support}, table {table}, vectors {vectors}"
+
+
+def case_8(first, second):
+    prices = [Candidate(0, first), Candidate(2, second)]
+    return Job(1, 1, Netlist([Gate(3, 0, 0)], [1]), Netlist([], [0]), prices)
+
+
+def fitted_a():
+    data = jobs.encode(rj.job_a())
+    number, fields = fit(data, decide(data).verdict.sheet)
+    count, output = len(fields[8:-5]) // 5, jobs.number(fields[-2:])
+    return f"fit {number}: {count} gates, output net {output}"
+
+
+def cases():
+    a = rj.job_a()
+    same = Netlist([Gate(4, 0, 1)], [2])
+
+    def decided(job):
+        return said(decide(jobs.encode(job)))
+
+    return [
+        (decided(a), "patch cost 7, support 0 1, table 0 0 0 1, vectors 0 1"),
+        (fitted_a(), "fit 0: 11 gates, output net 12"),
+        (decided(changed(candidates=a.candidates[:1])), "blind 1, vectors 0 1"),
+        (decided(changed(candidates=[])), "blind 0, vectors 0 1"),
+        (decided(changed(old=Netlist([], [0]))), "unfixable 1, vectors 0"),
+        (decided(changed(golden=Netlist([Gate(0, 0, 0)], [2]))), "patch cost 0, support, table 0, vectors 0"),
+        (decided(changed(targets=0, old=same, golden=same)), "patch cost 0, support, table 0, vectors 0"),
+        (decided(case_8(5, 1)), "patch cost 1, support 2, table 1 0, vectors 0 1"),
+        (decided(case_8(0, 0)), "patch cost 0, support 0, table 0 1, vectors 0 1"),
+        (decided(changed(inputs=21)), "refused 3"),
+        (decided(changed(targets=5)), "refused 3"),
+        (said(decide(jobs.encode(a), 1075)), "refused 1"),
+    ]
+
+
+# ---- second ways
+
+
+def check_gates():
+    """Two inputs give every pair of operands."""
+    job = Job(2, 0, None, None, [])
+    values = simulate.input_values(job)
+    for kind in range(10):
+        count = gates.operand_count(kind)
+        found = simulate.gate_values(simulate.every_input(job), kind, values[:count])
+        for x in range(4):
+            assert found >> x & 1 == gates.value(kind, [x & 1, x >> 1][:count]), (kind, x)
+
+
+def carrying(job):
+    """Each set of priced nets that carries a table: every table is tried."""
+    for size in range(len(job.candidates) + 1):
+        for chosen in combinations(job.candidates, size):
+            nets, cost = [c.net for c in chosen], sum(c.weight for c in chosen)
+            for table in product(range(2**job.targets), repeat=2**size):
+                if compare.smallest_difference(job, sheets.Patch(nets, table, cost, [0])) is None:
+                    yield (cost, size, nets)
+                    break
+
+
+def check_verdict(job):
+    best = min(carrying(job), default=None)
+    verdict = verdict_of(job)
+    if verdict.name == "patch":
+        patch = verdict.patch
+        assert best == (patch.cost, len(patch.support), patch.support), job
+        assert compare.compare(jobs.encode(job), verdict.sheet) == (0, None), job
+    else:
+        assert best is None, job
+    return verdict.name
+
+
+def check_fit(job, patch):
+    netlist = patched(job, patch)
+    alone = Job(job.inputs, 0, netlist, netlist, [])
+    assert jobs.number_of_parts(alone) in (0, 3), job
+    assert simulate.output_values(alone, netlist, []) == compare.driven_outputs(job, patch), job
+
+
+def check_random(rng, count):
+    found = {"patch": 0, "unfixable": 0, "blind": 0}
+    while min(found.values()) < count:
+        m = rng.randrange(3)
+        job = rj.good_job(rng, rng.randrange(5), m, rng.randrange(9), rng.randrange(5), rng.randrange(1, 3), rng.randrange(4 - m))
+        found[check_verdict(job)] += 1
+        check_fit(job, rs.good_patch(rng, job))
+    return found
+
+
+def main():
+    for k, (found, wanted) in enumerate(cases(), 1):
+        print(f"{k:2} {found}")
+        assert found == wanted, f"document 01 says {wanted}"
+    check_gates()
+    print("tried against every table over every set:", check_random(random.Random(1364), 100))
+
+
+if __name__ == "__main__":
+    main()
