@@ -88,8 +88,8 @@ def table_of(shared, places):
     for reading, vectors in shared.items():
         own = part(reading, places)
         left[own] = left.get(own, vectors) & vectors
-    if not all(left.values()):
-        return None
+        if not left[own]:
+            return None
     return [min(left[own]) if own in left else 0 for own in range(2 ** len(places))]
 
 
@@ -111,13 +111,12 @@ def verdict_of(job):
     if unfixable is not None:
         return Verdict("unfixable", unfixable, jobs.field(20, unfixable.to_bytes(4, "big")) + vector_field, vectors)
     shared = shared_vectors(job, fixed)
-    for places in supports(job):
-        table = table_of(shared, places)
-        if table is not None:
-            patch = sheets.Patch([job.candidates[place].net for place in places], table, cost_of(job, places), vectors)
-            return Verdict("patch", patch.cost, sheets.encode(patch), vectors, patch)
-    reading = min(reading for reading, left in shared.items() if not left)
-    return Verdict("blind", reading, jobs.field(21, reading.to_bytes(2, "big")) + vector_field, vectors)
+    stuck = [reading for reading, left in shared.items() if not left]
+    if stuck:
+        return Verdict("blind", min(stuck), jobs.field(21, min(stuck).to_bytes(2, "big")) + vector_field, vectors)
+    places, table = next((places, table) for places in supports(job) if (table := table_of(shared, places)) is not None)
+    patch = sheets.Patch([job.candidates[place].net for place in places], table, cost_of(job, places), vectors)
+    return Verdict("patch", patch.cost, sheets.encode(patch), vectors, patch)
 
 
 def decide(data, buffer_length=LONGEST_SHEET):
