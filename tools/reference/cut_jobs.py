@@ -12,7 +12,7 @@ import random_jobs as rj
 from job import Candidate, Gate, Job, Netlist
 
 TWO_OPERANDS = range(4, 10)
-XOR, XNOR, AND = 8, 9, 4
+AND, OR, XOR, XNOR = 4, 6, 8, 9
 
 
 def some_gate(rng, nets, kinds):
@@ -175,33 +175,34 @@ def chain(rng, found, n, nets, kinds):
     return last
 
 
-def grow(rng, found, n, count, fresh, pool, kinds):
-    """Appends gates that each read the oldest net not read yet, from the fresh ones on, and one of the last forty of a
-    pool to which each new net is added. So every fresh net leads to the last gates, by many ways."""
-    unread, pool = list(fresh), list(pool)
+def grow(rng, found, n, count, fresh, kinds):
+    """Appends gates that each read the oldest net not read yet, from the fresh ones on, and the next such net as long as
+    there are more than 32 of them, then one of the last forty nets. So all of them lead to the last 32 gates."""
+    unread, nets = list(fresh), list(fresh)
     for _ in range(count):
         first = unread.pop(0)
-        found.append(Gate(rng.choice(kinds), first, rng.choice([net for net in pool[-40:] if net != first])))
+        second = unread.pop(0) if len(unread) > 31 else rng.choice([net for net in nets[-40:] if net != first])
+        found.append(Gate(rng.choice(kinds), first, second))
         unread.append(n + len(found) - 1)
-        pool.append(n + len(found) - 1)
+        nets.append(n + len(found) - 1)
 
 
 def full_job(rng, verdict, n=20, used=10, xor_share=0.85, late=17):
     """A job of 4,188 bytes that is to have this verdict. The golden netlist has
 
     - a front over the inputs, of which ten nets are priced (for n 10, the inputs),
-    - a function of `used` priced nets for each cut net; for blind, the first one reads a further net,
-    - a back over these four and the sum of all inputs; its last nets are the outputs,
+    - a function of up to `used` priced nets for each cut net; for blind, the first one reads a further net,
+    - a back over all of these; its last nets are the outputs,
     - for unfixable, an output that differs where the last `late` inputs are all 1.
 
-    Every output depends on every input and every cut net, mostly by xor. The old netlist has the same front and back,
-    the back over the targets, and other gates in place of the functions'."""
+    Nearly every gate leads to an output, and nearly every output depends on every input and every cut net, mostly by xor.
+    The old netlist has the targets in place of the functions' last gates, which stay, as other kinds, with nothing behind."""
     m, output_count, gate_count = jobs.MAX_TARGETS, jobs.MAX_OUTPUTS, jobs.MAX_GATES
     xors = round(100 * xor_share)
     kinds = [rng.choice([XOR, XNOR]) for _ in range(xors)] + [rng.choice([4, 5, 6, 7]) for _ in range(100 - xors)]
 
     golden = []
-    total = chain(rng, golden, n, range(n), [XOR])
+    chain(rng, golden, n, range(n), [XOR])
     while len(golden) < 70:
         golden.append(Gate(rng.choice(kinds), *rng.sample(range(n + len(golden)), 2)))
     front = list(range(n + len(golden)))
@@ -210,18 +211,19 @@ def full_job(rng, verdict, n=20, used=10, xor_share=0.85, late=17):
 
     roots = []
     for t in range(m):
-        nets = rng.sample(named, used)
+        nets = rng.sample(named, used if t == 0 else rng.randrange(2, used + 1))
         if t == 0 and verdict == "blind":
             nets.append(hidden if rng.random() < 0.5 else chain(rng, golden, n, named + [hidden], [AND]))
-        roots.append(chain(rng, golden, n, nets, [XOR] if t == 0 else kinds))
-    functions = range(len(front) - n, len(golden))
+        roots.append(chain(rng, golden, n, nets, [XOR] if t == 0 else [AND, OR, XOR, XNOR]))
+    read = {net for gate in golden[: len(front) - n] for net in gate.operands()}
+    fresh = [net for net in range(n + len(golden)) if net not in read]
 
     extra = late if verdict == "unfixable" else 0
-    grow(rng, golden, n, gate_count - extra - len(golden), roots + [total], front + roots, kinds)
+    grow(rng, golden, n, gate_count - extra - len(golden), fresh, kinds)
     outputs = list(range(n + len(golden) - output_count, n + len(golden)))
     old = cut(n, m, golden, outputs, [root - n for root in roots], lambda: True)
-    for k in functions:
-        old.gates[k].kind = rng.choice(kinds)
+    for root in roots:
+        old.gates[root - n].kind = rng.choice(kinds)
     if extra:
         everywhere_one = chain(rng, golden, n, range(n - late, n), [AND])
         golden.append(Gate(XOR, outputs[-1], everywhere_one))
