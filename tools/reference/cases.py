@@ -4,8 +4,8 @@
     python3 tools/reference/cases.py
 
 Then it tries the reference against itself where a second way is at hand: the values of gates on sets of inputs beside
-gates.py, and, on small random jobs, the verdict beside every table over every set of priced nets, and the fitted
-netlist beside the driven old one. Where something differs, it stops.
+gates.py, and, on small random jobs, the verdict beside every table over every set of priced nets, the fitted netlist
+beside the driven old one, and compare beside one input at a time. Where something differs, it stops.
 """
 
 import copy
@@ -140,13 +140,36 @@ def check_fit(job, patch):
     assert simulate.output_values(alone, netlist, []) == compare.driven_outputs(job, patch), job
 
 
+def values_at(job, side, x, vector):
+    """The values of all nets of a side at one input, gate by gate."""
+    values = [x >> i & 1 for i in range(job.inputs)]
+    values += [vector >> t & 1 for t in range(job.targets)] if side is job.old else []
+    for gate in side.gates:
+        values.append(gates.value(gate.kind, [values[net] for net in gate.operands()]))
+    return values
+
+
+def check_compare(job, patch):
+    """Input by input, the old netlist first at vector 0 for the reading, then at the entry there."""
+    differing = []
+    for x in range(2**job.inputs):
+        at_zero = values_at(job, job.old, x, 0)
+        entry = patch.table[sum(at_zero[net] << i for i, net in enumerate(patch.support))]
+        old, golden = values_at(job, job.old, x, entry), values_at(job, job.golden, x, 0)
+        if [old[net] for net in job.old.outputs] != [golden[net] for net in job.golden.outputs]:
+            differing.append(x)
+    assert compare.smallest_difference(job, patch) == min(differing, default=None), job
+
+
 def check_random(rng, count):
     found = {"patch": 0, "unfixable": 0, "blind": 0}
     while min(found.values()) < count:
         m = rng.randrange(3)
         job = rj.good_job(rng, rng.randrange(5), m, rng.randrange(9), rng.randrange(5), rng.randrange(1, 3), rng.randrange(4 - m))
         found[check_verdict(job)] += 1
-        check_fit(job, rs.good_patch(rng, job))
+        patch = rs.good_patch(rng, job)
+        check_fit(job, patch)
+        check_compare(job, patch)
     return found
 
 
