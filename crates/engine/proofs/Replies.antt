@@ -7,27 +7,33 @@ use mathlib.Core.Bool.{Bool, true, false, cond, not}
 use mathlib.Core.Option.{Option, none, some}
 use native.Mathlib.Nat.{zero-add}
 use native.Mathlib.Omega.{arith}
-use borrow.Author.Tests.{leb-true, le-leb, eq-eqb, ne-eqb}
+use borrow.Author.Tests.{leb-true, le-leb, eq-eqb, ne-eqb, not-false}
 use lib.Dec.{leb, eqb}
 use lib.ListN.{length, getD, take}
 use Rattle.records.specs.Bytes.{flat, bytePair, word, placed, field, nth}
 use Rattle.records.specs.Job.{Job, jobWhole, jobOf, netsOf}
 use Rattle.records.specs.Refusal.{Test, firstFailing, jobTests, partTests, jobRefusal}
-use Rattle.records.specs.Sheet.{Patch, quad, patchOf}
+use Rattle.records.specs.Sheet.{Patch, quad, patchOf, sheetTests}
 use Rattle.records.specs.Claims.{PartsGood}
 use Rattle.records.proofs.Laws.Bytes.{take-placed}
-use Rattle.records.proofs.Laws.Accepted.{read-accepts}
+use Rattle.records.proofs.Laws.Accepted.{passes-of-none, none-of-passes, read-accepts}
 use Rattle.records.proofs.Laws.RoundTrip.{joined, nth-joined, netsOf-flat}
 use Rattle.engine.specs.Rectify.{rectifies, vectorLoop}
-use Rattle.engine.specs.Support.{tableOf, candidateNets, cost}
+use Rattle.engine.specs.Choice.{first}
+use Rattle.engine.specs.Eval.{allInputs, oldOutputs, goldenOutputs}
+use Rattle.engine.specs.Support.{drivenBy, tableOf, candidateNets, cost}
+use Rattle.engine.specs.Compare.{difference, pairTests}
 use Rattle.engine.specs.Verdict.{Ruling, patch, unfixable, blind, ruling, fourBytes, rulingFields, sheetOf, longestSheet, decideNumber, decidedBytes}
-use Rattle.engine.specs.Reply.{verdictFrom, verdictOf, verdictFields, declinedReply, decideReply}
+use Rattle.engine.specs.Reply.{verdictFrom, verdictOf, verdictFields, declinedReply, decideReply, comparisonOf, comparisonFields, compareNumber, compareReply}
 use Rattle.engine.specs.Inner.{patchBytes}
-use Rattle.engine.specs.Claims.{PatchIn, DecideAccepts, DecideRefuses, DecideIndependent, LongestSheet, GivesPatch, PatchGiven, GivesUnfixable, GivesBlind, VectorsGiven}
+use Rattle.engine.specs.Claims.{PatchIn, DecideAccepts, DecideRefuses, DecideIndependent, LongestSheet, GivesPatch, PatchGiven, GivesUnfixable, GivesBlind, VectorsGiven, CompareAccepts, ComparesEqual, ComparesDiffers}
+use Rattle.engine.specs.declared.comparing.Comparison.{Comparison}
 use Rattle.engine.specs.declared.deciding.DecideReply.{DecideReply}
 use Rattle.engine.proofs.Laws.Decide.{lentPlaces, lent-roomy, lent-refusal, number-long, number-short}
 use Rattle.engine.proofs.Laws.Sheet.{patchBytes-ruling, sheet-ruling}
-use Rattle.engine.proofs.Laws.Support.{length-tableOf}
+use Rattle.engine.proofs.Laws.Choice.{true-or-false, not-both, first-least, first-none-below}
+use Rattle.engine.proofs.Laws.WalkList.{first-of-least, first-of-none}
+use Rattle.engine.proofs.Laws.Support.{rectifies-iff-outputs, length-tableOf}
 use Rattle.engine.proofs.Laws.Text.{longest-sheet}
 use Rattle.engine.proofs.Theorems.{patch-exactly, patch-table, least-cost, unfixable-exactly, blind-exactly}
 
@@ -220,3 +226,88 @@ patch-given d s c e q =
       least = λ ks m k. subst (λ (x : ℕ). x ≤ cost j ks) (sym (f .2)) (least-cost j is (f .1) ks m k);
       vectors = refl;
     })
+
+-- ---- compare
+
+pub compare-accepts : CompareAccepts
+unfolding compareNumber pairTests jobTests partTests sheetTests
+compare-accepts s p = (
+  λ e.
+      let u =
+      passes-of-none _
+      (omega arith, (omega arith, (omega arith, (omega arith, (omega arith, (omega arith, (omega arith, tt)))))))
+      e in (
+        u .0,
+        record { counts = u .1 .0; gates = u .1 .1 .0; outputs = u .1 .1 .1 .0; candidates = u .1 .1 .1 .1 .0 },
+        u .1 .1 .1 .1 .1 .0,
+        u .1 .1 .1 .1 .1 .1 .0,
+      ),
+  λ h.
+      let g = h .1 in
+      none-of-passes _ (h .0, (g .counts, (g .gates, (g .outputs, (g .candidates, (h .2, (h .3, tt))))))),
+)
+
+equal-injective : (o : Option ℕ) → comparisonOf o ≡ comparisonOf none → o ≡ none
+unfolding comparisonOf
+equal-injective none e = refl
+equal-injective (some x) e = let z : _≡_ {A = ℕ} 0 1 = cc in let f : ⊥ = omega arith in absurd f
+
+differs-injective : (o : Option ℕ) (x : ℕ) → comparisonOf o ≡ comparisonOf (some x) → o ≡ some x
+unfolding comparisonOf comparisonFields tag
+differs-injective none x e = let z : _≡_ {A = ℕ} 0 1 = cc in let f : ⊥ = omega arith in absurd f
+differs-injective (some y) x e = ap some (ap (λ (c : Comparison). tag (comparisonFields c)) e)
+
+module _ (j : Job) (is t : List ℕ) where
+  -- the driven old outputs at x are the golden ones
+  abbrev Equal : ℕ → Type 0
+  Equal x = oldOutputs j x (drivenBy j is t x) ≡ goldenOutputs j x
+
+  differing : ℕ → Bool
+  differing x = not (rectifies j x (drivenBy j is t x))
+
+  equal-at : (x : ℕ) → differing x ≡ false → Equal x
+  unfolding differing
+  equal-at x e = rectifies-iff-outputs j x (drivenBy j is t x) .0 (not-false (rectifies j x (drivenBy j is t x)) e)
+
+  at-equal : (x : ℕ) → Equal x → differing x ≡ false
+  unfolding differing
+  at-equal x e = ap not (rectifies-iff-outputs j x (drivenBy j is t x) .1 e)
+
+  unequal-at : (x : ℕ) → (Equal x → ⊥) → differing x ≡ true
+  unequal-at x h = ⊎-elim (λ e. e) (λ e. absurd (h (equal-at x e))) (true-or-false (differing x))
+
+  difference-none : (difference j is t ≡ none) ↔ ((x : ℕ) → x < 2 ^ j .inputs → Equal x)
+  unfolding difference allInputs differing
+  difference-none = (
+    λ e x l. equal-at x (first-none-below differing (2 ^ j .inputs) e x l),
+    λ h. first-of-none differing (2 ^ j .inputs) (λ x l. at-equal x (h x l)),
+  )
+
+  difference-some : (x : ℕ)
+      → (difference j is t ≡ some x) ↔ ((x < 2 ^ j .inputs) × (Equal x → ⊥) × ((y : ℕ) → y < x → Equal y))
+  unfolding difference allInputs differing
+  difference-some x = (
+    λ e.
+        let l = first-least differing (2 ^ j .inputs) x e in
+        (l .below, λ q. not-both (l .holds) (at-equal x q), λ y h. equal-at y (l .smaller y h)),
+    λ h.
+        first-of-least differing (2 ^ j .inputs) x
+        (record { below = h .0; holds = unequal-at x (h .1); smaller = λ y l. at-equal y (h .2 y l) }),
+  )
+
+result-of : (s p : List ℕ) → compareNumber s p ≡ 0
+    → compareReply s p .result ≡ comparisonOf (difference (jobOf s) (patchOf p .support) (patchOf p .table))
+unfolding compareReply
+result-of s p e = rw (eq-eqb (compareNumber s p) 0 e) refl
+
+pub compares-equal : ComparesEqual
+compares-equal s p e =
+    let d = difference-none (jobOf s) (patchOf p .support) (patchOf p .table) in
+    let r = result-of s p e in
+    (λ q. d .0 (equal-injective _ (sym r ∙ q)), λ h. r ∙ ap comparisonOf (d .1 h))
+
+pub compares-differs : ComparesDiffers
+compares-differs s p x e =
+    let d = difference-some (jobOf s) (patchOf p .support) (patchOf p .table) x in
+    let r = result-of s p e in
+    (λ q. d .0 (differs-injective _ x (sym r ∙ q)), λ h. r ∙ ap comparisonOf (d .1 h))
