@@ -6,6 +6,7 @@ pub mod Decide
 pub mod Eval
 pub mod EvalWords
 pub mod Fanout
+pub mod FitGates
 pub mod Loop
 pub mod Masks
 pub mod Outputs
