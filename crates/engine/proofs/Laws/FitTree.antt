@@ -9,7 +9,7 @@ use native.Mathlib.Nat.{add-zero, add-comm, zero-mul, one-mul, mul-assoc, pow-su
 use native.Mathlib.Omega.{arith}
 use borrow.Author.Tests.{eqb-true, lt-ltb}
 use lib.Dec.{eqb, ltb}
-use lib.ListN.{length, getD, take, drop, length-append, length-take, length-drop, length-map}
+use lib.ListN.{length, getD, take, drop, length-append, length-take, length-drop, length-map, List·getD-map}
 use lib.Seq.{getD-take, getD-drop, take-suc, length-take-le, take-length}
 use Rattle.records.specs.Bytes.{all}
 use Rattle.records.specs.Gate.{Gate, gateOf, arity, operands, unused, gateValue, conj, disj, inverted}
@@ -20,8 +20,10 @@ use Rattle.records.proofs.Laws.Gate.{getD-all, on-bit, arity-one, arity-two, ga
 use Rattle.engine.specs.Choice.{same}
 use Rattle.engine.specs.Eval.{bit, numberOf}
 use Rattle.engine.specs.Tree.{column, tree}
+use Rattle.engine.specs.Fit.{Trees, treesFrom}
 use Rattle.engine.proofs.Laws.Choice.{true-or-false, same-true}
-use Rattle.engine.proofs.Laws.Eval.{Bits, bits-nil, bits-cons, getD-bits, bits-map, netAt-lt, numberOf-lt}
+use Rattle.engine.proofs.Laws.Eval.{Bits, bits-nil, bits-cons, getD-bits, bits-map, bit-lt, netAt-lt, numberOf-lt}
+use Rattle.engine.proofs.Laws.Word.{bit-zero}
 use Rattle.engine.proofs.Laws.FitGates.{noGate, good-append, Consistent, consistent-left, consistent-right}
 
 -- ---- the cases of a tree
@@ -316,3 +318,77 @@ module _ (ws : List ℕ) (b : Bits ws) where
   tree-value next is col c l t =
       tree-reads (length is) is (omega arith) next col c l t
       ∙ ap (λ (xs : List ℕ). getD col (numberOf (map (netAt ws) xs)) 0) (take-length is)
+
+-- ---- a tree for each target
+
+-- the gates of target k's tree, from net next on, and what stands after them
+module _ (m k next : ℕ) (is t : List ℕ) where
+  abbrev firstTree : List Gate
+  firstTree = tree (length is) next is (column t k)
+
+  abbrev laterTrees : Trees
+  laterTrees = treesFrom m (suc k) (next + length firstTree) is t
+
+pub length-nets : (m k next : ℕ) (is t : List ℕ) → length (treesFrom m k next is t .nets) ≡ m
+unfolding treesFrom
+length-nets zero k next is t = refl
+length-nets (suc m) k next is t =
+    ap suc (length-nets m (suc k) (next + length (firstTree m k next is t)) is t)
+
+pub trees-good : (m k next : ℕ) (is t : List ℕ) → ((i : ℕ) → i < length is → getD is i 0 < next)
+    → gatesGood next (treesFrom m k next is t .gates) ≡ true
+unfolding treesFrom gatesGood
+trees-good zero k next is t h = refl
+trees-good (suc m) k next is t h =
+    let gs = firstTree m k next is t in
+    good-append next gs (laterTrees m k next is t .gates)
+    (tree-good (length is) next is (column t k) h)
+    (trees-good m (suc k) (next + length gs) is t (λ i l. let p = h i l in omega arith))
+
+-- a target's net is one of the trees'
+pub trees-below : (m k next : ℕ) (is t : List ℕ) (i : ℕ) → i < m
+    → getD (treesFrom m k next is t .nets) i 0 < next + length (treesFrom m k next is t .gates)
+unfolding treesFrom
+trees-below zero k next is t i h = let f : ⊥ = omega arith in absurd f
+trees-below (suc m) k next is t zero h =
+    let gs = firstTree m k next is t in
+    omega (arith, tree-some (length is) next is (column t k), length-append gs (laterTrees m k next is t .gates))
+trees-below (suc m) k next is t (suc i) h =
+    let gs = firstTree m k next is t in
+    let r = trees-below m (suc k) (next + length gs) is t i (omega arith) in
+    omega (arith, length-append gs (laterTrees m k next is t .gates))
+
+-- entries of a column
+column-bits : (t : List ℕ) (k : ℕ) → Bits (column t k)
+unfolding column
+column-bits t k = bits-map (bit k) (bit-lt k) t
+
+column-entry : (t : List ℕ) (k r : ℕ) → getD (column t k) r 0 ≡ bit k (getD t r 0)
+unfolding column
+column-entry t k r = ap (λ (d : ℕ). getD (map (bit k) t) r d) (sym (bit-zero k)) ∙ List·getD-map (bit k) t r 0
+
+length-column : (t : List ℕ) (k : ℕ) → length (column t k) ≡ length t
+unfolding column
+length-column t k = length-map t (bit k)
+
+-- in values that agree with the trees' gates, the net of a target has its bit of the table's entry at the reading
+pub trees-value : (ws : List ℕ) → Bits ws → (m k next : ℕ) (is t : List ℕ) → length t ≡ 2 ^ length is
+    → Consistent valueOf ws next (treesFrom m k next is t .gates) → (i : ℕ) → i < m
+    → netAt ws (getD (treesFrom m k next is t .nets) i 0) ≡ bit (k + i) (getD t (numberOf (map (netAt ws) is)) 0)
+unfolding treesFrom
+trees-value ws b zero k next is t l c i h = let f : ⊥ = omega arith in absurd f
+trees-value ws b (suc m) k next is t l c zero h =
+    let gs = firstTree m k next is t in
+    let r = numberOf (map (netAt ws) is) in
+    tree-value ws b next is (column t k) (column-bits t k) (length-column t k ∙ l)
+    (consistent-left valueOf ws next gs (laterTrees m k next is t .gates) c)
+    ∙ column-entry t k r
+    ∙ ap (λ (n : ℕ). bit n (getD t r 0)) (sym (add-zero k))
+trees-value ws b (suc m) k next is t l c (suc i) h =
+    let gs = firstTree m k next is t in
+    let e : suc k + i ≡ k + suc i = omega arith in
+    trees-value ws b m (suc k) (next + length gs) is t l
+    (consistent-right valueOf ws next gs (laterTrees m k next is t .gates) c)
+    i
+    (omega arith)
+    ∙ ap (λ (n : ℕ). bit n (getD t (numberOf (map (netAt ws) is)) 0)) e
