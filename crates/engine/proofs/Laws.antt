@@ -7,6 +7,7 @@ pub mod Eval
 pub mod EvalWords
 pub mod Fanout
 pub mod FitGates
+pub mod FitNets
 pub mod FitTree
 pub mod Loop
 pub mod Masks
