@@ -9,6 +9,7 @@ pub mod Fanout
 pub mod FitGates
 pub mod FitNets
 pub mod FitTree
+pub mod Fitted
 pub mod Loop
 pub mod Masks
 pub mod Outputs

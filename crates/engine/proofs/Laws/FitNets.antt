@@ -393,7 +393,7 @@ module _ (ns : List ℕ) (g : Gate) where
   unfolding operands unused moved
   unused-moved = drop-moved (netAt ns) (arity (g .kind)) (g .slots)
 
-  kind-moved : moved ns g .kind ≡ g .kind
+  pub kind-moved : moved ns g .kind ≡ g .kind
   unfolding moved
   kind-moved = refl
 
