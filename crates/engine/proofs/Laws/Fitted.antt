@@ -4,7 +4,7 @@ use Prim.Native.Nat.{ℕ, zero, suc, _+_, _^_, _<_}
 use mathlib.Core.Path.{_≡_, refl, sym, _∙_, ap, subst}
 use mathlib.Core.Logic.{⊎-elim}
 use mathlib.Core.List.{List, [], _∷_, _++_, map, map-map, List·Memᴰ as Mem}
-use mathlib.Core.Bool.{true}
+use mathlib.Core.Bool.{Bool, true, _&&_}
 use native.Mathlib.Nat.{zero-add}
 use native.Mathlib.Omega.{arith}
 use borrow.Author.Tests.{ltb-true, lt-ltb, eqb-true}
@@ -15,7 +15,7 @@ use Rattle.records.specs.Bytes.{all}
 use Rattle.records.specs.Gate.{Gate, operands, gateValue}
 use Rattle.records.specs.Netlist.{netAt, extended, valueOf, values}
 use Rattle.records.specs.Job.{Job, Candidate}
-use Rattle.records.specs.Refusal.{netlistsGood, outputsGood, oldNets, gatesGood, candidateGood, candidatesGood}
+use Rattle.records.specs.Refusal.{netlistsGood, outputsGood, oldNets, goldenNets, gatesGood, candidateGood, candidatesGood}
 use Rattle.records.proofs.Laws.Bytes.{and-left, and-right, length-tabulate, getD-tabulate}
 use Rattle.engine.specs.Eval.{bit, bits, numberOf, oldValues, oldOutputs}
 use Rattle.engine.specs.Support.{reading, drivenBy}
@@ -68,14 +68,15 @@ module _ (j : Job) (is t : List ℕ) (good : netlistsGood j ≡ true) (ws vs : L
       ∙ ap (gateValue (g .kind)) (map-agree (λ i. netAt ws (netAt ns i)) (netAt vs) (operands g) same)
       ∙ sym (old .at k h)
 
-  -- so all nets of a kind have, where the inputs and targets of that kind have, and a gate of that kind reads only such nets
+  -- so have all nets of a kind, where the inputs have and the targets of that kind, and a gate of that kind reads only such nets
   module _ (kind : ℕ → Type 0)
       (closed : (k : ℕ) → k < length (j .old .gates) → kind (oldNet j k) → (i : ℕ) → Mem i (operands (oldGate j k)) → kind i)
-      (leaves : (i : ℕ) → i < j .inputs + j .targets → kind i → Same i) where
+      (inputs : (i : ℕ) → i < j .inputs → Same i)
+      (targets : (i : ℕ) → i < j .targets → kind (j .inputs + i) → Same (j .inputs + i)) where
     same-case : {i : ℕ} → NetCase (j .inputs) (j .targets) (length (j .old .gates)) i → kind i
         → ((a : ℕ) → a < i → kind a → Same a) → Same i
-    same-case (input {i} h) q below = leaves i (omega arith) q
-    same-case (target {i} h) q below = leaves (j .inputs + i) (omega arith) q
+    same-case (input {i} h) q below = inputs i h
+    same-case (target {i} h) q below = targets i h q
     same-case (gate {k} h) q below =
         gate-same k h (λ i m. below i (operand-below j good k h i m) (closed k h q i m))
 
@@ -88,3 +89,147 @@ module _ (j : Job) (is t : List ℕ) (good : netlistsGood j ≡ true) (ws vs : L
 
     pub all-same : (i : ℕ) → i < oldNets j → kind i → Same i
     all-same i h q = same-below (suc i) i (omega arith) h q
+
+-- ---- the fitted netlist's values
+
+pub output-below : (j : Job) → outputsGood j ≡ true → (i : ℕ) → Mem i (j .old .outputs) → i < oldNets j
+unfolding outputsGood
+output-below j o i m =
+    let a = all (λ k. ltb k (oldNets j)) (j .old .outputs) in
+    let b = all (λ k. ltb k (goldenNets j)) (j .golden .outputs) in
+    let c = eqb (length (j .old .outputs)) (length (j .golden .outputs)) in
+    ltb-true i (oldNets j)
+    (all-true (λ k. ltb k (oldNets j)) (j .old .outputs) (and-left a b (and-left (a && b) c o)) i m)
+
+pub length-bits : (k x : ℕ) → length (bits k x) ≡ k
+unfolding bits
+length-bits k x = length-tabulate k (λ i. bit i x)
+
+abbrev pub fittedValues : Job → List ℕ → List ℕ → ℕ → List ℕ
+fittedValues j is t x = values (bits (j .inputs) x) (fitted j is t .gates)
+
+module _ (j : Job) (is t : List ℕ) (good : netlistsGood j ≡ true)
+    (support : (i : ℕ) → Mem i is → (i < oldNets j) × (netAt (led j) i ≡ 0)) (x : ℕ) where
+  fitted-consistent : Consistent valueOf (fittedValues j is t x) (j .inputs) (fitted j is t .gates)
+  unfolding values
+  fitted-consistent =
+      consistent-extended valueOf valueOf-local (bits (j .inputs) x) (fitted j is t .gates) (j .inputs)
+      (length-bits (j .inputs) x)
+      (fitted-good j is t good support)
+
+  -- .. agree with the gates of each group
+  fitted-groups : Consistent valueOf (fittedValues j is t x) (j .inputs) (movedGates j (newNets j is t) (gateIndices j 0))
+      × Consistent valueOf (fittedValues j is t x) (j .inputs + length (gateIndices j 0)) (trees j is t .gates)
+      × Consistent valueOf (fittedValues j is t x) (ledStart j is t) (movedGates j (newNets j is t) (gateIndices j 1))
+  unfolding fitted
+  fitted-groups =
+      let ws = fittedValues j is t x in
+      let ns = newNets j is t in
+      let xs = movedGates j ns (gateIndices j 0) in
+      let ys = trees j is t .gates in
+      let zs = movedGates j ns (gateIndices j 1) in
+      let l : j .inputs + length xs ≡ j .inputs + length (gateIndices j 0) = omega (arith, length-moved j ns (gateIndices j 0)) in
+      let e : j .inputs + length (xs ++ ys) ≡ ledStart j is t = omega (arith, length-append xs ys) in
+      let c = consistent-left valueOf ws (j .inputs) (xs ++ ys) zs fitted-consistent in (
+        consistent-left valueOf ws (j .inputs) xs ys c,
+        subst (λ (n : ℕ). Consistent valueOf ws n ys) l (consistent-right valueOf ws (j .inputs) xs ys c),
+        subst (λ (n : ℕ). Consistent valueOf ws n zs) e (consistent-right valueOf ws (j .inputs) (xs ++ ys) zs fitted-consistent),
+      )
+
+  module _ (v : ℕ) where
+    old-consistent : Consistent valueOf (oldValues j x v) (j .inputs + j .targets) (j .old .gates)
+    unfolding oldValues values
+    old-consistent =
+        let xs = bits (j .inputs) x in
+        let ys = bits (j .targets) v in
+        consistent-extended valueOf valueOf-local (xs ++ ys) (j .old .gates) (j .inputs + j .targets)
+        (length-append xs ys ∙ omega (arith, length-bits (j .inputs) x, length-bits (j .targets) v))
+        (old-good j good)
+
+    input-same : (i : ℕ) → i < j .inputs → netAt (fittedValues j is t x) (netAt (newNets j is t) i) ≡ netAt (oldValues j x v) i
+    unfolding oldValues values netAt
+    input-same i h =
+        let xs = bits (j .inputs) x in
+        let ys = bits (j .targets) v in
+        let l = length-bits (j .inputs) x in
+        ap (netAt (fittedValues j is t x)) (number-input j is t i h)
+        ∙ netAt-extended valueOf xs (fitted j is t .gates) i (omega arith)
+        ∙ sym (List·getD-append xs ys 0 i (omega arith))
+        ∙ sym (netAt-extended valueOf (xs ++ ys) (j .old .gates) i (omega (arith, length-append xs ys)))
+
+    target-value : (i : ℕ) → i < j .targets → netAt (oldValues j x v) (j .inputs + i) ≡ bit i v
+    unfolding oldValues values netAt bits
+    target-value i h =
+        let xs = bits (j .inputs) x in
+        let ys = bits (j .targets) v in
+        let l = length-bits (j .inputs) x in
+        let m = length-bits (j .targets) v in
+        netAt-extended valueOf (xs ++ ys) (j .old .gates) (j .inputs + i) (omega (arith, length-append xs ys))
+        ∙ ap (λ (n : ℕ). getD (xs ++ ys) (n + i) 0) (sym l)
+        ∙ getD-append-add xs ys i 0
+        ∙ getD-tabulate (j .targets) (λ k. bit k v) i 0 h
+
+    same-nets : (kind : ℕ → Type 0)
+        → ((k : ℕ) → k < length (j .old .gates) → kind (oldNet j k) → (i : ℕ) → Mem i (operands (oldGate j k)) → kind i)
+        → ((i : ℕ) → i < j .targets → kind (j .inputs + i)
+        → netAt (fittedValues j is t x) (netAt (newNets j is t) (j .inputs + i)) ≡ netAt (oldValues j x v) (j .inputs + i))
+        → (i : ℕ) → i < oldNets j → kind i
+        → netAt (fittedValues j is t x) (netAt (newNets j is t) i) ≡ netAt (oldValues j x v) i
+    same-nets kind closed targets =
+        all-same j is t good (fittedValues j is t x) (oldValues j x v) (fitted-groups .0) (fitted-groups .2) old-consistent kind closed
+        input-same
+        targets
+
+    -- a net that no target leads to, whatever the vector
+    free-same : (i : ℕ) → i < oldNets j → netAt (led j) i ≡ 0
+        → netAt (fittedValues j is t x) (netAt (newNets j is t) i) ≡ netAt (oldValues j x v) i
+    free-same =
+        same-nets (λ i. netAt (led j) i ≡ 0) (operand-unmarked j good)
+        (λ i h e. let f : ⊥ = omega (arith, mark-target j i h) in absurd f)
+
+  -- the trees read the reading that the input gives
+  fitted-reading : numberOf (map (netAt (fittedValues j is t x)) (map (freeNumber j) is)) ≡ reading j is x
+  unfolding reading
+  fitted-reading =
+      ap numberOf
+      (map-map (netAt (fittedValues j is t x)) (freeNumber j) is
+      ∙ map-agree (λ i. netAt (fittedValues j is t x) (freeNumber j i)) (netAt (oldValues j x 0)) is
+      (λ i m.
+      let s = support i m in
+      ap (netAt (fittedValues j is t x)) (number-support j is t i (s .0) (s .1)) ∙ free-same 0 i (s .0) (s .1)))
+
+  module _ (entries : length t ≡ 2 ^ length is) where
+    -- so a target's net has the bit that the table gives it
+    driven-target : (i : ℕ) → i < j .targets
+        → netAt (fittedValues j is t x) (netAt (newNets j is t) (j .inputs + i)) ≡ bit i (drivenBy j is t x)
+    unfolding trees drivenBy
+    driven-target i h =
+        let ws = fittedValues j is t x in
+        let ks = map (freeNumber j) is in
+        ap (netAt ws) (number-target j is t i h)
+        ∙ trees-value ws (values-bits (bits (j .inputs) x) (bits-bits (j .inputs) x) (fitted j is t .gates)) (j .targets) 0
+        (j .inputs + length (gateIndices j 0))
+        ks
+        t
+        (entries ∙ ap (λ (n : ℕ). 2 ^ n) (sym (length-map is (freeNumber j))))
+        (fitted-groups .1)
+        i
+        h
+        ∙ ap (λ (n : ℕ). bit n (getD t (numberOf (map (netAt ws) ks)) 0)) (zero-add i)
+        ∙ ap (λ (r : ℕ). bit i (getD t r 0)) fitted-reading
+
+    -- every old net's new number has the value of the old net in the driven circuit
+    pub driven-same : (i : ℕ) → i < oldNets j
+        → netAt (fittedValues j is t x) (netAt (newNets j is t) i) ≡ netAt (oldValues j x (drivenBy j is t x)) i
+    driven-same i h =
+        let v = drivenBy j is t x in
+        same-nets v (λ i. Unit {0}) (λ k l q a m. tt) (λ a l q. driven-target a l ∙ sym (target-value v a l)) i h tt
+
+    pub fitted-outputs : outputsGood j ≡ true
+        → map (netAt (fittedValues j is t x)) (fitted j is t .outputs) ≡ oldOutputs j x (drivenBy j is t x)
+    unfolding fitted oldOutputs
+    fitted-outputs o =
+        map-map (netAt (fittedValues j is t x)) (netAt (newNets j is t)) (j .old .outputs)
+        ∙ map-agree (λ i. netAt (fittedValues j is t x) (netAt (newNets j is t) i)) (netAt (oldValues j x (drivenBy j is t x)))
+        (j .old .outputs)
+        (λ i m. driven-same i (output-below j o i m))
