@@ -373,6 +373,13 @@ module _ (j : Job) (is t : List ℕ) where
 
 -- ---- moved gates
 
+pub all-mapped : (f : ℕ → ℕ) (n : ℕ) (xs : List ℕ) → ((i : ℕ) → Mem i xs → f i < n) → all (λ i. ltb i n) (map f xs) ≡ true
+all-mapped f n xs h =
+    all-of-members (λ i. ltb i n) (map f xs)
+    (λ x m.
+    let r = mem-of-map f xs m in
+    subst (λ (y : ℕ). ltb y n ≡ true) (r .2) (lt-ltb (f (r .0)) n (h (r .0) (r .1))))
+
 module _ (f : ℕ → ℕ) where
   take-moved : (n : ℕ) (xs : List ℕ) → take n (map f (take n xs) ++ drop n xs) ≡ map f (take n xs)
   take-moved zero xs = refl
@@ -404,17 +411,12 @@ module _ (ns : List ℕ) (g : Gate) where
   moved-good net new e h =
       let exists : Bool = ltb (g .kind) 10 in
       let used : Bool = all (λ i. ltb i net) (operands g) in
-      let below : all (λ i. ltb i new) (map (netAt ns) (operands g)) ≡ true =
-      all-of-members (λ i. ltb i new) (map (netAt ns) (operands g))
-      (λ x m.
-      let r = mem-of-map (netAt ns) (operands g) m in
-      subst (λ (y : ℕ). ltb y new ≡ true) (r .2) (lt-ltb (netAt ns (r .0)) new (h (r .0) (r .1)))) in
       rw (
         operands-moved,
         unused-moved,
         kind-moved,
         and-left exists used (and-left (exists && used) (all (eqb 0) (unused g)) e),
-        below,
+        all-mapped (netAt ns) new (operands g) h,
         gateGood-parts net g e .1,
       )
 
@@ -428,6 +430,22 @@ module _ (j : Job) (ns ks : List ℕ) where
   moved-at r h =
       let f : ℕ → Gate = λ k. moved ns (getD (j .old .gates) k noGate) in
       getD-defaults (map f ks) r noGate (f 0) (omega (arith, length-map ks f)) ∙ List·getD-map f ks r 0
+
+pub length-fitted : (j : Job) (is t : List ℕ)
+    → j .inputs + length (fitted j is t .gates) ≡ ledStart j is t + length (gateIndices j 1)
+unfolding fitted
+length-fitted j is t =
+    let ns = newNets j is t in
+    let xs = movedGates j ns (gateIndices j 0) in
+    let ys = trees j is t .gates in
+    let zs = movedGates j ns (gateIndices j 1) in
+    omega (
+      arith,
+      length-append (xs ++ ys) zs,
+      length-append xs ys,
+      length-moved j ns (gateIndices j 0),
+      length-moved j ns (gateIndices j 1),
+    )
 
 -- ---- good gates
 

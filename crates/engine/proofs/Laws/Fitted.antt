@@ -4,7 +4,7 @@ use Prim.Native.Nat.{ℕ, zero, suc, _+_, _^_, _<_}
 use mathlib.Core.Path.{_≡_, refl, sym, _∙_, ap, subst}
 use mathlib.Core.Logic.{⊎-elim}
 use mathlib.Core.List.{List, [], _∷_, _++_, map, map-map, List·Memᴰ as Mem}
-use mathlib.Core.Bool.{Bool, true, _&&_}
+use mathlib.Core.Bool.{Bool, true, _&&_, false≢true}
 use native.Mathlib.Nat.{zero-add}
 use native.Mathlib.Omega.{arith}
 use borrow.Author.Tests.{ltb-true, lt-ltb, eqb-true}
@@ -15,16 +15,18 @@ use Rattle.records.specs.Bytes.{all}
 use Rattle.records.specs.Gate.{Gate, operands, gateValue}
 use Rattle.records.specs.Netlist.{netAt, extended, valueOf, values}
 use Rattle.records.specs.Job.{Job, Candidate}
-use Rattle.records.specs.Refusal.{netlistsGood, outputsGood, oldNets, goldenNets, gatesGood, candidateGood, candidatesGood}
-use Rattle.records.proofs.Laws.Bytes.{and-left, and-right, length-tabulate, getD-tabulate}
+use Rattle.records.specs.Refusal.{netlistsGood, outputsGood, oldNets, goldenNets, gatesGood, ascending, candidateGood, candidatesGood}
+use Rattle.records.specs.Sheet.{Patch, costOf, isCandidate, patchGood}
+use Rattle.records.proofs.Laws.Bytes.{and-left, and-right, row-at, all-cons, length-tabulate, getD-tabulate}
 use Rattle.engine.specs.Eval.{bit, bits, numberOf, oldValues, oldOutputs}
 use Rattle.engine.specs.Support.{reading, drivenBy}
 use Rattle.engine.specs.Fit.{led, gateIndices, rank, freeNumber, trees, newNets, moved, movedGates, fitted}
+use Rattle.engine.specs.Claims.{FittedOutputs, FittedGood}
 use Rattle.engine.proofs.Laws.Choice.{map-agree, all-true, all-of-members, or-cases}
 use Rattle.engine.proofs.Laws.Eval.{values-bits, bits-bits, oldValues-agree}
 use Rattle.engine.proofs.Laws.FitGates.{noGate, valueOf-local, Consistent, consistent-left, consistent-right, netAt-extended, consistent-extended}
 use Rattle.engine.proofs.Laws.FitTree.{trees-value}
-use Rattle.engine.proofs.Laws.FitNets.{oldGate, oldNet, old-good, operand-below, operand-unmarked, mark-cases, mark-target, NetCase, input, target, gate, net-case, gate-rank, ledStart, Numbered, number-input, number-target, number-free, number-led, number-support, number-below, operands-moved, kind-moved, length-moved, moved-at, fitted-good}
+use Rattle.engine.proofs.Laws.FitNets.{oldGate, oldNet, old-good, operand-below, operand-unmarked, mark-cases, mark-target, NetCase, input, target, gate, net-case, gate-rank, ledStart, Numbered, number-input, number-target, number-free, number-led, number-support, number-below, operands-moved, kind-moved, length-moved, moved-at, all-mapped, length-fitted, fitted-good}
 
 -- the value of a moved gate, from what the new numbers of its operands have
 valueOf-moved : (ws ns : List ℕ) (g : Gate)
@@ -233,3 +235,65 @@ module _ (j : Job) (is t : List ℕ) (good : netlistsGood j ≡ true)
         ∙ map-agree (λ i. netAt (fittedValues j is t x) (netAt (newNets j is t) i)) (netAt (oldValues j x (drivenBy j is t x)))
         (j .old .outputs)
         (λ i m. driven-same i (output-below j o i m))
+
+-- ---- the fitted netlist's outputs
+
+module _ (j : Job) (is t : List ℕ) where
+  outputs-below : outputsGood j ≡ true
+      → all (λ i. ltb i (j .inputs + length (fitted j is t .gates))) (fitted j is t .outputs) ≡ true
+  unfolding fitted
+  outputs-below o =
+      all-mapped (netAt (newNets j is t)) (j .inputs + length (fitted j is t .gates)) (j .old .outputs)
+      (λ i m. let l = number-below j is t i (output-below j o i m) in omega (arith, length-fitted j is t))
+
+  outputs-count : length (fitted j is t .outputs) ≡ length (j .old .outputs)
+  unfolding fitted
+  outputs-count = length-map (j .old .outputs) (netAt (newNets j is t))
+
+-- ---- accepted sheets
+
+-- a candidate passes the test of candidates
+candidate-good : (j : Job) (cs : List Candidate) → all (λ (c : Candidate). candidateGood j (c .net)) cs ≡ true
+    → (i : ℕ) → isCandidate cs i ≡ true → candidateGood j i ≡ true
+unfolding isCandidate
+candidate-good j [] g i e = absurd (false≢true e)
+candidate-good j (c ∷ cs) g i e =
+    let p = all-cons (λ (d : Candidate). candidateGood j (d .net)) c cs g in
+    ⊎-elim
+    (λ (q : eqb (c .net) i ≡ true). subst (λ (k : ℕ). candidateGood j k ≡ true) (eqb-true (c .net) i q) (p .0))
+    (λ (q : isCandidate cs i ≡ true). candidate-good j cs (p .1) i q)
+    (or-cases (eqb (c .net) i) (isCandidate cs i) e)
+
+-- the support of an accepted sheet is of nets that no target leads to
+support-free : (j : Job) → candidatesGood j ≡ true → (p : Patch) → patchGood (j .targets) (j .candidates) p ≡ true
+    → (i : ℕ) → Mem i (p .support) → (i < oldNets j) × (netAt (led j) i ≡ 0)
+unfolding candidatesGood patchGood candidateGood led
+support-free j g p e i m =
+    let a = ascending (map (λ (c : Candidate). c .net) (j .candidates)) in
+    let q =
+    row-at (ascending (p .support))
+    (all (isCandidate (j .candidates)) (p .support)
+    ∷ all (λ v. ltb v (2 ^ j .targets)) (p .table)
+    ∷ all (λ v. ltb v (2 ^ j .targets)) (p .vectors)
+    ∷ eqb (p .cost) (costOf (j .candidates) (p .support))
+    ∷ [])
+    e
+    1 in
+    let c =
+    candidate-good j (j .candidates) (and-right a (all (λ (c : Candidate). candidateGood j (c .net)) (j .candidates)) g) i
+    (all-true (isCandidate (j .candidates)) (p .support) q i m) in
+    let below = ltb i (oldNets j) in
+    let unmarked = eqb (netAt (led j) i) 0 in
+    (ltb-true i (oldNets j) (and-left below unmarked c), eqb-true (netAt (led j) i) 0 (and-right below unmarked c))
+
+pub fitted-driven : FittedOutputs
+fitted-driven j g p e l x =
+    fitted-outputs j (p .support) (p .table) (g .gates) (support-free j (g .candidates) p e) x l (g .outputs)
+
+pub fitted-netlist : FittedGood
+fitted-netlist j g p e l =
+    let s = support-free j (g .candidates) p e in (
+      fitted-good j (p .support) (p .table) (g .gates) s,
+      outputs-below j (p .support) (p .table) (g .outputs),
+      outputs-count j (p .support) (p .table),
+    )
