@@ -1,34 +1,36 @@
 -- Laws of the numbers that fit gives the old nets (specs/Fit): ranks in an ascending list, the marks of a gate's operands, the new
 -- number of each old net, and that the fitted gates are good. Assumes nothing.
 --
---   Ascends a xs        each element of xs is above the one before, and none is below a
---   NetCase j i         the old net i is an input, a target or a gate's
---   groupStart ..       the new net of the first old gate with a mark
-use Prim.Native.Nat.{ℕ, zero, suc, _+_, _-_, max, _≤_, _<_}
+--   Ascends a xs         each element of xs is above the one before, and none is below a
+--   oldGate j k, oldNet j k    the old gate k, and the old net that it drives
+--   NetCase n m count i  the old net i is an input, a target or a gate's
+--   ledStart j is t      the new net of the first old gate that a target leads to
+--   Numbered .. b start  the new net of each old gate with mark b is start and its rank among them
+use Prim.Native.Nat.{ℕ, zero, suc, _+_, _-_, _≤_, _<_}
 use mathlib.Core.Path.{_≡_, refl, sym, _∙_, ap, subst}
 use mathlib.Core.Logic.{_↔_, _⊎_, inl, inr, ⊎-elim}
 use mathlib.Core.List.{List, [], _∷_, _++_, map, List·Memᴰ as Mem, List·Memᴰ·head as here, List·Memᴰ·tail as there, List·Memᴰ·not-nil as not-nil, List·Memᴰ·cases-cons as cases-cons, Memᴰ·of-map as mem-of-map}
 use mathlib.Core.Bool.{Bool, true, false, cond, _&&_}
-use native.Mathlib.Nat.{add-zero, zero-add}
+use native.Mathlib.Nat.{zero-add}
 use native.Mathlib.Omega.{arith}
 use borrow.Author.Tests.{lt-ltb, le-ltb, ltb-true, ltb-false, eqb-true, eq-eqb, ne-eqb}
 use lib.Dec.{eqb, ltb}
-use lib.ListN.{length, getD, take, drop, replicate, length-append, length-map, length-replicate, List·getD-append, List·getD-map}
+use lib.ListN.{length, getD, take, drop, replicate, length-append, length-map, List·getD-append, List·getD-map}
 use lib.Seq.{getD-append-add}
 use Rattle.records.specs.Bytes.{upFrom, tabulate, all}
 use Rattle.records.specs.Gate.{Gate, gateOf, arity, operands, unused, gateValue, disj}
-use Rattle.records.specs.Netlist.{netAt, extended, markOf, fanout}
+use Rattle.records.specs.Netlist.{netAt, markOf, fanout}
 use Rattle.records.specs.Job.{Job}
 use Rattle.records.specs.Refusal.{gateGood, gatesGood, netlistsGood, oldNets}
 use Rattle.records.specs.Inner.{leafMarks}
-use Rattle.records.proofs.Laws.Bytes.{and-left, and-right, and-both, length-upFrom, getD-upFrom, length-tabulate, getD-tabulate}
+use Rattle.records.proofs.Laws.Bytes.{and-left, length-upFrom, getD-upFrom, getD-tabulate}
 use Rattle.records.proofs.Laws.Gate.{on-bit, gateGood-parts}
 use Rattle.engine.specs.Choice.{keep}
 use Rattle.engine.specs.Fit.{led, gateIndices, rank, freeNet, freeNumber, trees, gateNumber, newNets, moved, movedGates, fitted}
 use Rattle.engine.proofs.Laws.Choice.{all-true, all-of-members, mem-keep, mem-below, keep-lt, true-or-false}
 use Rattle.engine.proofs.Laws.Eval.{Bits, bits-nil, bits-cons, bits-append, bits-map, netAt-lt, gateValue-lt}
 use Rattle.engine.proofs.Laws.Fanout.{leaf-target, length-leafMarks}
-use Rattle.engine.proofs.Laws.FitGates.{noGate, good-append, good-at, good-of-each, markOf-local, Consistent, consistent-extended, netAt-extended, extended-bits}
+use Rattle.engine.proofs.Laws.FitGates.{noGate, good-append, good-at, good-of-each, markOf-local, consistent-extended, netAt-extended, extended-bits}
 use Rattle.engine.proofs.Laws.FitTree.{length-nets, trees-good, trees-below}
 
 -- ---- lists

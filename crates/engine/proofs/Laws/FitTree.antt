@@ -3,13 +3,13 @@
 use Prim.Native.Nat.{ℕ, zero, suc, _+_, _-_, _*_, _^_, min, max, _≤_, _<_}
 use mathlib.Core.Path.{_≡_, refl, sym, _∙_, ap, subst}
 use mathlib.Core.Logic.{⊎-elim}
-use mathlib.Core.List.{List, [], _∷_, _++_, map, map-append, append-assoc}
-use mathlib.Core.Bool.{Bool, true, false, cond, true≢false}
+use mathlib.Core.List.{List, [], _∷_, _++_, map, map-append}
+use mathlib.Core.Bool.{true, false}
 use native.Mathlib.Nat.{add-zero, add-comm, zero-mul, one-mul, mul-assoc, pow-suc}
 use native.Mathlib.Omega.{arith}
 use borrow.Author.Tests.{eqb-true, lt-ltb}
 use lib.Dec.{eqb, ltb}
-use lib.ListN.{length, getD, take, drop, length-append, length-take, length-drop, length-map, List·getD-map}
+use lib.ListN.{length, getD, take, drop, length-append, length-drop, length-map, List·getD-map}
 use lib.Seq.{getD-take, getD-drop, take-suc, length-take-le, take-length}
 use Rattle.records.specs.Bytes.{all}
 use Rattle.records.specs.Gate.{Gate, gateOf, arity, operands, unused, gateValue, conj, disj, inverted}
@@ -24,7 +24,7 @@ use Rattle.engine.specs.Fit.{Trees, treesFrom}
 use Rattle.engine.proofs.Laws.Choice.{true-or-false, same-true}
 use Rattle.engine.proofs.Laws.Eval.{Bits, bits-nil, bits-cons, getD-bits, bits-map, bit-lt, netAt-lt, numberOf-lt}
 use Rattle.engine.proofs.Laws.Word.{bit-zero}
-use Rattle.engine.proofs.Laws.FitGates.{noGate, good-append, Consistent, consistent-left, consistent-right}
+use Rattle.engine.proofs.Laws.FitGates.{good-append, Consistent, consistent-left, consistent-right}
 
 -- ---- the cases of a tree
 
@@ -321,26 +321,26 @@ module _ (ws : List ℕ) (b : Bits ws) where
 
 -- ---- a tree for each target
 
--- the gates of target k's tree, from net next on, and what stands after them
-module _ (m k next : ℕ) (is t : List ℕ) where
-  abbrev firstTree : List Gate
-  firstTree = tree (length is) next is (column t k)
+-- the gates of target k's tree, from net next on
+abbrev firstTree : ℕ → ℕ → List ℕ → List ℕ → List Gate
+firstTree k next is t = tree (length is) next is (column t k)
 
-  abbrev laterTrees : Trees
-  laterTrees = treesFrom m (suc k) (next + length firstTree) is t
+-- the trees of the m targets after it
+abbrev laterTrees : ℕ → ℕ → ℕ → List ℕ → List ℕ → Trees
+laterTrees m k next is t = treesFrom m (suc k) (next + length (firstTree k next is t)) is t
 
 pub length-nets : (m k next : ℕ) (is t : List ℕ) → length (treesFrom m k next is t .nets) ≡ m
 unfolding treesFrom
 length-nets zero k next is t = refl
 length-nets (suc m) k next is t =
-    ap suc (length-nets m (suc k) (next + length (firstTree m k next is t)) is t)
+    ap suc (length-nets m (suc k) (next + length (firstTree k next is t)) is t)
 
 pub trees-good : (m k next : ℕ) (is t : List ℕ) → ((i : ℕ) → i < length is → getD is i 0 < next)
     → gatesGood next (treesFrom m k next is t .gates) ≡ true
 unfolding treesFrom gatesGood
 trees-good zero k next is t h = refl
 trees-good (suc m) k next is t h =
-    let gs = firstTree m k next is t in
+    let gs = firstTree k next is t in
     good-append next gs (laterTrees m k next is t .gates)
     (tree-good (length is) next is (column t k) h)
     (trees-good m (suc k) (next + length gs) is t (λ i l. let p = h i l in omega arith))
@@ -351,10 +351,10 @@ pub trees-below : (m k next : ℕ) (is t : List ℕ) (i : ℕ) → i < m
 unfolding treesFrom
 trees-below zero k next is t i h = let f : ⊥ = omega arith in absurd f
 trees-below (suc m) k next is t zero h =
-    let gs = firstTree m k next is t in
+    let gs = firstTree k next is t in
     omega (arith, tree-some (length is) next is (column t k), length-append gs (laterTrees m k next is t .gates))
 trees-below (suc m) k next is t (suc i) h =
-    let gs = firstTree m k next is t in
+    let gs = firstTree k next is t in
     let r = trees-below m (suc k) (next + length gs) is t i (omega arith) in
     omega (arith, length-append gs (laterTrees m k next is t .gates))
 
@@ -378,14 +378,14 @@ pub trees-value : (ws : List ℕ) → Bits ws → (m k next : ℕ) (is t : List 
 unfolding treesFrom
 trees-value ws b zero k next is t l c i h = let f : ⊥ = omega arith in absurd f
 trees-value ws b (suc m) k next is t l c zero h =
-    let gs = firstTree m k next is t in
+    let gs = firstTree k next is t in
     let r = numberOf (map (netAt ws) is) in
     tree-value ws b next is (column t k) (column-bits t k) (length-column t k ∙ l)
     (consistent-left valueOf ws next gs (laterTrees m k next is t .gates) c)
     ∙ column-entry t k r
     ∙ ap (λ (n : ℕ). bit n (getD t r 0)) (sym (add-zero k))
 trees-value ws b (suc m) k next is t l c (suc i) h =
-    let gs = firstTree m k next is t in
+    let gs = firstTree k next is t in
     let e : suc k + i ≡ k + suc i = omega arith in
     trees-value ws b m (suc k) (next + length gs) is t l
     (consistent-right valueOf ws next gs (laterTrees m k next is t .gates) c)

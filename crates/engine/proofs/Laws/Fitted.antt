@@ -1,30 +1,30 @@
 -- Laws of the fitted netlist (specs/Fit): in its values each old net's new number has the value of the old net in the circuit
 -- driven by the table. Assumes nothing.
 use Prim.Native.Nat.{ℕ, zero, suc, _+_, _^_, _<_}
-use mathlib.Core.Path.{_≡_, refl, sym, _∙_, ap, subst}
+use mathlib.Core.Path.{_≡_, sym, _∙_, ap, subst}
 use mathlib.Core.Logic.{⊎-elim}
 use mathlib.Core.List.{List, [], _∷_, _++_, map, map-map, List·Memᴰ as Mem}
-use mathlib.Core.Bool.{Bool, true, _&&_, false≢true}
+use mathlib.Core.Bool.{true, _&&_, false≢true}
 use native.Mathlib.Nat.{zero-add}
 use native.Mathlib.Omega.{arith}
-use borrow.Author.Tests.{ltb-true, lt-ltb, eqb-true}
+use borrow.Author.Tests.{ltb-true, eqb-true}
 use lib.Dec.{eqb, ltb}
 use lib.ListN.{length, getD, length-append, length-map, List·getD-append}
 use lib.Seq.{getD-append-add}
 use Rattle.records.specs.Bytes.{all}
 use Rattle.records.specs.Gate.{Gate, operands, gateValue}
-use Rattle.records.specs.Netlist.{netAt, extended, valueOf, values}
+use Rattle.records.specs.Netlist.{netAt, valueOf, values}
 use Rattle.records.specs.Job.{Job, Candidate}
-use Rattle.records.specs.Refusal.{netlistsGood, outputsGood, oldNets, goldenNets, gatesGood, ascending, candidateGood, candidatesGood}
+use Rattle.records.specs.Refusal.{netlistsGood, outputsGood, oldNets, goldenNets, ascending, candidateGood, candidatesGood}
 use Rattle.records.specs.Sheet.{Patch, costOf, isCandidate, patchGood}
 use Rattle.records.proofs.Laws.Bytes.{and-left, and-right, row-at, all-cons, length-tabulate, getD-tabulate}
 use Rattle.engine.specs.Eval.{bit, bits, numberOf, oldValues, oldOutputs}
 use Rattle.engine.specs.Support.{reading, drivenBy}
 use Rattle.engine.specs.Fit.{led, gateIndices, rank, freeNumber, trees, newNets, moved, movedGates, fitted}
 use Rattle.engine.specs.Claims.{FittedOutputs, FittedGood}
-use Rattle.engine.proofs.Laws.Choice.{map-agree, all-true, all-of-members, or-cases}
-use Rattle.engine.proofs.Laws.Eval.{values-bits, bits-bits, oldValues-agree}
-use Rattle.engine.proofs.Laws.FitGates.{noGate, valueOf-local, Consistent, consistent-left, consistent-right, netAt-extended, consistent-extended}
+use Rattle.engine.proofs.Laws.Choice.{map-agree, all-true, or-cases}
+use Rattle.engine.proofs.Laws.Eval.{values-bits, bits-bits}
+use Rattle.engine.proofs.Laws.FitGates.{valueOf-local, Consistent, consistent-left, consistent-right, netAt-extended, consistent-extended}
 use Rattle.engine.proofs.Laws.FitTree.{trees-value}
 use Rattle.engine.proofs.Laws.FitNets.{oldGate, oldNet, old-good, operand-below, operand-unmarked, mark-cases, mark-target, NetCase, input, target, gate, net-case, gate-rank, ledStart, Numbered, number-input, number-target, number-free, number-led, number-support, number-below, operands-moved, kind-moved, length-moved, moved-at, all-mapped, length-fitted, fitted-good}
 
