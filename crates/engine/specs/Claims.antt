@@ -101,9 +101,9 @@ abbrev pub FittedOutputs : Type 0
 FittedOutputs =
     (j : Job) → PartsGood j → (p : Patch) → patchGood (j .targets) (j .candidates) p ≡ true
     → length (p .table) ≡ 2 ^ length (p .support)
-    → (x : ℕ)
-    → map (netAt (values (bits (j .inputs) x) (fitted j (p .support) (p .table) .gates))) (fitted j (p .support) (p .table) .outputs)
-    ≡ oldOutputs j x (drivenBy j (p .support) (p .table) x)
+    → let l = fitted j (p .support) (p .table) in
+    (x : ℕ)
+    → map (netAt (values (bits (j .inputs) x) (l .gates))) (l .outputs) ≡ oldOutputs j x (drivenBy j (p .support) (p .table) x)
 
 -- .. and it is a netlist over the job's inputs and no targets: its gates are good, its output nets exist, and there are as many
 -- as the old ones.
@@ -111,7 +111,7 @@ abbrev pub FittedGood : Type 0
 FittedGood =
     (j : Job) → PartsGood j → (p : Patch) → patchGood (j .targets) (j .candidates) p ≡ true
     → length (p .table) ≡ 2 ^ length (p .support)
-    → (gatesGood (j .inputs) (fitted j (p .support) (p .table) .gates) ≡ true)
-    × (all (λ o. ltb o (j .inputs + length (fitted j (p .support) (p .table) .gates))) (fitted j (p .support) (p .table) .outputs)
-    ≡ true)
-    × (length (fitted j (p .support) (p .table) .outputs) ≡ length (j .old .outputs))
+    → let l = fitted j (p .support) (p .table) in
+    (gatesGood (j .inputs) (l .gates) ≡ true)
+    × (all (λ o. ltb o (j .inputs + length (l .gates))) (l .outputs) ≡ true)
+    × (length (l .outputs) ≡ length (j .old .outputs))

@@ -1,5 +1,5 @@
--- Laws of the numbers that fit gives the old nets (specs/Fit): ranks in an ascending list, the marks of a gate's operands, the new
--- number of each old net, and that the fitted gates are good. Assumes nothing.
+-- Laws of the numbers that fit gives the old nets (specs/Fit): ranks in an ascending list, the marks of a gate's operands,
+-- the new number of each old net, and that the fitted gates are good. Assumes nothing.
 --
 --   Ascends a xs         each element of xs is above the one before, and none is below a
 --   oldGate j k, oldNet j k    the old gate k, and the old net that it drives
@@ -103,7 +103,8 @@ rank-mem {k = k} {xs = xs} s m =
 rank-lt : (xs : List ℕ) (k l : ℕ) → k < l → Mem k xs → rank xs k < rank xs l
 unfolding rank
 rank-lt xs k l h m =
-    keep-lt (λ x. ltb x l) (λ x. ltb x k) (λ x e. le-ltb x k (omega (arith, ltb-false x l e))) m (lt-ltb k l h) (le-ltb k k (omega arith))
+    keep-lt (λ x. ltb x l) (λ x. ltb x k) (λ x e. le-ltb x k (omega (arith, ltb-false x l e))) m (lt-ltb k l h)
+    (le-ltb k k (omega arith))
 
 -- ---- marks
 

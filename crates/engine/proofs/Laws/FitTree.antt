@@ -131,10 +131,12 @@ good-case k next is col low ih choice =
     let e : h + 1 ≡ next + length (ls ++ hs) = omega (arith, length-append ls hs) in
     good-append next (ls ++ hs) (choosers s l h (h + 1))
     (good-append next ls hs (ih next (take (2 ^ k) col) (omega arith)) (ih (next + length ls) (drop (2 ^ k) col) (omega arith)))
-    (subst (λ (n : ℕ). gatesGood n (choosers s l h (h + 1)) ≡ true) e (mux-good s l h (h + 1) (omega arith) (omega arith) (omega arith)))
+    (subst (λ (n : ℕ). gatesGood n (choosers s l h (h + 1)) ≡ true) e
+    (mux-good s l h (h + 1) (omega arith) (omega arith) (omega arith)))
 
 -- the gates of a tree over nets below its first
-pub tree-good : (k next : ℕ) (is col : List ℕ) → ((i : ℕ) → i < k → getD is i 0 < next) → gatesGood next (tree k next is col) ≡ true
+pub tree-good : (k next : ℕ) (is col : List ℕ) → ((i : ℕ) → i < k → getD is i 0 < next)
+    → gatesGood next (tree k next is col) ≡ true
 unfolding tree
 tree-good zero next is col h =
     ⊎-elim
@@ -185,7 +187,8 @@ entry-halves col k q s h b =
     on-bit
     (λ x. getD col (q + x * 2 ^ k) 0 ≡ getD (getD (take (2 ^ k) col) q 0 ∷ getD (drop (2 ^ k) col) q 0 ∷ []) x 0)
     (ap (λ (r : ℕ). getD col r 0) (ap (λ (r : ℕ). q + r) (zero-mul (2 ^ k)) ∙ add-zero q) ∙ sym (getD-take (2 ^ k) col q 0 h))
-    (ap (λ (r : ℕ). getD col r 0) (ap (λ (r : ℕ). q + r) (one-mul (2 ^ k)) ∙ add-comm q (2 ^ k)) ∙ sym (getD-drop (2 ^ k) col q 0))
+    (ap (λ (r : ℕ). getD col r 0) (ap (λ (r : ℕ). q + r) (one-mul (2 ^ k)) ∙ add-comm q (2 ^ k))
+    ∙ sym (getD-drop (2 ^ k) col q 0))
     s
     b
 

@@ -11,13 +11,15 @@ use borrow.Author.Tests.{ltb-true, eqb-true}
 use lib.Dec.{eqb, ltb}
 use lib.ListN.{length, getD, length-append, length-map, List·getD-append}
 use lib.Seq.{getD-append-add}
-use Rattle.records.specs.Bytes.{all}
+use Rattle.records.specs.Bytes.{all, nth}
 use Rattle.records.specs.Gate.{Gate, operands, gateValue}
 use Rattle.records.specs.Netlist.{netAt, valueOf, values}
 use Rattle.records.specs.Job.{Job, Candidate}
 use Rattle.records.specs.Refusal.{netlistsGood, outputsGood, oldNets, goldenNets, ascending, candidateGood, candidatesGood}
-use Rattle.records.specs.Sheet.{Patch, costOf, isCandidate, patchGood}
+use Rattle.records.specs.Sheet.{Patch, patchOf, sheetWhole, costOf, isCandidate, patchGood}
 use Rattle.records.proofs.Laws.Bytes.{and-left, and-right, row-at, all-cons, length-tabulate, getD-tabulate}
+use Rattle.records.proofs.Laws.Shape.{length-netsOf}
+use Rattle.records.proofs.Laws.SheetShape.{sheetWhole-facts}
 use Rattle.engine.specs.Eval.{bit, bits, numberOf, oldValues, oldOutputs}
 use Rattle.engine.specs.Support.{reading, drivenBy}
 use Rattle.engine.specs.Fit.{led, gateIndices, rank, freeNumber, trees, newNets, moved, movedGates, fitted}
@@ -64,7 +66,9 @@ module _ (j : Job) (is t : List ℕ) (good : netlistsGood j ≡ true) (ws vs : L
   gate-same k h same =
       let ns = newNets j is t in
       let g = oldGate j k in
-      ⊎-elim (group-value 0 (j .inputs) (number-free j is t) free k h) (group-value 1 (ledStart j is t) (number-led j is t) rest k h)
+      ⊎-elim
+      (group-value 0 (j .inputs) (number-free j is t) free k h)
+      (group-value 1 (ledStart j is t) (number-led j is t) rest k h)
       (mark-cases j (oldNet j k))
       ∙ valueOf-moved ws ns g
       ∙ ap (gateValue (g .kind)) (map-agree (λ i. netAt ws (netAt ns i)) (netAt vs) (operands g) same)
@@ -110,6 +114,10 @@ length-bits k x = length-tabulate k (λ i. bit i x)
 abbrev pub fittedValues : Job → List ℕ → List ℕ → ℕ → List ℕ
 fittedValues j is t x = values (bits (j .inputs) x) (fitted j is t .gates)
 
+-- at input x, the new number of old net i has the value that net i has with the targets set to vector v
+abbrev pub Kept : Job → List ℕ → List ℕ → ℕ → ℕ → ℕ → Type 0
+Kept j is t x v i = netAt (fittedValues j is t x) (netAt (newNets j is t) i) ≡ netAt (oldValues j x v) i
+
 module _ (j : Job) (is t : List ℕ) (good : netlistsGood j ≡ true)
     (support : (i : ℕ) → Mem i is → (i < oldNets j) × (netAt (led j) i ≡ 0)) (x : ℕ) where
   fitted-consistent : Consistent valueOf (fittedValues j is t x) (j .inputs) (fitted j is t .gates)
@@ -148,7 +156,7 @@ module _ (j : Job) (is t : List ℕ) (good : netlistsGood j ≡ true)
         (length-append xs ys ∙ omega (arith, length-bits (j .inputs) x, length-bits (j .targets) v))
         (old-good j good)
 
-    input-same : (i : ℕ) → i < j .inputs → netAt (fittedValues j is t x) (netAt (newNets j is t) i) ≡ netAt (oldValues j x v) i
+    input-same : (i : ℕ) → i < j .inputs → Kept j is t x v i
     unfolding oldValues values netAt
     input-same i h =
         let xs = bits (j .inputs) x in
@@ -174,17 +182,20 @@ module _ (j : Job) (is t : List ℕ) (good : netlistsGood j ≡ true)
     same-nets : (kind : ℕ → Type 0)
         → ((k : ℕ) → k < length (j .old .gates) → kind (oldNet j k) → (i : ℕ) → Mem i (operands (oldGate j k)) → kind i)
         → ((i : ℕ) → i < j .targets → kind (j .inputs + i)
-        → netAt (fittedValues j is t x) (netAt (newNets j is t) (j .inputs + i)) ≡ netAt (oldValues j x v) (j .inputs + i))
+        → Kept j is t x v (j .inputs + i))
         → (i : ℕ) → i < oldNets j → kind i
-        → netAt (fittedValues j is t x) (netAt (newNets j is t) i) ≡ netAt (oldValues j x v) i
+        → Kept j is t x v i
     same-nets kind closed targets =
-        all-same j is t good (fittedValues j is t x) (oldValues j x v) (fitted-groups .0) (fitted-groups .2) old-consistent kind closed
+        all-same j is t good (fittedValues j is t x) (oldValues j x v) (fitted-groups .0) (fitted-groups .2)
+        old-consistent
+        kind
+        closed
         input-same
         targets
 
     -- a net that no target leads to, whatever the vector
     free-same : (i : ℕ) → i < oldNets j → netAt (led j) i ≡ 0
-        → netAt (fittedValues j is t x) (netAt (newNets j is t) i) ≡ netAt (oldValues j x v) i
+        → Kept j is t x v i
     free-same =
         same-nets (λ i. netAt (led j) i ≡ 0) (operand-unmarked j good)
         (λ i h e. let f : ⊥ = omega (arith, mark-target j i h) in absurd f)
@@ -222,7 +233,7 @@ module _ (j : Job) (is t : List ℕ) (good : netlistsGood j ≡ true)
 
     -- every old net's new number has the value of the old net in the driven circuit
     pub driven-same : (i : ℕ) → i < oldNets j
-        → netAt (fittedValues j is t x) (netAt (newNets j is t) i) ≡ netAt (oldValues j x (drivenBy j is t x)) i
+        → Kept j is t x (drivenBy j is t x) i
     driven-same i h =
         let v = drivenBy j is t x in
         same-nets v (λ i. Unit {0}) (λ k l q a m. tt) (λ a l q. driven-target a l ∙ sym (target-value v a l)) i h tt
@@ -285,6 +296,11 @@ support-free j g p e i m =
     let below = ltb i (oldNets j) in
     let unmarked = eqb (netAt (led j) i) 0 in
     (ltb-true i (oldNets j) (and-left below unmarked c), eqb-true (netAt (led j) i) 0 (and-right below unmarked c))
+
+-- an accepted sheet's table has an entry for each reading
+pub sheet-entries : (m : ℕ) (s : List ℕ) → sheetWhole m s ≡ true → length (patchOf s .table) ≡ 2 ^ length (patchOf s .support)
+unfolding patchOf
+sheet-entries m s e = sheetWhole-facts m s e .table ∙ ap (λ (k : ℕ). 2 ^ k) (sym (length-netsOf (nth 0 s)))
 
 pub fitted-driven : FittedOutputs
 fitted-driven j g p e l x =
