@@ -8,6 +8,10 @@ pub mod Drive
 pub mod Eval
 pub mod EvalWords
 pub mod Fanout
+pub mod FitGates
+pub mod FitNets
+pub mod FitTree
+pub mod Fitted
 pub mod Loop
 pub mod Masks
 pub mod Outputs

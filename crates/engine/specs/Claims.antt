@@ -7,28 +7,31 @@
 --   Readings                a reading does not depend on the vector, so it is the one that the driven circuit has
 --   PatchExactly, PatchTable, LeastCost     a patch is given exactly when there is a table; it is one; none costs less
 --   UnfixableExactly, BlindExactly          the two other verdicts
+--   FittedOutputs, FittedGood               the outputs of the netlist that fit gives, for any accepted sheet, and that it is one
 --   DecideAccepts, DecideRefuses, DecideIndependent, LongestSheet     what decide accepts; a refusal alters nothing; what the
 --                           buffer held before plays no part; no sheet has more than 1,076 bytes
 --   GivesPatch, PatchGiven, GivesUnfixable, GivesBlind, VectorsGiven  the same of what decide replies and writes
 --   CompareAccepts, ComparesEqual, ComparesDiffers                    what compare accepts and replies
-use Prim.Native.Nat.{ℕ, _^_, _≤_, _<_}
+use Prim.Native.Nat.{ℕ, _+_, _^_, _≤_, _<_}
 use mathlib.Core.Path.{_≡_}
 use mathlib.Core.Logic.{_↔_}
 use mathlib.Core.List.{List, [], _∷_, _++_, List·Memᴰ, map}
 use mathlib.Core.Bool.{true, false}
 use mathlib.Core.Option.{none, some}
+use lib.Dec.{ltb}
 use lib.ListN.{length, getD, take}
-use Rattle.records.specs.Bytes.{field}
-use Rattle.records.specs.Netlist.{netAt}
+use Rattle.records.specs.Bytes.{all, field}
+use Rattle.records.specs.Netlist.{netAt, values}
 use Rattle.records.specs.Job.{Job, jobWhole, jobOf}
-use Rattle.records.specs.Refusal.{candidatesGood}
+use Rattle.records.specs.Refusal.{gatesGood, candidatesGood}
 use Rattle.records.specs.Sheet.{Patch, patchOf, sheetWhole, patchGood}
 use Rattle.records.specs.Claims.{PartsGood}
-use Rattle.engine.specs.Eval.{numberOf, oldValues, oldOutputs, goldenOutputs}
+use Rattle.engine.specs.Eval.{bits, numberOf, oldValues, oldOutputs, goldenOutputs}
 use Rattle.engine.specs.Rectify.{rectifies, rectifiable, vectorLoop}
 use Rattle.engine.specs.Support.{reading, drivenBy, Carries, shared, tableOf, candidateNets, subsets, cost}
 use Rattle.engine.specs.Verdict.{Ruling, patch, unfixable, blind, ruling, rulingFields, sheetOf, longestSheet, decideNumber, decidedBytes}
 use Rattle.engine.specs.Reply.{verdictFields, declinedReply, decideReply, comparisonOf, compareNumber, compareReply}
+use Rattle.engine.specs.Fit.{fitted}
 
 abbrev pub In : {A : Type 0} → A → List A → Type 0
 In x xs = List·Memᴰ x xs
@@ -95,6 +98,27 @@ BlindExactly =
     × (r < 2 ^ length (candidateNets j))
     × (shared j (candidateNets j) r ≡ none)
     × ((q : ℕ) → q < r → shared j (candidateNets j) q ≡ none → ⊥))
+
+-- "Any netlist we fit, whoever wrote the sheet, has on every input the outputs of the old circuit driven by the sheet's table."
+-- The sheet is any that is accepted; its table need not be sound.
+abbrev pub FittedOutputs : Type 0
+FittedOutputs =
+    (j : Job) → PartsGood j → (p : Patch) → patchGood (j .targets) (j .candidates) p ≡ true
+    → length (p .table) ≡ 2 ^ length (p .support)
+    → let l = fitted j (p .support) (p .table) in
+    (x : ℕ)
+    → map (netAt (values (bits (j .inputs) x) (l .gates))) (l .outputs) ≡ oldOutputs j x (drivenBy j (p .support) (p .table) x)
+
+-- .. and it is a netlist over the job's inputs and no targets: its gates are good, its output nets exist, and there are as many
+-- as the old ones.
+abbrev pub FittedGood : Type 0
+FittedGood =
+    (j : Job) → PartsGood j → (p : Patch) → patchGood (j .targets) (j .candidates) p ≡ true
+    → length (p .table) ≡ 2 ^ length (p .support)
+    → let l = fitted j (p .support) (p .table) in
+    (gatesGood (j .inputs) (l .gates) ≡ true)
+    × (all (λ o. ltb o (j .inputs + length (l .gates))) (l .outputs) ≡ true)
+    × (length (l .outputs) ≡ length (j .old .outputs))
 
 -- ---- what decide replies
 
