@@ -15,17 +15,18 @@ static const int last = WORDS;
 
 static uint8_t data[65536], sheets[KINDS][LONGEST_SHEET];
 static size_t data_len, lens[KINDS];
+static uint32_t numbers[KINDS];
 
 #ifdef ENGINE
-/* A slice is a pointer and a count; the sheet's length is returned, 0 on refusal. */
-size_t engine_decide(const uint8_t *job, size_t, uint8_t *reply, size_t);
+/* A slice is a pointer and a count; the sheet's length is returned, 0 on refusal, and the number is left in its place. */
+size_t engine_decide(const uint8_t *job, size_t, uint8_t *reply, size_t, uint32_t *number);
 
-static void ours(void) { lens[OURS] = engine_decide(data, data_len, sheets[OURS], LONGEST_SHEET); }
+static void ours(void) { lens[OURS] = engine_decide(data, data_len, sheets[OURS], LONGEST_SHEET, &numbers[OURS]); }
 #endif
 
-static void plain(void) { plain_decide(data, data_len, sheets[PLAIN], LONGEST_SHEET, &lens[PLAIN]); }
+static void plain(void) { numbers[PLAIN] = plain_decide(data, data_len, sheets[PLAIN], LONGEST_SHEET, &lens[PLAIN]); }
 
-static void words(void) { words_decide(data, data_len, sheets[WORDS], LONGEST_SHEET, &lens[WORDS]); }
+static void words(void) { numbers[WORDS] = words_decide(data, data_len, sheets[WORDS], LONGEST_SHEET, &lens[WORDS]); }
 
 /* Milliseconds of one call. */
 static double timed(void (*call)(void)) {
@@ -34,10 +35,12 @@ static double timed(void (*call)(void)) {
     return (now() - start) / 1000;
 }
 
-/* All have written the same sheet, and not an empty one. */
+/* All have accepted the job and written the same sheet, and not an empty one. */
 static int agree(void) {
-    for (int k = 0; k <= last; k++)
-        if (lens[k] == 0 || lens[k] != lens[PLAIN] || memcmp(sheets[k], sheets[PLAIN], lens[k])) return 0;
+    for (int k = 0; k <= last; k++) {
+        if (numbers[k] != 0 || lens[k] == 0 || lens[k] != lens[PLAIN]) return 0;
+        if (memcmp(sheets[k], sheets[PLAIN], LONGEST_SHEET)) return 0;
+    }
     return 1;
 }
 

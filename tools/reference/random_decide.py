@@ -4,7 +4,7 @@
 
     python3 tools/reference/random_decide.py
 
-    tools/run_decide.draft/stdin, stdout   calls of decide and compare, and the lines that this reference gives
+    crates/run_decide/stdin, stdout   calls of decide and compare, and the lines that this reference gives
 
 It prints how many calls of each class there are. With --try FILE, a file of lines that run_decide wrote, it compares
 them with the stored ones and prints each line that differs with its call.
@@ -29,7 +29,7 @@ from job import Candidate, Gate, Job, Netlist, encode
 
 SEED = 1364
 TOP = os.path.dirname(os.path.dirname(os.path.dirname(os.path.abspath(__file__))))
-STORE = "tools/run_decide.draft"
+STORE = "crates/run_decide"
 QUOTAS = {
     "patch over 0 nets": 200,
     "patch over 1 net": 250,
