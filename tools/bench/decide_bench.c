@@ -1,28 +1,21 @@
-/* Times decide on full-size jobs by the plain C of decide_plain.c, the word C of decide_words.c and, where ENGINE is
- * defined, the engine (crates/engine_c, linked as an archive), in one run, and checks that all give the same sheet.
- * tools/bench/run builds and runs it.
+/* Times decide on full-size jobs by the plain C of decide_plain.c, the word C of decide_words.c and the engine
+ * (crates/engine_c, linked as an archive), in one run, and checks that all give the same sheet. tools/bench/run builds
+ * and runs it.
  *
  *     decide_bench TURNS JOB..       plain C once a job, the others TURNS times in turn */
 #include "decide.h"
 
 /* The programs in the order of their columns. */
 enum { PLAIN, WORDS, OURS, KINDS };
-#ifdef ENGINE
-static const int last = OURS;
-#else
-static const int last = WORDS;
-#endif
 
 static uint8_t data[65536], sheets[KINDS][LONGEST_SHEET];
 static size_t data_len, lens[KINDS];
 static uint32_t numbers[KINDS];
 
-#ifdef ENGINE
 /* A slice is a pointer and a count; the sheet's length is returned, 0 on refusal, and the number is left in its place. */
 size_t engine_decide(const uint8_t *job, size_t, uint8_t *reply, size_t, uint32_t *number);
 
 static void ours(void) { lens[OURS] = engine_decide(data, data_len, sheets[OURS], LONGEST_SHEET, &numbers[OURS]); }
-#endif
 
 static void plain(void) { numbers[PLAIN] = plain_decide(data, data_len, sheets[PLAIN], LONGEST_SHEET, &lens[PLAIN]); }
 
@@ -37,7 +30,7 @@ static double timed(void (*call)(void)) {
 
 /* All have accepted the job and written the same sheet, and not an empty one. */
 static int agree(void) {
-    for (int k = 0; k <= last; k++) {
+    for (int k = 0; k < KINDS; k++) {
         if (numbers[k] != 0 || lens[k] == 0 || lens[k] != lens[PLAIN]) return 0;
         if (memcmp(sheets[k], sheets[PLAIN], LONGEST_SHEET)) return 0;
     }
@@ -70,19 +63,15 @@ int main(int argc, char **argv) {
         for (int turn = 0; turn < turns; turn++) {
             double ms = timed(words);
             if (turn == 0 || ms < best[WORDS]) best[WORDS] = ms;
-#ifdef ENGINE
             ms = timed(ours);
             if (turn == 0 || ms < best[OURS]) best[OURS] = ms;
-#endif
             if (!agree()) {
-                fprintf(stderr, "decide_bench: not the same sheet for %s\n", argv[i]);
+                fprintf(stderr, "decide_bench: not the same reply to %s\n", argv[i]);
                 return 1;
             }
         }
-        printf("%-24s %10.1f %10.1f", file_name(argv[i]), best[PLAIN], best[WORDS]);
-        if (last == OURS) printf(" %10.1f %14.2f %14.1f", best[OURS], best[OURS] / best[WORDS], best[PLAIN] / best[OURS]);
-        else printf(" %10s", "not linked");
-        printf("\n");
+        printf("%-24s %10.1f %10.1f %10.1f %14.2f %14.1f\n", file_name(argv[i]), best[PLAIN], best[WORDS], best[OURS],
+            best[OURS] / best[WORDS], best[PLAIN] / best[OURS]);
     }
     return 0;
 }
