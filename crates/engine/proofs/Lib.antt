@@ -3,3 +3,4 @@ pub mod Cases
 pub mod Laws
 pub mod Theorems
 pub mod Replies
+pub mod FitReplies

@@ -97,7 +97,7 @@ number-of-length : (d e s : List ℕ) → length d ≡ length e → decideNumber
 unfolding decideNumber firstFailing
 number-of-length d e s h = rw h refl
 
-zero-or-not : (n : ℕ) → (n ≡ 0) ⊎ (n ≡ 0 → ⊥)
+pub zero-or-not : (n : ℕ) → (n ≡ 0) ⊎ (n ≡ 0 → ⊥)
 zero-or-not zero = inl refl
 zero-or-not (suc n) = inr (λ e. let f : ⊥ = omega arith in f)
 

@@ -12,6 +12,7 @@
 --                           buffer held before plays no part; no sheet has more than 1,076 bytes
 --   GivesPatch, PatchGiven, GivesUnfixable, GivesBlind, VectorsGiven  the same of what decide replies and writes
 --   CompareAccepts, ComparesEqual, ComparesDiffers                    what compare accepts and replies
+--   FitAccepts, FitRefuses, FitIndependent, LongestFit, FittedGiven    what fit accepts, replies and writes
 use Prim.Native.Nat.{ℕ, _+_, _^_, _≤_, _<_}
 use mathlib.Core.Path.{_≡_}
 use mathlib.Core.Logic.{_↔_}
@@ -20,18 +21,18 @@ use mathlib.Core.Bool.{true, false}
 use mathlib.Core.Option.{none, some}
 use lib.Dec.{ltb}
 use lib.ListN.{length, getD, take}
-use Rattle.records.specs.Bytes.{all, field}
+use Rattle.records.specs.Bytes.{all, field, nth}
 use Rattle.records.specs.Netlist.{netAt, values}
-use Rattle.records.specs.Job.{Job, jobWhole, jobOf}
-use Rattle.records.specs.Refusal.{gatesGood, candidatesGood}
+use Rattle.records.specs.Job.{Job, jobWhole, jobOf, gatesOf, netsOf}
+use Rattle.records.specs.Refusal.{maxGates, gatesGood, candidatesGood}
 use Rattle.records.specs.Sheet.{Patch, patchOf, sheetWhole, patchGood}
 use Rattle.records.specs.Claims.{PartsGood}
 use Rattle.engine.specs.Eval.{bits, numberOf, oldValues, oldOutputs, goldenOutputs}
 use Rattle.engine.specs.Rectify.{rectifies, rectifiable, vectorLoop}
 use Rattle.engine.specs.Support.{reading, drivenBy, Carries, shared, tableOf, candidateNets, subsets, cost}
 use Rattle.engine.specs.Verdict.{Ruling, patch, unfixable, blind, ruling, rulingFields, sheetOf, longestSheet, decideNumber, decidedBytes}
-use Rattle.engine.specs.Reply.{verdictFields, declinedReply, decideReply, comparisonOf, compareNumber, compareReply}
-use Rattle.engine.specs.Fit.{fitted}
+use Rattle.engine.specs.Reply.{verdictFields, declinedReply, decideReply, comparisonOf, compareNumber, compareReply, fitNumber, fitReply, fittedBuffer}
+use Rattle.engine.specs.Fit.{fitted, fittedBytes, fits, longestFit}
 
 abbrev pub In : {A : Type 0} → A → List A → Type 0
 In x xs = List·Memᴰ x xs
@@ -223,3 +224,48 @@ ComparesDiffers =
     × (oldOutputs (jobOf s) x (drivenBy (jobOf s) (patchOf p .support) (patchOf p .table) x) ≡ goldenOutputs (jobOf s) x → ⊥)
     × ((y : ℕ) → y < x
     → oldOutputs (jobOf s) y (drivenBy (jobOf s) (patchOf p .support) (patchOf p .table) y) ≡ goldenOutputs (jobOf s) y))
+
+-- ---- what fit replies
+
+-- Demand 1, for fit: a buffer for the longest result, a whole job with good parts, a whole patch sheet that is good for it, and at
+-- most 400 gates.
+abbrev pub FitAccepts : Type 0
+FitAccepts =
+    (d s p : List ℕ)
+    → (fitNumber d s p ≡ 0)
+    ↔ ((longestFit ≤ length d) × (compareNumber s p ≡ 0) × (fits (jobOf s) (patchOf p .support) (patchOf p .table) ≡ true))
+
+-- Demand 1: "and a patched netlist over 400 gates, each with the number that document 01 names, length 0 and no lent byte altered".
+abbrev pub FitRefuses : Type 0
+FitRefuses =
+    (d s p : List ℕ) → (fitNumber d s p ≡ 0 → ⊥)
+    → (fitReply d s p ≡ record { number = fitNumber d s p; len = 0 }) × (fittedBuffer d s p ≡ d)
+
+-- Demand 1: "no earlier job plays any part in its reply".
+abbrev pub FitIndependent : Type 0
+FitIndependent =
+    (d e s p : List ℕ) → length d ≡ length e
+    → (fitReply d s p ≡ fitReply e s p)
+    × (take (fitReply d s p .len) (fittedBuffer d s p) ≡ take (fitReply e s p .len) (fittedBuffer e s p))
+
+-- Document 01: "The longest result has 2,075 bytes."
+abbrev pub LongestFit : Type 0
+LongestFit =
+    (s : List ℕ) → PartsGood (jobOf s) → (is t : List ℕ) → fits (jobOf s) is t ≡ true
+    → length (fittedBytes (jobOf s) is t) ≤ longestFit
+
+-- Demand 3: "Any netlist we fit, whoever wrote the sheet, has on every input the outputs of the old circuit driven by the sheet's
+-- table." The netlist is the one that the bytes in the reply buffer hold, over the job's inputs and no targets; it is well formed.
+pub record FittedIn (j : Job) (p : Patch) (b : List ℕ) : Type 0 where
+  pub counts : nth 0 b ≡ j .inputs ∷ 0 ∷ []
+  pub gates : gatesGood (j .inputs) (gatesOf (nth 1 b)) ≡ true
+  pub few : length (gatesOf (nth 1 b)) ≤ maxGates
+  pub nets : all (λ o. ltb o (j .inputs + length (gatesOf (nth 1 b)))) (netsOf (nth 2 b)) ≡ true
+  pub outputs : (x : ℕ)
+      → map (netAt (values (bits (j .inputs) x) (gatesOf (nth 1 b)))) (netsOf (nth 2 b))
+      ≡ oldOutputs j x (drivenBy j (p .support) (p .table) x)
+
+abbrev pub FittedGiven : Type 0
+FittedGiven =
+    (d s p : List ℕ) → fitNumber d s p ≡ 0
+    → FittedIn (jobOf s) (patchOf p) (take (fitReply d s p .len) (fittedBuffer d s p))
