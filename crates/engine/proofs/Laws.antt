@@ -23,6 +23,7 @@ pub mod Support
 pub mod Survey
 pub mod Ternary
 pub mod Text
+pub mod Tree
 pub mod VectorSets
 pub mod Verdict
 pub mod Visit

@@ -17,3 +17,4 @@ pub mod Walk
 pub mod Sets
 pub mod Rule
 pub mod Partial
+pub mod Building

@@ -16,6 +16,7 @@ mod survey;
 mod table;
 mod ternary;
 mod text;
+mod tree;
 mod visit;
 mod word;
 
