@@ -8,6 +8,7 @@ pub mod Drive
 pub mod Eval
 pub mod EvalWords
 pub mod Fanout
+pub mod FitCode
 pub mod Loop
 pub mod Masks
 pub mod Outputs
@@ -26,6 +27,7 @@ pub mod Support
 pub mod Survey
 pub mod Ternary
 pub mod Text
+pub mod Tree
 pub mod VectorSets
 pub mod Verdict
 pub mod Visit

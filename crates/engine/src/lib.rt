@@ -10,12 +10,14 @@ mod fitting;
 mod list;
 mod partial;
 mod rectify;
+mod renumber;
 mod search;
 mod sheet;
 mod survey;
 mod table;
 mod ternary;
 mod text;
+mod tree;
 mod visit;
 mod word;
 

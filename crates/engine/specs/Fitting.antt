@@ -1,0 +1,29 @@
+-- What fit's private functions require and give. No public contract cites this file. Assumes nothing.
+--
+--   marked ms base b n      the numbers i below n whose mark, that of net base + i, is b, ascending
+--   Numbered ..             the gates with mark b, among the first n, have consecutive new numbers from first on: r of them
+--   movedFrom gs ns ks      the gates of gs with the numbers ks, their used operands at their new numbers ns
+use Prim.Native.Nat.{ℕ, _+_, _≤_, _<_}
+use mathlib.Core.Path.{_≡_}
+use mathlib.Core.List.{List, [], _∷_, _++_, map}
+use lib.Dec.{eqb}
+use lib.ListN.{length, getD}
+use Rattle.records.specs.Bytes.{upFrom}
+use Rattle.records.specs.Gate.{Gate, gateOf}
+use Rattle.records.specs.Netlist.{netAt}
+use Rattle.engine.specs.Choice.{keep}
+use Rattle.engine.specs.Fit.{moved}
+
+unfoldable pub marked : List ℕ → ℕ → ℕ → ℕ → List ℕ
+marked ms base b n = keep (λ i. eqb (netAt ms (base + i)) b) (upFrom 0 n)
+
+-- the new numbers of all nets before and after; what is not such a gate keeps its own
+pub record Numbered (ms : List ℕ) (base b n first : ℕ) (before after : List ℕ) (r : ℕ) : Type 0 where
+  pub count : r ≡ length (marked ms base b n)
+  pub long : length after ≡ length before
+  pub numbers : (i : ℕ) → i < n → getD ms (base + i) 0 ≡ b → getD after (base + i) 0 ≡ first + length (marked ms base b i)
+  pub leaves : (i : ℕ) → i < base → getD after i 0 ≡ getD before i 0
+  pub others : (i : ℕ) → (i < n → getD ms (base + i) 0 ≡ b → ⊥) → getD after (base + i) 0 ≡ getD before (base + i) 0
+
+unfoldable pub movedFrom : List Gate → List ℕ → List ℕ → List Gate
+movedFrom gs ns ks = map (λ k. moved ns (getD gs k (gateOf 0 0 0))) ks
