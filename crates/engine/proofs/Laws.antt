@@ -14,6 +14,7 @@ pub mod Masks
 pub mod Outputs
 pub mod Partial
 pub mod Picked
+pub mod Printed
 pub mod Read
 pub mod Ready
 pub mod Rectify

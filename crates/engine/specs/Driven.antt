@@ -8,10 +8,10 @@
 --   sheetComparison j p  what compare replies to a good job j and a sheet's bytes p
 use Prim.Native.Nat.{ℕ, _+_, _*_, _^_, _≤_, _<_}
 use mathlib.Core.Path.{_≡_}
-use mathlib.Core.List.{List, [], _++_, map}
+use mathlib.Core.List.{List, _++_, map}
 use mathlib.Core.Bool.{Bool, cond, not}
 use lib.Dec.{eqb}
-use lib.ListN.{length, getD, take}
+use lib.ListN.{length, getD}
 use Rattle.records.specs.Gate.{Gate}
 use Rattle.records.specs.Netlist.{netAt, values}
 use Rattle.records.specs.Job.{Job}

@@ -95,7 +95,8 @@ fn driven_word(
         (differing
         (circuits counts
         (sidePlaces (now (kinds .entry)) (now (firsts .entry)) (now (seconds .entry)) (now (outputs .entry)))
-        (sidePlaces (now («golden_kinds» .entry)) (now («golden_firsts» .entry)) (now («golden_seconds» .entry)) (now («golden_outputs» .entry)))
+        (sidePlaces (now («golden_kinds» .entry)) (now («golden_firsts» .entry)) (now («golden_seconds» .entry))
+        (now («golden_outputs» .entry)))
         [])
         (take (support .len) (support .nets)) (now (table .entry)))
         b r ⌝ }
@@ -176,7 +177,8 @@ fn first_difference(
     ensures { λ r. ⌜ r ≡ comparisonOf (difference
         (circuits counts
         (sidePlaces (now (kinds .entry)) (now (firsts .entry)) (now (seconds .entry)) (now (outputs .entry)))
-        (sidePlaces (now («golden_kinds» .entry)) (now («golden_firsts» .entry)) (now («golden_seconds» .entry)) (now («golden_outputs» .entry)))
+        (sidePlaces (now («golden_kinds» .entry)) (now («golden_firsts» .entry)) (now («golden_seconds» .entry))
+        (now («golden_outputs» .entry)))
         [])
         (take (support .len) (support .nets)) (now (table .entry))) ⌝ }
 {
@@ -234,7 +236,8 @@ fn compare_sheet(
         (jobFrom counts
         (places
         (sidePlaces (now (kinds .entry)) (now (firsts .entry)) (now (seconds .entry)) (now (outputs .entry)))
-        (sidePlaces (now («golden_kinds» .entry)) (now («golden_firsts» .entry)) (now («golden_seconds» .entry)) (now («golden_outputs» .entry)))
+        (sidePlaces (now («golden_kinds» .entry)) (now («golden_firsts» .entry)) (now («golden_seconds» .entry))
+        (now («golden_outputs» .entry)))
         (now (nets .entry)) (now (weights .entry))))
         (now (sheet .entry)) ⌝ }
 {

@@ -17,7 +17,8 @@ use Rattle.records.specs.Netlist.{netAt, values}
 use Rattle.records.specs.Job.{Candidate, jobOf}
 use Rattle.records.specs.Refusal.{Test, firstFailing, partTests, jobTests}
 use Rattle.records.specs.Sheet.{patchOf, isCandidate, sheetTests}
-use Rattle.records.specs.Service.{SidePlaces, Places, sidePlaces, places, sideRoomy, roomy, readNumber, readReply, gatesFrom, netlistFrom, candidatesFrom, jobFrom, sheetRoomy, sheetNumber, sheetReply}
+use Rattle.records.specs.Service.{SidePlaces, Places, sidePlaces, places, gatesFrom, netlistFrom, candidatesFrom, jobFrom}
+use Rattle.records.specs.Service.{sideRoomy, roomy, readNumber, readReply, sheetRoomy, sheetNumber, sheetReply}
 use Rattle.records.specs.declared.job.Counts.{Counts}
 use Rattle.records.specs.declared.reading.ReadReply.{ReadReply}
 use Rattle.records.specs.declared.sheet.SheetReply.{SheetReply}
@@ -31,12 +32,14 @@ use Rattle.engine.specs.Compare.{difference, pairTests}
 use Rattle.engine.specs.Reply.{comparisonOf, compareNumber, compareReply}
 use Rattle.engine.specs.Inner.{outputBits, differs, Outputs, BlockValues, GoldenWords}
 use Rattle.engine.specs.Walk.{circuits, Ready, FanoutMarks}
-use Rattle.engine.specs.Driven.{vectorAt, Drivable, differing, DifferingBits, LowestBit, declinedComparison, sheetComparison}
+use Rattle.engine.specs.Driven.{vectorAt, Drivable, differing, DifferingBits, LowestBit}
+use Rattle.engine.specs.Driven.{declinedComparison, sheetComparison}
 use Rattle.engine.specs.declared.comparing.Comparison.{Comparison}
 use Rattle.engine.specs.declared.comparing.Comparison.the-variants as Comparison
 use Rattle.engine.proofs.Laws.Choice.{true-or-false, or-cases, all-true, all-of-members, Least}
 use Rattle.engine.proofs.Laws.EvalWords.{length-gates}
-use Rattle.engine.proofs.Laws.Ready.{ready-within, ready-outputs-equal, ready-outputs, ready-golden-outputs, ready-candidates, ready-candidates-below}
+use Rattle.engine.proofs.Laws.Ready.{ready-within, ready-outputs-equal, ready-outputs, ready-golden-outputs}
+use Rattle.engine.proofs.Laws.Ready.{ready-candidates, ready-candidates-below}
 use Rattle.engine.proofs.Laws.Rectify.{outputs-of-words}
 use Rattle.engine.proofs.Laws.SheetRead.{ReadSheet, sheet-number, read-sheet}
 use Rattle.engine.proofs.Laws.WalkList.{first-of-least, first-of-none}
@@ -62,7 +65,8 @@ module _ {c : Counts} {old golden : SidePlaces} {nets : List ℕ} (r : Ready c o
   -- the driven old outputs at input x, and k golden ones
   drivenOutputs : ℕ → List ℕ
   drivenOutputs x =
-      map (netAt (values (bits (c .inputs) x ++ bits (c .targets) (vectorAt oldGates (c .inputs) (c .targets) is table x)) oldGates))
+      let v = vectorAt oldGates (c .inputs) (c .targets) is table x in
+      map (netAt (values (bits (c .inputs) x ++ bits (c .targets) v) oldGates))
       (take (c .old .outputs) (old .outputs))
 
   goldenValues : ℕ → ℕ → List ℕ
@@ -70,7 +74,8 @@ module _ {c : Counts} {old golden : SidePlaces} {nets : List ℕ} (r : Ready c o
 
   differing-places : (x : ℕ)
       → differing (circuits c old golden []) is table x ≡ not (same (drivenOutputs x) (goldenValues (c .golden .outputs) x))
-  unfolding rectifies drivenBy reading oldOutputs goldenOutputs oldValues circuits jobFrom netlistFrom vectorAt drivenOutputs goldenValues
+  unfolding rectifies drivenBy reading oldOutputs goldenOutputs oldValues circuits jobFrom netlistFrom vectorAt
+      drivenOutputs goldenValues
   differing-places x = refl
 
   pub differing-bits : (b w : ℕ) {w₀ ow gw : List ℕ} → GoldenWords goldenGates (c .inputs) b gw
@@ -325,7 +330,7 @@ failing-append (t ∷ ts) us z = go (t .number) (t .passes) (failing-append ts u
     go k true f y = f y
     go k false f y = refl
 
-module _ (s q : List ℕ) {r : ReadReply} (e : r ≡ readReply emptyPlaces s) where
+module _ (s : List ℕ) {r : ReadReply} (e : r ≡ readReply emptyPlaces s) where
   read-number : r .number ≡ readNumber emptyPlaces s
   unfolding readReply
   read-number = ap (λ (x : ReadReply). x .number) e
@@ -334,17 +339,18 @@ module _ (s q : List ℕ) {r : ReadReply} (e : r ≡ readReply emptyPlaces s) wh
   unfolding readNumber firstFailing
   job-number = rw roomy-empty
 
-  pub declined-job : (r .number ≡ 0 → ⊥) → record { number = r .number; result = Comparison.Declined } ≡ compareReply s q
+  pub declined-job : (q : List ℕ) → (r .number ≡ 0 → ⊥)
+      → record { number = r .number; result = Comparison.Declined } ≡ compareReply s q
   unfolding compareReply compareNumber pairTests
-  declined-job z =
+  declined-job q z =
       let n : firstFailing (jobTests s) ≡ r .number = sym (read-number ∙ job-number) in
       rw (failing-append (jobTests s) _ (λ a. z (sym n ∙ a)), n, ne-eqb (r .number) 0 z)
 
   pub accepted-job : r .number ≡ 0 → readNumber emptyPlaces s ≡ 0
   accepted-job z = sym read-number ∙ z
 
-  pub compared-job : r .number ≡ 0 → sheetComparison (jobOf s) q ≡ compareReply s q
+  pub compared-job : (q : List ℕ) → r .number ≡ 0 → sheetComparison (jobOf s) q ≡ compareReply s q
   unfolding compareReply compareNumber pairTests jobTests partTests firstFailing sheetComparison declinedComparison
-  compared-job z =
+  compared-job q z =
       let a = read-accepts emptyPlaces s .0 (accepted-job z) in
       rw (a .1, a .2 .counts, a .2 .gates, a .2 .outputs, a .2 .candidates)

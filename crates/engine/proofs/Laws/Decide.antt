@@ -23,7 +23,7 @@ module _ (d s : List ℕ) where
   unfolding decideNumber firstFailing
   number-short h = rw (lt-leb longestSheet (length d) h)
 
-  number-long : longestSheet ≤ length d → decideNumber d s ≡ jobRefusal s
+  pub number-long : longestSheet ≤ length d → decideNumber d s ≡ jobRefusal s
   unfolding decideNumber firstFailing jobRefusal
   number-long h = rw (le-leb longestSheet (length d) h)
 

@@ -2,7 +2,7 @@
 use Prim.Native.Nat.{ℕ, _+_, _-_, _^_, _≤_}
 use mathlib.Core.Path.{_≡_, refl, sym, _∙_, ap, subst}
 use mathlib.Core.Logic.{⊎-elim}
-use mathlib.Core.List.{List, [], _∷_, _++_}
+use mathlib.Core.List.{List, [], _∷_}
 use mathlib.Core.Bool.{true, false, cond}
 use native.Mathlib.Omega.{arith}
 use borrow.Author.Tests.{eqb-true, eq-eqb}
@@ -12,7 +12,7 @@ use lib.Seq.{take-append-seam}
 use Rattle.records.specs.Bytes.{all, nth}
 use Rattle.records.specs.Job.{Candidate, netsOf}
 use Rattle.records.specs.Refusal.{ascending}
-use Rattle.records.specs.Sheet.{Patch, sheetTags, patchOf, sheetWhole, costOf, isCandidate, patchGood}
+use Rattle.records.specs.Sheet.{Patch, sheetTags, patchOf, costOf, isCandidate, patchGood}
 use Rattle.records.specs.Service.{candidatesFrom, sheetNumber, sheetReply}
 use Rattle.records.specs.Inner.{startOf}
 use Rattle.records.specs.declared.sheet.SheetReply.{SheetReply}
@@ -77,7 +77,8 @@ module _ (m k : ℕ) (nets weights p : List ℕ) where
   unfolding sheetReply
   sheet-number = cond-number (sheetNumber m k nets weights p) _ _ refl refl
 
-  sheet-accepted : sheetNumber m k nets weights p ≡ 0 → ReadSheet (candidatesFrom k nets weights) p (sheetReply m k nets weights p)
+  sheet-accepted : sheetNumber m k nets weights p ≡ 0
+      → ReadSheet (candidatesFrom k nets weights) p (sheetReply m k nets weights p)
   unfolding sheetReply patchOf
   sheet-accepted n =
       let cs = candidatesFrom k nets weights in

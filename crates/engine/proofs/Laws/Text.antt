@@ -1,7 +1,7 @@
 -- Laws of specs/Text: digits, numbers and lines placed one after the other, where the fields of a sheet stand and how long its
 -- text is, that the sheet of an accepted job is whole, and what is printed for job A. Assumes nothing.
 use Prim.Native.Nat.{ℕ, zero, suc, _+_, _-_, _*_, _/_, _%_, _^_, _≤_, _<_}
-use mathlib.Core.Path.{_≡_, refl, sym, _∙_, ap}
+use mathlib.Core.Path.{_≡_, refl, sym, _∙_, ap, subst}
 use mathlib.Core.List.{List, [], _∷_, _++_, map, append-assoc, append-nil, List·Memᴰ as Mem, List·Memᴰ·append-cases as append-cases, List·Memᴰ·eq-of-singleton as eq-of-singleton, Memᴰ·of-map as mem-of-map}
 use mathlib.Core.Bool.{Bool, true, false}
 use mathlib.Core.Logic.{⊎-elim}
@@ -31,6 +31,7 @@ use Rattle.engine.specs.Rectify.{vectorLoop}
 use Rattle.engine.specs.Support.{sound, subsets, candidateNets, cost, chosen, tableOf}
 use Rattle.engine.specs.Verdict.{Ruling, patch, unfixable, blind, ruling, fourBytes, rulingFields, sheetOf, longestSheet, decideNumber}
 use Rattle.engine.specs.Cases.{jobA, sheetA, replied, cases, casesHold}
+use Rattle.engine.proofs.Laws.Sheet.{patchBytes-ruling, unfixableBytes-ruling, blindBytes-ruling, patchBytes-le, unfixableBytes-le, blindBytes-le}
 use Rattle.engine.specs.Text.{digitsWithin, digits, patchWord, supportWord, tableWord, vectorsWord, unfixableWord, blindWord, refusedWord, number, numbers, line, patchText, patchSheetText, valueText, sheetText, refusedText, inputLimit, rectifyText, textA, textCases, textCasesHold, PatchSheet, ValueSheet, WholeSheet, isPatch, isUnfixable, isBlind, longestText, Printed, Texted}
 use Rattle.engine.proofs.Laws.Choice.{true-or-false, same-true}
 use Rattle.engine.proofs.Laws.Best.{chosen-sound}
@@ -633,6 +634,25 @@ module _ (j : Job) (g : PartsGood j) where
   pub whole-sheet : WholeSheet (sheetOf j)
   unfolding sheetOf
   whole-sheet = ruling-whole (ruling j) refl
+
+  ruling-le : (v : Ruling) → ruling j ≡ v → length (rulingFields j v ++ field 19 (vectorLoop j .vectors)) ≤ longestSheet
+  ruling-le (patch is) e =
+      let c = patch-chosen j is e in
+      let n : length is ≤ 10 = rw (c .2) (chosen-le (c .1)) in
+      let vs = vectorLoop j .vectors in
+      subst (λ (xs : List ℕ). length xs ≤ longestSheet) (patchBytes-ruling j vs is refl refl)
+      (patchBytes-le vs is (tableOf j is) (cost j is) n (omega (arith, length-tableOf j is, pow-mono {j = 10} n)) vectors-le)
+  ruling-le (unfixable x) e =
+      let vs = vectorLoop j .vectors in
+      subst (λ (xs : List ℕ). length xs ≤ longestSheet) (unfixableBytes-ruling j vs x) (unfixableBytes-le vs x vectors-le)
+  ruling-le (blind r) e =
+      let vs = vectorLoop j .vectors in
+      subst (λ (xs : List ℕ). length xs ≤ longestSheet) (blindBytes-ruling j vs r) (blindBytes-le vs r vectors-le)
+
+  -- .. and has at most 1,076 bytes
+  pub longest-sheet : length (sheetOf j) ≤ longestSheet
+  unfolding sheetOf
+  longest-sheet = ruling-le (ruling j) refl
 
 -- ---- what is printed for job bytes
 

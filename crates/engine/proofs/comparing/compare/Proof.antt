@@ -44,8 +44,9 @@ read-requires c κs = tt
 
 returns : tie.Need-returns
 returns c =
-    let a = c .before .before .before .before .before .before .before .before .before .before .before .before .before .before .before .before .before .before .before .before .before .before .before .before .before .args in
-    declined-job (now (a .job)) (now (a .sheet)) (c .before .before .before .before .before .before .before .before .before .before .before .before .read .ensures .0) (c .if1 .taken)
+    let u = c .before .before .before .before .before .before .before .before .before .before .before .before in
+    let a = u .before .before .before .before .before .before .before .before .before .before .before .before .before .args in
+    declined-job (now (a .job)) (u .read .ensures .0) (now (a .sheet)) (c .if1 .taken)
 
 slice-aggregate-compare-sheet : tie.Need-slice-aggregate-compare-sheet
 slice-aggregate-compare-sheet c = search needs
@@ -79,22 +80,26 @@ slice-aggregate-compare-sheet-10 c = search needs
 
 compare-sheet-requires : tie.Need-compare-sheet-requires
 compare-sheet-requires c κs =
-    let a = c .before .before .before .before .before .before .before .before .before .before .before .before .before .before .before .before .before .before .before .before .before .before .before .before .before .before .before .before .before .before .before .before .before .before .before .args in
-    let e = c .before .before .before .before .before .before .before .before .before .before .before .before .before .before .before .before .before .before .before .before .before .before .read .ensures in
-    let z = accepted-job (now (a .job)) (now (a .job)) (e .0) (c .before .before .before .before .before .before .before .before .before .before .if1 .left) in
+    let v = c .before .before .before .before .before .before .before .before .before .before in
+    let u = v .before .before .before .before .before .before .before .before .before .before .before .before in
+    let a = u .before .before .before .before .before .before .before .before .before .before .before .before .before .args in
+    let e = u .read .ensures in
+    let z = accepted-job (now (a .job)) (e .0) (v .if1 .left) in
     let r = read-job emptyPlaces (now (a .job)) (e .0) (e .1) z in
     (r .ready, r .weights)
 
 returns-2 : tie.Need-returns-2
 returns-2 c =
-    let a = c .before .before .before .before .before .before .before .before .before .before .before .before .before .before .before .before .before .before .before .before .before .before .before .before .before .before .before .before .before .before .before .before .before .before .before .before .args in
-    let e = c .before .before .before .before .before .before .before .before .before .before .before .before .before .before .before .before .before .before .before .before .before .before .before .read .ensures in
-    let y = c .before .before .before .before .before .before .before .before .before .before .before .if1 .left in
-    let z = accepted-job (now (a .job)) (now (a .sheet)) (e .0) y in
+    let v = c .before .before .before .before .before .before .before .before .before .before .before in
+    let u = v .before .before .before .before .before .before .before .before .before .before .before .before in
+    let a = u .before .before .before .before .before .before .before .before .before .before .before .before .before .args in
+    let e = u .read .ensures in
+    let y = v .if1 .left in
+    let z = accepted-job (now (a .job)) (e .0) y in
     let r = read-job emptyPlaces (now (a .job)) (e .0) (e .1) z in
     c .compare-sheet .ensures
     ∙ ap (λ j. sheetComparison j (now (a .sheet))) (r .job)
-    ∙ compared-job (now (a .job)) (now (a .sheet)) (e .0) y
+    ∙ compared-job (now (a .job)) (e .0) (now (a .sheet)) y
 
 pub compare-spec : {M : Type 1} → statement M
 compare-spec =

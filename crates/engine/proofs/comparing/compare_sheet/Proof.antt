@@ -1,6 +1,6 @@
--- `engine::comparing::compare_sheet` meets its contract: a sheet that is read is of candidates, and its table stands where the reply
--- says. Assumes nothing.
-use Prim.Native.Nat.{_+_, _^_, _≤_}
+-- `engine::comparing::compare_sheet` meets its contract: the support of an accepted sheet is of candidates, and the table stands
+-- where the reply says. Assumes nothing.
+use Prim.Native.Nat.{_+_, _≤_}
 use borrow.Author.Needs.{needs}
 use native.Mathlib.Omega.{arith}
 use denote.Ref.{now}
@@ -20,27 +20,35 @@ returns c =
 
 reading-count-requires : tie.Need-reading-count-requires
 reading-count-requires c κs =
-    let s = c .before .before .before .before .before .before .before .before .before .before .before .before .before .before .before in
-    support-few (s .pre .0) _ _ (s .pre .1) (c .before .before .before .read-sheet .ensures) (c .before .if1 .left)
+    let u = c .before .before .before in
+    let s = u .before .before .before .before .before .before .before .before .before .before .before .before in
+    support-few (s .pre .0) _ _ (s .pre .1) (u .read-sheet .ensures) (c .before .if1 .left)
 
 -- the table's end
 ended : (c : tie.After-reading-count)
-    → c .before .before .before .before .read-sheet .result .table + c .reading-count .result ≤ length (now (c .before .before .before .before .before .before .before .before .before .before .before .before .before .before .before .before .args .sheet))
+    → let u = c .before .before .before .before in
+    let s = u .before .before .before .before .before .before .before .before .before .before .before .before in
+    u .read-sheet .result .table + c .reading-count .result ≤ length (now (s .args .sheet))
 ended c =
-    let s = c .before .before .before .before .before .before .before .before .before .before .before .before .before .before .before .before in
-    let a = accepted-sheet (s .pre .0) _ _ (s .pre .1) (c .before .before .before .before .read-sheet .ensures) (c .before .before .if1 .left) .end in
+    let u = c .before .before .before .before in
+    let s = u .before .before .before .before .before .before .before .before .before .before .before .before in
+    let a = accepted-sheet (s .pre .0) _ _ (s .pre .1) (u .read-sheet .ensures) (c .before .before .if1 .left) .end in
     omega (arith, a, c .reading-count .ensures)
 
 add-end : tie.Need-add-end
 add-end c =
-    let g = c .before .before .before .before .before .before .before .before .before .before .before .before .before .before .before .before .good .1 .1 .1 .1 .1 .1 .1 .1 .1 .1 .1 .0 in
+    let u = c .before .before .before .before in
+    let s = u .before .before .before .before .before .before .before .before .before .before .before .before in
+    let g = s .good .1 .1 .1 .1 .1 .1 .1 .1 .1 .1 .1 .0 in
     omega (arith, ended c)
 
 slice-aggregate-mark-fanout : tie.Need-slice-aggregate-mark-fanout
 slice-aggregate-mark-fanout c = search needs
 
 mark-fanout-requires : tie.Need-mark-fanout-requires
-mark-fanout-requires c κs = ready-evaluable (c .before .before .before .before .before .before .before .before .before .before .before .before .before .before .before .before .before .before .pre .0)
+mark-fanout-requires c κs =
+    let u = c .before .before .before .before .before .before in
+    ready-evaluable (u .before .before .before .before .before .before .before .before .before .before .before .before .pre .0)
 
 sub-first-difference : tie.Need-sub-first-difference
 sub-first-difference c = omega arith
@@ -56,15 +64,19 @@ slice-aggregate-first-difference c = search needs
 
 first-difference-requires : tie.Need-first-difference-requires
 first-difference-requires c κs =
-    let s = c .before .before .before .before .before .before .before .before .before .before .before .before .before .before .before .before .before .before .before .before .before .before in
-    drivable (s .pre .0) _ _ (s .pre .1) (c .before .before .before .before .before .before .before .before .before .before .read-sheet .ensures) (c .before .before .before .before .before .before .before .before .if1 .left)
-    _ (c .before .before .before .before .before .before .reading-count .ensures) (c .before .before .before .mark-fanout .ensures)
+    let v = c .before .before .before .before .before .before in
+    let u = v .before .before .before .before in
+    let s = u .before .before .before .before .before .before .before .before .before .before .before .before in
+    drivable (s .pre .0) _ _ (s .pre .1) (u .read-sheet .ensures) (v .before .before .if1 .left)
+    _ (v .reading-count .ensures) (c .before .before .before .mark-fanout .ensures)
 
 returns-2 : tie.Need-returns-2
 returns-2 c =
-    let s = c .before .before .before .before .before .before .before .before .before .before .before .before .before .before .before .before .before .before .before .before .before .before .before in
-    compared-sheet (s .pre .0) _ _ (s .pre .1) (c .before .before .before .before .before .before .before .before .before .before .before .read-sheet .ensures) (c .before .before .before .before .before .before .before .before .before .if1 .left)
-    _ (c .before .before .before .before .before .before .before .reading-count .ensures) (c .first-difference .ensures)
+    let v = c .before .before .before .before .before .before .before in
+    let u = v .before .before .before .before in
+    let s = u .before .before .before .before .before .before .before .before .before .before .before .before in
+    compared-sheet (s .pre .0) _ _ (s .pre .1) (u .read-sheet .ensures) (v .before .before .if1 .left)
+    _ (v .reading-count .ensures) (c .first-difference .ensures)
 
 pub compare-sheet-spec : {M : Type 1} → statement M
 compare-sheet-spec =

@@ -5,7 +5,8 @@ use native.Mathlib.Omega.{arith}
 use Rattle.engine.proofs.Laws.Compare.{differing-bits}
 use Rattle.engine.proofs.Laws.Masks.{length-golden}
 use Rattle.engine.proofs.Laws.Partial.{evaluable-zero}
-use Rattle.engine.proofs.Laws.Ready.{ready-within, ready-evaluable, ready-golden-evaluable, ready-outputs, ready-golden-outputs}
+use Rattle.engine.proofs.Laws.Ready.{ready-within, ready-evaluable, ready-golden-evaluable}
+use Rattle.engine.proofs.Laws.Ready.{ready-outputs, ready-golden-outputs}
 use Rattle.engine.proofs.Laws.Rectify.{outputs-more}
 use Rattle.engine.proofs.Laws.Stream.{places}
 use Rattle.engine.proofs.Laws.Visit.{golden-of-block}
@@ -23,7 +24,8 @@ eval-block-requires c κs =
 
 slice-aggregate-drive-block : tie.Need-slice-aggregate-drive-block
 slice-aggregate-drive-block c =
-    let s = c .before .before .before .before .before .before .before .before .before .before .before .before .before .before .before .before .before in
+    let u = c .before .before .before .before .before .before in
+    let s = u .before .before .before .before .before .before .before .before .before .before .before in
     sym (places (s .args .support .nets) 10 (s .good .1 .1 .1 .1 .1 .1 .1 .1 .1 .0 .1 .1 .0 .1 .0 .1))
 
 slice-aggregate-drive-block-2 : tie.Need-slice-aggregate-drive-block-2
@@ -31,7 +33,8 @@ slice-aggregate-drive-block-2 c = search needs
 
 drive-block-requires : tie.Need-drive-block-requires
 drive-block-requires c κs =
-    let s = c .before .before .before .before .before .before .before .before .before .before .before .before .before .before .before .before .before .before in
+    let u = c .before .before .before .before .before .before .before in
+    let s = u .before .before .before .before .before .before .before .before .before .before .before in
     let p = s .pre in
     let r = p .ready in
     let w = ready-within r in
@@ -45,19 +48,23 @@ slice-aggregate-differ-word-2 c = search needs
 
 differ-word-requires : tie.Need-differ-word-requires
 differ-word-requires c κs =
-    let s = c .before .before .before .before .before .before .before .before .before .before .before .before .before .before .before .before .before .before .before .before .before .before in
+    let u = c .before .before .before .before .before .before .before in
+    let s = u .before .before .before .before
+    .before .before .before .before .before .before .before .before .before .before .before in
     let r = s .pre .ready in
     let old = c .before .before .before .drive-block .ensures in
-    let golden = c .before .before .before .before .before .before .before .eval-block .ensures in (
+    let golden = u .eval-block .ensures in (
       outputs-more _ _ _ _ (omega (arith, old .long, ready-evaluable r .room)) (ready-outputs r),
       outputs-more _ _ _ _ (omega (arith, golden .long, ready-golden-evaluable r .room)) (ready-golden-outputs r),
     )
 
 returns : tie.Need-returns
 returns c =
-    let s = c .before .before .before .before .before .before .before .before .before .before .before .before .before .before .before .before .before .before .before .before .before .before .before in
+    let u = c .before .before .before .before .before .before .before .before in
+    let s = u .before .before .before .before
+    .before .before .before .before .before .before .before .before .before .before .before in
     let r = s .pre .ready in
-    let golden = c .before .before .before .before .before .before .before .before .eval-block .ensures in
+    let golden = u .eval-block .ensures in
     differing-bits r _ _ (s .args .b) _
     (golden-of-block _ _ _ _ _ _ golden (omega (arith, golden .long, length-golden r, ready-golden-evaluable r .room)))
     (c .before .before .before .before .drive-block .ensures)

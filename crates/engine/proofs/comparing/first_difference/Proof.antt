@@ -1,6 +1,6 @@
 -- `engine::comparing::first_difference` meets its contract. The invariant: at no input of the blocks passed do the driven outputs
 -- differ. Assumes nothing.
-use Prim.Native.Nat.{_-_, _*_, _^_, min, _≤_}
+use Prim.Native.Nat.{_-_, _*_, _^_, min}
 use mathlib.Core.Path.{_≡_}
 use mathlib.Core.Logic.{⊎-elim}
 use mathlib.Core.List.{[]}
@@ -13,13 +13,10 @@ use Rattle.engine.proofs.Laws.Compare.{Scanning, scanning-none, scannin
 use Rattle.engine.proofs.Laws.Ready.{ready-within}
 use Rattle.engine.proofs.comparing.first_difference.Statement.{statement}
 use Rattle.engine.proofs.comparing.first_difference.Tie as tie
-use Rattle.engine.proofs.comparing.first_difference.Reads as reads
-use Rattle.engine.proofs.comparing.first_difference.Lts as lts
-use Rattle.engine.proofs.comparing.driven_word.Reads as driven-word-reads
-use Rattle.engine.proofs.comparing.lowest_bit.Reads as lowest-bit-reads
 
 abbrev Inv-loop : tie.InvT-loop
-Inv-loop kinds firsts seconds outputs golden-kinds golden-firsts golden-seconds golden-outputs counts support table marks size b₀ b =
+Inv-loop kinds firsts seconds outputs golden-kinds golden-firsts golden-seconds golden-outputs counts support table marks size b₀
+    b =
     Scanning
     (differing
     (circuits counts (sidePlaces kinds firsts seconds outputs)
@@ -28,20 +25,26 @@ Inv-loop kinds firsts seconds outputs golden-kinds golden-firsts golden-seconds 
     (2 ^ counts .inputs) size b
 
 abbrev μ-loop : tie.MeasureT-loop
-μ-loop kinds firsts seconds outputs golden-kinds golden-firsts golden-seconds golden-outputs counts support table marks size b₀ b =
+μ-loop kinds firsts seconds outputs golden-kinds golden-firsts golden-seconds golden-outputs counts support table marks size b₀
+    b =
     2 ^ counts .inputs - 64 * b
 
 shl-size : tie.Need-shl-size Inv-loop μ-loop
-shl-size c = omega (arith, ready-within (c .before .before .before .before .before .before .before .before .before .before .before .pre .ready) .inputs)
+shl-size c =
+    let s = c .before .before .before .before .before .before .before .before .before .before .before in
+    omega (arith, ready-within (s .pre .ready) .inputs)
 
 loop-holds : tie.Need-loop-holds Inv-loop μ-loop
-loop-holds c = scanning-none _ _ (ready-within (c .before .before .before .before .before .before .before .before .before .before .before .pre .ready) .inputs)
+loop-holds c =
+    let s = c .before .before .before .before .before .before .before .before .before .before .before in
+    scanning-none _ _ (ready-within (s .pre .ready) .inputs)
 
 mul-loop : tie.Need-mul-loop Inv-loop μ-loop
 mul-loop c = omega arith
 
 driven-word-requires : tie.Need-driven-word-requires Inv-loop μ-loop
-driven-word-requires c κs = c .before .before .before .before .before .before .before .before .before .before .before .before .before .pre
+driven-word-requires c κs =
+    c .before .before .before .before .before .before .before .before .before .before .before .before .before .pre
 
 mul-left : tie.Need-mul-left Inv-loop μ-loop
 mul-left c = omega arith
@@ -51,9 +54,9 @@ sub-left c = omega arith
 
 -- how many inputs of the block there are
 counted : (c : tie.Joined1 Inv-loop μ-loop)
-    → c .if1 .count
-    ≡ min 64
-    (2 ^ c .before .before .before .before .before .before .before .before .before .before .before .before .before .before .before .args .counts .inputs - 64 * c .before .before .before .loop .b)
+    → let u = c .before .before .before in
+    let s = u .before .before .before .before .before .before .before .before .before .before .before .before in
+    c .if1 .count ≡ min 64 (2 ^ s .args .counts .inputs - 64 * u .loop .b)
 counted c = ⊎-elim (λ w. omega arith) (λ w. omega arith) (c .if1 .came)
 
 lowest-bit-requires : tie.Need-lowest-bit-requires Inv-loop μ-loop
@@ -70,8 +73,9 @@ cast-t24 c = omega (arith, counted (c .before .before), c .before .lowest-bit .e
 
 returns : tie.Need-returns Inv-loop μ-loop
 returns c =
-    let a = c .before .before .before .before .before .before .before .before .before .before .before .before .before .before .before .before .before .args in
-    let l = c .before .before .before .before .before .loop in
+    let u = c .before .before .before .before .before in
+    let a = u .before .before .before .before .before .before .before .before .before .before .before .before .args in
+    let l = u .loop in
     differs-least (a .counts) _ _ _ _ _
     (scanned-least (l .inv) (c .before .before .before .driven-word .ensures) (c .before .lowest-bit .ensures) (omega arith)
     (counted (c .before .before)) (c .if2 .taken))
@@ -89,7 +93,9 @@ loop-again c =
     (counted (c .before .before)) (omega arith)
 
 returns-2 : tie.Need-returns-2 Inv-loop μ-loop
-returns-2 c = equal-passed (c .before .before .before .before .before .before .before .before .before .before .before .before .before .args .counts) _ _ _ _ (c .before .loop .inv) (omega arith)
+returns-2 c =
+    let a = c .before .before .before .before .before .before .before .before .before .before .before .before .before .args in
+    equal-passed (a .counts) _ _ _ _ (c .before .loop .inv) (omega arith)
 
 pub first-difference-spec : {M : Type 1} → statement M
 first-difference-spec =

@@ -1,16 +1,15 @@
+-- `engine::text::rectify_text` meets its contract: the text of what decide says. Assumes nothing.
 use native.Mathlib.Omega.{arith}
 use borrow.Author.Needs.{needs}
-use borrow.Author.Needs.{needs}
+use mathlib.Core.Path.{_∙_, sym}
+use denote.Ref.{now}
+use lib.Seq.{length-take-le}
+use Rattle.engine.proofs.Laws.Printed.{printed-short, printed-long, printed-refused, printed-accepted, sheet-short, sheet-whole}
 use Rattle.engine.proofs.text.rectify_text.Statement.{statement}
 use Rattle.engine.proofs.text.rectify_text.Tie as tie
-use Rattle.engine.proofs.text.rectify_text.Reads as reads
-use Rattle.engine.proofs.text.rectify_text.Lts as lts
-use Rattle.engine.proofs.deciding.decide.Reads as decide-reads
-use Rattle.engine.proofs.text.refused_text.Reads as refused-text-reads
-use Rattle.engine.proofs.text.sheet_text.Reads as sheet-text-reads
 
 returns : tie.Need-returns
-returns c = ?
+returns c = let a = c .before .before .before .args in printed-short (now (a .text)) (now (a .job)) (c .if1 .taken)
 
 refused-text-requires : tie.Need-refused-text-requires
 refused-text-requires c κs = search needs
@@ -19,7 +18,9 @@ same-length : tie.Need-same-length
 same-length c = search needs
 
 returns-2 : tie.Need-returns-2
-returns-2 c = ?
+returns-2 c =
+    let a = c .before .before .before .before .before .before .before .before .args in
+    printed-long (now (a .text)) (now (a .job)) (c .before .before .before .before .before .if1 .left) (c .before .before .before .before .if2 .taken) (c .before .before .refused-text .ensures)
 
 slice-aggregate-decide : tie.Need-slice-aggregate-decide
 slice-aggregate-decide c = search needs
@@ -34,22 +35,39 @@ same-length-2 : tie.Need-same-length-2
 same-length-2 c = search needs
 
 returns-3 : tie.Need-returns-3
-returns-3 c = ?
+returns-3 c =
+    let a = c .before .before .before .before .before .before .before .before .before .before .before .before .before .args in
+    printed-refused (now (a .job)) (c .before .before .before .before .before .before .before .decide .ensures .0) (now (a .text)) (c .before .before .before .before .before .before .before .before .before .before .if1 .left) (c .before .before .before .before .before .before .before .before .before .if2 .left) (c .before .before .before .before .if3 .taken)
+    (c .before .before .refused-text2 .ensures)
 
 array-share-prefix-sheet : tie.Need-array-share-prefix-sheet
-array-share-prefix-sheet c = search needs
+array-share-prefix-sheet c =
+    let a = c .before .before .before .before .before .before .before .before .before .args in
+    let l = sheet-short (now (a .job)) (c .before .before .before .decide .ensures .0) (c .if3 .left) in
+    search needs
 
 slice-aggregate-sheet-text : tie.Need-slice-aggregate-sheet-text
-slice-aggregate-sheet-text c = search needs
+slice-aggregate-sheet-text c =
+    let a = c .before .before .before .before .before .before .before .before .before .before .args in
+    let l = sheet-short (now (a .job)) (c .before .before .before .before .decide .ensures .0) (c .before .if3 .left) in
+    sym (length-take-le _ _ (omega arith))
 
 sheet-text-requires : tie.Need-sheet-text-requires
-sheet-text-requires c κs = ?
+sheet-text-requires c κs =
+    let a = c .before .before .before .before .before .before .before .before .before .before .before .args in (
+      sheet-whole (now (a .job)) (c .before .before .before .before .before .decide .ensures .0) (c .before .before .if3 .left) (c .before .before .before .before .before .decide .ensures .1),
+      c .before .before .before .before .before .before .before .before .if1 .left,
+    )
 
 same-length-3 : tie.Need-same-length-3
 same-length-3 c = search needs
 
 returns-4 : tie.Need-returns-4
-returns-4 c = ?
+returns-4 c =
+    let a = c .before .before .before .before .before .before .before .before .before .before .before .before .before .before .args in
+    printed-accepted (now (a .job)) (c .before .before .before .before .before .before .before .before .decide .ensures .0) (c .before .before .before .before .before .if3 .left) (c .before .before .before .before .before .before .before .before .decide .ensures .1) (now (a .text)) (c .before .before .before .before .before .before .before .before .before .before .before .if1 .left)
+    (c .before .before .before .before .before .before .before .before .before .before .if2 .left)
+    (c .before .before .sheet-text .ensures)
 
 pub rectify-text-spec : {M : Type 1} → statement M
 rectify-text-spec =
