@@ -2,22 +2,29 @@
 use Prim.Native.Nat.{ℕ, zero, suc, _+_, _-_, _*_, _≤_, _<_}
 use mathlib.Core.Path.{_≡_, refl, sym, _∙_, ap, subst}
 use mathlib.Core.Logic.{⊎-elim}
-use mathlib.Core.List.{List, [], _∷_, _++_, map, append-assoc, append-nil}
-use mathlib.Core.Bool.{Bool, true, false, cond}
+use mathlib.Core.List.{List, [], _∷_, _++_, map, append-assoc, append-nil, map-append}
+use mathlib.Core.Bool.{Bool, true, false, cond, true≢false}
 use native.Mathlib.Nat.{add-zero, zero-add}
 use native.Mathlib.Numerals.{add-one}
 use native.Mathlib.Omega.{arith}
-use borrow.Author.Tests.{eq-eqb, ne-eqb, eqb-true, ltb-true, ltb-false, lt-ltb}
+use borrow.Author.Tests.{eq-eqb, ne-eqb, eqb-true, ltb-true, ltb-false, lt-ltb, le-ltb}
 use lib.Dec.{eqb, ltb}
-use lib.ListN.{length, getD, take, set, length-set, length-append}
+use lib.ListN.{length, getD, take, drop, set, length-set, length-append, length-map}
 use lib.Seq.{getD-set-same, getD-set-other}
 use Rattle.records.specs.Bytes.{upFrom, tabulate}
-use Rattle.records.specs.Gate.{Gate, gateOf}
+use Rattle.records.specs.Gate.{Gate, gateOf, operands, unused}
 use Rattle.records.specs.Netlist.{netAt}
-use Rattle.records.proofs.Laws.Bytes.{length-upFrom}
+use Rattle.records.specs.Refusal.{gateGood, gatesGood}
+use Rattle.records.specs.Service.{gatesFrom}
+use Rattle.records.proofs.Laws.Bytes.{length-upFrom, getD-tabulate}
+use Rattle.records.proofs.Laws.Gate.{arity-low, arity-one, arity-two, gateGood-high}
 use Rattle.engine.specs.Choice.{keep}
+use Rattle.engine.specs.Fit.{moved}
+use Rattle.engine.specs.Building.{GateRoom, GatesPut}
 use Rattle.engine.specs.Fitting.{marked, Numbered, movedFrom}
 use Rattle.engine.proofs.Laws.Choice.{true-or-false}
+use Rattle.engine.proofs.Laws.EvalWords.{gates-both}
+use Rattle.engine.proofs.Laws.Tree.{gates-put-append, room-kept, room-less}
 
 -- ---- keep
 
@@ -131,3 +138,117 @@ module _ (ms : List ℕ) (base b first : ℕ) (before after : List ℕ) (i r : �
         leaves = w .leaves;
         others = λ k d. w .others k (λ l. d (omega arith));
       }
+
+-- the more gates, the more have the mark
+pub marked-le : (ms : List ℕ) (base b i n : ℕ) → i ≤ n → length (marked ms base b i) ≤ length (marked ms base b n)
+unfolding marked
+marked-le ms base b i n h =
+    let p = has ms base b in
+    let m : i + (n - i) ≡ n = omega arith in
+    let e : keep p (upFrom 0 n) ≡ keep p (upFrom 0 i) ++ keep p (upFrom (0 + i) (n - i)) =
+    ap (λ (k : ℕ). keep p (upFrom 0 k)) (sym m)
+    ∙ ap (keep p) (upFrom-append 0 i (n - i))
+    ∙ keep-append p (upFrom 0 i) (upFrom (0 + i) (n - i)) in
+    omega (arith, ap length e, length-append (keep p (upFrom 0 i)) (keep p (upFrom (0 + i) (n - i))))
+
+-- ---- gates at their new numbers
+
+pub slot-kept : (k l a b : ℕ) → k < l → a ≡ cond (ltb k l) a b
+slot-kept k l a b h = rw (lt-ltb k l h)
+
+pub slot-moved : (k l a b : ℕ) → l ≤ k → b ≡ cond (ltb k l) a b
+slot-moved k l a b h = rw (le-ltb k l h)
+
+good-kind : (net k a b : ℕ) → gateGood net (gateOf k a b) ≡ true → k < 10
+good-kind net k a b e =
+    ⊎-elim
+    (λ (t : ltb 9 k ≡ true). absurd (true≢false (sym e ∙ gateGood-high net k a b (ltb-true 9 k t))))
+    (λ (t : ltb 9 k ≡ false). let h = ltb-false 9 k t in omega arith)
+    (true-or-false (ltb 9 k))
+
+module _ (ns : List ℕ) (net k a b : ℕ) (e : gateGood net (gateOf k a b) ≡ true) where
+  moved-none : k < 2 → gateOf k (cond (ltb k 2) a (getD ns a 0)) (cond (ltb k 4) b (getD ns b 0)) ≡ moved ns (gateOf k a b)
+  unfolding moved gateOf operands unused netAt
+  moved-none h = rw (lt-ltb k 2 h, lt-ltb k 4 (omega arith), arity-low k h)
+
+  moved-one : 2 ≤ k → k < 4 → gateOf k (cond (ltb k 2) a (getD ns a 0)) (cond (ltb k 4) b (getD ns b 0)) ≡ moved ns (gateOf k a b)
+  unfolding moved gateOf operands unused netAt
+  moved-one h l = rw (le-ltb k 2 h, lt-ltb k 4 l, arity-one k h l)
+
+  moved-two : 4 ≤ k → k < 10 → gateOf k (cond (ltb k 2) a (getD ns a 0)) (cond (ltb k 4) b (getD ns b 0)) ≡ moved ns (gateOf k a b)
+  unfolding moved gateOf operands unused netAt
+  moved-two h l = rw (le-ltb k 2 (omega arith), le-ltb k 4 h, arity-two k h l)
+
+  -- what moved_slot gives for the two slots of a good gate
+  pub moved-slots : gateOf k (cond (ltb k 2) a (getD ns a 0)) (cond (ltb k 4) b (getD ns b 0)) ≡ moved ns (gateOf k a b)
+  moved-slots =
+      ⊎-elim
+      (λ (t : ltb k 2 ≡ true). moved-none (ltb-true k 2 t))
+      (λ (t : ltb k 2 ≡ false).
+      ⊎-elim
+      (λ (u : ltb k 4 ≡ true). moved-one (ltb-false k 2 t) (ltb-true k 4 u))
+      (λ (u : ltb k 4 ≡ false). moved-two (ltb-false k 4 u) (good-kind net k a b e))
+      (true-or-false (ltb k 4)))
+      (true-or-false (ltb k 2))
+
+-- each of the gates in places is good
+module _ (ks xs ys : List ℕ) (count base : ℕ) (g : gatesGood base (gatesFrom count ks xs ys) ≡ true) where
+  good-from : (i : ℕ) → i ≤ count → gatesGood (base + i) (drop i (gatesFrom count ks xs ys)) ≡ true
+  good-from zero h = rw add-zero g
+  good-from (suc i) h = rw add-one at (gates-both ks xs ys count base i h (good-from i (omega arith)) .1)
+
+  pub good-at : (i : ℕ) → i < count → gateGood (base + i) (gateOf (getD ks i 0) (getD xs i 0) (getD ys i 0)) ≡ true
+  good-at i h = gates-both ks xs ys count base i h (good-from i (omega arith)) .0
+
+movedFrom-snoc : (gs : List Gate) (ns is : List ℕ) (i : ℕ)
+    → movedFrom gs ns (is ++ (i ∷ [])) ≡ movedFrom gs ns is ++ (moved ns (getD gs i (gateOf 0 0 0)) ∷ [])
+unfolding movedFrom
+movedFrom-snoc gs ns is i = map-append (λ k. moved ns (getD gs k (gateOf 0 0 0))) is (i ∷ [])
+
+-- ---- the loop that puts them behind count gates
+
+module _ (ks xs ys ms ns : List ℕ) (gates base b : ℕ) where
+  abbrev olds : List Gate
+  olds = gatesFrom gates ks xs ys
+
+  old-at : (i : ℕ) → i < gates → getD olds i (gateOf 0 0 0) ≡ gateOf (getD ks i 0) (getD xs i 0) (getD ys i 0)
+  unfolding gatesFrom
+  old-at i h = getD-tabulate gates _ i (gateOf 0 0 0) h
+
+  pub putting-none : (count : ℕ) (ks₀ xs₀ ys₀ : List ℕ)
+      → GatesPut count ks₀ xs₀ ys₀ (movedFrom olds ns (marked ms base b 0)) count ks₀ xs₀ ys₀
+  unfolding movedFrom marked upFrom keep
+  putting-none count ks₀ xs₀ ys₀ =
+      record { end = sym (add-zero count); gates = sym (append-nil (gatesFrom count ks₀ xs₀ ys₀)); kinds = refl; firsts = refl; seconds = refl }
+
+  module _ {count end : ℕ} {ks₀ xs₀ ys₀ ks₁ xs₁ ys₁ : List ℕ} (i : ℕ)
+      (w : GatesPut count ks₀ xs₀ ys₀ (movedFrom olds ns (marked ms base b i)) end ks₁ xs₁ ys₁) where
+    pub putting-next : i < gates → gatesGood base olds ≡ true → getD ms (base + i) 0 ≡ b → {x y r : ℕ} {ks₂ xs₂ ys₂ : List ℕ}
+        → x ≡ cond (ltb (getD ks i 0) 2) (getD xs i 0) (getD ns (getD xs i 0) 0)
+        → y ≡ cond (ltb (getD ks i 0) 4) (getD ys i 0) (getD ns (getD ys i 0) 0)
+        → GatesPut end ks₁ xs₁ ys₁ (gateOf (getD ks i 0) x y ∷ []) r ks₂ xs₂ ys₂
+        → GatesPut count ks₀ xs₀ ys₀ (movedFrom olds ns (marked ms base b (i + 1))) r ks₂ xs₂ ys₂
+    putting-next h g m {x} {y} e f p =
+        let k = getD ks i 0 in
+        let v : gateOf k x y ≡ moved ns (getD olds i (gateOf 0 0 0)) =
+        rw (e, f, old-at i h) (moved-slots ns (base + i) k (getD xs i 0) (getD ys i 0) (good-at ks xs ys gates base g i h)) in
+        let z : movedFrom olds ns (marked ms base b i) ++ (gateOf k x y ∷ []) ≡ movedFrom olds ns (marked ms base b (i + 1)) =
+        ap (λ (q : Gate). movedFrom olds ns (marked ms base b i) ++ (q ∷ [])) v
+        ∙ sym (movedFrom-snoc olds ns (marked ms base b i) i)
+        ∙ ap (movedFrom olds ns) (sym (marked-next ms base b i m)) in
+        rw z at (gates-put-append w p)
+
+    pub putting-skip : (getD ms (base + i) 0 ≡ b → ⊥)
+        → GatesPut count ks₀ xs₀ ys₀ (movedFrom olds ns (marked ms base b (i + 1))) end ks₁ xs₁ ys₁
+    putting-skip m = rw (marked-skip ms base b i m) w
+
+    -- there is room for one more where there is room for all
+    pub putting-room : i < gates → getD ms (base + i) 0 ≡ b → GateRoom (count + length (marked ms base b gates)) ks₀ xs₀ ys₀
+        → GateRoom (end + 1) ks₁ xs₁ ys₁
+    unfolding movedFrom
+    putting-room h m r =
+        let n : length (movedFrom olds ns (marked ms base b i)) ≡ length (marked ms base b i) = length-map (marked ms base b i) _ in
+        let k = length-append (marked ms base b i) (i ∷ []) in
+        let l = ap length (marked-next ms base b i m) in
+        let u = marked-le ms base b (i + 1) gates (omega arith) in
+        room-less (room-kept r w) (omega (arith, w .end))
