@@ -9,6 +9,7 @@ pub mod Eval
 pub mod EvalWords
 pub mod Fanout
 pub mod FitCode
+pub mod Fitting
 pub mod Loop
 pub mod Masks
 pub mod Outputs

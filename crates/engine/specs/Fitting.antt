@@ -3,14 +3,16 @@
 --   marked ms base b n      the numbers i below n whose mark, that of net base + i, is b, ascending
 --   Numbered ..             the gates with mark b, among the first n, have consecutive new numbers from first on: r of them
 --   movedFrom gs ns ks      the gates of gs with the numbers ks, their used operands at their new numbers ns
+--   netlistBytes n gs os    fields 1 (n and 0), 2 and 3 of a netlist with n inputs, the gates gs and the outputs os
 use Prim.Native.Nat.{ℕ, _+_, _≤_, _<_}
 use mathlib.Core.Path.{_≡_}
 use mathlib.Core.List.{List, [], _∷_, _++_, map}
 use lib.Dec.{eqb}
 use lib.ListN.{length, getD}
-use Rattle.records.specs.Bytes.{upFrom}
+use Rattle.records.specs.Bytes.{upFrom, flat, bytePair, field}
 use Rattle.records.specs.Gate.{Gate, gateOf}
 use Rattle.records.specs.Netlist.{netAt}
+use Rattle.records.specs.Job.{gateBytes}
 use Rattle.engine.specs.Choice.{keep}
 use Rattle.engine.specs.Fit.{moved}
 
@@ -27,3 +29,6 @@ pub record Numbered (ms : List ℕ) (base b n first : ℕ) (before after : List 
 
 unfoldable pub movedFrom : List Gate → List ℕ → List ℕ → List Gate
 movedFrom gs ns ks = map (λ k. moved ns (getD gs k (gateOf 0 0 0))) ks
+
+unfoldable pub netlistBytes : ℕ → List Gate → List ℕ → List ℕ
+netlistBytes n gs os = field 1 (n ∷ 0 ∷ []) ++ field 2 (flat gateBytes gs) ++ field 3 (flat bytePair os)

@@ -8,6 +8,7 @@ mod deciding;
 mod fanout;
 mod fitting;
 mod list;
+mod netlist;
 mod partial;
 mod rectify;
 mod renumber;
