@@ -10,6 +10,10 @@ pub mod EvalWords
 pub mod Fanout
 pub mod FitCode
 pub mod Fitting
+pub mod FitGates
+pub mod FitNets
+pub mod FitTree
+pub mod Fitted
 pub mod Loop
 pub mod Masks
 pub mod Outputs

@@ -7,20 +7,27 @@
 --   Readings                a reading does not depend on the vector, so it is the one that the driven circuit has
 --   PatchExactly, PatchTable, LeastCost     a patch is given exactly when there is a table; it is one; none costs less
 --   UnfixableExactly, BlindExactly          the two other verdicts
-use Prim.Native.Nat.{ℕ, _^_, _≤_, _<_}
+--   FittedOutputs, FittedGood               the outputs of the netlist that fit gives, for any accepted sheet, and that it is one
+--                                           (proofs/Laws/Fitted.antt)
+use Prim.Native.Nat.{ℕ, _+_, _^_, _≤_, _<_}
 use mathlib.Core.Path.{_≡_}
 use mathlib.Core.Logic.{_↔_}
 use mathlib.Core.List.{List, List·Memᴰ, map}
 use mathlib.Core.Bool.{true, false}
 use mathlib.Core.Option.{none}
+use lib.Dec.{ltb}
 use lib.ListN.{length, getD}
-use Rattle.records.specs.Netlist.{netAt}
+use Rattle.records.specs.Bytes.{all}
+use Rattle.records.specs.Netlist.{netAt, values}
 use Rattle.records.specs.Job.{Job}
-use Rattle.records.specs.Refusal.{candidatesGood}
-use Rattle.engine.specs.Eval.{numberOf, oldValues, oldOutputs, goldenOutputs}
+use Rattle.records.specs.Refusal.{gatesGood, candidatesGood}
+use Rattle.records.specs.Sheet.{Patch, patchGood}
+use Rattle.records.specs.Claims.{PartsGood}
+use Rattle.engine.specs.Eval.{bits, numberOf, oldValues, oldOutputs, goldenOutputs}
 use Rattle.engine.specs.Rectify.{rectifies, rectifiable}
 use Rattle.engine.specs.Support.{reading, drivenBy, Carries, shared, tableOf, candidateNets, subsets, cost}
 use Rattle.engine.specs.Verdict.{Ruling, patch, unfixable, blind, ruling}
+use Rattle.engine.specs.Fit.{fitted}
 
 abbrev pub In : {A : Type 0} → A → List A → Type 0
 In x xs = List·Memᴰ x xs
@@ -87,3 +94,24 @@ BlindExactly =
     × (r < 2 ^ length (candidateNets j))
     × (shared j (candidateNets j) r ≡ none)
     × ((q : ℕ) → q < r → shared j (candidateNets j) q ≡ none → ⊥))
+
+-- "Any netlist we fit, whoever wrote the sheet, has on every input the outputs of the old circuit driven by the sheet's table."
+-- The sheet is any that is accepted; its table need not be sound.
+abbrev pub FittedOutputs : Type 0
+FittedOutputs =
+    (j : Job) → PartsGood j → (p : Patch) → patchGood (j .targets) (j .candidates) p ≡ true
+    → length (p .table) ≡ 2 ^ length (p .support)
+    → let l = fitted j (p .support) (p .table) in
+    (x : ℕ)
+    → map (netAt (values (bits (j .inputs) x) (l .gates))) (l .outputs) ≡ oldOutputs j x (drivenBy j (p .support) (p .table) x)
+
+-- .. and it is a netlist over the job's inputs and no targets: its gates are good, its output nets exist, and there are as many
+-- as the old ones.
+abbrev pub FittedGood : Type 0
+FittedGood =
+    (j : Job) → PartsGood j → (p : Patch) → patchGood (j .targets) (j .candidates) p ≡ true
+    → length (p .table) ≡ 2 ^ length (p .support)
+    → let l = fitted j (p .support) (p .table) in
+    (gatesGood (j .inputs) (l .gates) ≡ true)
+    × (all (λ o. ltb o (j .inputs + length (l .gates))) (l .outputs) ≡ true)
+    × (length (l .outputs) ≡ length (j .old .outputs))
