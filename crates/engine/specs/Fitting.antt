@@ -3,6 +3,8 @@
 --   marked ms base b n      the numbers i below n whose mark, that of net base + i, is b, ascending
 --   Numbered ..             the gates with mark b, among the first n, have consecutive new numbers from first on: r of them
 --   movedFrom gs ns ks      the gates of gs with the numbers ks, their used operands at their new numbers ns
+--   FreePlaced, TreesPlaced, RestPlaced     the three groups of the patched netlist's gates, each put behind the one before, with
+--                           the new numbers of the nets that they drive
 --   netlistBytes n gs os    fields 1 (n and 0), 2 and 3 of a netlist with n inputs, the gates gs and the outputs os
 use Prim.Native.Nat.{ℕ, _+_, _≤_, _<_}
 use mathlib.Core.Path.{_≡_}
@@ -15,6 +17,7 @@ use Rattle.records.specs.Netlist.{netAt}
 use Rattle.records.specs.Job.{gateBytes}
 use Rattle.engine.specs.Choice.{keep}
 use Rattle.engine.specs.Fit.{moved}
+use Rattle.engine.specs.Building.{GatesPut}
 
 unfoldable pub marked : List ℕ → ℕ → ℕ → ℕ → List ℕ
 marked ms base b n = keep (λ i. eqb (netAt ms (base + i)) b) (upFrom 0 n)
@@ -29,6 +32,25 @@ pub record Numbered (ms : List ℕ) (base b n first : ℕ) (before after : List 
 
 unfoldable pub movedFrom : List Gate → List ℕ → List ℕ → List Gate
 movedFrom gs ns ks = map (λ k. moved ns (getD gs k (gateOf 0 0 0))) ks
+
+-- ---- the three groups of gates
+
+-- the first count old gates, gs: those with mark 0 stand at the start of the places, and they and the inputs have their numbers
+pub record FreePlaced (gs : List Gate) (count n base : ℕ) (ms before after ks xs ys : List ℕ) (r : ℕ) (ks′ xs′ ys′ : List ℕ) :
+    Type 0 where
+  pub long : length after ≡ length before
+  pub inputs : (i : ℕ) → i < n → getD after i 0 ≡ i
+  pub free : (i : ℕ) → i < count → getD ms (base + i) 0 ≡ 0 → getD after (base + i) 0 ≡ n + length (marked ms base 0 i)
+  pub gates : GatesPut 0 ks xs ys (movedFrom gs after (marked ms base 0 count)) r ks′ xs′ ys′
+
+-- .. those with mark 1 stand behind the first from gates, and have their numbers
+pub record RestPlaced (gs : List Gate) (count n base from : ℕ) (ms before after ks xs ys : List ℕ) (r : ℕ) (ks′ xs′ ys′ : List ℕ) :
+    Type 0 where
+  pub many : ℕ
+  pub numbered : Numbered ms base 1 count (n + from) before after many
+  pub gates : GatesPut from ks xs ys (movedFrom gs after (marked ms base 1 count)) r ks′ xs′ ys′
+
+-- ---- bytes
 
 unfoldable pub netlistBytes : ℕ → List Gate → List ℕ → List ℕ
 netlistBytes n gs os = field 1 (n ∷ 0 ∷ []) ++ field 2 (flat gateBytes gs) ++ field 3 (flat bytePair os)

@@ -1,7 +1,98 @@
 // The service fit.
+ghost use mathlib.Core.Path.{_≡_};
+ghost use Prim.Native.Nat.{_+_, _≤_, _<_};
+ghost use lib.ListN.{length};
+ghost use Rattle.records.specs.Service.{gatesFrom};
+ghost use Rattle.engine.specs.Inner.{Evaluable};
+ghost use Rattle.engine.specs.Building.{GateRoom};
+ghost use Rattle.engine.specs.Fitting.{marked, FreePlaced, RestPlaced};
+use super::renumber::number_gates;
+use super::renumber::number_inputs;
+use super::renumber::put_moved;
 
 // The number, and how many bytes of the reply buffer the patched netlist takes; on refusal the length is 0.
 pub struct FitReply {
     pub number: u8,
     pub len: usize,
+}
+
+// The old gates that no target leads to, at the start of the new places; how many they are. They and the inputs get their numbers.
+fn place_free(
+    kinds: &[u8],
+    firsts: &[u16],
+    seconds: &[u16],
+    gates: usize,
+    inputs: usize,
+    base: usize,
+    marks: &[u8],
+    numbers: &mut [u16],
+    new_kinds: &mut [u8],
+    new_firsts: &mut [u16],
+    new_seconds: &mut [u16],
+) -> usize
+    requires { ⌜ Evaluable (now kinds) (now firsts) (now seconds) gates base (length (now numbers)) ⌝ }
+    requires { ⌜ (base + gates ≤ length (now marks)) × (inputs ≤ base) × (inputs + gates < 65536) ⌝ }
+    requires { ⌜ GateRoom gates (now «new_kinds») (now «new_firsts») (now «new_seconds») ⌝ }
+    ensures { λ r. ⌜ FreePlaced (gatesFrom gates (now (kinds .entry)) (now (firsts .entry)) (now (seconds .entry))) gates inputs base
+        (now (marks .entry)) (now (numbers .entry)) (now (numbers .exit))
+        (now («new_kinds» .entry)) (now («new_firsts» .entry)) (now («new_seconds» .entry)) r
+        (now («new_kinds» .exit)) (now («new_firsts» .exit)) (now («new_seconds» .exit)) ⌝ }
+{
+    number_inputs(inputs, numbers);
+    number_gates(marks, base, gates, 0, inputs, numbers);
+    put_moved(
+        kinds,
+        firsts,
+        seconds,
+        gates,
+        marks,
+        base,
+        0,
+        numbers,
+        0,
+        new_kinds,
+        new_firsts,
+        new_seconds,
+    )
+}
+
+// The remaining old gates, behind the first count new gates, with their numbers; how many gates there are then.
+fn place_rest(
+    kinds: &[u8],
+    firsts: &[u16],
+    seconds: &[u16],
+    gates: usize,
+    inputs: usize,
+    base: usize,
+    count: usize,
+    marks: &[u8],
+    numbers: &mut [u16],
+    new_kinds: &mut [u8],
+    new_firsts: &mut [u16],
+    new_seconds: &mut [u16],
+) -> usize
+    requires { ⌜ Evaluable (now kinds) (now firsts) (now seconds) gates base (length (now numbers)) ⌝ }
+    requires { ⌜ (base + gates ≤ length (now marks)) × (inputs + count + gates < 65536) ⌝ }
+    requires { ⌜ GateRoom (count + length (marked (now marks) base 1 gates))
+        (now «new_kinds») (now «new_firsts») (now «new_seconds») ⌝ }
+    ensures { λ r. ⌜ RestPlaced (gatesFrom gates (now (kinds .entry)) (now (firsts .entry)) (now (seconds .entry))) gates inputs base
+        count (now (marks .entry)) (now (numbers .entry)) (now (numbers .exit))
+        (now («new_kinds» .entry)) (now («new_firsts» .entry)) (now («new_seconds» .entry)) r
+        (now («new_kinds» .exit)) (now («new_firsts» .exit)) (now («new_seconds» .exit)) ⌝ }
+{
+    number_gates(marks, base, gates, 1, inputs + count, numbers);
+    put_moved(
+        kinds,
+        firsts,
+        seconds,
+        gates,
+        marks,
+        base,
+        1,
+        numbers,
+        count,
+        new_kinds,
+        new_firsts,
+        new_seconds,
+    )
 }

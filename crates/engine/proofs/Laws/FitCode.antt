@@ -9,20 +9,21 @@ use native.Mathlib.Numerals.{add-one}
 use native.Mathlib.Omega.{arith}
 use borrow.Author.Tests.{eq-eqb, ne-eqb, eqb-true, ltb-true, ltb-false, lt-ltb, le-ltb}
 use lib.Dec.{eqb, ltb}
-use lib.ListN.{length, getD, take, drop, set, length-set, length-append, length-map}
+use lib.ListN.{length, getD, take, drop, set, length-set, length-append, length-map, List·getD-append}
 use lib.Seq.{getD-set-same, getD-set-other}
-use Rattle.records.specs.Bytes.{upFrom, tabulate}
+use Rattle.records.specs.Bytes.{upFrom, tabulate, placed}
 use Rattle.records.specs.Gate.{Gate, gateOf, operands, unused}
 use Rattle.records.specs.Netlist.{netAt}
 use Rattle.records.specs.Refusal.{gateGood, gatesGood}
 use Rattle.records.specs.Service.{gatesFrom}
-use Rattle.records.proofs.Laws.Bytes.{length-upFrom, getD-tabulate}
+use Rattle.records.proofs.Laws.Bytes.{length-upFrom, length-tabulate, getD-tabulate, length-placed}
 use Rattle.records.proofs.Laws.Gate.{arity-low, arity-one, arity-two, gateGood-high}
 use Rattle.engine.specs.Choice.{keep}
 use Rattle.engine.specs.Fit.{moved}
 use Rattle.engine.specs.Building.{GateRoom, GatesPut}
-use Rattle.engine.specs.Fitting.{marked, Numbered, movedFrom}
-use Rattle.engine.proofs.Laws.Choice.{true-or-false}
+use Rattle.engine.specs.Inner.{Evaluable}
+use Rattle.engine.specs.Fitting.{marked, Numbered, movedFrom, FreePlaced}
+use Rattle.engine.proofs.Laws.Choice.{true-or-false, length-keep-le}
 use Rattle.engine.proofs.Laws.EvalWords.{gates-both}
 use Rattle.engine.proofs.Laws.Tree.{gates-put-append, room-kept, room-less}
 
@@ -252,3 +253,41 @@ module _ (ks xs ys ms ns : List ℕ) (gates base b : ℕ) where
         let l = ap length (marked-next ms base b i m) in
         let u = marked-le ms base b (i + 1) gates (omega arith) in
         room-less (room-kept r w) (omega (arith, w .end))
+
+-- ---- the first group and the last
+
+pub marked-most : (ms : List ℕ) (base b n : ℕ) → length (marked ms base b n) ≤ n
+unfolding marked
+marked-most ms base b n = omega (arith, length-keep-le (has ms base b) (upFrom 0 n), length-upFrom 0 n)
+
+pub evaluable-same : {ks xs ys : List ℕ} {count base w v : ℕ} → Evaluable ks xs ys count base w → v ≡ w
+    → Evaluable ks xs ys count base v
+evaluable-same e q = rw q e
+
+placed-start : (d xs : List ℕ) (i : ℕ) → i < length xs → getD (placed d 0 xs) i 0 ≡ getD xs i 0
+unfolding placed
+placed-start d xs i h = List·getD-append xs (drop (0 + length xs) d) 0 i h
+
+-- the places for as many gates as have the mark
+pub free-room : (ms : List ℕ) (base b n : ℕ) {ks xs ys : List ℕ} → GateRoom n ks xs ys
+    → GateRoom (0 + length (marked ms base b n)) ks xs ys
+free-room ms base b n r = room-less r (omega (arith, marked-most ms base b n))
+
+pub free-placed : (gs : List Gate) (count n base : ℕ) (ms before : List ℕ) {named after : List ℕ} {many r : ℕ}
+    {ks xs ys ks′ xs′ ys′ : List ℕ}
+    → n ≤ base → n ≤ length before → named ≡ placed before 0 (tabulate n (λ i. i))
+    → Numbered ms base 0 count n named after many
+    → GatesPut 0 ks xs ys (movedFrom gs after (marked ms base 0 count)) r ks′ xs′ ys′
+    → FreePlaced gs count n base ms before after ks xs ys r ks′ xs′ ys′
+free-placed gs count n base ms before h l e w p =
+    record {
+      long = w .long ∙ ap length e ∙ length-placed before 0 (tabulate n (λ i. i)) (omega (arith, length-tabulate n (λ i. i)));
+      inputs =
+          λ i m.
+          w .leaves i (omega arith)
+          ∙ ap (λ (d : List ℕ). getD d i 0) e
+          ∙ placed-start before (tabulate n (λ i. i)) i (omega (arith, length-tabulate n (λ i. i)))
+          ∙ getD-tabulate n (λ i. i) i 0 m;
+      free = w .numbers;
+      gates = p;
+    }
