@@ -2,15 +2,22 @@
 use Prim.Native.Nat.{ℕ, zero, suc, _+_, _-_, _*_, _^_, _≤_, _<_}
 use mathlib.Core.Path.{_≡_, refl, sym, _∙_, ap}
 use mathlib.Core.List.{List, [], _∷_, _++_, map, append-assoc}
-use native.Mathlib.Nat.{add-assoc}
+use mathlib.Core.Bool.{Bool, true, false, _&&_}
+use native.Mathlib.Numerals.{add-one}
 use native.Mathlib.Omega.{arith}
-use lib.ListN.{length, getD, set, length-set, length-append}
-use lib.Seq.{getD-set-same, getD-set-other}
-use Rattle.records.specs.Bytes.{tabulate}
+use borrow.Author.Tests.{eq-eqb, ne-eqb}
+use lib.Dec.{eqb}
+use lib.ListN.{length, getD, take, drop, set, length-set, length-append, length-take, length-drop, length-map, drop-of-length-le, List·getD-map}
+use lib.Seq.{drop-cons, getD-take, getD-drop, getD-set-same, getD-set-other}
+use Rattle.records.specs.Bytes.{tabulate, all}
 use Rattle.records.specs.Gate.{Gate, gateOf}
 use Rattle.records.specs.Service.{gatesFrom}
 use Rattle.records.proofs.Laws.Bytes.{tabulate-ext, tabulate-snoc}
+use Rattle.engine.specs.Choice.{same}
+use Rattle.engine.specs.Eval.{bit}
+use Rattle.engine.specs.Tree.{column}
 use Rattle.engine.specs.Building.{GateRoom, GatesPut}
+use Rattle.engine.proofs.Laws.Word.{bit-zero}
 
 -- ---- gates in places
 
@@ -62,3 +69,66 @@ room-kept h p = record { kinds = omega arith; firsts = omega arith; seconds = om
 
 pub room-less : {m n : ℕ} {ks xs ys : List ℕ} → GateRoom n ks xs ys → m ≤ n → GateRoom m ks xs ys
 room-less h l = record { kinds = omega arith; firsts = omega arith; seconds = omega arith }
+
+-- ---- columns
+
+module _ (tb : List ℕ) (at n t : ℕ) (h : at + n ≤ length tb) where
+  pub length-column : length (column (take n (drop at tb)) t) ≡ n
+  unfolding column
+  length-column =
+      length-map (take n (drop at tb)) (bit t) ∙ omega (arith, length-take n (drop at tb), length-drop at tb)
+
+  pub getD-column : (i : ℕ) → i < n → getD (column (take n (drop at tb)) t) i 0 ≡ bit t (getD tb (at + i) 0)
+  unfolding column
+  getD-column i l =
+      ap (λ (d : ℕ). getD (map (bit t) (take n (drop at tb))) i d) (sym (bit-zero t))
+      ∙ List·getD-map (bit t) (take n (drop at tb)) i 0
+      ∙ ap (bit t) (getD-take n (drop at tb) i 0 l ∙ getD-drop at tb i 0)
+
+-- a turn of a loop that tests until a test fails: w is what the whole decides, f what is left, g what is left afterwards
+pub test-stops : (b g : Bool) {w f : Bool} → f ≡ w → f ≡ (b && g) → b ≡ false → false ≡ w
+test-stops b g i t e = sym (sym i ∙ t ∙ ap (λ (a : Bool). a && g) e)
+
+pub test-goes : (b g : Bool) {w f : Bool} → f ≡ w → f ≡ (b && g) → b ≡ true → g ≡ w
+test-goes b g i t e = sym (sym i ∙ t ∙ ap (λ (a : Bool). a && g) e)
+
+module _ (tb : List ℕ) (at n t : ℕ) (h : at + n ≤ length tb) where
+  -- the column's test at place i
+  pub all-turn : (x i : ℕ) → i < n
+      → all (eqb x) (drop i (column (take n (drop at tb)) t))
+      ≡ (eqb x (bit t (getD tb (at + i) 0)) && all (eqb x) (drop (i + 1) (column (take n (drop at tb)) t)))
+  unfolding all
+  all-turn x i l =
+      let c : List ℕ = column (take n (drop at tb)) t in
+      rw (add-one i, sym (getD-column tb at n t h i l))
+      (ap (all (eqb x)) (drop-cons c i 0 (omega (arith, length-column tb at n t h))))
+
+  pub all-end : (x i : ℕ) → n ≤ i → all (eqb x) (drop i (column (take n (drop at tb)) t)) ≡ true
+  unfolding all
+  all-end x i l =
+      ap (all (eqb x)) (drop-of-length-le (column (take n (drop at tb)) t) {i = i} (omega (arith, length-column tb at n t h)))
+
+-- two columns compared at place i
+module _ (tb : List ℕ) (at bt n t : ℕ) (h : at + n ≤ length tb) (k : bt + n ≤ length tb) where
+  pub same-turn : (i : ℕ) → i < n
+      → same (drop i (column (take n (drop at tb)) t)) (drop i (column (take n (drop bt tb)) t))
+      ≡ (eqb (bit t (getD tb (at + i) 0)) (bit t (getD tb (bt + i) 0))
+      && same (drop (i + 1) (column (take n (drop at tb)) t)) (drop (i + 1) (column (take n (drop bt tb)) t)))
+  unfolding same
+  same-turn i l =
+      let c : List ℕ = column (take n (drop at tb)) t in
+      let d : List ℕ = column (take n (drop bt tb)) t in
+      let e = drop-cons c i 0 (omega (arith, length-column tb at n t h)) in
+      let f = drop-cons d i 0 (omega (arith, length-column tb bt n t k)) in
+      rw (add-one i, sym (getD-column tb at n t h i l), sym (getD-column tb bt n t k i l))
+      (ap (λ (l : List ℕ). same l (drop i d)) e ∙ ap (same (getD c i 0 ∷ drop (suc i) c)) f)
+
+  pub same-end : (i : ℕ) → n ≤ i
+      → same (drop i (column (take n (drop at tb)) t)) (drop i (column (take n (drop bt tb)) t)) ≡ true
+  unfolding same
+  same-end i l =
+      let c : List ℕ = column (take n (drop at tb)) t in
+      let d : List ℕ = column (take n (drop bt tb)) t in
+      let e = drop-of-length-le c {i = i} (omega (arith, length-column tb at n t h)) in
+      let f = drop-of-length-le d {i = i} (omega (arith, length-column tb bt n t k)) in
+      ap (λ (l : List ℕ). same l (drop i d)) e ∙ ap (same []) f
