@@ -8,8 +8,17 @@ ghost use Rattle.records.specs.Bytes.{all};
 ghost use Rattle.records.specs.Gate.{gateOf};
 ghost use Rattle.engine.specs.Choice.{same};
 ghost use Rattle.engine.specs.Eval.{bit};
-ghost use Rattle.engine.specs.Tree.{column};
-ghost use Rattle.engine.specs.Building.{GateRoom, GatesPut};
+ghost use Rattle.engine.specs.Tree.{column, treeSize};
+ghost use Rattle.engine.specs.Building.{GateRoom, GatesPut, columnPart, TablePart, shapeOf};
+use super::choose::reading_count;
+
+// How a tree starts: it is one constant gate of this kind, or the tree of the column's halves, which are equal, or the trees of
+// both halves and a multiplexer.
+pub enum Shape {
+    Constant(u8),
+    Equal,
+    Split,
+}
 
 // One gate at place at; the place behind it.
 pub(super) fn put_gate(
@@ -69,4 +78,40 @@ fn halves_equal(table: &[u8], at: usize, half: usize, t: usize) -> bool
         i += 1;
     }
     true
+}
+
+// The shape of the tree over k nets and the column of target t, at the 2 ^ k entries from place at on.
+fn shape_of(table: &[u8], at: usize, k: usize, t: usize) -> Shape
+    requires { ⌜ TablePart (now table) at k t ⌝ }
+    ensures { λ r. ⌜ r ≡ shapeOf k (columnPart (now (table .entry)) at k t) ⌝ }
+{
+    let size = reading_count(k);
+    if column_is(table, at, size, t, 0) {
+        return Shape::Constant(0);
+    }
+    if column_is(table, at, size, t, 1) {
+        return Shape::Constant(1);
+    }
+    if halves_equal(table, at, size / 2, t) {
+        return Shape::Equal;
+    }
+    Shape::Split
+}
+
+// How many gates that tree has. The tree's size calls itself on each half.
+fn tree_size(table: &[u8], at: usize, k: usize, t: usize) -> usize
+    requires { ⌜ TablePart (now table) at k t ⌝ }
+    ensures { λ r. ⌜ r ≡ treeSize k (columnPart (now (table .entry)) at k t) ⌝ }
+{
+    let shape = shape_of(table, at, k, t);
+    match shape {
+        Shape::Constant(_) => 1,
+        Shape::Equal => tree_size(table, at, k - 1, t),
+        Shape::Split => {
+            let half = reading_count(k - 1);
+            let low = tree_size(table, at, k - 1, t);
+            let high = tree_size(table, at + half, k - 1, t);
+            low + high + 4
+        }
+    }
 }

@@ -1,22 +1,29 @@
 -- Laws of specs/Tree and specs/Building: gates put into places, and multiplexer trees. Assumes nothing.
-use Prim.Native.Nat.{ℕ, zero, suc, _+_, _-_, _*_, _^_, _≤_, _<_}
+use Prim.Native.Nat.{ℕ, zero, suc, _+_, _-_, _*_, _/_, _^_, _≤_, _<_}
 use mathlib.Core.Path.{_≡_, refl, sym, _∙_, ap}
 use mathlib.Core.List.{List, [], _∷_, _++_, map, append-assoc}
-use mathlib.Core.Bool.{Bool, true, false, _&&_}
-use native.Mathlib.Numerals.{add-one}
+use mathlib.Core.Bool.{Bool, true, false, cond, _&&_, true≢false}
+use native.Mathlib.Nat.{zero-add, suc-add, two-pow-succ}
+use native.Mathlib.Numerals.{add-one, sub-one}
 use native.Mathlib.Omega.{arith}
 use borrow.Author.Tests.{eq-eqb, ne-eqb}
-use lib.Dec.{eqb}
+use lib.Dec.{eqb, lit≤, lit<}
 use lib.ListN.{length, getD, take, drop, set, length-set, length-append, length-take, length-drop, length-map, drop-of-length-le, List·getD-map}
-use lib.Seq.{drop-cons, getD-take, getD-drop, getD-set-same, getD-set-other}
+use lib.Seq.{drop-cons, drop-drop, drop-nil, take-nil, take-take, getD-take, getD-drop, getD-set-same, getD-set-other}
+use lib.Pow.{pow-pos, pow-mono}
 use Rattle.records.specs.Bytes.{tabulate, all}
 use Rattle.records.specs.Gate.{Gate, gateOf}
 use Rattle.records.specs.Service.{gatesFrom}
-use Rattle.records.proofs.Laws.Bytes.{tabulate-ext, tabulate-snoc}
+use Rattle.records.proofs.Laws.Bytes.{and-both, tabulate-ext, tabulate-snoc}
 use Rattle.engine.specs.Choice.{same}
 use Rattle.engine.specs.Eval.{bit}
-use Rattle.engine.specs.Tree.{column}
-use Rattle.engine.specs.Building.{GateRoom, GatesPut}
+use Rattle.engine.specs.Tree.{column, tree, treeSize}
+use Rattle.engine.specs.Building.{GateRoom, GatesPut, TablePart, columnPart, shapeBy, shapeOf, mux}
+use Rattle.engine.specs.declared.tree.Shape.{Shape}
+use Rattle.engine.specs.declared.tree.Shape.the-variants as Shape
+use Rattle.engine.proofs.Laws.Choice.{not-both}
+use Rattle.engine.proofs.Laws.Eval.{bit-lt}
+use Rattle.engine.proofs.Laws.EvalWords.{map-take}
 use Rattle.engine.proofs.Laws.Word.{bit-zero}
 
 -- ---- gates in places
@@ -132,3 +139,248 @@ module _ (tb : List ℕ) (at bt n t : ℕ) (h : at + n ≤ length tb) (k : bt + 
       let e = drop-of-length-le c {i = i} (omega (arith, length-column tb at n t h)) in
       let f = drop-of-length-le d {i = i} (omega (arith, length-column tb bt n t k)) in
       ap (λ (l : List ℕ). same l (drop i d)) e ∙ ap (same []) f
+
+-- ---- the halves of a column
+
+drop-map : (f : ℕ → ℕ) (n : ℕ) (xs : List ℕ) → drop n (map f xs) ≡ map f (drop n xs)
+drop-map f zero xs = refl
+drop-map f (suc n) [] = refl
+drop-map f (suc n) (x ∷ xs) = drop-map f n xs
+
+drop-take : (m n : ℕ) (xs : List ℕ) → drop m (take (m + n) xs) ≡ take n (drop m xs)
+drop-take zero n xs = ap (λ (k : ℕ). take k xs) (zero-add n)
+drop-take (suc m) n [] = ap (λ (k : ℕ). drop (suc m) (take k [])) (suc-add m n) ∙ sym (take-nil n)
+drop-take (suc m) n (x ∷ xs) =
+    ap (λ (k : ℕ). drop (suc m) (take k (x ∷ xs))) (suc-add m n) ∙ drop-take m n xs
+
+module _ (tb : List ℕ) (at t k : ℕ) where
+  pub column-low : take (2 ^ k) (column (take (2 ^ suc k) (drop at tb)) t) ≡ column (take (2 ^ k) (drop at tb)) t
+  unfolding column
+  column-low =
+      sym (map-take (bit t) (2 ^ k) (take (2 ^ suc k) (drop at tb)))
+      ∙ ap (map (bit t)) (take-take (2 ^ k) (2 ^ suc k) (drop at tb) (omega (arith, two-pow-succ k)))
+
+  pub column-high : drop (2 ^ k) (column (take (2 ^ suc k) (drop at tb)) t) ≡ column (take (2 ^ k) (drop (at + 2 ^ k) tb)) t
+  unfolding column
+  column-high =
+      drop-map (bit t) (2 ^ k) (take (2 ^ suc k) (drop at tb))
+      ∙ ap (λ (n : ℕ). map (bit t) (drop (2 ^ k) (take n (drop at tb)))) (two-pow-succ k)
+      ∙ ap (map (bit t)) (drop-take (2 ^ k) (2 ^ k) (drop at tb) ∙ ap (take (2 ^ k)) (drop-drop (2 ^ k) at tb))
+
+-- ---- shapes
+
+pub shape-zero : (k : ℕ) (col : List ℕ) → all (eqb 0) col ≡ true → shapeOf k col ≡ Shape.Constant 0
+unfolding shapeOf shapeBy
+shape-zero zero col z = rw z
+shape-zero (suc k) col z = rw z
+
+pub shape-one : (k : ℕ) (col : List ℕ) → all (eqb 0) col ≡ false → all (eqb 1) col ≡ true → shapeOf k col ≡ Shape.Constant 1
+unfolding shapeOf shapeBy
+shape-one zero col z o = rw z
+shape-one (suc k) col z o = rw (z, o)
+
+-- a test of m entries that gave b, where m is n
+pub column-tested : (tb : List ℕ) (at t x : ℕ) {m n : ℕ} {r b : Bool} → m ≡ n
+    → r ≡ all (eqb x) (column (take m (drop at tb)) t) → r ≡ b → all (eqb x) (column (take n (drop at tb)) t) ≡ b
+column-tested tb at t x e p q = ap (λ (i : ℕ). all (eqb x) (column (take i (drop at tb)) t)) (sym e) ∙ sym p ∙ q
+
+-- a bit that is not 0 is 1
+pub single-bit : (tb : List ℕ) (at t : ℕ) → at + 1 ≤ length tb → all (eqb 0) (column (take 1 (drop at tb)) t) ≡ false
+    → all (eqb 1) (column (take 1 (drop at tb)) t) ≡ true
+single-bit tb at t h z =
+    let b : ℕ = bit t (getD tb (at + 0) 0) in
+    let n : b ≡ 0 → ⊥ =
+    λ e.
+    not-both (all-turn tb at 1 t h 0 0 (omega arith) ∙ and-both _ _ (eq-eqb 0 b (sym e)) (all-end tb at 1 t h 0 1 (omega arith))) z in
+    let e : 1 ≡ b = omega (arith, bit-lt t (getD tb (at + 0) 0)) in
+    all-turn tb at 1 t h 1 0 (omega arith) ∙ and-both _ _ (eq-eqb 1 b e) (all-end tb at 1 t h 1 1 (omega arith))
+
+pub shape-halves : (tb : List ℕ) (at k t half : ℕ) → at + 2 ^ k ≤ length tb → half ≡ 2 ^ k / 2
+    → all (eqb 0) (columnPart tb at k t) ≡ false → all (eqb 1) (columnPart tb at k t) ≡ false
+    → shapeOf k (columnPart tb at k t)
+    ≡ cond (same (column (take half (drop at tb)) t) (column (take half (drop (at + half) tb)) t)) Shape.Equal Shape.Split
+unfolding shapeOf shapeBy
+shape-halves tb at zero t half h e z o = absurd (not-both (single-bit tb at t h z) o)
+shape-halves tb at (suc k) t half h e z o =
+    let n : half ≡ 2 ^ k = omega (arith, two-pow-succ k) in
+    rw (z, o, n, column-low tb at t k, column-high tb at t k)
+
+-- ---- the tree by its shape
+
+-- one of four by the three tests: all 0, all 1, equal halves
+unfoldable branch : {A : Type 0} → Bool → Bool → Bool → A → A → A → A → A
+branch z o e p q r s = elim z [ true ↦ p | false ↦ elim o [ true ↦ q | false ↦ elim e [ true ↦ r | false ↦ s ] ] ]
+
+tree-branch : (k next : ℕ) (is col : List ℕ) → let low = take (2 ^ k) col in
+    let high = drop (2 ^ k) col in
+    let ls = tree k next is low in
+    let hs = tree k (next + length ls) is high in
+    tree (suc k) next is col
+    ≡ branch (all (eqb 0) col) (all (eqb 1) col) (same low high) (gateOf 0 0 0 ∷ []) (gateOf 1 0 0 ∷ []) ls
+    (ls ++ hs ++ mux (getD is k 0) (next + length ls - 1) (next + length ls + length hs - 1))
+unfolding tree branch mux
+tree-branch k next is col = refl
+
+treeSize-branch : (k : ℕ) (col : List ℕ) → let low = take (2 ^ k) col in
+    let high = drop (2 ^ k) col in
+    treeSize (suc k) col
+    ≡ branch (all (eqb 0) col) (all (eqb 1) col) (same low high) 1 1 (treeSize k low) (treeSize k low + treeSize k high + 4)
+unfolding treeSize branch
+treeSize-branch k col = refl
+
+-- the four cases
+tests : (z o e : Bool) {Q : Type 0} → (z ≡ true → Q) → (z ≡ false → o ≡ true → Q) → (z ≡ false → o ≡ false → e ≡ true → Q)
+    → (z ≡ false → o ≡ false → e ≡ false → Q) → Q
+tests true o e p q r s = p refl
+tests false true e p q r s = q refl refl
+tests false false true p q r s = r refl refl refl
+tests false false false p q r s = s refl refl refl
+
+-- how many gates a tree has
+pub length-tree : (k next : ℕ) (is col : List ℕ) → length (tree k next is col) ≡ treeSize k col
+unfolding tree treeSize branch mux
+length-tree zero next is col = refl
+length-tree (suc k) next is col =
+    let low = take (2 ^ k) col in
+    let high = drop (2 ^ k) col in
+    let ls = tree k next is low in
+    let hs = tree k (next + length ls) is high in
+    let m = mux (getD is k 0) (next + length ls - 1) (next + length ls + length hs - 1) in
+    tests (all (eqb 0) col) (all (eqb 1) col) (same low high)
+    (λ z. rw (tree-branch k next is col, treeSize-branch k col, z))
+    (λ z o. rw (tree-branch k next is col, treeSize-branch k col, z, o))
+    (λ z o e. rw (tree-branch k next is col, treeSize-branch k col, z, o, e) (length-tree k next is low))
+    (λ z o e.
+    rw (tree-branch k next is col, treeSize-branch k col, z, o, e)
+    (length-append (ls ++ hs) m
+    ∙ omega (arith, length-append ls hs, length-tree k next is low, length-tree k (next + length ls) is high)))
+
+-- a tree has a gate, and a full one a leaf for each entry and four gates for each branch
+pub treeSize-bounds : (k : ℕ) (col : List ℕ) → (0 < treeSize k col) × (treeSize k col + 4 ≤ 5 * 2 ^ k)
+unfolding treeSize branch
+treeSize-bounds zero col = (lit< tt, lit≤ tt)
+treeSize-bounds (suc k) col =
+    let low = treeSize-bounds k (take (2 ^ k) col) in
+    let high = treeSize-bounds k (drop (2 ^ k) col) in
+    let n = two-pow-succ k in
+    let p = pow-pos k in
+    tests (all (eqb 0) col) (all (eqb 1) col) (same (take (2 ^ k) col) (drop (2 ^ k) col))
+    (λ z. rw (treeSize-branch k col, z) (omega arith, omega arith))
+    (λ z o. rw (treeSize-branch k col, z, o) (omega arith, omega arith))
+    (λ z o e. rw (treeSize-branch k col, z, o, e) (omega arith, omega arith))
+    (λ z o e. rw (treeSize-branch k col, z, o, e) (omega arith, omega arith))
+
+-- what a shape tells of the three tests
+by-constant : (z o e : Bool) (x : ℕ) {Q : Type 0} → shapeBy z o e ≡ Shape.Constant x → (z ≡ true → x ≡ 0 → Q)
+    → (z ≡ false → o ≡ true → x ≡ 1 → Q) → Q
+unfolding shapeBy
+by-constant true o e x q p r = p refl cc
+by-constant false true e x q p r = r refl refl cc
+by-constant false false true x q p r = let f : _≡_ {A = ℕ} 0 1 = cc in let n : ⊥ = omega arith in absurd n
+by-constant false false false x q p r = let f : _≡_ {A = ℕ} 0 1 = cc in let n : ⊥ = omega arith in absurd n
+
+by-equal : (z o e : Bool) → shapeBy z o e ≡ Shape.Equal → (z ≡ false) × (o ≡ false) × (e ≡ true)
+unfolding shapeBy
+by-equal true o e q = let f : _≡_ {A = ℕ} 0 1 = cc in let n : ⊥ = omega arith in absurd n
+by-equal false true e q = let f : _≡_ {A = ℕ} 0 1 = cc in let n : ⊥ = omega arith in absurd n
+by-equal false false true q = (refl, refl, refl)
+by-equal false false false q = let f : _≡_ {A = ℕ} 0 1 = cc in let n : ⊥ = omega arith in absurd n
+
+by-split : (z o e : Bool) → shapeBy z o e ≡ Shape.Split → (z ≡ false) × (o ≡ false) × (e ≡ false)
+unfolding shapeBy
+by-split true o e q = let f : _≡_ {A = ℕ} 0 1 = cc in let n : ⊥ = omega arith in absurd n
+by-split false true e q = let f : _≡_ {A = ℕ} 0 1 = cc in let n : ⊥ = omega arith in absurd n
+by-split false false true q = let f : _≡_ {A = ℕ} 0 1 = cc in let n : ⊥ = omega arith in absurd n
+by-split false false false q = (refl, refl, refl)
+
+pub tree-constant : (k next : ℕ) (is col : List ℕ) (x : ℕ) → shapeOf k col ≡ Shape.Constant x
+    → tree k next is col ≡ gateOf x 0 0 ∷ []
+unfolding tree branch shapeOf shapeBy
+tree-constant zero next is col x q =
+    by-constant (all (eqb 0) col) true true x q
+    (λ z n. rw (z, n))
+    (λ z o n. rw (z, n))
+tree-constant (suc k) next is col x q =
+    by-constant (all (eqb 0) col) (all (eqb 1) col) (same (take (2 ^ k) col) (drop (2 ^ k) col)) x q
+    (λ z n. rw (tree-branch k next is col, z, n))
+    (λ z o n. rw (tree-branch k next is col, z, o, n))
+
+pub size-constant : (k : ℕ) (col : List ℕ) (x : ℕ) → shapeOf k col ≡ Shape.Constant x → treeSize k col ≡ 1
+size-constant k col x q = sym (length-tree k 0 [] col) ∙ ap length (tree-constant k 0 [] col x q)
+
+-- the tree over no nets is a constant
+pub deep-equal : (k : ℕ) (col : List ℕ) → shapeOf k col ≡ Shape.Equal → 0 < k
+unfolding shapeOf shapeBy
+deep-equal zero col q = absurd (true≢false (by-equal (all (eqb 0) col) true true q .1))
+deep-equal (suc k) col q = omega arith
+
+pub deep-split : (k : ℕ) (col : List ℕ) → shapeOf k col ≡ Shape.Split → 0 < k
+unfolding shapeOf shapeBy
+deep-split zero col q = absurd (true≢false (by-split (all (eqb 0) col) true true q .1))
+deep-split (suc k) col q = omega arith
+
+module _ (tb : List ℕ) (at : ℕ) where
+  pub tree-equal : (k t next : ℕ) (is : List ℕ) → shapeOf k (columnPart tb at k t) ≡ Shape.Equal
+      → tree k next is (columnPart tb at k t) ≡ tree (k - 1) next is (columnPart tb at (k - 1) t)
+  unfolding shapeOf branch
+  tree-equal zero t next is q = let f : ⊥ = omega (arith, deep-equal zero (columnPart tb at zero t) q) in absurd f
+  tree-equal (suc k) t next is q =
+      let col = columnPart tb at (suc k) t in
+      let p = by-equal (all (eqb 0) col) (all (eqb 1) col) (same (take (2 ^ k) col) (drop (2 ^ k) col)) q in
+      rw (sub-one (suc k), tree-branch k next is col, p .0, p .1, p .2, column-low tb at t k)
+
+  pub size-equal : (k t : ℕ) → shapeOf k (columnPart tb at k t) ≡ Shape.Equal
+      → treeSize k (columnPart tb at k t) ≡ treeSize (k - 1) (columnPart tb at (k - 1) t)
+  size-equal k t q =
+      sym (length-tree k 0 [] (columnPart tb at k t))
+      ∙ ap length (tree-equal k t 0 [] q)
+      ∙ length-tree (k - 1) 0 [] (columnPart tb at (k - 1) t)
+
+  pub tree-split : (k t next : ℕ) (is : List ℕ) → shapeOf k (columnPart tb at k t) ≡ Shape.Split
+      → let ls = tree (k - 1) next is (columnPart tb at (k - 1) t) in
+      let hs = tree (k - 1) (next + length ls) is (columnPart tb (at + 2 ^ (k - 1)) (k - 1) t) in
+      tree k next is (columnPart tb at k t)
+      ≡ ls ++ hs ++ mux (getD is (k - 1) 0) (next + length ls - 1) (next + length ls + length hs - 1)
+  unfolding shapeOf branch
+  tree-split zero t next is q = let f : ⊥ = omega (arith, deep-split zero (columnPart tb at zero t) q) in absurd f
+  tree-split (suc k) t next is q =
+      let col = columnPart tb at (suc k) t in
+      let p = by-split (all (eqb 0) col) (all (eqb 1) col) (same (take (2 ^ k) col) (drop (2 ^ k) col)) q in
+      rw (sub-one (suc k), tree-branch k next is col, p .0, p .1, p .2, column-low tb at t k, column-high tb at t k)
+
+  -- by the sizes of both halves
+  pub size-split : (k t half x y : ℕ) → shapeOf k (columnPart tb at k t) ≡ Shape.Split → half ≡ 2 ^ (k - 1)
+      → x ≡ treeSize (k - 1) (columnPart tb at (k - 1) t) → y ≡ treeSize (k - 1) (columnPart tb (at + half) (k - 1) t)
+      → treeSize k (columnPart tb at k t) ≡ x + y + 4
+  unfolding mux
+  size-split k t half x y q e l h =
+      let low = columnPart tb at (k - 1) t in
+      let high = columnPart tb (at + 2 ^ (k - 1)) (k - 1) t in
+      let ls = tree (k - 1) 0 [] low in
+      let hs = tree (k - 1) (0 + length ls) [] high in
+      let r : y ≡ treeSize (k - 1) high = h ∙ ap (λ (i : ℕ). treeSize (k - 1) (columnPart tb (at + i) (k - 1) t)) e in
+      sym (length-tree k 0 [] (columnPart tb at k t))
+      ∙ ap length (tree-split k t 0 [] q)
+      ∙ length-append (ls ++ hs) (mux (getD [] (k - 1) 0) (0 + length ls - 1) (0 + length ls + length hs - 1))
+      ∙ omega (arith, length-append ls hs, length-tree (k - 1) 0 [] low, length-tree (k - 1) (0 + length ls) [] high)
+
+pub treeSize-small : (k : ℕ) (col : List ℕ) → k ≤ 10 → treeSize k col < 5120
+treeSize-small k col h =
+    let m : 2 ^ k ≤ 2 ^ 10 = pow-mono h in
+    omega (arith, treeSize-bounds k col)
+
+-- the halves of a part of the table
+pow-halves : (k : ℕ) → 0 < k → 2 ^ k ≡ 2 ^ (k - 1) + 2 ^ (k - 1)
+pow-halves zero h = let f : ⊥ = omega arith in absurd f
+pow-halves (suc k) h = rw (sub-one (suc k)) (two-pow-succ k)
+
+pub part-low : {tb : List ℕ} {at k t : ℕ} → TablePart tb at k t → 0 < k → TablePart tb at (k - 1) t
+part-low {tb} {at} {k} {t} p h =
+    let e = pow-halves k h in
+    record { most = omega arith; within = omega (arith, p .within); target = p .target }
+
+pub part-high : {tb : List ℕ} {at k t half : ℕ} → TablePart tb at k t → 0 < k → half ≡ 2 ^ (k - 1)
+    → TablePart tb (at + half) (k - 1) t
+part-high {tb} {at} {k} {t} {half} p h e =
+    let q = pow-halves k h in
+    record { most = omega arith; within = omega (arith, p .within); target = p .target }
