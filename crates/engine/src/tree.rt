@@ -9,7 +9,7 @@ ghost use Rattle.records.specs.Gate.{gateOf};
 ghost use Rattle.engine.specs.Choice.{same};
 ghost use Rattle.engine.specs.Eval.{bit};
 ghost use Rattle.engine.specs.Tree.{column, treeSize};
-ghost use Rattle.engine.specs.Building.{GateRoom, GatesPut, columnPart, TablePart, shapeOf};
+ghost use Rattle.engine.specs.Building.{GateRoom, GatesPut, columnPart, TablePart, shapeOf, mux};
 use super::choose::reading_count;
 
 // How a tree starts: it is one constant gate of this kind, or the tree of the column's halves, which are equal, or the trees of
@@ -38,6 +38,28 @@ pub(super) fn put_gate(
     firsts[at] = a;
     seconds[at] = b;
     at + 1
+}
+
+// The four gates of a multiplexer behind the first count gates: net low where net s is 0, net high where it is 1. Net high is the
+// last of those gates.
+fn put_mux(
+    s: u16,
+    low: usize,
+    high: usize,
+    count: usize,
+    kinds: &mut [u8],
+    firsts: &mut [u16],
+    seconds: &mut [u16],
+) -> usize
+    requires { ⌜ GateRoom (count + 4) (now kinds) (now firsts) (now seconds) × (low < 65536) × (high + 3 < 65536) ⌝ }
+    ensures { λ r. ⌜ GatesPut count (now (kinds .entry)) (now (firsts .entry)) (now (seconds .entry)) (mux s low high) r
+        (now (kinds .exit)) (now (firsts .exit)) (now (seconds .exit)) ⌝ }
+{
+    let n = high + 1;
+    let a = put_gate(kinds, firsts, seconds, count, 3, s, 0);
+    let b = put_gate(kinds, firsts, seconds, a, 4, n as u16, low as u16);
+    let c = put_gate(kinds, firsts, seconds, b, 4, s, high as u16);
+    put_gate(kinds, firsts, seconds, c, 6, (n + 1) as u16, (n + 2) as u16)
 }
 
 // The bit of target t in the entry at place i.
