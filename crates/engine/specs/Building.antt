@@ -5,6 +5,7 @@
 --   shapeOf k col           how the tree over k nets and the column col starts
 --   mux s l h               the four gates that choose net l where net s is 0 and net h, which stands just before, where s is 1
 --   GateRoom n ks xs ys     the places of a netlist, kinds, first and second operands, hold n gates
+--   NetRoom base n ..       they hold n gates, and the net base + i of each gate i fits into two bytes
 --   GatesPut ..             the gates gs now stand behind the first count gates: r gates in all
 use Prim.Native.Nat.{ℕ, zero, suc, _+_, _^_, _≤_, _<_}
 use mathlib.Core.Path.{_≡_}
@@ -44,6 +45,10 @@ pub record GateRoom (n : ℕ) (ks xs ys : List ℕ) : Type 0 where
   pub kinds : n ≤ length ks
   pub firsts : n ≤ length xs
   pub seconds : n ≤ length ys
+
+pub record NetRoom (base n : ℕ) (ks xs ys : List ℕ) : Type 0 where
+  pub room : GateRoom n ks xs ys
+  pub nets : base + n ≤ 65536
 
 -- the places ks, xs, ys before, ks′, xs′, ys′ afterwards
 pub record GatesPut (count : ℕ) (ks xs ys : List ℕ) (gs : List Gate) (r : ℕ) (ks′ xs′ ys′ : List ℕ) : Type 0 where

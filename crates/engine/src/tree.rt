@@ -8,8 +8,8 @@ ghost use Rattle.records.specs.Bytes.{all};
 ghost use Rattle.records.specs.Gate.{gateOf};
 ghost use Rattle.engine.specs.Choice.{same};
 ghost use Rattle.engine.specs.Eval.{bit};
-ghost use Rattle.engine.specs.Tree.{column, treeSize};
-ghost use Rattle.engine.specs.Building.{GateRoom, GatesPut, columnPart, TablePart, shapeOf, mux};
+ghost use Rattle.engine.specs.Tree.{column, tree, treeSize};
+ghost use Rattle.engine.specs.Building.{GateRoom, NetRoom, GatesPut, columnPart, TablePart, shapeOf, mux};
 use super::choose::reading_count;
 
 // How a tree starts: it is one constant gate of this kind, or the tree of the column's halves, which are equal, or the trees of
@@ -134,6 +134,80 @@ fn tree_size(table: &[u8], at: usize, k: usize, t: usize) -> usize
             let low = tree_size(table, at, k - 1, t);
             let high = tree_size(table, at + half, k - 1, t);
             low + high + 4
+        }
+    }
+}
+
+// The tree over the first k nets of the support and the column of target t at the 2 ^ k entries from place at on, put behind the
+// first count gates; gate i drives net base + i. The builder calls itself on each half of the column.
+pub(super) fn put_tree(
+    table: &[u8],
+    at: usize,
+    k: usize,
+    t: usize,
+    support: [u16; 10],
+    base: usize,
+    count: usize,
+    kinds: &mut [u8],
+    firsts: &mut [u16],
+    seconds: &mut [u16],
+) -> usize
+    requires { ⌜ TablePart (now table) at k t ⌝ }
+    requires { ⌜ NetRoom base (count + treeSize k (columnPart (now table) at k t)) (now kinds) (now firsts) (now seconds) ⌝ }
+    ensures { λ r. ⌜ GatesPut count (now (kinds .entry)) (now (firsts .entry)) (now (seconds .entry))
+        (tree k (base + count) support (columnPart (now (table .entry)) at k t)) r
+        (now (kinds .exit)) (now (firsts .exit)) (now (seconds .exit)) ⌝ }
+{
+    let shape = shape_of(table, at, k, t);
+    match shape {
+        Shape::Constant(kind) => put_gate(kinds, firsts, seconds, count, kind, 0, 0),
+        Shape::Equal => put_tree(
+            table,
+            at,
+            k - 1,
+            t,
+            support,
+            base,
+            count,
+            kinds,
+            firsts,
+            seconds,
+        ),
+        Shape::Split => {
+            let half = reading_count(k - 1);
+            let low = put_tree(
+                table,
+                at,
+                k - 1,
+                t,
+                support,
+                base,
+                count,
+                kinds,
+                firsts,
+                seconds,
+            );
+            let high = put_tree(
+                table,
+                at + half,
+                k - 1,
+                t,
+                support,
+                base,
+                low,
+                kinds,
+                firsts,
+                seconds,
+            );
+            put_mux(
+                support[k - 1],
+                base + low - 1,
+                base + high - 1,
+                high,
+                kinds,
+                firsts,
+                seconds,
+            )
         }
     }
 }

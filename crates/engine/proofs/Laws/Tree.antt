@@ -1,6 +1,6 @@
 -- Laws of specs/Tree and specs/Building: gates put into places, and multiplexer trees. Assumes nothing.
 use Prim.Native.Nat.{ℕ, zero, suc, _+_, _-_, _*_, _/_, _^_, _≤_, _<_}
-use mathlib.Core.Path.{_≡_, refl, sym, _∙_, ap}
+use mathlib.Core.Path.{_≡_, refl, sym, _∙_, ap, subst}
 use mathlib.Core.List.{List, [], _∷_, _++_, map, append-assoc}
 use mathlib.Core.Bool.{Bool, true, false, cond, _&&_, true≢false}
 use native.Mathlib.Nat.{zero-add, suc-add, two-pow-succ}
@@ -18,7 +18,7 @@ use Rattle.records.proofs.Laws.Bytes.{and-both, tabulate-ext, tabulate-snoc}
 use Rattle.engine.specs.Choice.{same}
 use Rattle.engine.specs.Eval.{bit}
 use Rattle.engine.specs.Tree.{column, tree, treeSize}
-use Rattle.engine.specs.Building.{GateRoom, GatesPut, TablePart, columnPart, shapeBy, shapeOf, mux}
+use Rattle.engine.specs.Building.{GateRoom, NetRoom, GatesPut, TablePart, columnPart, shapeBy, shapeOf, mux}
 use Rattle.engine.specs.declared.tree.Shape.{Shape}
 use Rattle.engine.specs.declared.tree.Shape.the-variants as Shape
 use Rattle.engine.proofs.Laws.Choice.{not-both}
@@ -76,6 +76,19 @@ room-kept h p = record { kinds = omega arith; firsts = omega arith; seconds = om
 
 pub room-less : {m n : ℕ} {ks xs ys : List ℕ} → GateRoom n ks xs ys → m ≤ n → GateRoom m ks xs ys
 room-less h l = record { kinds = omega arith; firsts = omega arith; seconds = omega arith }
+
+pub net-less : {base m n : ℕ} {ks xs ys : List ℕ} → NetRoom base n ks xs ys → m ≤ n → NetRoom base m ks xs ys
+net-less h l = record { room = room-less (h .room) l; nets = omega (arith, h .nets) }
+
+pub net-kept : {base n count r : ℕ} {ks xs ys ks′ xs′ ys′ : List ℕ} {gs : List Gate}
+    → NetRoom base n ks xs ys → GatesPut count ks xs ys gs r ks′ xs′ ys′ → NetRoom base n ks′ xs′ ys′
+net-kept h p = record { room = room-kept (h .room) p; nets = h .nets }
+
+-- the same gates
+pub gates-put-same : {count r : ℕ} {ks xs ys ks′ xs′ ys′ : List ℕ} {gs hs : List Gate}
+    → GatesPut count ks xs ys gs r ks′ xs′ ys′ → gs ≡ hs → GatesPut count ks xs ys hs r ks′ xs′ ys′
+gates-put-same {count} {r} {ks} {xs} {ys} {ks′} {xs′} {ys′} p e =
+    subst (λ (l : List Gate). GatesPut count ks xs ys l r ks′ xs′ ys′) e p
 
 -- ---- columns
 
@@ -384,3 +397,78 @@ pub part-high : {tb : List ℕ} {at k t half : ℕ} → TablePart tb at k t → 
 part-high {tb} {at} {k} {t} {half} p h e =
     let q = pow-halves k h in
     record { most = omega arith; within = omega (arith, p .within); target = p .target }
+
+-- ---- trees put
+
+-- the position behind a tree
+pub tree-end : {count r : ℕ} {ks xs ys ks′ xs′ ys′ : List ℕ} (k next : ℕ) (is col : List ℕ)
+    → GatesPut count ks xs ys (tree k next is col) r ks′ xs′ ys′ → r ≡ count + treeSize k col
+tree-end {count} k next is col p = p .end ∙ ap (λ (n : ℕ). count + n) (length-tree k next is col)
+
+pub room-constant : {base : ℕ} {ks xs ys : List ℕ} (count k : ℕ) (col : List ℕ) (x : ℕ) → shapeOf k col ≡ Shape.Constant x
+    → NetRoom base (count + treeSize k col) ks xs ys → GateRoom (count + 1) ks xs ys
+room-constant count k col x q n = room-less (n .room) (omega (arith, size-constant k col x q))
+
+pub room-equal : {base : ℕ} {ks xs ys : List ℕ} (tb : List ℕ) (at k t count : ℕ)
+    → shapeOf k (columnPart tb at k t) ≡ Shape.Equal → NetRoom base (count + treeSize k (columnPart tb at k t)) ks xs ys
+    → NetRoom base (count + treeSize (k - 1) (columnPart tb at (k - 1) t)) ks xs ys
+room-equal tb at k t count q n = net-less n (omega (arith, size-equal tb at k t q))
+
+module _ (tb : List ℕ) (at k t half base : ℕ) (is : List ℕ) (q : shapeOf k (columnPart tb at k t) ≡ Shape.Split)
+    (e : half ≡ 2 ^ (k - 1)) where
+  split-size : treeSize k (columnPart tb at k t)
+      ≡ treeSize (k - 1) (columnPart tb at (k - 1) t) + treeSize (k - 1) (columnPart tb (at + half) (k - 1) t) + 4
+  split-size = size-split tb at k t half _ _ q e refl refl
+
+  -- room for the tree is room for each half's, and for the multiplexer
+  pub room-low : (count : ℕ) {ks xs ys : List ℕ} → NetRoom base (count + treeSize k (columnPart tb at k t)) ks xs ys
+      → NetRoom base (count + treeSize (k - 1) (columnPart tb at (k - 1) t)) ks xs ys
+  room-low count n = net-less n (omega (arith, split-size))
+
+  pub room-high : {count low : ℕ} {ks xs ys ks₁ xs₁ ys₁ : List ℕ}
+      → NetRoom base (count + treeSize k (columnPart tb at k t)) ks xs ys
+      → GatesPut count ks xs ys (tree (k - 1) (base + count) is (columnPart tb at (k - 1) t)) low ks₁ xs₁ ys₁
+      → NetRoom base (low + treeSize (k - 1) (columnPart tb (at + half) (k - 1) t)) ks₁ xs₁ ys₁
+  room-high n p =
+      net-less (net-kept n p) (omega (arith, split-size, tree-end (k - 1) _ is (columnPart tb at (k - 1) t) p))
+
+  pub room-mux : {count low high : ℕ} {ks xs ys ks₁ xs₁ ys₁ ks₂ xs₂ ys₂ : List ℕ}
+      → NetRoom base (count + treeSize k (columnPart tb at k t)) ks xs ys
+      → GatesPut count ks xs ys (tree (k - 1) (base + count) is (columnPart tb at (k - 1) t)) low ks₁ xs₁ ys₁
+      → GatesPut low ks₁ xs₁ ys₁ (tree (k - 1) (base + low) is (columnPart tb (at + half) (k - 1) t)) high ks₂ xs₂ ys₂
+      → GateRoom (high + 4) ks₂ xs₂ ys₂ × (base + (high + 4) ≤ 65536) × (0 < low) × (low < high)
+  room-mux n p r =
+      let l = columnPart tb at (k - 1) t in
+      let h = columnPart tb (at + half) (k - 1) t in
+      let x = tree-end (k - 1) _ is l p in
+      let y = tree-end (k - 1) _ is h r in
+      let b = treeSize-bounds (k - 1) l .0 in
+      let d = treeSize-bounds (k - 1) h .0 in
+      let s = split-size in (
+        room-less (room-kept (room-kept (n .room) p) r) (omega arith),
+        omega (arith, n .nets),
+        omega arith,
+        omega arith,
+      )
+
+  -- the halves' trees and the multiplexer are the tree
+  pub put-split : {count low high r : ℕ} {ks xs ys ks₁ xs₁ ys₁ ks₂ xs₂ ys₂ ks₃ xs₃ ys₃ : List ℕ}
+      → GatesPut count ks xs ys (tree (k - 1) (base + count) is (columnPart tb at (k - 1) t)) low ks₁ xs₁ ys₁
+      → GatesPut low ks₁ xs₁ ys₁ (tree (k - 1) (base + low) is (columnPart tb (at + half) (k - 1) t)) high ks₂ xs₂ ys₂
+      → GatesPut high ks₂ xs₂ ys₂ (mux (getD is (k - 1) 0) (base + low - 1) (base + high - 1)) r ks₃ xs₃ ys₃
+      → GatesPut count ks xs ys (tree k (base + count) is (columnPart tb at k t)) r ks₃ xs₃ ys₃
+  put-split {count} {low} {high} p v m =
+      let s = getD is (k - 1) 0 in
+      let ls = tree (k - 1) (base + count) is (columnPart tb at (k - 1) t) in
+      let hs = tree (k - 1) (base + low) is (columnPart tb (at + half) (k - 1) t) in
+      let hs′ = tree (k - 1) (base + count + length ls) is (columnPart tb (at + 2 ^ (k - 1)) (k - 1) t) in
+      let x : base + low ≡ base + count + length ls = omega (arith, p .end) in
+      let w : hs ≡ hs′ =
+      ap (λ (n : ℕ). tree (k - 1) n is (columnPart tb (at + half) (k - 1) t)) x
+      ∙ ap (λ (n : ℕ). tree (k - 1) (base + count + length ls) is (columnPart tb (at + n) (k - 1) t)) e in
+      let y : base + high ≡ base + count + length ls + length hs′ = omega (arith, p .end, v .end, ap length w) in
+      gates-put-same (gates-put-append (gates-put-append p v) m)
+      (ap (λ (l : List Gate). ls ++ l ++ mux s (base + low - 1) (base + high - 1)) w
+      ∙ ap (λ (n : ℕ). ls ++ hs′ ++ mux s (n - 1) (base + high - 1)) x
+      ∙ ap (λ (n : ℕ). ls ++ hs′ ++ mux s (base + count + length ls - 1) (n - 1)) y
+      ∙ sym (tree-split tb at k t (base + count) is q))
