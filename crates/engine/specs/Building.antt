@@ -5,6 +5,7 @@
 --   shapeOf k col           how the tree over k nets and the column col starts
 --   mux s l h               the four gates that choose net l where net s is 0 and net h, which stands just before, where s is 1
 --   GateRoom n ks xs ys     the places of a netlist, kinds, first and second operands, hold n gates
+--   treesSize m j k tb      how many gates the trees of the m targets from target j on have, over k nets and the table tb
 --   NetRoom base n ..       they hold n gates, and the net base + i of each gate i fits into two bytes
 --   GatesPut ..             the gates gs now stand behind the first count gates: r gates in all
 use Prim.Native.Nat.{ℕ, zero, suc, _+_, _^_, _≤_, _<_}
@@ -17,7 +18,7 @@ use Rattle.records.specs.Bytes.{all}
 use Rattle.records.specs.Gate.{Gate, gateOf}
 use Rattle.records.specs.Service.{gatesFrom}
 use Rattle.engine.specs.Choice.{same}
-use Rattle.engine.specs.Tree.{column}
+use Rattle.engine.specs.Tree.{column, treeSize}
 use Rattle.engine.specs.declared.tree.Shape.{Shape}
 use Rattle.engine.specs.declared.tree.Shape.the-variants as Shape
 
@@ -40,6 +41,10 @@ shapeOf (suc k) col = shapeBy (all (eqb 0) col) (all (eqb 1) col) (same (take (2
 -- kinds: 3 not, 4 and, 6 or
 unfoldable pub mux : ℕ → ℕ → ℕ → List Gate
 mux s l h = gateOf 3 s 0 ∷ gateOf 4 (h + 1) l ∷ gateOf 4 s h ∷ gateOf 6 (h + 1 + 1) (h + 1 + 2) ∷ []
+
+unfoldable pub treesSize : ℕ → ℕ → ℕ → List ℕ → ℕ
+treesSize zero j k tb = 0
+treesSize (suc m) j k tb = treeSize k (columnPart tb 0 k j) + treesSize m (suc j) k tb
 
 pub record GateRoom (n : ℕ) (ks xs ys : List ℕ) : Type 0 where
   pub kinds : n ≤ length ks

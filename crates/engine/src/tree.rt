@@ -1,7 +1,7 @@
 // Multiplexer trees: gates put into the places of a netlist, a tree over each target's column of a table.
 ghost use mathlib.Core.Path.{_≡_};
 ghost use mathlib.Core.List.{[], _∷_};
-ghost use Prim.Native.Nat.{_+_, _≤_, _<_};
+ghost use Prim.Native.Nat.{_+_, _^_, _≤_, _<_};
 ghost use lib.Dec.{eqb};
 ghost use lib.ListN.{length, getD, take, drop};
 ghost use Rattle.records.specs.Bytes.{all};
@@ -9,7 +9,7 @@ ghost use Rattle.records.specs.Gate.{gateOf};
 ghost use Rattle.engine.specs.Choice.{same};
 ghost use Rattle.engine.specs.Eval.{bit};
 ghost use Rattle.engine.specs.Tree.{column, tree, treeSize};
-ghost use Rattle.engine.specs.Building.{GateRoom, NetRoom, GatesPut, columnPart, TablePart, shapeOf, mux};
+ghost use Rattle.engine.specs.Building.{GateRoom, NetRoom, GatesPut, columnPart, TablePart, shapeOf, mux, treesSize};
 use super::choose::reading_count;
 
 // How a tree starts: it is one constant gate of this kind, or the tree of the column's halves, which are equal, or the trees of
@@ -210,4 +210,18 @@ pub(super) fn put_tree(
             )
         }
     }
+}
+
+// How many gates the trees of all targets have.
+pub(super) fn trees_size(table: &[u8], k: usize, targets: usize) -> usize
+    requires { ⌜ (k ≤ 10) × (2 ^ k ≤ length (now table)) × (targets ≤ 4) ⌝ }
+    ensures { λ r. ⌜ r ≡ treesSize targets 0 k (now (table .entry)) ⌝ }
+{
+    let mut sum = 0usize;
+    let mut t = 0usize;
+    while t < targets {
+        sum += tree_size(table, 0, k, t);
+        t += 1;
+    }
+    sum
 }

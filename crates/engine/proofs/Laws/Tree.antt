@@ -18,7 +18,8 @@ use Rattle.records.proofs.Laws.Bytes.{and-both, tabulate-ext, tabulate-snoc}
 use Rattle.engine.specs.Choice.{same}
 use Rattle.engine.specs.Eval.{bit}
 use Rattle.engine.specs.Tree.{column, tree, treeSize}
-use Rattle.engine.specs.Building.{GateRoom, NetRoom, GatesPut, TablePart, columnPart, shapeBy, shapeOf, mux}
+use Rattle.engine.specs.Fit.{treesFrom}
+use Rattle.engine.specs.Building.{GateRoom, NetRoom, GatesPut, TablePart, columnPart, shapeBy, shapeOf, mux, treesSize}
 use Rattle.engine.specs.declared.tree.Shape.{Shape}
 use Rattle.engine.specs.declared.tree.Shape.the-variants as Shape
 use Rattle.engine.proofs.Laws.Choice.{not-both}
@@ -472,3 +473,40 @@ module _ (tb : List ℕ) (at k t half base : ℕ) (is : List ℕ) (q : shapeOf k
       ∙ ap (λ (n : ℕ). ls ++ hs′ ++ mux s (n - 1) (base + high - 1)) x
       ∙ ap (λ (n : ℕ). ls ++ hs′ ++ mux s (base + count + length ls - 1) (n - 1)) y
       ∙ sym (tree-split tb at k t (base + count) is q))
+
+-- ---- the trees of all targets
+
+-- a tree over k nets reads the first k of them
+pub tree-take : (k n next : ℕ) (is col : List ℕ) → k ≤ n → tree k next (take n is) col ≡ tree k next is col
+unfolding tree
+tree-take zero n next is col h = refl
+tree-take (suc k) n next is col h =
+    let low = take (2 ^ k) col in
+    let high = drop (2 ^ k) col in
+    let l : k ≤ n = omega arith in
+    rw
+    (tree-branch k next (take n is) col, tree-take k n next is low l, tree-take k n (next + length (tree k next is low)) is high l, getD-take n is k 0 h, tree-branch k next is col)
+
+-- how many gates all trees have
+pub length-trees : (m j k next : ℕ) (is tb : List ℕ) → length is ≡ k
+    → length (treesFrom m j next is (take (2 ^ k) tb) .gates) ≡ treesSize m j k tb
+unfolding treesFrom treesSize
+length-trees zero j k next is tb e = refl
+length-trees (suc m) j k next is tb e =
+    let gs = tree (length is) next is (columnPart tb 0 k j) in
+    length-append gs (treesFrom m (suc j) (next + length gs) is (take (2 ^ k) tb) .gates)
+    ∙ omega
+    (arith, length-tree (length is) next is (columnPart tb 0 k j), length-trees m (suc j) k (next + length gs) is tb e, ap (λ (i : ℕ). treeSize i (columnPart tb 0 k j)) e)
+
+pub treesSize-le : (m j k : ℕ) (tb : List ℕ) → k ≤ 10 → treesSize m j k tb ≤ 5120 * m
+unfolding treesSize
+treesSize-le zero j k tb h = omega arith
+treesSize-le (suc m) j k tb h = omega (arith, treeSize-small k (columnPart tb 0 k j) h, treesSize-le m (suc j) k tb h)
+
+-- one target fewer is left
+pub treesSize-turn : (m j k : ℕ) (tb : List ℕ) → j < m
+    → treesSize (m - j) j k tb ≡ treeSize k (columnPart tb 0 k j) + treesSize (m - (j + 1)) (j + 1) k tb
+unfolding treesSize
+treesSize-turn m j k tb h =
+    let e : m - j ≡ suc (m - (j + 1)) = omega arith in
+    ap (λ (i : ℕ). treesSize i j k tb) e ∙ ap (λ (i : ℕ). treeSize k (columnPart tb 0 k j) + treesSize (m - (j + 1)) i k tb) (sym (add-one j))
