@@ -8,6 +8,8 @@
 --   treesSize m j k tb      how many gates the trees of the m targets from target j on have, over k nets and the table tb
 --   NetRoom base n ..       they hold n gates, and the net base + i of each gate i fits into two bytes
 --   GatesPut ..             the gates gs now stand behind the first count gates: r gates in all
+--   supportTrees ..         the trees of m targets over the first k nets of is and the table tb, the first gate driving net next
+--   TreesPut ..             those trees now stand behind the first count gates, and the net of each at the start of es
 use Prim.Native.Nat.{ℕ, zero, suc, _+_, _^_, _≤_, _<_}
 use mathlib.Core.Path.{_≡_}
 use mathlib.Core.List.{List, [], _∷_, _++_}
@@ -19,6 +21,7 @@ use Rattle.records.specs.Gate.{Gate, gateOf}
 use Rattle.records.specs.Service.{gatesFrom}
 use Rattle.engine.specs.Choice.{same}
 use Rattle.engine.specs.Tree.{column, treeSize}
+use Rattle.engine.specs.Fit.{Trees, treesFrom}
 use Rattle.engine.specs.declared.tree.Shape.{Shape}
 use Rattle.engine.specs.declared.tree.Shape.the-variants as Shape
 
@@ -62,3 +65,11 @@ pub record GatesPut (count : ℕ) (ks xs ys : List ℕ) (gs : List Gate) (r : �
   pub kinds : length ks′ ≡ length ks
   pub firsts : length xs′ ≡ length xs
   pub seconds : length ys′ ≡ length ys
+
+abbrev pub supportTrees : ℕ → ℕ → ℕ → List ℕ → List ℕ → Trees
+supportTrees m k next is tb = treesFrom m 0 next (take k is) (take (2 ^ k) tb)
+
+pub record TreesPut (m k base : ℕ) (is tb : List ℕ) (count : ℕ) (ks xs ys es : List ℕ) (r : ℕ) (ks′ xs′ ys′ es′ : List ℕ) :
+    Type 0 where
+  pub gates : GatesPut count ks xs ys (supportTrees m k (base + count) is tb .gates) r ks′ xs′ ys′
+  pub nets : es′ ≡ supportTrees m k (base + count) is tb .nets ++ drop m es

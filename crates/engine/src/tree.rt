@@ -9,7 +9,7 @@ ghost use Rattle.records.specs.Gate.{gateOf};
 ghost use Rattle.engine.specs.Choice.{same};
 ghost use Rattle.engine.specs.Eval.{bit};
 ghost use Rattle.engine.specs.Tree.{column, tree, treeSize};
-ghost use Rattle.engine.specs.Building.{GateRoom, NetRoom, GatesPut, columnPart, TablePart, shapeOf, mux, treesSize};
+ghost use Rattle.engine.specs.Building.{GateRoom, NetRoom, GatesPut, columnPart, TablePart, shapeOf, mux, treesSize, TreesPut};
 use super::choose::reading_count;
 
 // How a tree starts: it is one constant gate of this kind, or the tree of the column's halves, which are equal, or the trees of
@@ -224,4 +224,34 @@ pub(super) fn trees_size(table: &[u8], k: usize, targets: usize) -> usize
         t += 1;
     }
     sum
+}
+
+// The trees of all targets, one after the other behind the first count gates, over the first k nets of the support; gate i drives
+// net base + i. The net of each tree stands in ends afterwards.
+pub(super) fn put_trees(
+    table: &[u8],
+    k: usize,
+    targets: usize,
+    support: [u16; 10],
+    base: usize,
+    count: usize,
+    ends: &mut [u16],
+    kinds: &mut [u8],
+    firsts: &mut [u16],
+    seconds: &mut [u16],
+) -> usize
+    requires { ⌜ (k ≤ 10) × (2 ^ k ≤ length (now table)) × (targets ≤ 4) × (targets ≤ length (now ends)) ⌝ }
+    requires { ⌜ NetRoom base (count + treesSize targets 0 k (now table)) (now kinds) (now firsts) (now seconds) ⌝ }
+    ensures { λ r. ⌜ TreesPut targets k base support (now (table .entry)) count
+        (now (kinds .entry)) (now (firsts .entry)) (now (seconds .entry)) (now (ends .entry)) r
+        (now (kinds .exit)) (now (firsts .exit)) (now (seconds .exit)) (now (ends .exit)) ⌝ }
+{
+    let mut next = count;
+    let mut t = 0usize;
+    while t < targets {
+        next = put_tree(table, 0, k, t, support, base, next, kinds, firsts, seconds);
+        ends[t] = (base + next - 1) as u16;
+        t += 1;
+    }
+    next
 }

@@ -1,15 +1,15 @@
 -- Laws of specs/Tree and specs/Building: gates put into places, and multiplexer trees. Assumes nothing.
 use Prim.Native.Nat.{ℕ, zero, suc, _+_, _-_, _*_, _/_, _^_, _≤_, _<_}
 use mathlib.Core.Path.{_≡_, refl, sym, _∙_, ap, subst}
-use mathlib.Core.List.{List, [], _∷_, _++_, map, append-assoc}
+use mathlib.Core.List.{List, [], _∷_, _++_, map, append-assoc, append-nil}
 use mathlib.Core.Bool.{Bool, true, false, cond, _&&_, true≢false}
 use native.Mathlib.Nat.{zero-add, suc-add, two-pow-succ}
 use native.Mathlib.Numerals.{add-one, sub-one}
 use native.Mathlib.Omega.{arith}
 use borrow.Author.Tests.{eq-eqb, ne-eqb}
 use lib.Dec.{eqb, lit≤, lit<}
-use lib.ListN.{length, getD, take, drop, set, length-set, length-append, length-take, length-drop, length-map, drop-of-length-le, List·getD-map}
-use lib.Seq.{drop-cons, drop-drop, drop-nil, take-nil, take-take, getD-take, getD-drop, getD-set-same, getD-set-other}
+use lib.ListN.{length, getD, take, drop, set, length-set, length-append, length-take, length-drop, length-map, drop-of-length-le, take-append-drop, List·getD-map}
+use lib.Seq.{append-snoc, drop-cons, drop-drop, drop-set-lt, take-nil, take-suc-set, take-take, length-take-le, getD-take, getD-drop, getD-set-same, getD-set-other}
 use lib.Pow.{pow-pos, pow-mono}
 use Rattle.records.specs.Bytes.{tabulate, all}
 use Rattle.records.specs.Gate.{Gate, gateOf}
@@ -18,8 +18,8 @@ use Rattle.records.proofs.Laws.Bytes.{and-both, tabulate-ext, tabulate-snoc}
 use Rattle.engine.specs.Choice.{same}
 use Rattle.engine.specs.Eval.{bit}
 use Rattle.engine.specs.Tree.{column, tree, treeSize}
-use Rattle.engine.specs.Fit.{treesFrom}
-use Rattle.engine.specs.Building.{GateRoom, NetRoom, GatesPut, TablePart, columnPart, shapeBy, shapeOf, mux, treesSize}
+use Rattle.engine.specs.Fit.{Trees, treesFrom}
+use Rattle.engine.specs.Building.{GateRoom, NetRoom, GatesPut, TablePart, columnPart, shapeBy, shapeOf, mux, treesSize, supportTrees, TreesPut}
 use Rattle.engine.specs.declared.tree.Shape.{Shape}
 use Rattle.engine.specs.declared.tree.Shape.the-variants as Shape
 use Rattle.engine.proofs.Laws.Choice.{not-both}
@@ -510,3 +510,132 @@ unfolding treesSize
 treesSize-turn m j k tb h =
     let e : m - j ≡ suc (m - (j + 1)) = omega arith in
     ap (λ (i : ℕ). treesSize i j k tb) e ∙ ap (λ (i : ℕ). treeSize k (columnPart tb 0 k j) + treesSize (m - (j + 1)) i k tb) (sym (add-one j))
+
+-- the gates gs and the trees of the targets behind
+abbrev onto : ℕ → ℕ → ℕ → List ℕ → List ℕ → List Gate → Trees
+onto m j next is tb gs =
+    let r = treesFrom m j (next + length gs) is tb in
+    record { gates = gs ++ r .gates; nets = (next + length gs - 1) ∷ r .nets }
+
+pub trees-turn : (m j k next : ℕ) (is tb : List ℕ) → j < m → k ≤ length is
+    → treesFrom (m - j) j next (take k is) (take (2 ^ k) tb)
+    ≡ onto (m - (j + 1)) (j + 1) next (take k is) (take (2 ^ k) tb) (tree k next is (columnPart tb 0 k j))
+unfolding treesFrom
+trees-turn m j k next is tb h l =
+    let js = take k is in
+    let tb′ = take (2 ^ k) tb in
+    let e : m - j ≡ suc (m - (j + 1)) = omega arith in
+    let g : tree (length js) next js (columnPart tb 0 k j) ≡ tree k next is (columnPart tb 0 k j) =
+    ap (λ (i : ℕ). tree i next js (columnPart tb 0 k j)) (length-take-le k is l)
+    ∙ tree-take k k next is (columnPart tb 0 k j) (omega arith) in
+    ap (λ (i : ℕ). treesFrom i j next js tb′) e
+    ∙ ap (onto (m - (j + 1)) (suc j) next js tb′) g
+    ∙ ap (λ (i : ℕ). onto (m - (j + 1)) i next js tb′ (tree k next is (columnPart tb 0 k j))) (sym (add-one j))
+
+-- the trees of the first t targets are put, r gates stand in the places, and the net of each tree in es
+pub record Growing (m k base : ℕ) (is tb : List ℕ) (count : ℕ) (ks₀ xs₀ ys₀ es₀ ks xs ys es : List ℕ) (r t : ℕ) : Type 0 where
+  pub most : t ≤ m
+  pub gates : gatesFrom r ks xs ys ++ treesFrom (m - t) t (base + r) (take k is) (take (2 ^ k) tb) .gates
+      ≡ gatesFrom count ks₀ xs₀ ys₀ ++ supportTrees m k (base + count) is tb .gates
+  pub nets : take t es ++ treesFrom (m - t) t (base + r) (take k is) (take (2 ^ k) tb) .nets
+      ≡ supportTrees m k (base + count) is tb .nets
+  pub end : r + treesSize (m - t) t k tb ≡ count + treesSize m 0 k tb
+  pub behind : drop t es ≡ drop t es₀
+  pub kinds : length ks ≡ length ks₀
+  pub firsts : length xs ≡ length xs₀
+  pub seconds : length ys ≡ length ys₀
+  pub ends : length es ≡ length es₀
+
+module _ (m k base : ℕ) (is tb : List ℕ) (count : ℕ) (ks₀ xs₀ ys₀ es₀ : List ℕ) where
+  pub growing-none : Growing m k base is tb count ks₀ xs₀ ys₀ es₀ ks₀ xs₀ ys₀ es₀ count 0
+  growing-none =
+      let e : m - 0 ≡ m = omega arith in
+      record {
+        most = omega arith;
+        gates = rw e;
+        nets = rw e;
+        end = rw e;
+        behind = refl;
+        kinds = refl;
+        firsts = refl;
+        seconds = refl;
+        ends = refl;
+      }
+
+module _ {m k base : ℕ} {is tb : List ℕ} {count : ℕ} {ks₀ xs₀ ys₀ es₀ ks xs ys es : List ℕ} {r t : ℕ}
+    (g : Growing m k base is tb count ks₀ xs₀ ys₀ es₀ ks xs ys es r t) where
+  pub growing-room : t < m → NetRoom base (count + treesSize m 0 k tb) ks₀ xs₀ ys₀
+      → NetRoom base (r + treeSize k (columnPart tb 0 k t)) ks xs ys
+  growing-room h n =
+      let e = treesSize-turn m t k tb h in
+      record {
+        room = record { kinds = omega (arith, n .room); firsts = omega (arith, n .room); seconds = omega (arith, n .room) };
+        nets = omega (arith, n .nets);
+      }
+
+  pub growing-net : {r′ : ℕ} {ks′ xs′ ys′ : List ℕ} → t < m → NetRoom base (count + treesSize m 0 k tb) ks₀ xs₀ ys₀
+      → GatesPut r ks xs ys (tree k (base + r) is (columnPart tb 0 k t)) r′ ks′ xs′ ys′ → (0 < r′) × (base + r′ ≤ 65536)
+  growing-net h n p =
+      let e = tree-end k (base + r) is (columnPart tb 0 k t) p in
+      (omega (arith, treeSize-bounds k (columnPart tb 0 k t)), omega (arith, growing-room h n .nets))
+
+  pub growing-next : {r′ : ℕ} {ks′ xs′ ys′ : List ℕ} → t < m → k ≤ length is → m ≤ length es₀
+      → GatesPut r ks xs ys (tree k (base + r) is (columnPart tb 0 k t)) r′ ks′ xs′ ys′
+      → Growing m k base is tb count ks₀ xs₀ ys₀ es₀ ks′ xs′ ys′ (set es t (base + r′ - 1)) r′ (t + 1)
+  growing-next {r′} {ks′} {xs′} {ys′} h l b p =
+      let js = take k is in
+      let tb′ = take (2 ^ k) tb in
+      let gs = tree k (base + r) is (columnPart tb 0 k t) in
+      let left : ℕ → Trees = λ i. treesFrom (m - (t + 1)) (t + 1) i js tb′ in
+      let i : base + r′ ≡ base + r + length gs = omega (arith, p .end) in
+      let turn = trees-turn m t k (base + r) is tb h l in
+      let long : t < length es = omega (arith, g .ends) in
+      record {
+        most = omega arith;
+        gates =
+            ap (λ (z : ℕ). gatesFrom r′ ks′ xs′ ys′ ++ left z .gates) i
+            ∙ ap (λ (z : List Gate). z ++ left (base + r + length gs) .gates) (p .gates)
+            ∙ append-assoc (gatesFrom r ks xs ys) gs (left (base + r + length gs) .gates)
+            ∙ ap (λ (z : Trees). gatesFrom r ks xs ys ++ z .gates) (sym turn)
+            ∙ g .gates;
+        nets =
+            ap (λ (z : ℕ). take z (set es t (base + r′ - 1)) ++ left (base + r′) .nets) (add-one t)
+            ∙ ap (λ (z : List ℕ). z ++ left (base + r′) .nets) (take-suc-set es t (base + r′ - 1) long)
+            ∙ append-snoc (take t es) (base + r′ - 1) (left (base + r′) .nets)
+            ∙ ap (λ (z : ℕ). take t es ++ ((z - 1) ∷ left z .nets)) i
+            ∙ ap (λ (z : Trees). take t es ++ z .nets) (sym turn)
+            ∙ g .nets;
+        end = omega (arith, g .end, treesSize-turn m t k tb h, tree-end k (base + r) is (columnPart tb 0 k t) p);
+        behind =
+            drop-set-lt (t + 1) es t (base + r′ - 1) (omega arith)
+            ∙ sym (drop-drop 1 t es)
+            ∙ ap (drop 1) (g .behind)
+            ∙ drop-drop 1 t es₀;
+        kinds = p .kinds ∙ g .kinds;
+        firsts = p .firsts ∙ g .firsts;
+        seconds = p .seconds ∙ g .seconds;
+        ends = length-set es t (base + r′ - 1) ∙ g .ends;
+      }
+
+  pub growing-all : m ≤ t → k ≤ length is → TreesPut m k base is tb count ks₀ xs₀ ys₀ es₀ r ks xs ys es
+  unfolding treesFrom treesSize
+  growing-all h l =
+      let e : m - t ≡ 0 = omega (arith, g .most) in
+      let f : t ≡ m = omega (arith, g .most) in
+      record {
+        gates =
+            record {
+              end =
+                  omega
+                  (arith, g .end, ap (λ (i : ℕ). treesSize i t k tb) e, length-trees m 0 k (base + count) (take k is) tb (length-take-le k is l));
+              gates = sym (append-nil (gatesFrom r ks xs ys)) ∙ (rw e at (g .gates));
+              kinds = g .kinds;
+              firsts = g .firsts;
+              seconds = g .seconds;
+            };
+        nets =
+            sym (take-append-drop t es)
+            ∙ ap (λ (z : List ℕ). z ++ drop t es) (sym (append-nil (take t es)) ∙ (rw e at (g .nets)))
+            ∙ ap (λ (z : List ℕ). supportTrees m k (base + count) is tb .nets ++ z) (g .behind)
+            ∙ ap (λ (z : ℕ). supportTrees m k (base + count) is tb .nets ++ drop z es₀) f;
+      }
