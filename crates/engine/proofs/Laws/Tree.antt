@@ -433,24 +433,25 @@ module _ (tb : List ℕ) (at k t half base : ℕ) (is : List ℕ) (q : shapeOf k
   room-high n p =
       net-less (net-kept n p) (omega (arith, split-size, tree-end (k - 1) _ is (columnPart tb at (k - 1) t) p))
 
-  pub room-mux : {count low high : ℕ} {ks xs ys ks₁ xs₁ ys₁ ks₂ xs₂ ys₂ : List ℕ}
-      → NetRoom base (count + treeSize k (columnPart tb at k t)) ks xs ys
-      → GatesPut count ks xs ys (tree (k - 1) (base + count) is (columnPart tb at (k - 1) t)) low ks₁ xs₁ ys₁
-      → GatesPut low ks₁ xs₁ ys₁ (tree (k - 1) (base + low) is (columnPart tb (at + half) (k - 1) t)) high ks₂ xs₂ ys₂
-      → GateRoom (high + 4) ks₂ xs₂ ys₂ × (base + (high + 4) ≤ 65536) × (0 < low) × (low < high)
-  room-mux n p r =
-      let l = columnPart tb at (k - 1) t in
-      let h = columnPart tb (at + half) (k - 1) t in
-      let x = tree-end (k - 1) _ is l p in
-      let y = tree-end (k - 1) _ is h r in
-      let b = treeSize-bounds (k - 1) l .0 in
-      let d = treeSize-bounds (k - 1) h .0 in
-      let s = split-size in (
-        room-less (room-kept (room-kept (n .room) p) r) (omega arith),
-        omega (arith, n .nets),
-        omega arith,
-        omega arith,
-      )
+  module _ {count low high : ℕ} {ks xs ys ks₁ xs₁ ys₁ ks₂ xs₂ ys₂ : List ℕ}
+      (n : NetRoom base (count + treeSize k (columnPart tb at k t)) ks xs ys)
+      (p : GatesPut count ks xs ys (tree (k - 1) (base + count) is (columnPart tb at (k - 1) t)) low ks₁ xs₁ ys₁)
+      (r : GatesPut low ks₁ xs₁ ys₁ (tree (k - 1) (base + low) is (columnPart tb (at + half) (k - 1) t)) high ks₂ xs₂ ys₂) where
+    high-end : high + 4 ≡ count + treeSize k (columnPart tb at k t)
+    high-end =
+        omega
+        (arith, split-size, tree-end (k - 1) _ is (columnPart tb at (k - 1) t) p, tree-end (k - 1) _ is (columnPart tb (at + half) (k - 1) t) r)
+
+    pub room-mux : GateRoom (high + 4) ks₂ xs₂ ys₂
+    room-mux = room-less (room-kept (room-kept (n .room) p) r) (omega (arith, high-end))
+
+    pub nets-mux : (base + (high + 4) ≤ 65536) × (0 < low) × (low < high)
+    nets-mux =
+        let l = columnPart tb at (k - 1) t in
+        let h = columnPart tb (at + half) (k - 1) t in
+        let x = tree-end (k - 1) _ is l p in
+        let y = tree-end (k - 1) _ is h r in
+        (omega (arith, n .nets, high-end), omega (arith, treeSize-bounds (k - 1) l), omega (arith, treeSize-bounds (k - 1) h))
 
   -- the halves' trees and the multiplexer are the tree
   pub put-split : {count low high r : ℕ} {ks xs ys ks₁ xs₁ ys₁ ks₂ xs₂ ys₂ ks₃ xs₃ ys₃ : List ℕ}

@@ -1,11 +1,14 @@
 -- `engine::tree::tree_size` meets its contract: it calls itself on each half, and the number of nets falls. Assumes nothing.
 use Prim.Native.Nat.{ℕ, _-_, _≤_, _<_}
-use mathlib.Core.Path.{sym, _∙_}
+use mathlib.Core.Path.{_≡_, sym, _∙_}
+use mathlib.Core.List.{List}
 use native.Mathlib.Omega.{arith}
 use borrow.Author.Needs.{needs}
 use denote.Ref.{now}
-use Rattle.engine.specs.Building.{columnPart}
-use Rattle.engine.proofs.Laws.Tree.{size-constant, size-equal, size-split, deep-equal, deep-split, part-low, part-high, treeSize-small}
+use Rattle.engine.specs.Building.{columnPart, shapeOf}
+use Rattle.engine.specs.declared.tree.Shape.the-variants as Shape
+use Rattle.engine.proofs.Laws.Tree.{size-constant, size-equal, size-split, deep-equal, deep-split}
+use Rattle.engine.proofs.Laws.Tree.{part-low, part-high, treeSize-small}
 use borrow.Fn.Kinds.{In}
 use borrow.Fn.PlainCycle.{Measures, is, falls, and}
 use Rattle.engine.proofs.tree.tree_size.Reads as tree-size
@@ -37,6 +40,27 @@ calls t = (
   reading-count-reads.Learnt,
 )
 
+-- the column that a call is about
+abbrev columnAt : (t : ℕ) → tree-size-lts.Start (calls t) (tree-size-at t) tree-size.Post → List ℕ
+columnAt t s = let a = s .args in columnPart (now (a .table)) (a .at) (a .k) (a .t)
+
+-- where its halves are equal, and where they are not
+equal : (t : ℕ) (c : tree-size-lts.After-enum-told2 (calls t) (tree-size-at t) tree-size.Post)
+    → let s = c .before .before .before .before in
+    (shapeOf (s .args .k) (columnAt t s) ≡ Shape.Equal) × (0 < s .args .k)
+equal t c =
+    let s = c .before .before .before .before in
+    let q = sym (c .before .before .shape-of .ensures) ∙ c .enum-told2 .given .1 in
+    (q, deep-equal (s .args .k) (columnAt t s) q)
+
+split : (t : ℕ) (c : tree-size-lts.After-enum-told3 (calls t) (tree-size-at t) tree-size.Post)
+    → let s = c .before .before .before .before in
+    (shapeOf (s .args .k) (columnAt t s) ≡ Shape.Split) × (0 < s .args .k)
+split t c =
+    let s = c .before .before .before .before in
+    let q = sym (c .before .before .shape-of .ensures) ∙ c .enum-told3 .given .1 in
+    (q, deep-split (s .args .k) (columnAt t s) q)
+
 tree-size-shape-of-requires : (t : ℕ) → tree-size-lts.Need-shape-of-requires (calls t) (tree-size-at t) tree-size.Post
 tree-size-shape-of-requires t c κs = search needs
 
@@ -47,73 +71,45 @@ tree-size-enum-told-2 : (t : ℕ) → tree-size-lts.Need-enum-told-2 (calls t) (
 tree-size-enum-told-2 t c = search needs
 
 tree-size-sub-tree-size : (t : ℕ) → tree-size-lts.Need-sub-tree-size (calls t) (tree-size-at t) tree-size.Post
-tree-size-sub-tree-size t c =
-    let s = c .before .before .before .before in
-    let a = s .args in
-    let q = sym (c .before .before .shape-of .ensures) ∙ c .enum-told2 .given .1 in
-    deep-equal (a .k) (columnPart (now (a .table)) (a .at) (a .k) (a .t)) q
+tree-size-sub-tree-size t c = equal t c .1
 
 tree-size-tree-size-requires : (t : ℕ) → tree-size-lts.Need-tree-size-requires (calls t) (tree-size-at t) tree-size.Post
 tree-size-tree-size-requires t c κs =
     let s = c .before .before .before .before in
-    let a = s .args in
-    let q = sym (c .before .before .shape-of .ensures) ∙ c .enum-told2 .given .1 in
-    let d = deep-equal (a .k) (columnPart (now (a .table)) (a .at) (a .k) (a .t)) q in
+    let d = equal t c .1 in
     (omega (arith, s .pre .0), part-low (s .pre .1) d)
 
 tree-size-enum-told-3 : (t : ℕ) → tree-size-lts.Need-enum-told-3 (calls t) (tree-size-at t) tree-size.Post
 tree-size-enum-told-3 t c = search needs
 
 tree-size-sub-reading-count : (t : ℕ) → tree-size-lts.Need-sub-reading-count (calls t) (tree-size-at t) tree-size.Post
-tree-size-sub-reading-count t c =
-    let s = c .before .before .before .before in
-    let a = s .args in
-    let q = sym (c .before .before .shape-of .ensures) ∙ c .enum-told3 .given .1 in
-    let d = deep-split (a .k) (columnPart (now (a .table)) (a .at) (a .k) (a .t)) q in
-    d
+tree-size-sub-reading-count t c = split t c .1
 
 tree-size-reading-count-requires : (t : ℕ) → tree-size-lts.Need-reading-count-requires (calls t) (tree-size-at t) tree-size.Post
 tree-size-reading-count-requires t c κs = let p = c .before .before .before .before .pre .1 in omega arith
 
 tree-size-sub-tree-size-2 : (t : ℕ) → tree-size-lts.Need-sub-tree-size-2 (calls t) (tree-size-at t) tree-size.Post
-tree-size-sub-tree-size-2 t c =
-    let s = c .before .before .before .before .before in
-    let a = s .args in
-    let q = sym (c .before .before .before .shape-of .ensures) ∙ c .before .enum-told3 .given .1 in
-    let d = deep-split (a .k) (columnPart (now (a .table)) (a .at) (a .k) (a .t)) q in
-    d
+tree-size-sub-tree-size-2 t c = split t (c .before) .1
 
 tree-size-tree-size-requires-2 : (t : ℕ) → tree-size-lts.Need-tree-size-requires-2 (calls t) (tree-size-at t) tree-size.Post
 tree-size-tree-size-requires-2 t c κs =
     let s = c .before .before .before .before .before in
-    let a = s .args in
-    let q = sym (c .before .before .before .shape-of .ensures) ∙ c .before .enum-told3 .given .1 in
-    let d = deep-split (a .k) (columnPart (now (a .table)) (a .at) (a .k) (a .t)) q in
+    let d = split t (c .before) .1 in
     (omega (arith, s .pre .0), part-low (s .pre .1) d)
 
 tree-size-add-tree-size : (t : ℕ) → tree-size-lts.Need-add-tree-size (calls t) (tree-size-at t) tree-size.Post
 tree-size-add-tree-size t c =
     let s = c .before .before .before .before .before .before in
-    let a = s .args in
-    let q = sym (c .before .before .before .before .shape-of .ensures) ∙ c .before .before .enum-told3 .given .1 in
-    let d = deep-split (a .k) (columnPart (now (a .table)) (a .at) (a .k) (a .t)) q in
-    let p = part-high (s .pre .1) d (c .before .reading-count .ensures) in
+    let p = part-high (s .pre .1) (split t (c .before .before) .1) (c .before .reading-count .ensures) in
     omega arith
 
 tree-size-sub-tree-size-3 : (t : ℕ) → tree-size-lts.Need-sub-tree-size-3 (calls t) (tree-size-at t) tree-size.Post
-tree-size-sub-tree-size-3 t c =
-    let s = c .before .before .before .before .before .before in
-    let a = s .args in
-    let q = sym (c .before .before .before .before .shape-of .ensures) ∙ c .before .before .enum-told3 .given .1 in
-    let d = deep-split (a .k) (columnPart (now (a .table)) (a .at) (a .k) (a .t)) q in
-    d
+tree-size-sub-tree-size-3 t c = split t (c .before .before) .1
 
 tree-size-tree-size-requires-3 : (t : ℕ) → tree-size-lts.Need-tree-size-requires-3 (calls t) (tree-size-at t) tree-size.Post
 tree-size-tree-size-requires-3 t c κs =
     let s = c .before .before .before .before .before .before in
-    let a = s .args in
-    let q = sym (c .before .before .before .before .shape-of .ensures) ∙ c .before .before .enum-told3 .given .1 in
-    let d = deep-split (a .k) (columnPart (now (a .table)) (a .at) (a .k) (a .t)) q in
+    let d = split t (c .before .before) .1 in
     (omega (arith, s .pre .0), part-high (s .pre .1) d (c .before .reading-count .ensures))
 
 sizes-small : (t : ℕ) (c : tree-size-lts.After-tree-size3 (calls t) (tree-size-at t) tree-size.Post)
@@ -138,29 +134,18 @@ tree-size-add-result-2 t c =
 tree-size-returns : (t : ℕ) → tree-size-lts.Need-returns (calls t) (tree-size-at t) tree-size.Post
 tree-size-returns t c =
     let s = c .before .before .before .before in
-    let a = s .args in
-    sym
-    (size-constant (a .k) (columnPart (now (a .table)) (a .at) (a .k) (a .t)) _
-    (sym (c .before .before .shape-of .ensures) ∙ c .enum-told .given .1))
+    sym (size-constant (s .args .k) (columnAt t s) _ (sym (c .before .before .shape-of .ensures) ∙ c .enum-told .given .1))
 
 tree-size-returns-2 : (t : ℕ) → tree-size-lts.Need-returns-2 (calls t) (tree-size-at t) tree-size.Post
 tree-size-returns-2 t c =
-    let s = c .before .before .before .before .before in
-    let a = s .args in
-    let q = sym (c .before .before .before .shape-of .ensures) ∙ c .before .enum-told2 .given .1 in
-    c .tree-size .ensures ∙ sym (size-equal (now (a .table)) (a .at) (a .k) (a .t) q)
+    let a = c .before .before .before .before .before .args in
+    c .tree-size .ensures ∙ sym (size-equal (now (a .table)) (a .at) (a .k) (a .t) (equal t (c .before) .0))
 
 tree-size-returns-3 : (t : ℕ) → tree-size-lts.Need-returns-3 (calls t) (tree-size-at t) tree-size.Post
 tree-size-returns-3 t c =
-    let s = c .before .before .before .before .before .before .before in
-    let a = s .args in
-    let q = sym (c .before .before .before .before .before .shape-of .ensures) ∙ c .before .before .before .enum-told3 .given .1 in
-    let d = deep-split (a .k) (columnPart (now (a .table)) (a .at) (a .k) (a .t)) q in
+    let a = c .before .before .before .before .before .before .before .args in
     sym
-    (size-split (now (a .table)) (a .at) (a .k) (a .t) (c .before .before .reading-count .result)
-    (c .before .tree-size2 .result)
-    (c .tree-size3 .result)
-    q
+    (size-split (now (a .table)) (a .at) (a .k) (a .t) _ _ _ (split t (c .before .before .before) .0)
     (c .before .before .reading-count .ensures)
     (c .before .tree-size2 .ensures)
     (c .tree-size3 .ensures))

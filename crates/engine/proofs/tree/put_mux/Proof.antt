@@ -27,24 +27,32 @@ cast-put-gate-3 c = search needs
 put-gate-requires-3 : tie.Need-put-gate-requires-3
 put-gate-requires-3 c κs = search needs
 
+-- the function's entry, from the last call's arguments
+abbrev start : tie.After-put-gate-arg12 → tie.Start
+start c =
+    let h = c .before .before .before .before .before .before .before .before .before in
+    let g = h .before .before .before .before .before .before .before .before .before .before in
+    let f = g .before .before .before .before .before .before .before .before .before .before in
+    f .before .before .before .before .before .before .before
+
 add-put-gate : tie.Need-add-put-gate
 add-put-gate c =
-    let p = c .before .before .before .before .before .before .before .before .before .before .before .before .before .before .before .before .before .before .before .before .before .before .before .before .before .before .before .before .before .before .before .before .before .before .before .before .pre .2 in
+    let p = start c .pre .2 in
     omega arith
 
 cast-put-gate-4 : tie.Need-cast-put-gate-4
 cast-put-gate-4 c =
-    let p = c .before .before .before .before .before .before .before .before .before .before .before .before .before .before .before .before .before .before .before .before .before .before .before .before .before .before .before .before .before .before .before .before .before .before .before .before .pre .2 in
+    let p = start c .pre .2 in
     omega arith
 
 add-put-gate-2 : tie.Need-add-put-gate-2
 add-put-gate-2 c =
-    let p = c .before .before .before .before .before .before .before .before .before .before .before .before .before .before .before .before .before .before .before .before .before .before .before .before .before .before .before .before .before .before .before .before .before .before .before .before .pre .2 in
+    let p = start c .pre .2 in
     omega arith
 
 cast-put-gate-5 : tie.Need-cast-put-gate-5
 cast-put-gate-5 c =
-    let p = c .before .before .before .before .before .before .before .before .before .before .before .before .before .before .before .before .before .before .before .before .before .before .before .before .before .before .before .before .before .before .before .before .before .before .before .before .pre .2 in
+    let p = start c .pre .2 in
     omega arith
 
 put-gate-requires-4 : tie.Need-put-gate-requires-4
