@@ -9,7 +9,8 @@ ghost use Rattle.records.specs.Gate.{gateOf};
 ghost use Rattle.engine.specs.Choice.{same};
 ghost use Rattle.engine.specs.Eval.{bit};
 ghost use Rattle.engine.specs.Tree.{column, tree, treeSize};
-ghost use Rattle.engine.specs.Building.{GateRoom, NetRoom, GatesPut, columnPart, TablePart, shapeOf, mux, treesSize, TreesPut};
+ghost use Rattle.engine.specs.Building.{GateRoom, NetRoom, GatesPut, columnPart, TablePart, shapeOf, mux};
+ghost use Rattle.engine.specs.Building.{treesSize, TreesPut};
 use super::choose::reading_count;
 
 // How a tree starts: it is one constant gate of this kind, or the tree of the column's halves, which are equal, or the trees of
@@ -40,8 +41,8 @@ pub(super) fn put_gate(
     at + 1
 }
 
-// The four gates of a multiplexer behind the first count gates: net low where net s is 0, net high where it is 1. Net high is the
-// last of those gates.
+// The four gates of a multiplexer behind the first count gates: net low where net s is 0, net high where it is 1. The last of
+// the first count gates drives net high.
 fn put_mux(
     s: u16,
     low: usize,
@@ -120,7 +121,8 @@ fn shape_of(table: &[u8], at: usize, k: usize, t: usize) -> Shape
     Shape::Split
 }
 
-// How many gates that tree has. The tree's size calls itself on each half.
+// How many gates that tree has. It calls itself on each half of the column; at most (k + 1) 2 ^ k entries are read, three times
+// each.
 fn tree_size(table: &[u8], at: usize, k: usize, t: usize) -> usize
     requires { ⌜ TablePart (now table) at k t ⌝ }
     ensures { λ r. ⌜ r ≡ treeSize k (columnPart (now (table .entry)) at k t) ⌝ }

@@ -6,10 +6,12 @@ use mathlib.Core.Bool.{Bool, true, false, cond, _&&_, true≢false}
 use native.Mathlib.Nat.{zero-add, suc-add, two-pow-succ}
 use native.Mathlib.Numerals.{add-one, sub-one}
 use native.Mathlib.Omega.{arith}
-use borrow.Author.Tests.{eq-eqb, ne-eqb}
+use borrow.Author.Tests.{eq-eqb}
 use lib.Dec.{eqb, lit≤, lit<}
-use lib.ListN.{length, getD, take, drop, set, length-set, length-append, length-take, length-drop, length-map, drop-of-length-le, take-append-drop, List·getD-map}
-use lib.Seq.{append-snoc, drop-cons, drop-drop, drop-set-lt, take-nil, take-suc-set, take-take, length-take-le, getD-take, getD-drop, getD-set-same, getD-set-other}
+use lib.ListN.{length, getD, take, drop, set, length-set, length-append, length-take, length-drop, length-map}
+use lib.ListN.{drop-of-length-le, take-append-drop, List·getD-map}
+use lib.Seq.{append-snoc, drop-cons, drop-drop, drop-set-lt, take-nil, take-suc-set, take-take, length-take-le}
+use lib.Seq.{getD-take, getD-drop, getD-set-same, getD-set-other}
 use lib.Pow.{pow-pos, pow-mono}
 use Rattle.records.specs.Bytes.{tabulate, all}
 use Rattle.records.specs.Gate.{Gate, gateOf}
@@ -19,7 +21,8 @@ use Rattle.engine.specs.Choice.{same}
 use Rattle.engine.specs.Eval.{bit}
 use Rattle.engine.specs.Tree.{column, tree, treeSize}
 use Rattle.engine.specs.Fit.{Trees, treesFrom}
-use Rattle.engine.specs.Building.{GateRoom, NetRoom, GatesPut, TablePart, columnPart, shapeBy, shapeOf, mux, treesSize, supportTrees, TreesPut}
+use Rattle.engine.specs.Building.{GateRoom, NetRoom, GatesPut, TablePart, columnPart, shapeBy, shapeOf, mux}
+use Rattle.engine.specs.Building.{treesSize, supportTrees, TreesPut}
 use Rattle.engine.specs.declared.tree.Shape.{Shape}
 use Rattle.engine.specs.declared.tree.Shape.the-variants as Shape
 use Rattle.engine.proofs.Laws.Choice.{not-both}
@@ -205,7 +208,8 @@ single-bit tb at t h z =
     let b : ℕ = bit t (getD tb (at + 0) 0) in
     let n : b ≡ 0 → ⊥ =
     λ e.
-    not-both (all-turn tb at 1 t h 0 0 (omega arith) ∙ and-both _ _ (eq-eqb 0 b (sym e)) (all-end tb at 1 t h 0 1 (omega arith))) z in
+    let rest = all-end tb at 1 t h 0 1 (omega arith) in
+    not-both (all-turn tb at 1 t h 0 0 (omega arith) ∙ and-both _ _ (eq-eqb 0 b (sym e)) rest) z in
     let e : 1 ≡ b = omega (arith, bit-lt t (getD tb (at + 0) 0)) in
     all-turn tb at 1 t h 1 0 (omega arith) ∙ and-both _ _ (eq-eqb 1 b e) (all-end tb at 1 t h 1 1 (omega arith))
 
@@ -439,8 +443,9 @@ module _ (tb : List ℕ) (at k t half base : ℕ) (is : List ℕ) (q : shapeOf k
       (r : GatesPut low ks₁ xs₁ ys₁ (tree (k - 1) (base + low) is (columnPart tb (at + half) (k - 1) t)) high ks₂ xs₂ ys₂) where
     high-end : high + 4 ≡ count + treeSize k (columnPart tb at k t)
     high-end =
-        omega
-        (arith, split-size, tree-end (k - 1) _ is (columnPart tb at (k - 1) t) p, tree-end (k - 1) _ is (columnPart tb (at + half) (k - 1) t) r)
+        let l = tree-end (k - 1) _ is (columnPart tb at (k - 1) t) p in
+        let h = tree-end (k - 1) _ is (columnPart tb (at + half) (k - 1) t) r in
+        omega (arith, split-size)
 
     pub room-mux : GateRoom (high + 4) ks₂ xs₂ ys₂
     room-mux = room-less (room-kept (room-kept (n .room) p) r) (omega (arith, high-end))
@@ -485,8 +490,9 @@ tree-take (suc k) n next is col h =
     let low = take (2 ^ k) col in
     let high = drop (2 ^ k) col in
     let l : k ≤ n = omega arith in
-    rw
-    (tree-branch k next (take n is) col, tree-take k n next is low l, tree-take k n (next + length (tree k next is low)) is high l, getD-take n is k 0 h, tree-branch k next is col)
+    let p = tree-take k n next is low l in
+    let q = tree-take k n (next + length (tree k next is low)) is high l in
+    rw (tree-branch k next (take n is) col, p, q, getD-take n is k 0 h, tree-branch k next is col)
 
 -- how many gates all trees have
 pub length-trees : (m j k next : ℕ) (is tb : List ℕ) → length is ≡ k
@@ -495,9 +501,15 @@ unfolding treesFrom treesSize
 length-trees zero j k next is tb e = refl
 length-trees (suc m) j k next is tb e =
     let gs = tree (length is) next is (columnPart tb 0 k j) in
+    let n = length-tree (length is) next is (columnPart tb 0 k j) ∙ ap (λ (i : ℕ). treeSize i (columnPart tb 0 k j)) e in
     length-append gs (treesFrom m (suc j) (next + length gs) is (take (2 ^ k) tb) .gates)
-    ∙ omega
-    (arith, length-tree (length is) next is (columnPart tb 0 k j), length-trees m (suc j) k (next + length gs) is tb e, ap (λ (i : ℕ). treeSize i (columnPart tb 0 k j)) e)
+    ∙ omega (arith, length-trees m (suc j) k (next + length gs) is tb e)
+
+pub length-nets : (m j next : ℕ) (is tb : List ℕ) → length (treesFrom m j next is tb .nets) ≡ m
+unfolding treesFrom
+length-nets zero j next is tb = refl
+length-nets (suc m) j next is tb =
+    ap suc (length-nets m (suc j) (next + length (tree (length is) next is (column tb j))) is tb)
 
 pub treesSize-le : (m j k : ℕ) (tb : List ℕ) → k ≤ 10 → treesSize m j k tb ≤ 5120 * m
 unfolding treesSize
@@ -510,7 +522,8 @@ pub treesSize-turn : (m j k : ℕ) (tb : List ℕ) → j < m
 unfolding treesSize
 treesSize-turn m j k tb h =
     let e : m - j ≡ suc (m - (j + 1)) = omega arith in
-    ap (λ (i : ℕ). treesSize i j k tb) e ∙ ap (λ (i : ℕ). treeSize k (columnPart tb 0 k j) + treesSize (m - (j + 1)) i k tb) (sym (add-one j))
+    ap (λ (i : ℕ). treesSize i j k tb) e
+    ∙ ap (λ (i : ℕ). treeSize k (columnPart tb 0 k j) + treesSize (m - (j + 1)) i k tb) (sym (add-one j))
 
 -- the gates gs and the trees of the targets behind
 abbrev onto : ℕ → ℕ → ℕ → List ℕ → List ℕ → List Gate → Trees
@@ -623,12 +636,11 @@ module _ {m k base : ℕ} {is tb : List ℕ} {count : ℕ} {ks₀ xs₀ ys₀ es
   growing-all h l =
       let e : m - t ≡ 0 = omega (arith, g .most) in
       let f : t ≡ m = omega (arith, g .most) in
+      let n = length-trees m 0 k (base + count) (take k is) tb (length-take-le k is l) in
       record {
         gates =
             record {
-              end =
-                  omega
-                  (arith, g .end, ap (λ (i : ℕ). treesSize i t k tb) e, length-trees m 0 k (base + count) (take k is) tb (length-take-le k is l));
+              end = omega (arith, g .end, ap (λ (i : ℕ). treesSize i t k tb) e);
               gates = sym (append-nil (gatesFrom r ks xs ys)) ∙ (rw e at (g .gates));
               kinds = g .kinds;
               firsts = g .firsts;

@@ -8,7 +8,8 @@ use denote.Ref.{now}
 use Rattle.engine.specs.Building.{columnPart, shapeOf}
 use Rattle.engine.specs.declared.tree.Shape.the-variants as Shape
 use Rattle.engine.proofs.Laws.Tree.{gates-put-same, deep-equal, deep-split, part-low, part-high}
-use Rattle.engine.proofs.Laws.Tree.{room-constant, room-equal, room-low, room-high, room-mux, nets-mux, tree-constant, tree-equal, put-split}
+use Rattle.engine.proofs.Laws.Tree.{room-constant, room-equal, room-low, room-high, room-mux, nets-mux}
+use Rattle.engine.proofs.Laws.Tree.{tree-constant, tree-equal, put-split}
 use borrow.Fn.Kinds.{In}
 use borrow.Fn.PlainCycle.{Measures, is, falls, and}
 use Rattle.engine.proofs.tree.put_tree.Reads as put-tree
@@ -156,7 +157,9 @@ put-tree-add-put-tree t c =
     omega arith
 
 put-tree-sub-put-tree-3 : (t : ℕ) → put-tree-lts.Need-sub-put-tree-3 (calls t) (put-tree-at t) put-tree.Post
-put-tree-sub-put-tree-3 t c = split t (c .before .before .before .before .before .before .before .before .before .before .before) .1
+put-tree-sub-put-tree-3 t c =
+    let h = c .before .before .before .before .before .before .before .before .before .before in
+    split t (h .before) .1
 
 put-tree-put-tree-requires-3 : (t : ℕ) → put-tree-lts.Need-put-tree-requires-3 (calls t) (put-tree-at t) put-tree.Post
 put-tree-put-tree-requires-3 t c κs =
@@ -174,18 +177,25 @@ put-tree-put-tree-requires-3 t c κs =
     )
 
 put-tree-sub-put-mux : (t : ℕ) → put-tree-lts.Need-sub-put-mux (calls t) (put-tree-at t) put-tree.Post
-put-tree-sub-put-mux t c = split t (c .before .before .before .before .before .before .before .before .before .before .before .before .before .before .before .before .before .before .before .before .before) .1
+put-tree-sub-put-mux t c =
+    let l = c .before .before .before .before .before .before .before .before .before .before .before .before .before .before .before .before in
+    let h = l .before .before .before .before in
+    split t (h .before) .1
 
 put-tree-mul-put-mux : (t : ℕ) → put-tree-lts.Need-mul-put-mux (calls t) (put-tree-at t) put-tree.Post
 put-tree-mul-put-mux t c =
-    let o = c .before .before .before .before .before .before .before .before .before .before .before .before .before .before .before .before .before .before .before .before .before in
+    let l = c .before .before .before .before .before .before .before .before .before .before .before .before .before .before .before .before in
+    let h = l .before .before .before .before in
+    let o = h .before in
     let q = split t o .1 in
     let p = o .before .before .before .before .before .before .before .pre .1 .0 .most in
     omega arith
 
 put-tree-array-read-put-mux : (t : ℕ) → put-tree-lts.Need-array-read-put-mux (calls t) (put-tree-at t) put-tree.Post
 put-tree-array-read-put-mux t c =
-    let o = c .before .before .before .before .before .before .before .before .before .before .before .before .before .before .before .before .before .before .before .before .before in
+    let l = c .before .before .before .before .before .before .before .before .before .before .before .before .before .before .before .before in
+    let h = l .before .before .before .before in
+    let o = h .before in
     let q = split t o .1 in
     let p = o .before .before .before .before .before .before .before .pre .1 .0 .most in
     omega arith

@@ -1,4 +1,5 @@
--- `engine::tree::put_trees` meets its contract. The invariant: the gates so far and the trees left are the whole. Assumes nothing.
+-- `engine::tree::put_trees` meets its contract. The invariant: the gates so far and the trees left are the whole.
+-- Assumes nothing.
 use Prim.Native.Nat.{_+_, _-_, _≤_, _<_}
 use native.Mathlib.Omega.{arith}
 use borrow.Author.Needs.{needs}
@@ -29,10 +30,13 @@ put-tree-requires c κs =
 
 -- the tree's net fits into two bytes
 net : (c : tie.After-put-tree Inv-loop μ-loop)
-    → (0 < c .put-tree .result) × (c .before .before .before .before .before .before .before .before .before .before .before .args .base + c .put-tree .result ≤ 65536)
+    → let l = c .before .before .before .before in
+    let s = l .before .before .before .before .before .before .before in
+    (0 < c .put-tree .result) × (s .args .base + c .put-tree .result ≤ 65536)
 net c =
     let l = c .before .before .before .before in
-    growing-net (l .before .loop .inv) (l .loop-test .taken) (c .before .before .before .before .before .before .before .before .before .before .before .pre .1) (c .put-tree .ensures)
+    let s = l .before .before .before .before .before .before .before in
+    growing-net (l .before .loop .inv) (l .loop-test .taken) (s .pre .1) (c .put-tree .ensures)
 
 add-ends : tie.Need-add-ends Inv-loop μ-loop
 add-ends c = let n = net (c .before .before .before .before .before .before) in omega arith

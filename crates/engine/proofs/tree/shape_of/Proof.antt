@@ -45,7 +45,8 @@ returns-2 c =
     sym
     (shape-one (a .k) (columnPart (now (a .table)) (a .at) (a .k) (a .t))
     (some (c .before .before))
-    (column-tested (now (a .table)) (a .at) (a .t) 1 (w .reading-count .ensures) (c .before .column-is2 .ensures) (c .if2 .taken)))
+    (column-tested (now (a .table)) (a .at) (a .t) 1 (w .reading-count .ensures) (c .before .column-is2 .ensures)
+    (c .if2 .taken)))
 
 halves-equal-requires : tie.Need-halves-equal-requires
 halves-equal-requires c κs = search needs

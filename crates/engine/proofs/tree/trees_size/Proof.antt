@@ -1,4 +1,5 @@
--- `engine::tree::trees_size` meets its contract. The invariant: the sum and the sizes of the trees left are the whole. Assumes nothing.
+-- `engine::tree::trees_size` meets its contract. The invariant: the sum and the sizes of the trees left are the whole.
+-- Assumes nothing.
 use Prim.Native.Nat.{ℕ, _+_, _-_, _≤_}
 use mathlib.Core.Path.{_≡_, _∙_, ap}
 use native.Mathlib.Nat.{zero-add}
