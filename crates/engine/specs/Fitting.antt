@@ -10,13 +10,13 @@ use Prim.Native.Nat.{ℕ, _+_, _≤_, _<_}
 use mathlib.Core.Path.{_≡_}
 use mathlib.Core.List.{List, [], _∷_, _++_, map}
 use lib.Dec.{eqb}
-use lib.ListN.{length, getD}
+use lib.ListN.{length, getD, take, drop}
 use Rattle.records.specs.Bytes.{upFrom, flat, bytePair, field}
 use Rattle.records.specs.Gate.{Gate, gateOf}
 use Rattle.records.specs.Netlist.{netAt}
 use Rattle.records.specs.Job.{gateBytes}
 use Rattle.engine.specs.Choice.{keep}
-use Rattle.engine.specs.Fit.{moved}
+use Rattle.engine.specs.Fit.{Trees, treesFrom, moved}
 use Rattle.engine.specs.Building.{GatesPut}
 
 unfoldable pub marked : List ℕ → ℕ → ℕ → ℕ → List ℕ
@@ -43,7 +43,16 @@ pub record FreePlaced (gs : List Gate) (count n base : ℕ) (ms before after ks 
   pub free : (i : ℕ) → i < count → getD ms (base + i) 0 ≡ 0 → getD after (base + i) 0 ≡ n + length (marked ms base 0 i)
   pub gates : GatesPut 0 ks xs ys (movedFrom gs after (marked ms base 0 count)) r ks′ xs′ ys′
 
--- .. those with mark 1 stand behind the first from gates, and have their numbers
+-- the trees of m targets over the nets is, at their numbers ns, and the table: the first gate drives the net behind n + count
+abbrev pub numberedTrees : ℕ → ℕ → ℕ → List ℕ → List ℕ → List ℕ → Trees
+numberedTrees n m count ns is table = treesFrom m 0 (n + count) (map (λ o. getD ns o 0) is) table
+
+-- .. stand behind the first count gates, and the targets have the nets of their trees as their numbers
+pub record TreesPlaced (n m count : ℕ) (is table before after ks xs ys : List ℕ) (r : ℕ) (ks′ xs′ ys′ : List ℕ) : Type 0 where
+  pub gates : GatesPut count ks xs ys (numberedTrees n m count before is table .gates) r ks′ xs′ ys′
+  pub nets : after ≡ take n before ++ (numberedTrees n m count before is table .nets ++ drop m (drop n before))
+
+-- the old gates with mark 1 stand behind the first from gates, and have their numbers
 pub record RestPlaced (gs : List Gate) (count n base from : ℕ) (ms before after ks xs ys : List ℕ) (r : ℕ) (ks′ xs′ ys′ : List ℕ) :
     Type 0 where
   pub many : ℕ

@@ -1,14 +1,17 @@
 // The service fit.
 ghost use mathlib.Core.Path.{_≡_};
-ghost use Prim.Native.Nat.{_+_, _≤_, _<_};
-ghost use lib.ListN.{length};
+ghost use Prim.Native.Nat.{_+_, _^_, _≤_, _<_};
+ghost use lib.ListN.{length, take};
 ghost use Rattle.records.specs.Service.{gatesFrom};
-ghost use Rattle.engine.specs.Inner.{Evaluable};
-ghost use Rattle.engine.specs.Building.{GateRoom};
-ghost use Rattle.engine.specs.Fitting.{marked, FreePlaced, RestPlaced};
+ghost use Rattle.engine.specs.Inner.{Evaluable, Outputs};
+ghost use Rattle.engine.specs.Building.{GateRoom, NetRoom, treesSize};
+ghost use Rattle.engine.specs.Fitting.{marked, FreePlaced, TreesPlaced, RestPlaced};
+use super::renumber::move_nets;
 use super::renumber::number_gates;
 use super::renumber::number_inputs;
 use super::renumber::put_moved;
+use super::tree::put_trees;
+use records::Support;
 
 // The number, and how many bytes of the reply buffer the patched netlist takes; on refusal the length is 0.
 pub struct FitReply {
@@ -50,6 +53,48 @@ fn place_free(
         0,
         numbers,
         0,
+        new_kinds,
+        new_firsts,
+        new_seconds,
+    )
+}
+
+// A tree for each target, over the support's nets at their new numbers, behind the first count new gates; how many gates there
+// are then. The targets get the nets of their trees as their numbers.
+fn place_trees(
+    table: &[u8],
+    support: Support,
+    targets: usize,
+    inputs: usize,
+    count: usize,
+    numbers: &mut [u16],
+    new_kinds: &mut [u8],
+    new_firsts: &mut [u16],
+    new_seconds: &mut [u16],
+) -> usize
+    requires { ⌜ (support .len ≤ 10) × (2 ^ support .len ≤ length (now table)) ⌝ }
+    requires { ⌜ (targets ≤ 4) × (inputs + targets ≤ length (now numbers)) ⌝ }
+    requires { ⌜ Outputs (support .nets) (support .len) (length (now numbers)) ⌝ }
+    requires { ⌜ NetRoom inputs (count + treesSize targets 0 (support .len) (now table))
+        (now «new_kinds») (now «new_firsts») (now «new_seconds») ⌝ }
+    ensures { λ r. ⌜ TreesPlaced inputs targets count
+        (take (support .len) (support .nets)) (take (2 ^ support .len) (now (table .entry)))
+        (now (numbers .entry)) (now (numbers .exit))
+        (now («new_kinds» .entry)) (now («new_firsts» .entry)) (now («new_seconds» .entry)) r
+        (now («new_kinds» .exit)) (now («new_firsts» .exit)) (now («new_seconds» .exit)) ⌝ }
+{
+    let nets = support.nets;
+    let len = support.len;
+    let mut moved = [0u16; 10];
+    move_nets(&nets, len, numbers, &mut moved);
+    put_trees(
+        table,
+        len,
+        targets,
+        moved,
+        inputs,
+        count,
+        &mut numbers[inputs..],
         new_kinds,
         new_firsts,
         new_seconds,

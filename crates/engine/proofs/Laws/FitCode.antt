@@ -1,5 +1,5 @@
 -- Laws of fit's code (specs/Fitting): new numbers of nets, and gates moved to them. Assumes nothing.
-use Prim.Native.Nat.{ℕ, zero, suc, _+_, _-_, _*_, _≤_, _<_}
+use Prim.Native.Nat.{ℕ, zero, suc, _+_, _-_, _^_, _≤_, _<_}
 use mathlib.Core.Path.{_≡_, refl, sym, _∙_, ap, subst}
 use mathlib.Core.Logic.{⊎-elim}
 use mathlib.Core.List.{List, [], _∷_, _++_, map, append-assoc, append-nil, map-append}
@@ -9,8 +9,8 @@ use native.Mathlib.Numerals.{add-one}
 use native.Mathlib.Omega.{arith}
 use borrow.Author.Tests.{eq-eqb, ne-eqb, eqb-true, ltb-true, ltb-false, lt-ltb, le-ltb}
 use lib.Dec.{eqb, ltb}
-use lib.ListN.{length, getD, take, drop, set, length-set, length-append, length-map, List·getD-append}
-use lib.Seq.{getD-set-same, getD-set-other}
+use lib.ListN.{length, getD, take, drop, set, length-set, length-append, length-map, length-drop, drop-of-length-le, List·getD-append}
+use lib.Seq.{take-all, getD-set-same, getD-set-other}
 use Rattle.records.specs.Bytes.{upFrom, tabulate, placed}
 use Rattle.records.specs.Gate.{Gate, gateOf, operands, unused}
 use Rattle.records.specs.Netlist.{netAt}
@@ -20,9 +20,9 @@ use Rattle.records.proofs.Laws.Bytes.{length-upFrom, length-tabulate, getD-tabu
 use Rattle.records.proofs.Laws.Gate.{arity-low, arity-one, arity-two, gateGood-high}
 use Rattle.engine.specs.Choice.{keep}
 use Rattle.engine.specs.Fit.{moved}
-use Rattle.engine.specs.Building.{GateRoom, GatesPut}
+use Rattle.engine.specs.Building.{GateRoom, GatesPut, TreesPut}
 use Rattle.engine.specs.Inner.{Evaluable}
-use Rattle.engine.specs.Fitting.{marked, Numbered, movedFrom, FreePlaced}
+use Rattle.engine.specs.Fitting.{marked, Numbered, movedFrom, FreePlaced, numberedTrees, TreesPlaced}
 use Rattle.engine.proofs.Laws.Choice.{true-or-false, length-keep-le}
 use Rattle.engine.proofs.Laws.EvalWords.{gates-both}
 use Rattle.engine.proofs.Laws.Tree.{gates-put-append, room-kept, room-less}
@@ -290,4 +290,26 @@ free-placed gs count n base ms before h l e w p =
           ∙ getD-tabulate n (λ i. i) i 0 m;
       free = w .numbers;
       gates = p;
+    }
+
+-- ---- the trees
+
+-- the places from n on
+pub part-all : (n : ℕ) (d : List ℕ) → take (length d - n) (drop n d) ≡ drop n d
+part-all n d = take-all (length d - n) (drop n d) (omega (arith, length-drop n d))
+
+part-behind : (n : ℕ) (d : List ℕ) → drop (length d - n) (drop n d) ≡ []
+part-behind n d = drop-of-length-le (drop n d) {i = length d - n} (omega (arith, length-drop n d))
+
+pub trees-placed : (n m count k : ℕ) (nets d : List ℕ) {tb is es′ ks xs ys ks′ xs′ ys′ : List ℕ} {r : ℕ}
+    → take k is ≡ map (λ o. getD d o 0) (take k nets)
+    → TreesPut m k n is tb count ks xs ys (take (length d - n) (drop n d)) r ks′ xs′ ys′ es′
+    → TreesPlaced n m count (take k nets) (take (2 ^ k) tb) d (take n d ++ (es′ ++ drop (length d - n) (drop n d)))
+    ks xs ys r ks′ xs′ ys′
+trees-placed n m count k nets d {tb} {is} {es′} e w =
+    let ns : List ℕ = numberedTrees n m count d (take k nets) (take (2 ^ k) tb) .nets in
+    let f : es′ ≡ ns ++ drop m (drop n d) = rw (e, part-all n d) at (w .nets) in
+    record {
+      gates = rw e at (w .gates);
+      nets = rw (part-behind n d, f, append-nil (ns ++ drop m (drop n d)));
     }
