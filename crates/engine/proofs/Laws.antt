@@ -12,6 +12,7 @@ pub mod FitCode
 pub mod Fitting
 pub mod FitGates
 pub mod FitNets
+pub mod FitPlaced
 pub mod FitTree
 pub mod Fitted
 pub mod Loop

@@ -3,8 +3,10 @@
 --   marked ms base b n      the numbers i below n whose mark, that of net base + i, is b, ascending
 --   Numbered ..             the gates with mark b, among the first n, have consecutive new numbers from first on: r of them
 --   movedFrom gs ns ks      the gates of gs with the numbers ks, their used operands at their new numbers ns
+--   oldJob n m gs os        the part of a job that fit reads
 --   FreePlaced, TreesPlaced, RestPlaced     the three groups of the patched netlist's gates, each put behind the one before, with
 --                           the new numbers of the nets that they drive
+--   GatesPlaced ..          all three, which are the patched netlist's gates
 --   netlistBytes n gs os    fields 1 (n and 0), 2 and 3 of a netlist with n inputs, the gates gs and the outputs os
 use Prim.Native.Nat.{ℕ, _+_, _≤_, _<_}
 use mathlib.Core.Path.{_≡_}
@@ -14,9 +16,10 @@ use lib.ListN.{length, getD, take, drop}
 use Rattle.records.specs.Bytes.{upFrom, flat, bytePair, field}
 use Rattle.records.specs.Gate.{Gate, gateOf}
 use Rattle.records.specs.Netlist.{netAt}
-use Rattle.records.specs.Job.{gateBytes}
+use Rattle.records.specs.Job.{Job, gateBytes}
+use Rattle.records.specs.Refusal.{oldNets}
 use Rattle.engine.specs.Choice.{keep}
-use Rattle.engine.specs.Fit.{Trees, treesFrom, moved}
+use Rattle.engine.specs.Fit.{Trees, treesFrom, newNets, moved, fitted}
 use Rattle.engine.specs.Building.{GatesPut}
 
 unfoldable pub marked : List ℕ → ℕ → ℕ → ℕ → List ℕ
@@ -34,6 +37,17 @@ unfoldable pub movedFrom : List Gate → List ℕ → List ℕ → List Gate
 movedFrom gs ns ks = map (λ k. moved ns (getD gs k (gateOf 0 0 0))) ks
 
 -- ---- the three groups of gates
+
+-- the part of a job that fit reads: inputs, targets, old gates and old outputs
+abbrev pub oldJob : ℕ → ℕ → List Gate → List ℕ → Job
+oldJob n m gs os =
+    record {
+      inputs = n;
+      targets = m;
+      old = record { gates = gs; outputs = os };
+      golden = record { gates = []; outputs = [] };
+      candidates = [];
+    }
 
 -- the first count old gates, gs: those with mark 0 stand at the start of the places, and they and the inputs have their numbers
 pub record FreePlaced (gs : List Gate) (count n base : ℕ) (ms before after ks xs ys : List ℕ) (r : ℕ) (ks′ xs′ ys′ : List ℕ) :
@@ -58,6 +72,11 @@ pub record RestPlaced (gs : List Gate) (count n base from : ℕ) (ms before afte
   pub many : ℕ
   pub numbered : Numbered ms base 1 count (n + from) before after many
   pub gates : GatesPut from ks xs ys (movedFrom gs after (marked ms base 1 count)) r ks′ xs′ ys′
+
+-- all of them stand at the start of the places, and each old net has its number
+pub record GatesPlaced (j : Job) (is table ns ks xs ys : List ℕ) (r : ℕ) (ks′ xs′ ys′ : List ℕ) : Type 0 where
+  pub gates : GatesPut 0 ks xs ys (fitted j is table .gates) r ks′ xs′ ys′
+  pub numbers : (i : ℕ) → i < oldNets j → getD ns i 0 ≡ netAt (newNets j is table) i
 
 -- ---- bytes
 
