@@ -7,10 +7,11 @@
 --   FreePlaced, TreesPlaced, RestPlaced     the three groups of the patched netlist's gates, each put behind the one before, with
 --                           the new numbers of the nets that they drive
 --   GatesPlaced ..          all three, which are the patched netlist's gates
+--   patchedJob, Fittable, patchedCount ..     what place_gates requires: a job's old gates and a patch; how many gates it gives
 --   netlistBytes n gs os    fields 1 (n and 0), 2 and 3 of a netlist with n inputs, the gates gs and the outputs os
-use Prim.Native.Nat.{ℕ, _+_, _≤_, _<_}
+use Prim.Native.Nat.{ℕ, _+_, _^_, _≤_, _<_}
 use mathlib.Core.Path.{_≡_}
-use mathlib.Core.List.{List, [], _∷_, _++_, map}
+use mathlib.Core.List.{List, [], _∷_, _++_, map, List·Memᴰ as Mem}
 use lib.Dec.{eqb}
 use lib.ListN.{length, getD, take, drop}
 use Rattle.records.specs.Bytes.{upFrom, flat, bytePair, field}
@@ -18,9 +19,14 @@ use Rattle.records.specs.Gate.{Gate, gateOf}
 use Rattle.records.specs.Netlist.{netAt}
 use Rattle.records.specs.Job.{Job, gateBytes}
 use Rattle.records.specs.Refusal.{oldNets}
+use Rattle.records.specs.Service.{gatesFrom}
+use Rattle.records.specs.Inner.{Within}
+use Rattle.records.specs.declared.job.Counts.{Counts}
+use Rattle.records.specs.declared.sheet.Support.{Support}
 use Rattle.engine.specs.Choice.{keep}
-use Rattle.engine.specs.Fit.{Trees, treesFrom, newNets, moved, fitted}
-use Rattle.engine.specs.Building.{GatesPut}
+use Rattle.engine.specs.Inner.{Evaluable}
+use Rattle.engine.specs.Fit.{led, Trees, treesFrom, newNets, moved, fitted}
+use Rattle.engine.specs.Building.{GatesPut, treesSize}
 
 unfoldable pub marked : List ℕ → ℕ → ℕ → ℕ → List ℕ
 marked ms base b n = keep (λ i. eqb (netAt ms (base + i)) b) (upFrom 0 n)
@@ -77,6 +83,25 @@ pub record RestPlaced (gs : List Gate) (count n base from : ℕ) (ms before afte
 pub record GatesPlaced (j : Job) (is table ns ks xs ys : List ℕ) (r : ℕ) (ks′ xs′ ys′ : List ℕ) : Type 0 where
   pub gates : GatesPut 0 ks xs ys (fitted j is table .gates) r ks′ xs′ ys′
   pub numbers : (i : ℕ) → i < oldNets j → getD ns i 0 ≡ netAt (newNets j is table) i
+
+-- ---- a patch
+
+abbrev pub patchedJob : Counts → List ℕ → List ℕ → List ℕ → List ℕ → Job
+patchedJob c ks xs ys os = oldJob (c .inputs) (c .targets) (gatesFrom (c .old .gates) ks xs ys) os
+
+-- the places hold good gates, and a support of nets that no target leads to with a table over it
+pub record Fittable (c : Counts) (ks xs ys : List ℕ) (s : Support) (table : List ℕ) : Type 0 where
+  pub within : Within c
+  pub evaluable : Evaluable ks xs ys (c .old .gates) (c .inputs + c .targets) 424
+  pub few : s .len ≤ 10
+  pub long : s .len ≤ length (s .nets)
+  pub entries : 2 ^ s .len ≤ length table
+  pub free : (i : ℕ) → Mem i (take (s .len) (s .nets))
+      → (i < oldNets (patchedJob c ks xs ys [])) × (netAt (led (patchedJob c ks xs ys [])) i ≡ 0)
+
+-- the gates that the patched netlist has
+abbrev pub patchedCount : Counts → Support → List ℕ → ℕ
+patchedCount c s table = c .old .gates + treesSize (c .targets) 0 (s .len) table
 
 -- ---- bytes
 

@@ -1,16 +1,20 @@
 // The service fit.
 ghost use mathlib.Core.Path.{_≡_};
+ghost use mathlib.Core.List.{[]};
 ghost use Prim.Native.Nat.{_+_, _^_, _≤_, _<_};
 ghost use lib.ListN.{length, take};
 ghost use Rattle.records.specs.Service.{gatesFrom};
 ghost use Rattle.engine.specs.Inner.{Evaluable, Outputs};
 ghost use Rattle.engine.specs.Building.{GateRoom, NetRoom, treesSize};
-ghost use Rattle.engine.specs.Fitting.{marked, FreePlaced, TreesPlaced, RestPlaced};
+ghost use Rattle.engine.specs.Fitting.{marked, FreePlaced, TreesPlaced, RestPlaced, patchedJob, GatesPlaced};
+ghost use Rattle.engine.specs.Fitting.{Fittable, patchedCount};
+use super::fanout::mark_fanout;
 use super::renumber::move_nets;
 use super::renumber::number_gates;
 use super::renumber::number_inputs;
 use super::renumber::put_moved;
 use super::tree::put_trees;
+use records::Counts;
 use records::Support;
 
 // The number, and how many bytes of the reply buffer the patched netlist takes; on refusal the length is 0.
@@ -136,6 +140,74 @@ fn place_rest(
         1,
         numbers,
         count,
+        new_kinds,
+        new_firsts,
+        new_seconds,
+    )
+}
+
+// The gates of the patched netlist, at the start of the new places, and each old net's new number; how many gates there are.
+fn place_gates(
+    kinds: &[u8],
+    firsts: &[u16],
+    seconds: &[u16],
+    counts: Counts,
+    support: Support,
+    table: &[u8],
+    numbers: &mut [u16],
+    new_kinds: &mut [u8],
+    new_firsts: &mut [u16],
+    new_seconds: &mut [u16],
+) -> usize
+    requires { ⌜ Fittable counts (now kinds) (now firsts) (now seconds) support (now table) ⌝ }
+    requires { ⌜ (length (now numbers) ≡ 424) × (patchedCount counts support (now table) ≤ 400) ⌝ }
+    requires { ⌜ GateRoom 400 (now «new_kinds») (now «new_firsts») (now «new_seconds») ⌝ }
+    ensures { λ r. ⌜ GatesPlaced (patchedJob counts (now (kinds .entry)) (now (firsts .entry)) (now (seconds .entry)) [])
+        (take (support .len) (support .nets)) (take (2 ^ support .len) (now (table .entry))) (now (numbers .exit))
+        (now («new_kinds» .entry)) (now («new_firsts» .entry)) (now («new_seconds» .entry)) r
+        (now («new_kinds» .exit)) (now («new_firsts» .exit)) (now («new_seconds» .exit)) ⌝ }
+{
+    let old = counts.old;
+    let gates = old.gates;
+    let inputs = counts.inputs;
+    let targets = counts.targets;
+    let base = inputs + targets;
+    let mut marks = [0u8; 424];
+    mark_fanout(kinds, firsts, seconds, gates, inputs, targets, &mut marks);
+    let free = place_free(
+        kinds,
+        firsts,
+        seconds,
+        gates,
+        inputs,
+        base,
+        &marks,
+        numbers,
+        new_kinds,
+        new_firsts,
+        new_seconds,
+    );
+    let grown = place_trees(
+        table,
+        support,
+        targets,
+        inputs,
+        free,
+        numbers,
+        new_kinds,
+        new_firsts,
+        new_seconds,
+    );
+    place_rest(
+        kinds,
+        firsts,
+        seconds,
+        gates,
+        inputs,
+        base,
+        grown,
+        &marks,
+        numbers,
         new_kinds,
         new_firsts,
         new_seconds,

@@ -16,17 +16,23 @@ use Rattle.records.specs.Gate.{Gate, gateOf, operands, unused}
 use Rattle.records.specs.Netlist.{netAt, fanout}
 use Rattle.records.specs.Job.{Job}
 use Rattle.records.specs.Refusal.{gatesGood, netlistsGood, oldNets}
+use Rattle.records.specs.Service.{gatesFrom}
+use Rattle.records.specs.declared.job.Counts.{Counts}
+use Rattle.records.specs.declared.sheet.Support.{Support}
 use Rattle.records.proofs.Laws.Bytes.{and-both, length-upFrom}
 use Rattle.engine.specs.Choice.{keep}
+use Rattle.engine.specs.Inner.{Outputs}
 use Rattle.engine.specs.Walk.{FanoutMarks}
 use Rattle.engine.specs.Fit.{led, gateIndices, rank, Trees, treesFrom, trees, freeNumber, newNets, moved, movedGates, fitted, fits}
-use Rattle.engine.specs.Building.{GatesPut}
-use Rattle.engine.specs.Fitting.{marked, Numbered, movedFrom, oldJob, FreePlaced, numberedTrees, TreesPlaced, RestPlaced, GatesPlaced}
-use Rattle.engine.proofs.Laws.Choice.{true-or-false, mem-keep, mem-below, mem-upFrom, map-agree, length-keep-le}
+use Rattle.engine.specs.Building.{GateRoom, NetRoom, GatesPut, treesSize}
+use Rattle.engine.specs.Fitting.{marked, movedFrom, oldJob, FreePlaced, numberedTrees, TreesPlaced, RestPlaced, GatesPlaced}
+use Rattle.engine.specs.Fitting.{patchedJob, Fittable, patchedCount}
+use Rattle.engine.proofs.Laws.Choice.{true-or-false, mem-keep, mem-below, mem-upFrom, map-agree, all-of-members}
+use Rattle.engine.proofs.Laws.EvalWords.{length-gates}
 use Rattle.engine.proofs.Laws.FitCode.{keep-append, upFrom-append}
 use Rattle.engine.proofs.Laws.FitNets.{mark-cases, mark-target, oldNet, oldGate, operand-below, operand-unmarked, NetCase, input, target, gate, net-case, mem-indices, ledStart, number-input, number-target, number-free, number-led, number-support, length-moved, length-fitted}
 use Rattle.engine.proofs.Laws.FitTree.{length-nets}
-use Rattle.engine.proofs.Laws.Tree.{gates-put-append}
+use Rattle.engine.proofs.Laws.Tree.{gates-put-append, room-kept, room-less, length-trees}
 
 -- ---- keep
 
@@ -281,3 +287,94 @@ module _ (j : Job) (is t ms : List ℕ) (f : FanoutMarks (j .inputs) (j .targets
             gates = gates-put-append (gates-put-append first next) last;
             numbers = new-number;
           }
+
+-- ---- a job's old gates and a patch, in places
+
+oldJob-good : (n m : ℕ) (gs : List Gate) (os : List ℕ) → gatesGood (n + m) gs ≡ true → netlistsGood (oldJob n m gs os) ≡ true
+unfolding netlistsGood gatesGood
+oldJob-good n m gs os e = and-both (gatesGood (n + m) gs) true e refl
+
+module _ {c : Counts} {ks xs ys : List ℕ} {s : Support} {table : List ℕ} (h : Fittable c ks xs ys s table) where
+  abbrev job : Job
+  job = patchedJob c ks xs ys []
+
+  gate-count : length (job .old .gates) ≡ c .old .gates
+  gate-count = length-gates (c .old .gates) ks xs ys
+
+  net-count : oldNets job ≡ c .inputs + c .targets + c .old .gates
+  unfolding oldNets
+  net-count = ap (λ (k : ℕ). c .inputs + c .targets + k) gate-count
+
+  net-most : c .inputs + c .targets + c .old .gates ≤ 424
+  net-most = h .evaluable .room
+
+  pub marks-room : {ms : List ℕ} → FanoutMarks (c .inputs) (c .targets) (gatesFrom (c .old .gates) ks xs ys) ms
+      → c .inputs + c .targets + c .old .gates ≤ length ms
+  marks-room f = omega (arith, f .room, gate-count)
+
+  -- the support's nets have numbers
+  pub support-outputs : Outputs (s .nets) (s .len) 424
+  support-outputs =
+      record {
+        held = h .long;
+        below =
+            all-of-members (λ i. ltb i 424) (take (s .len) (s .nets))
+            (λ i m. lt-ltb i 424 (omega (arith, h .free i m .0, net-count, net-most)));
+      }
+
+  trees-count : length (trees job (take (s .len) (s .nets)) (take (2 ^ s .len) table) .gates) ≡ treesSize (c .targets) 0 (s .len) table
+  unfolding trees
+  trees-count =
+      let is = take (s .len) (s .nets) in
+      length-trees (c .targets) 0 (s .len) _ (map (freeNumber job) is) table
+      (length-map is (freeNumber job) ∙ length-take-le (s .len) (s .nets) (h .long))
+
+  module _ (ms : List ℕ) (f : FanoutMarks (c .inputs) (c .targets) (gatesFrom (c .old .gates) ks xs ys) ms)
+      (fit : patchedCount c s table ≤ 400)
+      {d₀ d₁ ks₀ xs₀ ys₀ ks₁ xs₁ ys₁ : List ℕ} {a : ℕ} (room : GateRoom 400 ks₀ xs₀ ys₀)
+      (w₁ : FreePlaced (gatesFrom (c .old .gates) ks xs ys) (c .old .gates) (c .inputs) (c .inputs + c .targets) ms d₀ d₁ ks₀ xs₀ ys₀ a
+      ks₁ xs₁ ys₁) where
+    placed₁ : FreePlaced (job .old .gates) (length (job .old .gates)) (c .inputs) (c .inputs + c .targets) ms d₀ d₁ ks₀ xs₀ ys₀ a
+        ks₁ xs₁ ys₁
+    placed₁ = rw gate-count w₁
+
+    free-most : a + length (gateIndices job 1) ≡ c .old .gates
+    free-most = omega (arith, free-count job [] [] ms f placed₁, indices-all job, gate-count)
+
+    pub trees-room : NetRoom (c .inputs) (a + treesSize (c .targets) 0 (s .len) table) ks₁ xs₁ ys₁
+    trees-room =
+        record {
+          room = room-less (room-kept room (w₁ .gates)) (omega (arith, free-most));
+          nets = omega (arith, free-most, h .within .inputs);
+        }
+
+    module _ {d₂ ks₂ xs₂ ys₂ : List ℕ} {b : ℕ}
+        (w₂ : TreesPlaced (c .inputs) (c .targets) a (take (s .len) (s .nets)) (take (2 ^ s .len) table) d₁ d₂ ks₁ xs₁ ys₁ b ks₂ xs₂ ys₂)
+      where
+        grown : b ≡ a + treesSize (c .targets) 0 (s .len) table
+        grown =
+            w₂ .gates .end
+            ∙ ap (λ (x : Trees). a + length (x .gates))
+            (trees-same job (take (s .len) (s .nets)) (take (2 ^ s .len) table) ms f placed₁ (h .free))
+            ∙ ap (λ (k : ℕ). a + k) trees-count
+
+        pub rest-small : c .inputs + b + c .old .gates < 65536
+        rest-small = omega (arith, grown, free-most, h .within .inputs, h .within .old .gates)
+
+        pub rest-room : GateRoom (b + length (marked ms (c .inputs + c .targets) 1 (c .old .gates))) ks₂ xs₂ ys₂
+        rest-room =
+            let e : length (marked ms (c .inputs + c .targets) 1 (c .old .gates)) ≡ length (gateIndices job 1) =
+            ap length (rw gate-count at (marked-indices job ms f 1)) in
+            room-less (room-kept (room-kept room (w₁ .gates)) (w₂ .gates)) (omega (arith, grown, free-most))
+
+        module _ {d₃ ks₃ xs₃ ys₃ : List ℕ} {r : ℕ} (l : length d₀ ≡ 424)
+            (w₃ : RestPlaced (gatesFrom (c .old .gates) ks xs ys) (c .old .gates) (c .inputs) (c .inputs + c .targets) b ms d₂ d₃
+            ks₂ xs₂ ys₂ r ks₃ xs₃ ys₃) where
+          pub patch-placed : GatesPlaced job (take (s .len) (s .nets)) (take (2 ^ s .len) table) d₃ ks₀ xs₀ ys₀ r ks₃ xs₃ ys₃
+          patch-placed =
+              gates-placed job (take (s .len) (s .nets)) (take (2 ^ s .len) table) ms f (omega (arith, net-count, net-most)) (h .free)
+              placed₁ w₂ (rw gate-count w₃)
+              (oldJob-good (c .inputs) (c .targets) (gatesFrom (c .old .gates) ks xs ys) [] (h .evaluable .good))
+
+pub outputs-same : {os : List ℕ} {count w v : ℕ} → Outputs os count w → v ≡ w → Outputs os count v
+outputs-same e q = rw q e
