@@ -8,24 +8,31 @@
 --                           the new numbers of the nets that they drive
 --   GatesPlaced ..          all three, which are the patched netlist's gates
 --   patchedJob, Fittable, patchedCount ..     what place_gates requires: a job's old gates and a patch; how many gates it gives
+--   FitGives ..             what fit replies with a number, and the buffer
+--   patchNumber, sheetFitNumber, ungolden, FitReady     numbers and jobs on the way from the places to the reply
 --   netlistBytes n gs os    fields 1 (n and 0), 2 and 3 of a netlist with n inputs, the gates gs and the outputs os
 use Prim.Native.Nat.{ℕ, _+_, _^_, _≤_, _<_}
 use mathlib.Core.Path.{_≡_}
+use mathlib.Core.Bool.{cond}
 use mathlib.Core.List.{List, [], _∷_, _++_, map, List·Memᴰ as Mem}
 use lib.Dec.{eqb}
 use lib.ListN.{length, getD, take, drop}
-use Rattle.records.specs.Bytes.{upFrom, flat, bytePair, field}
+use Rattle.records.specs.Bytes.{upFrom, flat, bytePair, placed, field}
 use Rattle.records.specs.Gate.{Gate, gateOf}
 use Rattle.records.specs.Netlist.{netAt}
 use Rattle.records.specs.Job.{Job, gateBytes}
-use Rattle.records.specs.Refusal.{oldNets}
-use Rattle.records.specs.Service.{gatesFrom}
+use Rattle.records.specs.Refusal.{firstFailing, oldNets}
+use Rattle.records.specs.Sheet.{patchOf, sheetTests}
+use Rattle.records.specs.Service.{SidePlaces, sidePlaces, places, gatesFrom, jobFrom}
+use Rattle.records.specs.Claims.{PartsGood}
 use Rattle.records.specs.Inner.{Within}
 use Rattle.records.specs.declared.job.Counts.{Counts}
 use Rattle.records.specs.declared.sheet.Support.{Support}
 use Rattle.engine.specs.Choice.{keep}
 use Rattle.engine.specs.Inner.{Evaluable}
-use Rattle.engine.specs.Fit.{led, Trees, treesFrom, newNets, moved, fitted}
+use Rattle.engine.specs.Walk.{Ready}
+use Rattle.engine.specs.declared.fitting.FitReply.{FitReply}
+use Rattle.engine.specs.Fit.{led, Trees, treesFrom, newNets, moved, fitted, fits}
 use Rattle.engine.specs.Building.{GatesPut, treesSize}
 
 unfoldable pub marked : List ℕ → ℕ → ℕ → ℕ → List ℕ
@@ -107,3 +114,32 @@ patchedCount c s table = c .old .gates + treesSize (c .targets) 0 (s .len) table
 
 unfoldable pub netlistBytes : ℕ → List Gate → List ℕ → List ℕ
 netlistBytes n gs os = field 1 (n ∷ 0 ∷ []) ++ field 2 (flat gateBytes gs) ++ field 3 (flat bytePair os)
+
+-- ---- replies
+
+-- the reply with this number, where the patched netlist has these bytes, and the buffer, which was d
+pub record FitGives (number : ℕ) (bytes d : List ℕ) (r : FitReply) (e : List ℕ) : Type 0 where
+  pub reply : r ≡ record { number = number; len = cond (eqb number 0) (length bytes) 0 }
+  pub buffer : e ≡ cond (eqb number 0) (placed d 0 bytes) d
+
+abbrev pub patchNumber : Job → List ℕ → List ℕ → ℕ
+patchNumber j is t = cond (fits j is t) 0 9
+
+-- the number for a good job j and a sheet's bytes p
+unfoldable pub sheetFitNumber : Job → List ℕ → ℕ
+sheetFitNumber j p =
+    let patch = patchOf p in
+    firstFailing
+    (sheetTests (j .targets) (j .candidates) p
+    ++ (record { number = 9; passes = fits j (patch .support) (patch .table) } ∷ []))
+
+-- the job in places whose golden netlist, which fit does not read, is left out
+abbrev pub ungolden : Counts → SidePlaces → List ℕ → List ℕ → Job
+ungolden c old nets weights = jobFrom c (places old (sidePlaces [] [] [] []) nets weights)
+
+-- the places hold the parts of a good job, with some golden netlist
+pub record FitReady (c : Counts) (old : SidePlaces) (nets weights : List ℕ) : Type 0 where
+  pub golden : SidePlaces
+  pub ready : Ready c old golden nets
+  pub weighted : c .candidates ≤ length weights
+  pub good : PartsGood (jobFrom c (places old golden nets weights))

@@ -5,15 +5,18 @@ ghost use Prim.Native.Nat.{_+_, _^_, _≤_, _<_};
 ghost use lib.ListN.{length, take};
 ghost use Rattle.records.specs.Service.{gatesFrom};
 ghost use Rattle.engine.specs.Inner.{Evaluable, Outputs};
+ghost use Rattle.engine.specs.Fit.{fittedBytes};
 ghost use Rattle.engine.specs.Building.{GateRoom, NetRoom, treesSize};
 ghost use Rattle.engine.specs.Fitting.{marked, FreePlaced, TreesPlaced, RestPlaced, patchedJob, GatesPlaced};
-ghost use Rattle.engine.specs.Fitting.{Fittable, patchedCount};
+ghost use Rattle.engine.specs.Fitting.{Fittable, patchedCount, FitGives, patchNumber};
 use super::fanout::mark_fanout;
+use super::netlist::put_netlist;
 use super::renumber::move_nets;
 use super::renumber::number_gates;
 use super::renumber::number_inputs;
 use super::renumber::put_moved;
 use super::tree::put_trees;
+use super::tree::trees_size;
 use records::Counts;
 use records::Support;
 
@@ -212,4 +215,63 @@ fn place_gates(
         new_firsts,
         new_seconds,
     )
+}
+
+// The reply to a patch that can be fitted to the job in places, and its netlist, or number 9.
+fn fit_patch(
+    kinds: &[u8],
+    firsts: &[u16],
+    seconds: &[u16],
+    outputs: &[u16],
+    counts: Counts,
+    support: Support,
+    table: &[u8],
+    reply: &mut [u8],
+) -> FitReply
+    requires { ⌜ Fittable counts (now kinds) (now firsts) (now seconds) support (now table) ⌝ }
+    requires { ⌜ Outputs (now outputs) (counts .old .outputs) (counts .inputs + counts .targets + counts .old .gates) ⌝ }
+    requires { ⌜ 2075 ≤ length (now reply) ⌝ }
+    ensures { λ r. ⌜ FitGives
+        (patchNumber
+        (patchedJob counts (now (kinds .entry)) (now (firsts .entry)) (now (seconds .entry)) (take (counts .old .outputs) (now (outputs .entry))))
+        (take (support .len) (support .nets)) (take (2 ^ support .len) (now (table .entry))))
+        (fittedBytes
+        (patchedJob counts (now (kinds .entry)) (now (firsts .entry)) (now (seconds .entry)) (take (counts .old .outputs) (now (outputs .entry))))
+        (take (support .len) (support .nets)) (take (2 ^ support .len) (now (table .entry))))
+        (now (reply .entry)) r (now (reply .exit)) ⌝ }
+{
+    let old = counts.old;
+    let size = trees_size(table, support.len, counts.targets);
+    if 400 < old.gates + size {
+        return FitReply { number: 9, len: 0 };
+    }
+    let mut numbers = [0u16; 424];
+    let mut new_kinds = [0u8; 400];
+    let mut new_firsts = [0u16; 400];
+    let mut new_seconds = [0u16; 400];
+    let gates = place_gates(
+        kinds,
+        firsts,
+        seconds,
+        counts,
+        support,
+        table,
+        &mut numbers,
+        &mut new_kinds,
+        &mut new_firsts,
+        &mut new_seconds,
+    );
+    let mut nets = [0u16; 32];
+    move_nets(outputs, old.outputs, &numbers, &mut nets);
+    let len = put_netlist(
+        reply,
+        counts.inputs,
+        &new_kinds,
+        &new_firsts,
+        &new_seconds,
+        gates,
+        &nets,
+        old.outputs,
+    );
+    FitReply { number: 0, len }
 }

@@ -7,7 +7,7 @@ use mathlib.Core.List.{List, [], _∷_, _++_, map, append-nil, List·Memᴰ as M
 use mathlib.Core.Bool.{Bool, true, false, cond}
 use native.Mathlib.Nat.{zero-add}
 use native.Mathlib.Omega.{arith}
-use borrow.Author.Tests.{eq-eqb, ne-eqb, lt-ltb, le-ltb}
+use borrow.Author.Tests.{eq-eqb, ne-eqb, ltb-true, lt-ltb, le-ltb}
 use lib.Dec.{eqb, ltb, leb}
 use lib.ListN.{length, getD, take, drop, length-append, length-map, length-drop, List·getD-append}
 use lib.Seq.{length-take-le, getD-take, getD-drop, getD-append-add}
@@ -27,7 +27,7 @@ use Rattle.engine.specs.Fit.{led, gateIndices, rank, Trees, treesFrom, t
 use Rattle.engine.specs.Building.{GateRoom, NetRoom, GatesPut, treesSize}
 use Rattle.engine.specs.Fitting.{marked, movedFrom, oldJob, FreePlaced, numberedTrees, TreesPlaced, RestPlaced, GatesPlaced}
 use Rattle.engine.specs.Fitting.{patchedJob, Fittable, patchedCount}
-use Rattle.engine.proofs.Laws.Choice.{true-or-false, mem-keep, mem-below, mem-upFrom, map-agree, all-of-members}
+use Rattle.engine.proofs.Laws.Choice.{true-or-false, mem-keep, mem-below, mem-upFrom, map-agree, all-true, all-of-members}
 use Rattle.engine.proofs.Laws.EvalWords.{length-gates}
 use Rattle.engine.proofs.Laws.FitCode.{keep-append, upFrom-append}
 use Rattle.engine.proofs.Laws.FitNets.{mark-cases, mark-target, oldNet, oldGate, operand-below, operand-unmarked, NetCase, input, target, gate, net-case, mem-indices, ledStart, number-input, number-target, number-free, number-led, number-support, length-moved, length-fitted}
@@ -298,10 +298,10 @@ module _ {c : Counts} {ks xs ys : List ℕ} {s : Support} {table : List ℕ} (h 
   abbrev job : Job
   job = patchedJob c ks xs ys []
 
-  gate-count : length (job .old .gates) ≡ c .old .gates
+  pub gate-count : length (job .old .gates) ≡ c .old .gates
   gate-count = length-gates (c .old .gates) ks xs ys
 
-  net-count : oldNets job ≡ c .inputs + c .targets + c .old .gates
+  pub net-count : oldNets job ≡ c .inputs + c .targets + c .old .gates
   unfolding oldNets
   net-count = ap (λ (k : ℕ). c .inputs + c .targets + k) gate-count
 
@@ -322,7 +322,7 @@ module _ {c : Counts} {ks xs ys : List ℕ} {s : Support} {table : List ℕ} (h 
             (λ i m. lt-ltb i 424 (omega (arith, h .free i m .0, net-count, net-most)));
       }
 
-  trees-count : length (trees job (take (s .len) (s .nets)) (take (2 ^ s .len) table) .gates) ≡ treesSize (c .targets) 0 (s .len) table
+  pub trees-count : length (trees job (take (s .len) (s .nets)) (take (2 ^ s .len) table) .gates) ≡ treesSize (c .targets) 0 (s .len) table
   unfolding trees
   trees-count =
       let is = take (s .len) (s .nets) in
@@ -376,5 +376,11 @@ module _ {c : Counts} {ks xs ys : List ℕ} {s : Support} {table : List ℕ} (h 
               placed₁ w₂ (rw gate-count w₃)
               (oldJob-good (c .inputs) (c .targets) (gatesFrom (c .old .gates) ks xs ys) [] (h .evaluable .good))
 
-pub outputs-same : {os : List ℕ} {count w v : ℕ} → Outputs os count w → v ≡ w → Outputs os count v
-outputs-same e q = rw q e
+pub outputs-wider : {os : List ℕ} {count w v : ℕ} → Outputs os count w → w ≤ v → Outputs os count v
+outputs-wider {os} {count} {w} {v} o h =
+    record {
+      held = o .held;
+      below =
+          all-of-members (λ i. ltb i v) (take count os)
+          (λ i m. lt-ltb i v (omega (arith, ltb-true i w (all-true (λ k. ltb k w) (take count os) (o .below) i m))));
+    }

@@ -5,7 +5,7 @@ use borrow.Author.Needs.{needs}
 use denote.Ref.{now}
 use lib.ListN.{length}
 use Rattle.engine.proofs.Laws.FitCode.{evaluable-same}
-use Rattle.engine.proofs.Laws.FitPlaced.{support-outputs, outputs-same, marks-room, trees-room, rest-small, rest-room, patch-placed}
+use Rattle.engine.proofs.Laws.FitPlaced.{support-outputs, outputs-wider, marks-room, trees-room, rest-small, rest-room, patch-placed}
 use Rattle.engine.proofs.Laws.Tree.{room-less}
 use Rattle.engine.proofs.fitting.place_gates.Statement.{statement}
 use Rattle.engine.proofs.fitting.place_gates.Tie as tie
@@ -60,7 +60,7 @@ place-trees-requires c κs =
       (
         (h .within .targets, omega (arith, h .evaluable .room)),
         (
-          outputs-same (support-outputs h) l,
+          outputs-wider (support-outputs h) (omega arith),
           trees-room h _ (marking t .mark-fanout .ensures) (s .pre .1 .0 .1) (s .pre .1 .1) (t .place-free .ensures),
         ),
       ),
