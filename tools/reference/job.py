@@ -105,16 +105,19 @@ def netlist_of(gate_body, output_body):
     )
 
 
+def two(x):
+    return x.to_bytes(2, "big")
+
+
+def gate_body(side):
+    return b"".join(bytes([g.kind]) + two(g.first) + two(g.second) for g in side.gates)
+
+
+def output_body(side):
+    return b"".join(two(net) for net in side.outputs)
+
+
 def encode(job):
-    def two(x):
-        return x.to_bytes(2, "big")
-
-    def gate_body(side):
-        return b"".join(bytes([g.kind]) + two(g.first) + two(g.second) for g in side.gates)
-
-    def output_body(side):
-        return b"".join(two(net) for net in side.outputs)
-
     return (
         field(1, bytes([job.inputs, job.targets]))
         + field(2, gate_body(job.old))

@@ -2,3 +2,5 @@
 pub mod Cases
 pub mod Laws
 pub mod Theorems
+pub mod Replies
+pub mod FitReplies

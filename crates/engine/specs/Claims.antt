@@ -1,5 +1,5 @@
--- What is promised of the definitions of the engine: the request's demands 2 and 3, as far as they speak of fixable inputs,
--- tables and verdicts. proofs/Theorems.antt proves each. What the services reply comes with them. Assumes nothing.
+-- What is promised of the engine beyond the contracts of its functions: the request's demands 1 to 3, of the definitions and of
+-- what decide and compare reply. proofs/Theorems.antt and proofs/Replies.antt prove each. Assumes nothing.
 --
 --   In x xs                 x is an element of xs
 --   Rectifiable             an input is fixable exactly when some vector makes the old outputs the golden ones
@@ -8,26 +8,31 @@
 --   PatchExactly, PatchTable, LeastCost     a patch is given exactly when there is a table; it is one; none costs less
 --   UnfixableExactly, BlindExactly          the two other verdicts
 --   FittedOutputs, FittedGood               the outputs of the netlist that fit gives, for any accepted sheet, and that it is one
---                                           (proofs/Laws/Fitted.antt)
+--   DecideAccepts, DecideRefuses, DecideIndependent, LongestSheet     what decide accepts; a refusal alters nothing; what the
+--                           buffer held before plays no part; no sheet has more than 1,076 bytes
+--   GivesPatch, PatchGiven, GivesUnfixable, GivesBlind, VectorsGiven  the same of what decide replies and writes
+--   CompareAccepts, ComparesEqual, ComparesDiffers                    what compare accepts and replies
+--   FitAccepts, FitRefuses, FitIndependent, LongestFit, FittedGiven    what fit accepts, replies and writes
 use Prim.Native.Nat.{ℕ, _+_, _^_, _≤_, _<_}
 use mathlib.Core.Path.{_≡_}
 use mathlib.Core.Logic.{_↔_}
-use mathlib.Core.List.{List, List·Memᴰ, map}
+use mathlib.Core.List.{List, [], _∷_, _++_, List·Memᴰ, map}
 use mathlib.Core.Bool.{true, false}
-use mathlib.Core.Option.{none}
+use mathlib.Core.Option.{none, some}
 use lib.Dec.{ltb}
-use lib.ListN.{length, getD}
-use Rattle.records.specs.Bytes.{all}
+use lib.ListN.{length, getD, take}
+use Rattle.records.specs.Bytes.{all, field, nth}
 use Rattle.records.specs.Netlist.{netAt, values}
-use Rattle.records.specs.Job.{Job}
-use Rattle.records.specs.Refusal.{gatesGood, candidatesGood}
-use Rattle.records.specs.Sheet.{Patch, patchGood}
+use Rattle.records.specs.Job.{Job, jobWhole, jobOf, gatesOf, netsOf}
+use Rattle.records.specs.Refusal.{maxGates, gatesGood, candidatesGood}
+use Rattle.records.specs.Sheet.{Patch, patchOf, sheetWhole, patchGood}
 use Rattle.records.specs.Claims.{PartsGood}
 use Rattle.engine.specs.Eval.{bits, numberOf, oldValues, oldOutputs, goldenOutputs}
-use Rattle.engine.specs.Rectify.{rectifies, rectifiable}
+use Rattle.engine.specs.Rectify.{rectifies, rectifiable, vectorLoop}
 use Rattle.engine.specs.Support.{reading, drivenBy, Carries, shared, tableOf, candidateNets, subsets, cost}
-use Rattle.engine.specs.Verdict.{Ruling, patch, unfixable, blind, ruling}
-use Rattle.engine.specs.Fit.{fitted}
+use Rattle.engine.specs.Verdict.{Ruling, patch, unfixable, blind, ruling, rulingFields, sheetOf, longestSheet, decideNumber, decidedBytes}
+use Rattle.engine.specs.Reply.{verdictFields, declinedReply, decideReply, comparisonOf, compareNumber, compareReply, fitNumber, fitReply, fittedBuffer}
+use Rattle.engine.specs.Fit.{fitted, fittedBytes, fits, longestFit}
 
 abbrev pub In : {A : Type 0} → A → List A → Type 0
 In x xs = List·Memᴰ x xs
@@ -115,3 +120,152 @@ FittedGood =
     (gatesGood (j .inputs) (l .gates) ≡ true)
     × (all (λ o. ltb o (j .inputs + length (l .gates))) (l .outputs) ≡ true)
     × (length (l .outputs) ≡ length (j .old .outputs))
+
+-- ---- what decide replies
+
+-- Demand 1: "Everything else is accepted": a buffer for the longest sheet and bytes that are a whole job with good parts.
+abbrev pub DecideAccepts : Type 0
+DecideAccepts =
+    (d s : List ℕ)
+    → (decideNumber d s ≡ 0) ↔ ((longestSheet ≤ length d) × (jobWhole s ≡ true) × PartsGood (jobOf s))
+
+-- Demand 1: "each with the number that document 01 names, length 0 and no lent byte altered".
+abbrev pub DecideRefuses : Type 0
+DecideRefuses =
+    (d s : List ℕ) → (decideNumber d s ≡ 0 → ⊥)
+    → (decideReply d s ≡ declinedReply (decideNumber d s)) × (decidedBytes d s ≡ d)
+
+-- Demand 1: "no earlier job plays any part in its reply": two buffers of one length, whatever they held, get one reply, and the
+-- same bytes as far as its length says.
+abbrev pub DecideIndependent : Type 0
+DecideIndependent =
+    (d e s : List ℕ) → length d ≡ length e
+    → (decideReply d s ≡ decideReply e s)
+    × (take (decideReply d s .len) (decidedBytes d s) ≡ take (decideReply e s .len) (decidedBytes e s))
+
+-- Document 01: "The longest sheet has 1,076 bytes."
+abbrev pub LongestSheet : Type 0
+LongestSheet = (j : Job) → PartsGood j → length (sheetOf j) ≤ longestSheet
+
+-- Demand 3: "A patch is given exactly when the old circuit driven by some table over priced nets has the golden outputs on every
+-- input."
+abbrev pub GivesPatch : Type 0
+GivesPatch =
+    (d s : List ℕ) → decideNumber d s ≡ 0
+    → ((c : ℕ) × (verdictFields (decideReply d s .verdict) ≡ 18 ∷ c ∷ []))
+    ↔ ((is : List ℕ) × In is (subsets (candidateNets (jobOf s))) × Carries (jobOf s) is)
+
+-- Demand 3: "The table given is then such a one, the cost given is its nets' prices added up, and no set of priced nets that
+-- carries such a table costs less." The table given is the one in the reply buffer.
+pub record PatchIn (j : Job) (c : ℕ) (p : Patch) : Type 0 where
+  pub nets : In (p .support) (subsets (candidateNets j))
+  pub entries : length (p .table) ≡ 2 ^ length (p .support)
+  pub equal : (x : ℕ) → x < 2 ^ j .inputs → oldOutputs j x (drivenBy j (p .support) (p .table) x) ≡ goldenOutputs j x
+  pub given : p .cost ≡ c
+  pub sum : c ≡ cost j (p .support)
+  pub least : (ks : List ℕ) → In ks (subsets (candidateNets j)) → Carries j ks → c ≤ cost j ks
+  pub vectors : p .vectors ≡ vectorLoop j .vectors
+
+abbrev pub PatchGiven : Type 0
+PatchGiven =
+    (d s : List ℕ) (c : ℕ) → decideNumber d s ≡ 0 → verdictFields (decideReply d s .verdict) ≡ 18 ∷ c ∷ []
+    → PatchIn (jobOf s) c (patchOf (take (decideReply d s .len) (decidedBytes d s)))
+
+-- Demand 3: "An unfixable input is given exactly when there is one, and it is the smallest."
+abbrev pub GivesUnfixable : Type 0
+GivesUnfixable =
+    (d s : List ℕ) (x : ℕ) → decideNumber d s ≡ 0
+    → (verdictFields (decideReply d s .verdict) ≡ 20 ∷ x ∷ [])
+    ↔ ((x < 2 ^ jobOf s .inputs) × (rectifiable (jobOf s) x ≡ false) × ((y : ℕ) → y < x → rectifiable (jobOf s) y ≡ true))
+
+-- Demand 3: "Where every input is fixable and no table will do, we give the smallest reading of all priced nets whose inputs share
+-- no setting."
+abbrev pub GivesBlind : Type 0
+GivesBlind =
+    (d s : List ℕ) (r : ℕ) → decideNumber d s ≡ 0
+    → (verdictFields (decideReply d s .verdict) ≡ 21 ∷ r ∷ [])
+    ↔ (((x : ℕ) → x < 2 ^ jobOf s .inputs → rectifiable (jobOf s) x ≡ true)
+    × (r < 2 ^ length (candidateNets (jobOf s)))
+    × (shared (jobOf s) (candidateNets (jobOf s)) r ≡ none)
+    × ((q : ℕ) → q < r → shared (jobOf s) (candidateNets (jobOf s)) q ≡ none → ⊥))
+
+-- Demand 2: "its loop, smallest choices first, gives the listed settings": the last field of every sheet is the loop's list.
+abbrev pub VectorsGiven : Type 0
+VectorsGiven =
+    (d s : List ℕ) → decideNumber d s ≡ 0
+    → take (decideReply d s .len) (decidedBytes d s)
+    ≡ rulingFields (jobOf s) (ruling (jobOf s)) ++ field 19 (vectorLoop (jobOf s) .vectors)
+
+-- ---- what compare replies
+
+-- Demand 1, for compare: a whole job with good parts, and a whole patch sheet that is good for it.
+abbrev pub CompareAccepts : Type 0
+CompareAccepts =
+    (s p : List ℕ)
+    → (compareNumber s p ≡ 0)
+    ↔ ((jobWhole s ≡ true)
+    × PartsGood (jobOf s)
+    × (sheetWhole (jobOf s .targets) p ≡ true)
+    × (patchGood (jobOf s .targets) (jobOf s .candidates) (patchOf p) ≡ true))
+
+-- Document 01: "Compare says equal, or gives the smallest input at which the driven old outputs differ from the golden ones."
+abbrev pub ComparesEqual : Type 0
+ComparesEqual =
+    (s p : List ℕ) → compareNumber s p ≡ 0
+    → (compareReply s p .result ≡ comparisonOf none)
+    ↔ ((x : ℕ) → x < 2 ^ jobOf s .inputs
+    → oldOutputs (jobOf s) x (drivenBy (jobOf s) (patchOf p .support) (patchOf p .table) x) ≡ goldenOutputs (jobOf s) x)
+
+abbrev pub ComparesDiffers : Type 0
+ComparesDiffers =
+    (s p : List ℕ) (x : ℕ) → compareNumber s p ≡ 0
+    → (compareReply s p .result ≡ comparisonOf (some x))
+    ↔ ((x < 2 ^ jobOf s .inputs)
+    × (oldOutputs (jobOf s) x (drivenBy (jobOf s) (patchOf p .support) (patchOf p .table) x) ≡ goldenOutputs (jobOf s) x → ⊥)
+    × ((y : ℕ) → y < x
+    → oldOutputs (jobOf s) y (drivenBy (jobOf s) (patchOf p .support) (patchOf p .table) y) ≡ goldenOutputs (jobOf s) y))
+
+-- ---- what fit replies
+
+-- Demand 1, for fit: a buffer for the longest result, a whole job with good parts, a whole patch sheet that is good for it, and at
+-- most 400 gates.
+abbrev pub FitAccepts : Type 0
+FitAccepts =
+    (d s p : List ℕ)
+    → (fitNumber d s p ≡ 0)
+    ↔ ((longestFit ≤ length d) × (compareNumber s p ≡ 0) × (fits (jobOf s) (patchOf p .support) (patchOf p .table) ≡ true))
+
+-- Demand 1: "and a patched netlist over 400 gates, each with the number that document 01 names, length 0 and no lent byte altered".
+abbrev pub FitRefuses : Type 0
+FitRefuses =
+    (d s p : List ℕ) → (fitNumber d s p ≡ 0 → ⊥)
+    → (fitReply d s p ≡ record { number = fitNumber d s p; len = 0 }) × (fittedBuffer d s p ≡ d)
+
+-- Demand 1: "no earlier job plays any part in its reply".
+abbrev pub FitIndependent : Type 0
+FitIndependent =
+    (d e s p : List ℕ) → length d ≡ length e
+    → (fitReply d s p ≡ fitReply e s p)
+    × (take (fitReply d s p .len) (fittedBuffer d s p) ≡ take (fitReply e s p .len) (fittedBuffer e s p))
+
+-- Document 01: "The longest result has 2,075 bytes."
+abbrev pub LongestFit : Type 0
+LongestFit =
+    (s : List ℕ) → PartsGood (jobOf s) → (is t : List ℕ) → fits (jobOf s) is t ≡ true
+    → length (fittedBytes (jobOf s) is t) ≤ longestFit
+
+-- Demand 3: "Any netlist we fit, whoever wrote the sheet, has on every input the outputs of the old circuit driven by the sheet's
+-- table." The netlist is the one that the bytes in the reply buffer hold, over the job's inputs and no targets; it is well formed.
+pub record FittedIn (j : Job) (p : Patch) (b : List ℕ) : Type 0 where
+  pub counts : nth 0 b ≡ j .inputs ∷ 0 ∷ []
+  pub gates : gatesGood (j .inputs) (gatesOf (nth 1 b)) ≡ true
+  pub few : length (gatesOf (nth 1 b)) ≤ maxGates
+  pub nets : all (λ o. ltb o (j .inputs + length (gatesOf (nth 1 b)))) (netsOf (nth 2 b)) ≡ true
+  pub outputs : (x : ℕ)
+      → map (netAt (values (bits (j .inputs) x) (gatesOf (nth 1 b)))) (netsOf (nth 2 b))
+      ≡ oldOutputs j x (drivenBy j (p .support) (p .table) x)
+
+abbrev pub FittedGiven : Type 0
+FittedGiven =
+    (d s p : List ℕ) → fitNumber d s p ≡ 0
+    → FittedIn (jobOf s) (patchOf p) (take (fitReply d s p .len) (fittedBuffer d s p))

@@ -7,7 +7,7 @@
 --   ReadingSets j ss       the set of reading r of all candidates holds the vectors that rectify every input giving r
 --   SetsFor j k ss         .. for a job with k candidates, whose vectors all fit a set
 --   Projected ss n s ps    place q of ps holds the vectors that are in the set of each reading below n whose part in s is q
---   HoldsSome t            the set of vectors t has one
+--   NotEmpty t            the set of vectors t has one
 --   FirstEmpty ss n r      r is the least place below n whose set is empty, or n
 --   TableFilled ss k s ..  the first places have become the table of the support that the set s picks of k candidates
 --   PickedNets is s r      the support r has the nets of is whose places are in s
@@ -62,13 +62,13 @@ pub record Projected (ss : List ℕ) (count keep : ℕ) (ps : List ℕ) : Type 0
   pub sets : (q v : ℕ) → q < maxReadings → v < maxVectors
       → (bit v (getD ps q 0) ≡ 1) ↔ ((r : ℕ) → r < count → bitAnd r keep ≡ q → bit v (getD ss r 0) ≡ 1)
 
-abbrev pub HoldsSome : ℕ → Type 0
-HoldsSome t = (v : ℕ) × (v < maxVectors) × (bit v t ≡ 1)
+abbrev pub NotEmpty : ℕ → Type 0
+NotEmpty t = (v : ℕ) × (v < maxVectors) × (bit v t ≡ 1)
 
 pub record FirstEmpty (ss : List ℕ) (count r : ℕ) : Type 0 where
   pub most : r ≤ count
   pub empty : r < count → getD ss r 0 ≡ 0
-  pub filled : (q : ℕ) → q < r → HoldsSome (getD ss q 0)
+  pub filled : (q : ℕ) → q < r → NotEmpty (getD ss q 0)
 
 pub record TableFilled (ss : List ℕ) (k s : ℕ) (before after : List ℕ) : Type 0 where
   pub long : length after ≡ length before

@@ -223,6 +223,7 @@ pub(super) fn sheet_text(sheet: &[u8], text: &mut [u8]) -> usize
 pub fn rectify_text(job: &[u8], text: &mut [u8]) -> usize
     ensures { λ r. ⌜ r ≡ printedLength (now (text .entry)) (now (job .entry)) ⌝ }
     ensures { λ _. ⌜ now (text .exit) ≡ printedBytes (now (text .entry)) (now (job .entry)) ⌝ }
+    ensures { λ r. ⌜ r ≤ length (now (text .entry)) ⌝ }
 {
     if text.len() < 4264 {
         return 0;

@@ -19,7 +19,7 @@ use Rattle.engine.specs.declared.deciding.DecideReply.{DecideReply}
 -- ---- numbers
 
 module _ (d s : List ℕ) where
-  number-short : length d < longestSheet → decideNumber d s ≡ 1
+  pub number-short : length d < longestSheet → decideNumber d s ≡ 1
   unfolding decideNumber firstFailing
   number-short h = rw (lt-leb longestSheet (length d) h)
 
@@ -39,9 +39,12 @@ lentPlaces =
     (sidePlaces (replicate 400 0) (replicate 400 0) (replicate 400 0) (replicate 32 0))
     (replicate 10 0) (replicate 10 0)
 
-pub lent-refusal : (s : List ℕ) → readNumber lentPlaces s ≡ jobRefusal s
+pub lent-roomy : roomy lentPlaces ≡ true
 unfolding roomy sideRoomy
-lent-refusal s = read-refusal lentPlaces s refl
+lent-roomy = refl
+
+pub lent-refusal : (s : List ℕ) → readNumber lentPlaces s ≡ jobRefusal s
+lent-refusal s = read-refusal lentPlaces s lent-roomy
 
 -- the number of what read replied there
 pub read-number : (s : List ℕ) {r : ReadReply} → r ≡ readReply lentPlaces s → jobRefusal s ≡ r .number

@@ -2,7 +2,7 @@
 -- Assumes nothing.
 use Prim.Native.Nat.{ℕ, _+_, _*_, _<_}
 use mathlib.Core.Path.{_≡_, _∙_, ap}
-use mathlib.Core.List.{List, _++_, map}
+use mathlib.Core.List.{List, _++_, map, map-map}
 use mathlib.Core.Bool.{true}
 use lib.Dec.{ltb}
 use lib.ListN.{length, getD, take}
@@ -13,7 +13,6 @@ use Rattle.engine.specs.Eval.{bit, bits, numberOf}
 use Rattle.engine.specs.Inner.{Loaded, Evaluated, Outputs, BlockValues, HoldsBlock, tableVector, outputBits}
 use Rattle.engine.specs.Driven.{vectorAt}
 use Rattle.engine.proofs.Laws.Fanout.{revalued}
-use Rattle.engine.proofs.Laws.Ready.{map-map}
 use Rattle.engine.proofs.Laws.Rectify.{outputs-of-words}
 
 -- the words of picked nets have in each scenario the bits that the nets have

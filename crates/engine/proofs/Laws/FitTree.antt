@@ -29,29 +29,29 @@ use Rattle.engine.proofs.Laws.FitGates.{good-append, Consistent, consis
 -- ---- the cases of a tree
 
 -- the gates from net n on that choose between nets l and h by net s
-abbrev choosers : ℕ → ℕ → ℕ → ℕ → List Gate
+abbrev pub choosers : ℕ → ℕ → ℕ → ℕ → List Gate
 choosers s l h n = gateOf 3 s 0 ∷ gateOf 4 n l ∷ gateOf 4 s h ∷ gateOf 6 (n + 1) (n + 2) ∷ []
 
 -- two trees in a row, the first from net next on, and the gates that choose between them by net s
-abbrev muxed : ℕ → ℕ → List Gate → List Gate → List Gate
+abbrev pub muxed : ℕ → ℕ → List Gate → List Gate → List Gate
 muxed s next ls hs =
     let l = next + length ls - 1 in
     let h = next + length ls + length hs - 1 in
     ls ++ hs ++ choosers s l h (h + 1)
 
 -- the two halves' trees, and the choice between them
-abbrev choosing : ℕ → ℕ → List ℕ → List ℕ → List Gate
+abbrev pub choosing : ℕ → ℕ → List ℕ → List ℕ → List Gate
 choosing k next is col =
     let ls = tree k next is (take (2 ^ k) col) in
     muxed (getD is k 0) next ls (tree k (next + length ls) is (drop (2 ^ k) col))
 
-data TreeCase (k next : ℕ) (is col : List ℕ) : List Gate → Type 0 where
+pub data TreeCase (k next : ℕ) (is col : List ℕ) : List Gate → Type 0 where
   zeros : all (eqb 0) col ≡ true → TreeCase k next is col (gateOf 0 0 0 ∷ [])
   ones : all (eqb 1) col ≡ true → TreeCase k next is col (gateOf 1 0 0 ∷ [])
   halves : take (2 ^ k) col ≡ drop (2 ^ k) col → TreeCase k next is col (tree k next is (take (2 ^ k) col))
   choice : TreeCase k next is col (choosing k next is col)
 
-tree-case : (k next : ℕ) (is col : List ℕ) → TreeCase k next is col (tree (suc k) next is col)
+pub tree-case : (k next : ℕ) (is col : List ℕ) → TreeCase k next is col (tree (suc k) next is col)
 unfolding tree
 tree-case k next is col =
     ⊎-elim

@@ -1,7 +1,7 @@
 -- Laws of a block's words: masks and candidates' words are the sets and readings of the definitions. Assumes nothing.
 use Prim.Native.Nat.{ℕ, _+_, _*_, _^_, _≤_, _<_}
 use mathlib.Core.Path.{_≡_, refl, sym, _∙_, ap, subst}
-use mathlib.Core.List.{List, [], _∷_, _++_, map}
+use mathlib.Core.List.{List, [], _∷_, _++_, map, map-map}
 use mathlib.Core.Bool.{Bool, true, cond}
 use native.Mathlib.Omega.{arith}
 use lib.Dec.{ltb}
@@ -21,7 +21,7 @@ use Rattle.engine.specs.Support.{reading, candidateNets}
 use Rattle.engine.specs.Inner.{outputBits, Outputs, GoldenWords, RectifiesWord}
 use Rattle.engine.specs.Walk.{circuits, Ready, rectifiers, Masks, ReadingWords}
 use Rattle.engine.proofs.Laws.Choice.{map-agree, mem-below}
-use Rattle.engine.proofs.Laws.Ready.{map-map, ready-outputs-equal, ready-golden-outputs, ready-candidates, ready-candidate-count, ready-candidates-below}
+use Rattle.engine.proofs.Laws.Ready.{ready-outputs-equal, ready-golden-outputs, ready-candidates, ready-candidate-count, ready-candidates-below}
 use Rattle.engine.proofs.Laws.Rectify.{outputs-of-words}
 
 module _ {c : Counts} {old golden : SidePlaces} {nets : List ℕ} (r : Ready c old golden nets) where

@@ -26,19 +26,23 @@ abbrev blank : List ℕ
 blank = replicate longestSheet 0
 
 module _ (d s : List ℕ) where
-  pub printed-short : length d < longestText → (0 ≡ printedLength d s) × (d ≡ printedBytes d s)
+  -- the length and the buffer are those of the definition, and the length is within the buffer
+  abbrev pub Told : ℕ → List ℕ → Type 0
+  Told r d′ = (r ≡ printedLength d s) × ((d′ ≡ printedBytes d s) × (r ≤ length d))
+
+  pub printed-short : length d < longestText → Told 0 d
   unfolding printedLength printedBytes
-  printed-short h = let e = lt-ltb (length d) longestText h in (rw e refl, rw e refl)
+  printed-short h = let e = lt-ltb (length d) longestText h in (rw e refl, (rw e refl, omega arith))
 
   printed-of : {r : ℕ} {t d′ : List ℕ} → longestText ≤ length d → rectifyText s ≡ t → Texted d t r d′
-      → (r ≡ printedLength d s) × (d′ ≡ printedBytes d s)
+      → Told r d′
   unfolding printedLength printedBytes
   printed-of h q w =
       let e = le-ltb (length d) longestText h in
-      (rw (e, q) (w .len), rw (e, q) (w .text))
+      (rw (e, q) (w .len), (rw (e, q) (w .text), omega (arith, w .len, w .room)))
 
   pub printed-long : {r : ℕ} {d′ : List ℕ} → longestText ≤ length d → inputLimit < length s → Texted d (refusedText 2) r d′
-      → (r ≡ printedLength d s) × (d′ ≡ printedBytes d s)
+      → Told r d′
   printed-long h l w = printed-of h (rectify-long s l) w
 
 -- ---- what decide says
@@ -61,7 +65,7 @@ module _ (s : List ℕ) {r : DecideReply} (e : r ≡ decideReply blank s) where
   reply-number = ap (λ (x : DecideReply). x .number) e ∙ decide-number blank s
 
   pub printed-refused : (d : List ℕ) {k : ℕ} {d′ : List ℕ} → longestText ≤ length d → length s ≤ inputLimit
-      → (r .number ≡ 0 → ⊥) → Texted d (refusedText (r .number)) k d′ → (k ≡ printedLength d s) × (d′ ≡ printedBytes d s)
+      → (r .number ≡ 0 → ⊥) → Texted d (refusedText (r .number)) k d′ → Told d s k d′
   printed-refused d h l n w =
       printed-of d s h (rectify-refused s l (λ z. n (reply-number ∙ z)) ∙ ap refusedText (sym reply-number)) w
 
@@ -97,6 +101,6 @@ module _ (s : List ℕ) {r : DecideReply} (e : r ≡ decideReply blank s) where
       sheet-whole = subst WholeSheet (sym sheet-bytes) (whole-sheet (jobOf s) good)
 
       pub printed-accepted : (d : List ℕ) {k : ℕ} {d′ : List ℕ} → longestText ≤ length d → length s ≤ inputLimit
-          → Texted d (sheetText (take (r .len) b)) k d′ → (k ≡ printedLength d s) × (d′ ≡ printedBytes d s)
+          → Texted d (sheetText (take (r .len) b)) k d′ → Told d s k d′
       printed-accepted d h l u =
           printed-of d s h (rectify-accepted s l accepted ∙ ap sheetText (sym sheet-bytes)) u

@@ -1,7 +1,7 @@
 -- Laws of a job whose parts stand in places (specs/Walk, Ready): what the functions that evaluate it require. Assumes nothing.
 use Prim.Native.Nat.{ℕ, _+_, _≤_, _<_}
 use mathlib.Core.Path.{_≡_, refl, sym, _∙_, ap, subst}
-use mathlib.Core.List.{List, [], _∷_, map, List·Memᴰ as Mem, Memᴰ·of-map as mem-of-map}
+use mathlib.Core.List.{List, [], _∷_, map, List·Memᴰ as Mem, Memᴰ·of-map as mem-of-map, map-map}
 use mathlib.Core.Bool.{Bool, true, _&&_}
 use native.Mathlib.Omega.{arith}
 use borrow.Author.Tests.{leb-true, eqb-true}
@@ -22,10 +22,6 @@ use Rattle.engine.specs.Support.{candidateNets}
 use Rattle.engine.specs.Inner.{Evaluable, Outputs}
 use Rattle.engine.specs.Walk.{circuits, Ready}
 use Rattle.engine.proofs.Laws.Choice.{all-true, all-of-members}
-
-pub map-map : {A B C : Type 0} (f : B → C) (g : A → B) (xs : List A) → map f (map g xs) ≡ map (λ x. f (g x)) xs
-map-map f g [] = refl
-map-map {C = C} f g (x ∷ xs) = ap (λ (l : List C). f (g x) ∷ l) (map-map f g xs)
 
 module _ (j : Job) (h : candidatesGood j ≡ true) where
   pub candidates-ascending : ascending (candidateNets j) ≡ true

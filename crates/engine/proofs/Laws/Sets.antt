@@ -23,7 +23,7 @@ use Rattle.engine.specs.Support as Support
 use Rattle.engine.specs.Support.{reading, shared, sound, tableOf, candidateNets, cost, better, chosen}
 use Rattle.engine.specs.Verdict.{blindReading}
 use Rattle.engine.specs.Walk.{maxVectors, maxReadings, lowest}
-use Rattle.engine.specs.Sets.{picked, narrow, RectifiesAll, SetsFor, Projected, HoldsSome, FirstEmpty, total, betterBy, HeldSupport, Built, Choosable, ChosenOf}
+use Rattle.engine.specs.Sets.{picked, narrow, RectifiesAll, SetsFor, Projected, NotEmpty, FirstEmpty, total, betterBy, HeldSupport, Built, Choosable, ChosenOf}
 use Rattle.engine.specs.declared.choose.Chosen.{Chosen}
 use Rattle.engine.proofs.Laws.Best.{better-irrefl, better-trans, chosen-unique}
 use Rattle.engine.proofs.Laws.Choice.{Least, first-least, first-none-below, found-first, not-both, true-or-false}
@@ -46,12 +46,12 @@ module _ (t : ℕ) where
   lowest-none e v h q =
       not-both (eq-eqb (bit v t) 1 q) (first-none-below (λ u. eqb (bit u t) 1) maxVectors e v h)
 
-  found-lowest : HoldsSome t → found (lowest t) ≡ true
+  found-lowest : NotEmpty t → found (lowest t) ≡ true
   unfolding lowest
   found-lowest h = found-first (λ u. eqb (bit u t) 1) maxVectors (h .0) (h .1) (eq-eqb (bit (h .0) t) 1 (h .2))
 
 -- a set that is not 0 has a vector
-pub holds-some : (t : ℕ) → t < 2 ^ maxVectors → (t ≡ 0 → ⊥) → HoldsSome t
+pub holds-some : (t : ℕ) → t < 2 ^ maxVectors → (t ≡ 0 → ⊥) → NotEmpty t
 holds-some t h z =
     let v = orZero (lowest t) in
     let l = lowest-least t v (lowest-some t h z) in
@@ -215,7 +215,7 @@ module _ (j : Job) (k : ℕ) (ss : List ℕ) (h : SetsFor j k ss) (room : 2 ^ k 
   narrowed-from : (q : ℕ) → q < 2 ^ length (picked (candidateNets j) s) → (r : ℕ) × (r < 2 ^ k) × (narrow k s r ≡ q)
   narrowed-from q l = rw (h .candidates) at (narrow-onto (candidateNets j) s q l)
 
-  pub sound-picked : ((r : ℕ) → r < 2 ^ k → HoldsSome (getD ps (bitAnd r s) 0)) → sound j (picked (candidateNets j) s) ≡ true
+  pub sound-picked : ((r : ℕ) → r < 2 ^ k → NotEmpty (getD ps (bitAnd r s) 0)) → sound j (picked (candidateNets j) s) ≡ true
   sound-picked f =
       sound-iff-found j (picked (candidateNets j) s) .1
       (λ q l.

@@ -3,7 +3,7 @@
 use Prim.Native.Nat.{ℕ, zero, suc, _^_, _≤_, _<_}
 use mathlib.Core.Path.{_≡_, refl, sym, _∙_, ap, subst}
 use mathlib.Core.Logic.{_↔_, ⊎-elim}
-use mathlib.Core.List.{List, [], _∷_, _++_, map}
+use mathlib.Core.List.{List, [], _∷_, _++_, map, map-map}
 use mathlib.Core.Bool.{Bool, true, false, _&&_}
 use mathlib.Core.Option.{Option, none, some}
 use lib.ListN.{length, getD}
@@ -23,7 +23,6 @@ use Rattle.engine.specs.Walk.{circuits}
 use Rattle.engine.specs.Sets.{RectifiesAll, ReadingSets}
 use Rattle.engine.proofs.Laws.Choice.{none-or-some}
 use Rattle.engine.proofs.Laws.Loop.{rounds-done, rounds-stuck, rounds-again}
-use Rattle.engine.proofs.Laws.Ready.{map-map}
 
 module _ (c : Counts) (old golden : SidePlaces) (nets weights : List ℕ) where
   abbrev priced : Job

@@ -33,18 +33,18 @@ pub pick-zero : (b : Bool) (m n : ℕ) → 0 < n → cond b m n ≡ 0 → (b ≡
 pick-zero true m n h e = (refl, e)
 pick-zero false m n h e = let f : ⊥ = omega arith in absurd f
 
-abbrev Passes : Test → Type 0
+abbrev pub Passes : Test → Type 0
 Passes t = t .passes ≡ true
 
 -- where no test fails, each passes, if each has a number above 0
-passes-of-none : (ts : List Test) → All (λ (t : Test). 0 < t .number) ts → firstFailing ts ≡ 0 → All Passes ts
+pub passes-of-none : (ts : List Test) → All (λ (t : Test). 0 < t .number) ts → firstFailing ts ≡ 0 → All Passes ts
 unfolding firstFailing
 passes-of-none [] n e = tt
 passes-of-none (t ∷ ts) n e =
     let u = pick-zero (t .passes) (firstFailing ts) (t .number) (n .0) e in
     (u .0, passes-of-none ts (n .1) (u .1))
 
-none-of-passes : (ts : List Test) → All Passes ts → firstFailing ts ≡ 0
+pub none-of-passes : (ts : List Test) → All Passes ts → firstFailing ts ≡ 0
 unfolding firstFailing
 none-of-passes [] p = refl
 none-of-passes (t ∷ ts) p = rw (p .0) (none-of-passes ts (p .1))

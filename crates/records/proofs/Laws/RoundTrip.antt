@@ -194,7 +194,7 @@ gateFormat =
 -- ---- fields
 
 -- fields with the tags t, t + 1, .. and these bytes
-pub joined : ℕ → List (List ℕ) → List ℕ
+unfoldable pub joined : ℕ → List (List ℕ) → List ℕ
 joined t [] = []
 joined t (xs ∷ xss) = field t xs ++ joined (suc t) xss
 
@@ -288,7 +288,7 @@ gatesOf-flat : (gs : List Gate) → All Two gs → gatesOf (flat gateBytes gs) �
 unfolding gatesOf
 gatesOf-flat gs g = read-flat gateFormat (omega arith) gs g
 
-netsOf-flat : (xs : List ℕ) → netsOf (flat bytePair xs) ≡ xs
+pub netsOf-flat : (xs : List ℕ) → netsOf (flat bytePair xs) ≡ xs
 unfolding netsOf
 netsOf-flat xs = read-flat netFormat (omega arith) xs (all-any xs)
 

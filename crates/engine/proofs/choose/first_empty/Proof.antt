@@ -4,13 +4,13 @@ use borrow.Author.Count.{below-more}
 use native.Mathlib.Omega.{arith}
 use denote.Ref.{now}
 use lib.ListN.{getD}
-use Rattle.engine.specs.Sets.{HoldsSome}
+use Rattle.engine.specs.Sets.{NotEmpty}
 use Rattle.engine.proofs.Laws.Sets.{holds-some}
 use Rattle.engine.proofs.choose.first_empty.Statement.{statement}
 use Rattle.engine.proofs.choose.first_empty.Tie as tie
 
 abbrev Inv-loop : tie.InvT-loop
-Inv-loop sets count r₀ r = (r ≤ count) × ((q : ℕ) → q < r → HoldsSome (getD sets q 0))
+Inv-loop sets count r₀ r = (r ≤ count) × ((q : ℕ) → q < r → NotEmpty (getD sets q 0))
 
 abbrev μ-loop : tie.MeasureT-loop
 μ-loop sets count r₀ r = count - r

@@ -8,13 +8,13 @@ use native.Mathlib.Omega.{arith}
 use denote.Ref.{now}
 use lib.Bits.{bitAnd, and-le-l}
 use lib.ListN.{getD}
-use Rattle.engine.specs.Sets.{HoldsSome}
+use Rattle.engine.specs.Sets.{NotEmpty}
 use Rattle.engine.proofs.Laws.Sets.{holds-some, sound-picked, unsound-picked}
 use Rattle.engine.proofs.choose.sound_set.Statement.{statement}
 use Rattle.engine.proofs.choose.sound_set.Tie as tie
 
 abbrev Inv-loop : tie.InvT-loop
-Inv-loop sets count keep projected r₀ r = (r ≤ count) × ((q : ℕ) → q < r → HoldsSome (getD projected (bitAnd q keep) 0))
+Inv-loop sets count keep projected r₀ r = (r ≤ count) × ((q : ℕ) → q < r → NotEmpty (getD projected (bitAnd q keep) 0))
 
 abbrev μ-loop : tie.MeasureT-loop
 μ-loop sets count keep projected r₀ r = count - r

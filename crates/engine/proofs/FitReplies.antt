@@ -1,0 +1,262 @@
+-- What specs/Claims.antt promises of what fit replies. Assumes nothing.
+use Prim.Native.Nat.{ℕ, zero, suc, _+_, _*_, _^_, _≤_, _<_}
+use mathlib.Core.Path.{_≡_, refl, sym, _∙_, ap, subst}
+use mathlib.Core.Logic.{_↔_, _⊎_, inl, inr, ⊎-elim}
+use mathlib.Core.List.{List, [], _∷_, _++_, map, append-assoc, append-nil}
+use mathlib.Core.Bool.{Bool, true, false, cond}
+use native.Mathlib.Nat.{zero-add}
+use native.Mathlib.Omega.{arith}
+use borrow.Author.Tests.{leb-true, le-leb, eq-eqb, ne-eqb}
+use lib.Dec.{leb, eqb}
+use lib.ListN.{length, getD, take, drop, length-append, length-map, take-append-drop}
+use Rattle.records.specs.Bytes.{flat, bytePair, placed, field, nth}
+use Rattle.records.specs.Gate.{Gate, gateOf, arity, operands, unused}
+use Rattle.records.specs.Netlist.{Netlist, netAt}
+use Rattle.records.specs.Job.{Job, jobWhole, jobOf, gatesOf, netsOf, gateBytes}
+use Rattle.records.specs.Refusal.{Test, maxGates, firstFailing, jobTests, partTests}
+use Rattle.records.specs.Sheet.{Patch, patchOf, sheetTests}
+use Rattle.records.specs.Claims.{PartsGood}
+use Rattle.records.proofs.Laws.Bytes.{take-placed}
+use Rattle.records.proofs.Laws.Job.{length-field, length-flat, length-bytePair}
+use Rattle.records.proofs.Laws.RoundTrip.{All, Two, TwoEach, gateFormat, read-flat, length-records, joined, nth-joined, netsOf-flat}
+use Rattle.records.proofs.Laws.Accepted.{passes-of-none, none-of-passes, two-jobOf}
+use Rattle.records.proofs.Laws.Counts.{countsWithin-facts, countsWithin-countsOf}
+use Rattle.records.specs.Service.{countsOf, sideCountsOf}
+use Rattle.engine.specs.Compare.{pairTests}
+use Rattle.engine.specs.Tree.{column, tree}
+use Rattle.engine.specs.Fit.{Trees, treesFrom, trees, gateIndices, newNets, moved, movedGates, fitted, fittedBytes, fits, longestFit}
+use Rattle.engine.specs.Reply.{compareNumber, fitTests, fitNumber, fitReply, fittedBuffer}
+use Rattle.engine.specs.Claims.{FitAccepts, FitRefuses, FitIndependent, LongestFit, FittedIn, FittedGiven}
+use Rattle.engine.specs.declared.fitting.FitReply.{FitReply}
+use Rattle.engine.proofs.Laws.FitTree.{TreeCase, zeros, ones, halves, choice, choosing, tree-case}
+use Rattle.engine.proofs.Laws.Fitted.{sheet-entries, fitted-driven, fitted-netlist}
+use Rattle.engine.proofs.Replies.{zero-or-not, compare-accepts}
+
+-- ---- every gate of a fitted netlist has two slots
+
+two-append : (gs hs : List Gate) → All Two gs → All Two hs → All Two (gs ++ hs)
+two-append [] hs a b = b
+two-append (g ∷ gs) hs a b = (a .0, two-append gs hs (a .1) b)
+
+two-at : (gs : List Gate) → All Two gs → (i : ℕ) → Two (getD gs i (gateOf 0 0 0))
+unfolding gateOf
+two-at [] a i = refl
+two-at (g ∷ gs) a zero = a .0
+two-at (g ∷ gs) a (suc i) = two-at gs (a .1) i
+
+two-moved : (ns : List ℕ) (g : Gate) → Two g → Two (moved ns g)
+unfolding moved operands unused
+two-moved ns g h =
+    let k = arity (g .kind) in
+    length-append (map (netAt ns) (take k (g .slots))) (drop k (g .slots))
+    ∙ ap (λ (n : ℕ). n + length (drop k (g .slots))) (length-map (take k (g .slots)) (netAt ns))
+    ∙ sym (length-append (take k (g .slots)) (drop k (g .slots)))
+    ∙ ap length (take-append-drop k (g .slots))
+    ∙ h
+
+two-movedGates : (j : Job) (ns : List ℕ) → All Two (j .old .gates) → (ks : List ℕ) → All Two (movedGates j ns ks)
+unfolding movedGates
+two-movedGates j ns h [] = tt
+two-movedGates j ns h (k ∷ ks) = (
+  two-moved ns (getD (j .old .gates) k (gateOf 0 0 0)) (two-at (j .old .gates) h k),
+  two-movedGates j ns h ks,
+)
+
+two-case : (k next : ℕ) (is col : List ℕ) {gs : List Gate}
+    → ((n : ℕ) (c : List ℕ) → All Two (tree k n is c)) → TreeCase k next is col gs → All Two gs
+unfolding gateOf
+two-case k next is col h (zeros e) = (refl, tt)
+two-case k next is col h (ones e) = (refl, tt)
+two-case k next is col h (halves e) = h next (take (2 ^ k) col)
+two-case k next is col h choice =
+    let ls = tree k next is (take (2 ^ k) col) in
+    let hs = tree k (next + length ls) is (drop (2 ^ k) col) in
+    two-append (ls ++ hs) _ (two-append ls hs (h next _) (h (next + length ls) _)) (refl, (refl, (refl, (refl, tt))))
+
+two-tree : (k next : ℕ) (is col : List ℕ) → All Two (tree k next is col)
+unfolding tree gateOf
+two-tree zero next is col = (refl, tt)
+two-tree (suc k) next is col = two-case k next is col (λ n c. two-tree k n is c) (tree-case k next is col)
+
+two-trees : (m k next : ℕ) (is t : List ℕ) → All Two (treesFrom m k next is t .gates)
+unfolding treesFrom
+two-trees zero k next is t = tt
+two-trees (suc m) k next is t =
+    two-append (tree (length is) next is (column t k)) _
+    (two-tree (length is) next is (column t k))
+    (two-trees m (suc k) (next + length (tree (length is) next is (column t k))) is t)
+
+two-fitted : (j : Job) → All Two (j .old .gates) → (is t : List ℕ) → All Two (fitted j is t .gates)
+unfolding fitted trees
+two-fitted j h is t =
+    let ns = newNets j is t in
+    two-append (movedGates j ns (gateIndices j 0) ++ trees j is t .gates) _
+    (two-append (movedGates j ns (gateIndices j 0)) _ (two-movedGates j ns h (gateIndices j 0)) (two-trees (j .targets) 0 _ _ t))
+    (two-movedGates j ns h (gateIndices j 1))
+
+-- ---- the bytes of a fitted netlist
+
+module _ (j : Job) (is t : List ℕ) where
+  bodies : List (List ℕ)
+  bodies = (j .inputs ∷ 0 ∷ []) ∷ flat gateBytes (fitted j is t .gates) ∷ flat bytePair (fitted j is t .outputs) ∷ []
+
+  fitted-joined : fittedBytes j is t ≡ joined 1 bodies
+  unfolding fittedBytes joined bodies
+  fitted-joined = simp (append-assoc, append-nil)
+
+  nth-fitted : (k : ℕ) → k < 3 → nth k (fittedBytes j is t) ≡ getD bodies k []
+  unfolding bodies
+  nth-fitted k h = ap (nth k) fitted-joined ∙ nth-joined 1 bodies k h
+
+  nth-counts : nth 0 (fittedBytes j is t) ≡ j .inputs ∷ 0 ∷ []
+  unfolding bodies
+  nth-counts = nth-fitted 0 (omega arith)
+
+  nth-outputs : netsOf (nth 2 (fittedBytes j is t)) ≡ fitted j is t .outputs
+  unfolding bodies
+  nth-outputs = ap netsOf (nth-fitted 2 (omega arith)) ∙ netsOf-flat (fitted j is t .outputs)
+
+  nth-gates : All Two (j .old .gates) → gatesOf (nth 1 (fittedBytes j is t)) ≡ fitted j is t .gates
+  unfolding bodies gatesOf
+  nth-gates h =
+      ap gatesOf (nth-fitted 1 (omega arith)) ∙ read-flat gateFormat (omega arith) (fitted j is t .gates) (two-fitted j h is t)
+
+  length-fittedBytes : All Two (j .old .gates)
+      → length (fittedBytes j is t) ≡ 11 + 5 * length (fitted j is t .gates) + 2 * length (fitted j is t .outputs)
+  unfolding fittedBytes
+  length-fittedBytes h =
+      simp (
+        length-append,
+        length-field,
+        length-records gateFormat (fitted j is t .gates) (two-fitted j h is t),
+        length-flat bytePair 2 length-bytePair (fitted j is t .outputs),
+      ) (omega arith)
+
+  length-outputs : length (fitted j is t .outputs) ≡ length (j .old .outputs)
+  unfolding fitted
+  length-outputs = length-map (j .old .outputs) _
+
+  gates-few : fits j is t ≡ true → length (fitted j is t .gates) ≤ 400
+  unfolding fits
+  gates-few e = leb-true (length (fitted j is t .gates)) 400 e
+
+outputs-few : (j : Job) → PartsGood j → length (j .old .outputs) ≤ 32
+unfolding countsOf sideCountsOf
+outputs-few j g = countsWithin-facts (countsOf j) (countsWithin-countsOf j ∙ g .counts) .old .outputs
+
+pub longest-fit : LongestFit
+longest-fit s g is t e =
+    let j = jobOf s in
+    omega (
+      arith,
+      length-fittedBytes j is t (two-jobOf s .old),
+      length-outputs j is t,
+      outputs-few j g,
+      gates-few j is t e,
+    )
+
+-- ---- what fit accepts
+
+pub fit-accepts : FitAccepts
+unfolding fitNumber fitTests pairTests jobTests partTests sheetTests
+fit-accepts d s p = (
+  λ e.
+      let u =
+      passes-of-none _
+      (omega arith, (omega arith, (omega arith, (omega arith, (omega arith, (omega arith, (omega arith, (omega arith, (omega arith, tt)))))))))
+      e in
+      let v = u .1 .1 .1 .1 .1 in (
+        leb-true longestFit (length d) (u .0),
+        compare-accepts s p .1 (
+          u .1 .0,
+          record { counts = u .1 .1 .0; gates = u .1 .1 .1 .0; outputs = u .1 .1 .1 .1 .0; candidates = v .0 },
+          v .1 .0,
+          v .1 .1 .0,
+        ),
+        v .1 .1 .1 .0,
+      ),
+  λ h.
+      let c = compare-accepts s p .0 (h .1) in
+      let g = c .1 in
+      none-of-passes _ (
+        le-leb longestFit (length d) (h .0),
+        (c .0, (g .counts, (g .gates, (g .outputs, (g .candidates, (c .2, (c .3, (h .2, tt)))))))),
+      ),
+)
+
+pub fit-refuses : FitRefuses
+unfolding fitReply fittedBuffer
+fit-refuses d s p h = let e = ne-eqb (fitNumber d s p) 0 h in (rw e refl, rw e refl)
+
+-- ---- an accepted call
+
+module _ (d s p : List ℕ) (e : fitNumber d s p ≡ 0) where
+  abbrev job : Job
+  job = jobOf s
+
+  abbrev sheet : Patch
+  sheet = patchOf p
+
+  abbrev bytes : List ℕ
+  bytes = fittedBytes (jobOf s) (patchOf p .support) (patchOf p .table)
+
+  accepted : eqb (fitNumber d s p) 0 ≡ true
+  accepted = eq-eqb (fitNumber d s p) 0 e
+
+  reply-of : fitReply d s p ≡ record { number = 0; len = length bytes }
+  unfolding fitReply
+  reply-of = rw (accepted, e) refl
+
+  -- the reply in the buffer is the fitted netlist
+  bytes-of : take (fitReply d s p .len) (fittedBuffer d s p) ≡ bytes
+  unfolding fittedBuffer
+  bytes-of =
+      let u = fit-accepts d s p .0 e in
+      let g = compare-accepts s p .0 (u .1) .1 in
+      let q : fittedBuffer d s p ≡ placed d 0 bytes = rw accepted refl in
+      ap (λ (k : ℕ). take k (fittedBuffer d s p)) (ap (λ (r : FitReply). r .len) reply-of ∙ sym (zero-add (length bytes)))
+      ∙ ap (take (0 + length bytes)) q
+      ∙ take-placed d 0 bytes (omega (arith, u .0, longest-fit s g (sheet .support) (sheet .table) (u .2)))
+
+pub fitted-given : FittedGiven
+fitted-given d s p e =
+    let j = jobOf s in
+    let is = patchOf p .support in
+    let t = patchOf p .table in
+    let u = fit-accepts d s p .0 e in
+    let c = compare-accepts s p .0 (u .1) in
+    let entries = sheet-entries (j .targets) p (c .2) in
+    let good = fitted-netlist j (c .1) (patchOf p) (c .3) entries in
+    let gates = nth-gates j is t (two-jobOf s .old) in
+    let outputs = nth-outputs j is t in
+    subst (FittedIn j (patchOf p)) (sym (bytes-of d s p e))
+    (record {
+      counts = nth-counts j is t;
+      gates = rw gates (good .0);
+      few = rw gates (gates-few j is t (u .2));
+      nets = rw (gates, outputs) (good .1);
+      outputs = λ x. rw (gates, outputs) (fitted-driven j (c .1) (patchOf p) (c .3) entries x);
+    })
+
+number-of-length : (d e s p : List ℕ) → length d ≡ length e → fitNumber d s p ≡ fitNumber e s p
+unfolding fitNumber fitTests firstFailing
+number-of-length d e s p h = rw h refl
+
+nothing-of : (d s p : List ℕ) → (fitNumber d s p ≡ 0 → ⊥) → take (fitReply d s p .len) (fittedBuffer d s p) ≡ []
+nothing-of d s p h = ap (λ (r : FitReply). take (r .len) (fittedBuffer d s p)) (fit-refuses d s p h .0)
+
+pub fit-independent : FitIndependent
+fit-independent d e s p h =
+    let n = number-of-length d e s p h in
+    ⊎-elim
+    (λ (z : fitNumber d s p ≡ 0).
+    let y : fitNumber e s p ≡ 0 = sym n ∙ z in
+    (reply-of d s p z ∙ sym (reply-of e s p y), bytes-of d s p z ∙ sym (bytes-of e s p y)))
+    (λ (z : fitNumber d s p ≡ 0 → ⊥).
+    let y : fitNumber e s p ≡ 0 → ⊥ = λ q. z (n ∙ q) in (
+      fit-refuses d s p z .0
+          ∙ ap (λ (k : ℕ). record { number = k; len = 0 }) n
+          ∙ sym (fit-refuses e s p y .0),
+      nothing-of d s p z ∙ sym (nothing-of e s p y),
+    ))
+    (zero-or-not (fitNumber d s p))

@@ -1,0 +1,62 @@
+#!/usr/bin/env python3
+"""Makes again, from a fixed seed, the jobs that tools/bench/run measures decide on:
+
+    python3 tools/reference/bench_jobs.py
+
+    tools/bench/decide_VERDICT_N.job   full-size jobs: 20 inputs, 4 targets, 400 gates a side, 32 outputs, 10 priced nets
+
+Nothing in them can be left out early: every output depends on every input and every target, mostly by xor; a patch needs
+nearly all priced nets; an unfixable input is among the last; the vector list is long. It prints what each job has.
+"""
+
+import os
+import random
+
+import cut_jobs as cj
+import job as jobs
+from decide import decide
+
+SEED = 1364
+TOP = os.path.dirname(os.path.dirname(os.path.dirname(os.path.abspath(__file__))))
+WANTED = [("patch", 1.0), ("patch", 0.95), ("patch", 0.85), ("unfixable", 0.95), ("blind", 1.0), ("blind", 0.9)]
+
+
+def cone_of_output(job, side, net):
+    """The nets that lead to an output."""
+    first = job.first_gate_net(side)
+    return cj.cone(first, side.gates, [net])
+
+
+def all_to_all(job):
+    """Every output is reached from every input, and in the old netlist from every target."""
+    return all(
+        set(range(job.first_gate_net(side))) <= set(cone_of_output(job, side, net))
+        for side in (job.old, job.golden)
+        for net in side.outputs
+    )
+
+
+def hard(job, verdict):
+    if verdict.name == "patch" and len(verdict.patch.support) < 9:
+        return False
+    return all_to_all(job) and len(verdict.vectors) == 16
+
+
+def main():
+    rng = random.Random(SEED)
+    for k, (name, xor_share) in enumerate(WANTED, 1):
+        while True:
+            job = cj.full_job(rng, name, used=10, xor_share=xor_share, late=18)
+            verdict = decide(jobs.encode(job)).verdict
+            if verdict.name == name and hard(job, verdict):
+                break
+        with open(os.path.join(TOP, f"tools/bench/decide_{name}_{k}.job"), "wb") as file:
+            file.write(jobs.encode(job))
+        read = len({net for output in job.old.outputs for net in cone_of_output(job, job.old, output)}) - 24
+        kinds = sum(gate.kind >= cj.XOR for gate in job.old.gates)
+        about = f"sheet of {len(verdict.sheet)} bytes; {read} old gates lead to outputs, {kinds} are xor or xnor"
+        print(f"{name}_{k}: {name} {verdict.value}, {about}")
+
+
+if __name__ == "__main__":
+    main()

@@ -1,0 +1,185 @@
+#!/usr/bin/env python3
+"""Prints the twelve numbered cases of document 01 as this reference answers them, with what the document says beside each.
+
+    python3 tools/reference/cases.py
+
+Then it tries the reference against itself where a second way is at hand: the values of gates on sets of inputs beside
+gates.py, and, on small random jobs, the verdict beside every table over every set of priced nets, the fitted netlist
+beside the driven old one, and compare beside one input at a time. Where something differs, it stops.
+"""
+
+import copy
+import random
+from itertools import combinations, product
+
+import compare
+import gates
+import job as jobs
+import random_jobs as rj
+import random_sheets as rs
+import sheet as sheets
+import simulate
+from decide import decide, verdict_of
+from fit import fit, patched
+from job import Candidate, Gate, Job, Netlist
+
+
+def changed(**parts):
+    """Job A with some parts exchanged."""
+    job = copy.deepcopy(rj.job_a())
+    for name, value in parts.items():
+        setattr(job, name, value)
+    return job
+
+
+def said(reply):
+    """What the program rectify prints, on one line."""
+    verdict = reply.verdict
+    if reply.number:
+        return f"refused {reply.number}"
+    vectors = " ".join(str(vector) for vector in verdict.vectors)
+    if verdict.name != "patch":
+        return f"{verdict.name} {verdict.value}, vectors {vectors}"
+    support = "".join(f" {net}" for net in verdict.patch.support)
+    table = " ".join(str(entry) for entry in verdict.patch.table)
+    return f"patch cost {verdict.value}, support{support}, table {table}, vectors {vectors}"
+
+
+def case_8(first, second):
+    prices = [Candidate(0, first), Candidate(2, second)]
+    return Job(1, 1, Netlist([Gate(3, 0, 0)], [1]), Netlist([], [0]), prices)
+
+
+def fitted_a():
+    data = jobs.encode(rj.job_a())
+    number, fields = fit(data, decide(data).verdict.sheet)
+    count, output = len(fields[8:-5]) // 5, jobs.number(fields[-2:])
+    return f"fit {number}: {count} gates, output net {output}"
+
+
+def jobs_of_cases():
+    """The jobs of cases 1 to 11, without 2, which is case 1's job."""
+    a = rj.job_a()
+    same = Netlist([Gate(4, 0, 1)], [2])
+    return [
+        a,
+        changed(candidates=a.candidates[:1]),
+        changed(candidates=[]),
+        changed(old=Netlist([], [0])),
+        changed(golden=Netlist([Gate(0, 0, 0)], [2])),
+        changed(targets=0, old=same, golden=same),
+        case_8(5, 1),
+        case_8(0, 0),
+        changed(inputs=21),
+        changed(targets=5),
+    ]
+
+
+WANTED = [
+    "patch cost 7, support 0 1, table 0 0 0 1, vectors 0 1",
+    "fit 0: 11 gates, output net 12",
+    "blind 1, vectors 0 1",
+    "blind 0, vectors 0 1",
+    "unfixable 1, vectors 0",
+    "patch cost 0, support, table 0, vectors 0",
+    "patch cost 0, support, table 0, vectors 0",
+    "patch cost 1, support 2, table 1 0, vectors 0 1",
+    "patch cost 0, support 0, table 0 1, vectors 0 1",
+    "refused 3",
+    "refused 3",
+    "refused 1",
+]
+
+
+def cases():
+    first, *others = [said(decide(jobs.encode(job))) for job in jobs_of_cases()]
+    return [first, fitted_a()] + others + [said(decide(jobs.encode(rj.job_a()), 1075))]
+
+
+# ---- second ways
+
+
+def check_gates():
+    """Two inputs give every pair of operands."""
+    job = Job(2, 0, None, None, [])
+    values = simulate.input_values(job)
+    for kind in range(10):
+        count = gates.operand_count(kind)
+        found = simulate.gate_values(simulate.every_input(job), kind, values[:count])
+        for x in range(4):
+            assert found >> x & 1 == gates.value(kind, [x & 1, x >> 1][:count]), (kind, x)
+
+
+def carrying(job):
+    """Each set of priced nets that carries a table: every table is tried."""
+    for size in range(len(job.candidates) + 1):
+        for chosen in combinations(job.candidates, size):
+            nets, cost = [c.net for c in chosen], sum(c.weight for c in chosen)
+            for table in product(range(2**job.targets), repeat=2**size):
+                if compare.smallest_difference(job, sheets.Patch(nets, table, cost, [0])) is None:
+                    yield (cost, size, nets)
+                    break
+
+
+def check_verdict(job):
+    best = min(carrying(job), default=None)
+    verdict = verdict_of(job)
+    if verdict.name == "patch":
+        patch = verdict.patch
+        assert best == (patch.cost, len(patch.support), patch.support), job
+        assert compare.compare(jobs.encode(job), verdict.sheet) == (0, None), job
+    else:
+        assert best is None, job
+    return verdict.name
+
+
+def check_fit(job, patch):
+    netlist = patched(job, patch)
+    alone = Job(job.inputs, 0, netlist, netlist, [])
+    assert jobs.number_of_parts(alone) in (0, 3), job
+    assert simulate.output_values(alone, netlist, []) == compare.driven_outputs(job, patch), job
+
+
+def values_at(job, side, x, vector):
+    """The values of all nets of a side at one input, gate by gate."""
+    values = [x >> i & 1 for i in range(job.inputs)]
+    values += [vector >> t & 1 for t in range(job.targets)] if side is job.old else []
+    for gate in side.gates:
+        values.append(gates.value(gate.kind, [values[net] for net in gate.operands()]))
+    return values
+
+
+def check_compare(job, patch):
+    """Input by input, the old netlist first at vector 0 for the reading, then at the entry there."""
+    differing = []
+    for x in range(2**job.inputs):
+        at_zero = values_at(job, job.old, x, 0)
+        entry = patch.table[sum(at_zero[net] << i for i, net in enumerate(patch.support))]
+        old, golden = values_at(job, job.old, x, entry), values_at(job, job.golden, x, 0)
+        if [old[net] for net in job.old.outputs] != [golden[net] for net in job.golden.outputs]:
+            differing.append(x)
+    assert compare.smallest_difference(job, patch) == min(differing, default=None), job
+
+
+def check_random(rng, count):
+    found = {"patch": 0, "unfixable": 0, "blind": 0}
+    while min(found.values()) < count:
+        m = rng.randrange(3)
+        job = rj.good_job(rng, rng.randrange(5), m, rng.randrange(9), rng.randrange(5), rng.randrange(1, 3), rng.randrange(4 - m))
+        found[check_verdict(job)] += 1
+        patch = rs.good_patch(rng, job)
+        check_fit(job, patch)
+        check_compare(job, patch)
+    return found
+
+
+def main():
+    for k, (found, wanted) in enumerate(zip(cases(), WANTED), 1):
+        print(f"{k:2} {found}")
+        assert found == wanted, f"document 01 says {wanted}"
+    check_gates()
+    print("tried against every table over every set:", check_random(random.Random(1364), 100))
+
+
+if __name__ == "__main__":
+    main()

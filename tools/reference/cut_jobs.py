@@ -1,0 +1,236 @@
+"""Random jobs for decide. A circuit is made and some of its gates are cut open: the circuit is the golden netlist, and
+the old one has a target in place of each cut gate. Every function takes the random source, as in random_jobs.py.
+
+    cut_job(rng, n, m, telling)      a job of up to some thirty gates, of any verdict
+    crossed_job(rng)                 a job where sets {a, d} and {b, c} of priced nets a < b < c < d both do
+    full_job(rng, verdict, ..)       400 gates a side, 32 outputs, 4 targets, 10 priced nets: 4,188 bytes
+"""
+
+import gates
+import job as jobs
+import random_jobs as rj
+from job import Candidate, Gate, Job, Netlist
+
+TWO_OPERANDS = range(4, 10)
+AND, OR, XOR, XNOR = 4, 6, 8, 9
+
+
+def some_gate(rng, nets, kinds):
+    """A gate of one of the kinds that reads some of the nets."""
+    kind = rng.choice(kinds)
+    operands = [rng.choice(nets) for _ in range(gates.operand_count(kind))]
+    return Gate(kind, *(operands + [0, 0])[:2])
+
+
+def renumbered(gate, new_net):
+    """The gate with each used operand replaced by its new net."""
+    operands = [new_net[net] for net in gate.operands()]
+    return Gate(gate.kind, *(operands + [0, 0])[:2])
+
+
+# ---- small jobs
+
+
+def circuit(rng, n, gate_count):
+    """Gates that often read one of the last few nets."""
+    found = []
+    for k in range(gate_count):
+        nets = list(range(n + k))
+        near = nets[-6:] if rng.random() < 0.6 else nets
+        found.append(some_gate(rng, near, list(TWO_OPERANDS) * 3 + list(range(4))) if nets else Gate(rng.randrange(2), 0, 0))
+    return found
+
+
+def cone(n, golden, nets):
+    """These nets and those that lead to them."""
+    found, to_visit = set(), list(nets)
+    while to_visit:
+        net = to_visit.pop()
+        if net not in found:
+            found.add(net)
+            to_visit += golden[net - n].operands() if net >= n else []
+    return sorted(found)
+
+
+def cut(n, m, golden, outputs, places, stays):
+    """The old netlist of a circuit: target t stands in place of the gate places[t], which is dropped, or stays with
+    nothing behind it."""
+    new_net = {net: net for net in range(n)}
+    old = []
+    for k, gate in enumerate(golden):
+        if k not in places or stays():
+            old.append(renumbered(gate, new_net))
+            new_net[n + k] = n + m + len(old) - 1
+        if k in places:
+            new_net[n + k] = n + places.index(k)
+    return Netlist(old, [new_net[net] for net in outputs])
+
+
+def change_gate(rng, n, golden, k):
+    """Another kind with as many operands, or other operands."""
+    gate = golden[k]
+    count = gates.operand_count(gate.kind)
+    kind = rng.choice([kind for kind in range(10) if gates.operand_count(kind) == count])
+    operands = [rng.randrange(n + k) if rng.random() < 0.3 else net for net in gate.operands()]
+    golden[k] = Gate(kind, *(operands + [0, 0])[:2])
+
+
+def change_output(rng, n, golden, outputs):
+    """An output that differs where some of the inputs are all 1."""
+    nets = rng.sample(range(n), rng.randrange(1, n + 1))
+    last = nets[0]
+    for net in nets[1:]:
+        golden.append(Gate(AND, last, net))
+        last = n + len(golden) - 1
+    place = rng.randrange(len(outputs))
+    golden.append(Gate(XOR, outputs[place], last))
+    outputs[place] = n + len(golden) - 1
+
+
+def some_weights(rng, count):
+    """Often with equal sums."""
+    return rng.choice(
+        [
+            lambda: [0] * count,
+            lambda: [rng.choice([1, 7, 65535])] * count,
+            lambda: [rng.randrange(3) for _ in range(count)],
+            lambda: [rng.randrange(1, 5) for _ in range(count)],
+            lambda: [rng.choice([0, 65535]) for _ in range(count)],
+            lambda: [rng.choice([0, 1, 65534, 65535]) for _ in range(count)],
+            lambda: [rng.randrange(65536) for _ in range(count)],
+        ]
+    )()
+
+
+def priced(rng, job, wanted, counts):
+    """The wanted nets and others up to one of these counts, ten at most, as far as they may be priced."""
+    allowed = rj.allowed_nets(job)
+    wanted = [net for net in dict.fromkeys(wanted) if net in allowed]
+    others = [net for net in allowed if net not in wanted]
+    rng.shuffle(others)
+    count = rng.choice(counts)
+    nets = sorted((wanted + others[: max(0, count - len(wanted))])[:10])
+    return [Candidate(net, weight) for net, weight in zip(nets, some_weights(rng, len(nets)))]
+
+
+def with_copies(rng, job):
+    """Old gates that repeat or invert inputs, so that several sets of priced nets tell the same."""
+    for _ in range(rng.randrange(5)):
+        if job.inputs and len(job.old.gates) < jobs.MAX_GATES:
+            job.old.gates.append(some_gate(rng, range(job.inputs), [2, 3, XOR]))
+
+
+def cut_job(rng, n, m, telling=True):
+    """Where telling, the priced nets often tell enough for a patch."""
+    gate_count = rng.choice([0, 1, 2, 4, 6, 9, 12, 16, 20, 30])
+    if n + gate_count == 0:
+        gate_count = 1
+    golden = circuit(rng, n, gate_count)
+    nets = n + gate_count
+    outputs = [max(rng.randrange(nets), rng.randrange(nets)) for _ in range(rng.randrange(1, 5))]
+    seen = [net - n for net in cone(n, golden, outputs) if net >= n]
+    places = rng.sample(seen, min(m, len(seen)))
+    old = cut(n, m, golden, outputs, places, lambda: rng.random() < 0.5)
+    change = rng.choice(["none", "cut gates", "cut gates", "any gate", "output"])
+    if change == "cut gates":
+        for k in places:
+            change_gate(rng, n, golden, k)
+    if change == "any gate" and golden:
+        change_gate(rng, n, golden, rng.randrange(len(golden)))
+    if change == "output" and n:
+        change_output(rng, n, golden, outputs)
+    job = Job(n, m, old, Netlist(golden, outputs), [])
+    with_copies(rng, job)
+    if telling:
+        read = [net for net in cone(n, golden, [n + k for k in places]) if net < n]
+        wanted = rng.choice([[], rng.sample(range(n), min(n, 10)), rng.sample(read, len(read))])
+        job.candidates = priced(rng, job, wanted, range(11))
+    else:
+        job.candidates = priced(rng, job, [], [0, 1, 2, 3, 3, 4, 5, 7, 10])
+    return job
+
+
+def crossed_job(rng):
+    """The golden output is the sum of x and y. Priced are a = x, b = x + z, c = y + z, d = y, ascending, each behind a
+    gate; weights are equal or nearly so."""
+    x, y, z = rng.sample(range(3), 3)
+    old = [Gate(2, x, 0), Gate(XOR, x, z), Gate(XOR, y, z), Gate(rng.choice([2, 3]), y, 0)]
+    weight = rng.choice([1, 5, 65535])
+    weights = [weight, weight, weight, weight]
+    if rng.random() < 0.3:
+        weights[rng.randrange(4)] -= 1
+    candidates = [Candidate(4 + i, weights[i]) for i in range(4)]
+    return Job(3, 1, Netlist(old, [3]), Netlist([Gate(rng.choice([XOR, XNOR]), x, y)], [3]), candidates)
+
+
+# ---- jobs that fill every place
+
+
+def chain(rng, found, n, nets, kinds):
+    """Appends gates that join all of the nets, at least two; the net of the last gate."""
+    last = nets[0]
+    for net in nets[1:]:
+        found.append(Gate(rng.choice(kinds), last, net))
+        last = n + len(found) - 1
+    return last
+
+
+def grow(rng, found, n, count, fresh, kinds):
+    """Appends gates that each read the oldest net not read yet, from the fresh ones on, and the next such net as long as
+    there are more than 32 of them, then one of the last forty nets. So all of them lead to the last 32 gates."""
+    unread, nets = list(fresh), list(fresh)
+    for _ in range(count):
+        first = unread.pop(0)
+        second = unread.pop(0) if len(unread) > 31 else rng.choice([net for net in nets[-40:] if net != first])
+        found.append(Gate(rng.choice(kinds), first, second))
+        unread.append(n + len(found) - 1)
+        nets.append(n + len(found) - 1)
+
+
+def full_job(rng, verdict, n=20, used=10, xor_share=0.85, late=17):
+    """A job of 4,188 bytes that is to have this verdict. The golden netlist has
+
+    - a front over the inputs, of which ten nets are priced (for n 10, the inputs),
+    - a function of up to `used` priced nets for each cut net; for blind, the first one reads a further net,
+    - a back over all of these; its last nets are the outputs,
+    - for unfixable, an output that differs where the last `late` inputs are all 1.
+
+    Nearly every gate leads to an output, and nearly every output depends on every input and every cut net, mostly by xor.
+    The old netlist has the targets in place of the functions' last gates, which stay, as other kinds, with nothing behind."""
+    m, output_count, gate_count = jobs.MAX_TARGETS, jobs.MAX_OUTPUTS, jobs.MAX_GATES
+    xors = round(100 * xor_share)
+    kinds = [rng.choice([XOR, XNOR]) for _ in range(xors)] + [rng.choice([4, 5, 6, 7]) for _ in range(100 - xors)]
+
+    golden = []
+    chain(rng, golden, n, range(n), [XOR])
+    while len(golden) < 70:
+        golden.append(Gate(rng.choice(kinds), *rng.sample(range(n + len(golden)), 2)))
+    front = list(range(n + len(golden)))
+    named = front[:n] if n == 10 else sorted(rng.sample(front, 10))
+    hidden = rng.choice([net for net in front if net not in named])
+
+    roots = []
+    for t in range(m):
+        nets = rng.sample(named, used if t == 0 else rng.randrange(2, used + 1))
+        if t == 0 and verdict == "blind":
+            nets.append(hidden if rng.random() < 0.5 else chain(rng, golden, n, named + [hidden], [AND]))
+        roots.append(chain(rng, golden, n, nets, [XOR] if t == 0 else [AND, OR, XOR, XNOR]))
+    read = {net for gate in golden[: len(front) - n] for net in gate.operands()}
+    fresh = [net for net in range(n + len(golden)) if net not in read]
+
+    extra = late if verdict == "unfixable" else 0
+    grow(rng, golden, n, gate_count - extra - len(golden), fresh, kinds)
+    outputs = list(range(n + len(golden) - output_count, n + len(golden)))
+    old = cut(n, m, golden, outputs, [root - n for root in roots], lambda: True)
+    for root in roots:
+        old.gates[root - n].kind = rng.choice(kinds)
+    if extra:
+        everywhere_one = chain(rng, golden, n, range(n - late, n), [AND])
+        golden.append(Gate(XOR, outputs[-1], everywhere_one))
+        outputs[-1] = n + len(golden) - 1
+    while len(old.gates) < gate_count:
+        old.gates.append(Gate(rng.choice(kinds), *rng.sample(range(n), 2)))
+
+    nets = [net if net < n else net + m for net in named]
+    candidates = [Candidate(net, weight) for net, weight in zip(nets, some_weights(rng, 10))]
+    return Job(n, m, old, Netlist(golden, outputs), candidates)

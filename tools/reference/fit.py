@@ -1,0 +1,72 @@
+"""Fit (document 01, "Fitting and comparing"): the patched netlist of a job and a patch sheet by anyone.
+
+    fit(job_data, sheet_data, buffer_length)   (0, the three fields) or (1 to 9, b"")
+    patched(job, patch)                        the patched netlist, of any size
+"""
+
+import job as jobs
+from compare import accepted
+from job import Gate, Netlist
+
+LONGEST_NETLIST = 2075
+
+
+def emit(gates, first_net, gate):
+    """Appends a gate; the net that it drives."""
+    gates.append(gate)
+    return first_net + len(gates) - 1
+
+
+def tree(gates, first_net, support, column):
+    """Appends the tree of a column over the support's new nets; the net of its root."""
+    if not any(column):
+        return emit(gates, first_net, Gate(0, 0, 0))
+    if all(column):
+        return emit(gates, first_net, Gate(1, 0, 0))
+    s = support[-1]
+    half = len(column) // 2
+    low, high = column[:half], column[half:]
+    if low == high:
+        return tree(gates, first_net, support[:-1], low)
+    low_net = tree(gates, first_net, support[:-1], low)
+    high_net = tree(gates, first_net, support[:-1], high)
+    not_s = emit(gates, first_net, Gate(3, s, 0))
+    low_part = emit(gates, first_net, Gate(4, not_s, low_net))
+    high_part = emit(gates, first_net, Gate(4, s, high_net))
+    return emit(gates, first_net, Gate(6, low_part, high_part))
+
+
+def patched(job, patch):
+    reached = jobs.reached_from_target(job)
+    new_net = {net: net for net in range(job.inputs)}
+    gates = []
+
+    def move(group):
+        """Appends old gates, given with their old nets, each operand by its new net; an unused one stays 0."""
+        for net, gate in group:
+            operands = [new_net[operand] for operand in gate.operands()]
+            new_net[net] = emit(gates, job.inputs, Gate(gate.kind, *(operands + [0, 0])[:2]))
+
+    old = list(enumerate(job.old.gates, job.first_gate_net(job.old)))
+    move([(net, gate) for net, gate in old if net not in reached])
+    support = [new_net[net] for net in patch.support]
+    for t, net in enumerate(job.target_nets()):
+        new_net[net] = tree(gates, job.inputs, support, [entry >> t & 1 for entry in patch.table])
+    move([(net, gate) for net, gate in old if net in reached])
+    return Netlist(gates, [new_net[net] for net in job.old.outputs])
+
+
+def fit(job_data, sheet_data, buffer_length=LONGEST_NETLIST):
+    if buffer_length < LONGEST_NETLIST:
+        return 1, b""
+    number, job, patch = accepted(job_data, sheet_data)
+    if number:
+        return number, b""
+    netlist = patched(job, patch)
+    if len(netlist.gates) > jobs.MAX_GATES:
+        return 9, b""
+    return 0, (
+        jobs.field(1, bytes([job.inputs, 0]))
+        + jobs.field(2, jobs.gate_body(netlist))
+        + jobs.field(3, jobs.output_body(netlist))
+    )

@@ -1,0 +1,340 @@
+#!/usr/bin/env python3
+"""Makes again, from a fixed seed, the calls that the program run_decide is run on and the lines it must write
+(decide_calls.py has their form):
+
+    python3 tools/reference/random_decide.py
+
+    crates/run_decide/stdin, stdout   calls of decide and compare, and the lines that this reference gives
+
+It prints how many calls of each class there are. With --try FILE, a file of lines that run_decide wrote, it compares
+them with the stored ones and prints each line that differs with its call.
+"""
+
+import os
+import random
+import sys
+from collections import Counter
+from itertools import combinations
+
+import cases
+import cut_jobs as cj
+import job as jobs
+import random_jobs as rj
+import random_sheets as rs
+import sheet as sheets
+import simulate
+from decide import LONGEST_SHEET, cost_of, fixed_inputs, shared_vectors, table_of
+from decide_calls import BUFFER, compare_call, decide, decide_call, order_call
+from job import Candidate, Gate, Job, Netlist, encode
+
+SEED = 1364
+TOP = os.path.dirname(os.path.dirname(os.path.dirname(os.path.abspath(__file__))))
+STORE = "crates/run_decide"
+QUOTAS = {
+    "patch over 0 nets": 200,
+    "patch over 1 net": 250,
+    "patch over 2 nets": 250,
+    "patch over 3 nets": 150,
+    "patch over 4 or more nets": 150,
+    "unfixable at 0": 250,
+    "unfixable later": 500,
+    "blind at 0": 350,
+    "blind later": 350,
+}
+
+
+def class_of(verdict):
+    if verdict.name != "patch":
+        return verdict.name + (" later" if verdict.value else " at 0")
+    size = len(verdict.patch.support)
+    return f"patch over {size} net" + ("" if size == 1 else "s") if size < 4 else "patch over 4 or more nets"
+
+
+# ---- jobs, each with its reply
+
+
+def quota_jobs(rng):
+    """Random jobs, as many of each class as the quotas say; inputs 0 to 12 and targets 0 to 4 in turn."""
+    left = dict(QUOTAS)
+    turn = 0
+    while any(left.values()):
+        turn += 1
+        job = cj.cut_job(rng, turn % 13, turn // 13 % 5, rng.random() < 0.5)
+        data = encode(job)
+        reply = decide(data)
+        assert reply.number == 0, job
+        name = class_of(reply.verdict)
+        if left[name]:
+            left[name] -= 1
+            yield job, reply
+
+
+def tie_jobs(rng):
+    for _ in range(30):
+        job = cj.crossed_job(rng)
+        yield job, decide(encode(job))
+
+
+def full_jobs(rng, n, count, verdicts):
+    """So many jobs of 4,188 bytes of each of the verdicts."""
+    for verdict in verdicts:
+        made = 0
+        while made < count:
+            xor_share, late = rng.choice([0.5, 0.85, 0.85, 0.95, 1.0]), rng.choice([3, 7, n // 2, n - 3, n - 2])
+            job = cj.full_job(rng, verdict, n, rng.randrange(4, 11), xor_share, late)
+            reply = decide(encode(job))
+            assert reply.number == 0 and len(encode(job)) == jobs.LONGEST_JOB
+            if reply.verdict.name == verdict:
+                made += 1
+                yield job, reply
+
+
+def hand_jobs():
+    """The numbered cases, the smallest jobs, and the sizes of the paper's line "Run"."""
+    a = rj.job_a()
+    one = Netlist([Gate(1, 0, 0)], [0])
+    yield from cases.jobs_of_cases()
+    for m in range(5):
+        yield Job(0, m, Netlist([Gate(1, 0, 0)], [m]), one, [])
+        yield Job(0, m, Netlist([Gate(0, 0, 0)], [m]), one, [Candidate(m, 0)])
+        yield Job(0, m, Netlist([], [0]), one, []) if m else a
+        yield Job(20, m, Netlist([], [19]), Netlist([], [19]), [Candidate(i, 65535) for i in range(10, 20)])
+        yield Job(20, m, Netlist([], [19]), Netlist([], [18]), [])
+    for gate_count, outputs in [(400, 32), (401, 32), (400, 33), (401, 33)]:
+        gates = [Gate(3, 0, 0)] + [Gate(8, 19, 24 + i) for i in range(gate_count - 1)]
+        side = Netlist(gates, [24] * outputs)
+        golden = Netlist([Gate(3, 0, 0)] + [Gate(8, 19, 20 + i) for i in range(gate_count - 1)], [20] * outputs)
+        yield Job(20, 4, side, golden, [Candidate(i, 0) for i in range(10)])
+
+
+def damaged_bytes(rng, accepted):
+    """Bytes of refused jobs, and some that are still accepted: every damage on its own and several at once."""
+
+    def some():
+        return rng.choice(accepted)[0]
+
+    for damage in rj.ALL_DAMAGES:
+        for _ in range(8):
+            yield encode(rj.damaged(rng, some(), [damage]))
+    for _ in range(60):
+        yield encode(rj.damaged(rng, some(), rng.sample(rj.ALL_DAMAGES, rng.randrange(2, 5))))
+    for damage in rj.BYTE_DAMAGES:
+        for _ in range(8):
+            yield damage(rng, encode(some()))
+    yield b""
+
+
+# ---- calls
+
+
+def decide_calls(rng, accepted, fulls):
+    for job in hand_jobs():
+        yield decide_call(encode(job))
+    for job, _ in accepted + fulls:
+        yield decide_call(encode(job), rng.choice([LONGEST_SHEET, LONGEST_SHEET, LONGEST_SHEET + 1, BUFFER]))
+    for data in damaged_bytes(rng, accepted):
+        yield decide_call(data)
+    # number 1 comes before every other, and the limit is the same for all jobs
+    for lent in (0, 1, 26, 1075, 1076, 1077):
+        yield decide_call(encode(rj.job_a()), lent)
+        yield decide_call(encode(fulls[0][0]), min(lent, 1075))
+        yield decide_call(b"", lent)
+        for data in list(damaged_bytes(rng, accepted))[::40]:
+            yield decide_call(data, lent)
+
+
+def order_calls(rng, accepted, longs, fulls):
+    """Two jobs both ways round, with one in between that fills every place."""
+
+    def both(a, b, between):
+        yield order_call(a, between, b)
+        yield order_call(b, between, a)
+
+    data = [encode(job) for job, _ in accepted]
+    full_sheet = [encode(job) for job, reply in longs if len(reply.verdict.sheet) == LONGEST_SHEET]
+    assert full_sheet
+    for k in range(16):
+        yield from both(rng.choice(data), rng.choice(data), full_sheet[k % len(full_sheet)])
+    for job, _ in longs:
+        yield from both(rng.choice(data), rng.choice(data), encode(job))
+        refused = rj.damaged(rng, rng.choice(accepted)[0], [rng.choice(rj.ALL_DAMAGES)])
+        yield from both(rng.choice(data), encode(refused), encode(job))
+    yield from both(encode(rj.job_a()), rng.choice(data), encode(fulls[0][0]))
+
+
+# ---- sheets by anyone
+
+
+def widened(rng, job, patch):
+    """The same table over more nets."""
+    more = rng.sample(job.candidates, rng.randrange(len(job.candidates) + 1))
+    nets = sorted(set(patch.support) | {c.net for c in more})
+    weights = {c.net: c.weight for c in job.candidates}
+    table = []
+    for reading in range(2 ** len(nets)):
+        own = sum((reading >> nets.index(net) & 1) << i for i, net in enumerate(patch.support))
+        table.append(patch.table[own])
+    return sheets.Patch(nets, table, sum(weights[net] for net in nets), patch.vectors)
+
+
+def with_entry(rng, job, patch):
+    """One entry is another vector."""
+    table = list(patch.table)
+    table[rng.randrange(len(table))] = rng.randrange(2**job.targets)
+    return sheets.Patch(patch.support, table, patch.cost, patch.vectors)
+
+
+def other_vectors(rng, job, patch):
+    """Field 19 has any vectors, which has no effect."""
+    size = rng.randrange(1, 2**job.targets + 1)
+    return sheets.Patch(patch.support, patch.table, patch.cost, [rng.randrange(2**job.targets) for _ in range(size)])
+
+
+def bits_apart(rng, job, patch):
+    """Each target's bit from another entry: two half-right vectors joined."""
+    table = [a & 1 | b & 14 for a, b in zip(patch.table, patch.table[1:] + patch.table[:1])]
+    return sheets.Patch(patch.support, table, patch.cost, patch.vectors)
+
+
+def compare_calls(rng, accepted, fulls):
+    def some():
+        return rng.choice(accepted)
+
+    patches = [(job, reply.verdict.patch) for job, reply in accepted if reply.verdict.patch]
+    big = [(job, reply.verdict.patch) for job, reply in fulls if reply.verdict.patch]
+
+    def calls_of(name, pairs):
+        for job, patch in pairs:
+            yield name, compare_call(encode(job), sheets.encode(patch))
+
+    yield from calls_of("own patch", rng.sample(patches, 150) + big)
+    for name, change in [
+        ("more nets", widened),
+        ("an entry changed", with_entry),
+        ("other vectors", other_vectors),
+        ("bits apart", bits_apart),
+    ]:
+        pairs = rng.sample([pair for pair in patches if pair[1].support], 60) + big[:2]
+        yield from calls_of(name, [(job, change(rng, job, patch)) for job, patch in pairs])
+    yield from calls_of("any table", [(job, rs.good_patch(rng, job)) for job, _ in rng.sample(accepted, 200)])
+    yield from calls_of("any table", [(job, rs.good_patch(rng, job)) for job, _ in fulls[::3]])
+    for damage in rs.ALL_SHEET_DAMAGES:
+        pairs = rng.sample([pair for pair in patches if len(pair[0].candidates) >= 2], 10)
+        damaged = [(job, rs.damaged_patch(rng, job, rs.good_patch(rng, job), [damage])) for job, _ in pairs]
+        yield from calls_of("damaged parts", damaged)
+    for damage in rj.BYTE_DAMAGES:
+        for job, patch in rng.sample(patches, 8):
+            yield "damaged bytes", compare_call(encode(job), damage(rng, sheets.encode(patch)))
+    for _ in range(30):
+        yield "sheet of another job", compare_call(encode(some()[0]), some()[1].verdict.sheet)
+    for data in list(damaged_bytes(rng, accepted))[::4]:
+        # the job's numbers come before the sheet's
+        sheet = rng.choice(patches)[1] if rng.random() < 0.5 else rs.good_patch(rng, some()[0])
+        yield "damaged job", compare_call(data, sheets.encode(sheet)[: rng.choice([5, 100])])
+    # up to 15 support nets have a table that a field can hold
+    for k, table in [(11, 2048), (15, 32768), (16, 0), (32, 1)]:
+        patch = sheets.Patch(list(range(k)), [0] * table, 0, [0])
+        yield "too many nets", compare_call(encode(big[0][0]), sheets.encode(patch))
+
+
+# ---- what the jobs cover
+
+
+def ties(job, patch):
+    """The levels of the rule at which another sound support loses to the chosen one of equal cost."""
+    shared = shared_vectors(job, fixed_inputs(job))
+    own = tuple(i for i, c in enumerate(job.candidates) if c.net in patch.support)
+    found = set()
+    for size in range(len(own), len(job.candidates) + 1):
+        for places in combinations(range(len(job.candidates)), size):
+            if places != own and cost_of(job, places) == patch.cost and table_of(shared, places) is not None:
+                if size > len(own):
+                    found.add("equal cost, more nets")
+                else:
+                    found.add("equal cost and count, other nets")
+                    if places[0] == own[0]:
+                        found.add("the same, first net equal")
+                    if places[-1] < own[-1]:
+                        found.add("the same, last net smaller")
+    return found
+
+
+def stuck_input(job):
+    """The smallest input whose reading of all priced nets has no shared vector, and that reading."""
+    shared = shared_vectors(job, fixed_inputs(job))
+    values = simulate.net_values(job, job.old, simulate.vector_values(job, 0))
+    found = simulate.readings([values[c.net] for c in job.candidates], simulate.every_input(job))
+    return min((simulate.smallest(inputs), reading) for reading, inputs in found if not shared[reading])
+
+
+def covered(jobs_and_replies):
+    found = Counter()
+    for job, reply in jobs_and_replies:
+        verdict = reply.verdict
+        found["verdict " + verdict.name] += 1
+        found[f"inputs {job.inputs:2}"] += 1
+        found[f"targets {job.targets}"] += 1
+        found[f"priced {len(job.candidates):2}"] += 1
+        found[f"listed vectors {len(verdict.vectors):2}"] += 1
+        weights = {c.weight for c in job.candidates}
+        found["a weight of 0"] += 0 in weights
+        found["a weight of 65535"] += 65535 in weights
+        if verdict.name == "blind":
+            found["blind at another reading than the smallest stuck input's"] += stuck_input(job)[1] != verdict.value
+        if verdict.patch:
+            found[f"support nets {len(verdict.patch.support):2}"] += 1
+            found["cost above 65535"] += verdict.value > 65535
+            found["an entry outside the vector list"] += any(entry not in verdict.vectors for entry in verdict.patch.table)
+            for tie in ties(job, verdict.patch):
+                found["tie: " + tie] += 1
+    return found
+
+
+def report(calls, jobs_and_replies, sheet_names):
+    print(f"{len(calls)} calls, {sum(len(data) for data, _ in calls)} bytes")
+    words = Counter()
+    for _, text in calls:
+        service, number, *rest = text.split()
+        outcome = next(word for word in rest if word.isalpha())
+        words[f"{service} {number} {outcome}"] += 1
+    for found in (words, Counter({"sheet: " + name: count for name, count in sheet_names.items()}), covered(jobs_and_replies)):
+        for name, count in sorted(found.items()):
+            print(f"{count:6}  {name}")
+
+
+# ---- files
+
+
+def store(path, content):
+    with open(os.path.join(TOP, path), "wb") as file:
+        file.write(content if isinstance(content, bytes) else content.encode("ascii"))
+
+
+def made():
+    rng = random.Random(SEED)
+    accepted = list(quota_jobs(rng)) + list(tie_jobs(rng))
+    longs = list(full_jobs(rng, 10, 6, ["patch", "unfixable"]))
+    fulls = list(full_jobs(rng, 20, 6, ["patch", "unfixable", "blind"]))
+    named = list(compare_calls(rng, accepted, fulls))
+    calls = list(decide_calls(rng, accepted + longs, fulls)) + list(order_calls(rng, accepted, longs, fulls))
+    calls += [call for _, call in named]
+    rng.shuffle(calls)
+    return calls, accepted + longs + fulls, Counter(name for name, _ in named)
+
+
+def main():
+    calls, jobs_and_replies, sheet_names = made()
+    if sys.argv[1:2] == ["--try"]:
+        with open(sys.argv[2], encoding="ascii") as file:
+            lines = file.read().splitlines(keepends=True)
+        for (data, text), other in zip(calls, lines + [""] * len(calls)):
+            if text != other:
+                print("call", data.hex(), "must print", text, "printed", other)
+        return
+    store(f"{STORE}/stdin", b"".join(data for data, _ in calls))
+    store(f"{STORE}/stdout", "".join(text for _, text in calls))
+    report(calls, jobs_and_replies, sheet_names)
+
+
+if __name__ == "__main__":
+    main()
