@@ -13,7 +13,7 @@ pub mod Fitting
 pub mod FitGates
 pub mod FitNets
 pub mod FitPlaced
-pub mod FitReplies
+pub mod FitSheet
 pub mod FitTree
 pub mod Fitted
 pub mod Loop

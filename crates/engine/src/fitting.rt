@@ -3,12 +3,15 @@ ghost use mathlib.Core.Path.{_≡_};
 ghost use mathlib.Core.List.{[]};
 ghost use Prim.Native.Nat.{_+_, _^_, _≤_, _<_};
 ghost use lib.ListN.{length, take};
-ghost use Rattle.records.specs.Service.{gatesFrom};
+ghost use Rattle.records.specs.Service.{sidePlaces, gatesFrom};
+ghost use Rattle.records.specs.Sheet.{patchOf};
 ghost use Rattle.engine.specs.Inner.{Evaluable, Outputs};
 ghost use Rattle.engine.specs.Fit.{fittedBytes};
+ghost use Rattle.engine.specs.Reply.{fitReply, fittedBuffer};
 ghost use Rattle.engine.specs.Building.{GateRoom, NetRoom, treesSize};
 ghost use Rattle.engine.specs.Fitting.{marked, FreePlaced, TreesPlaced, RestPlaced, patchedJob, GatesPlaced};
-ghost use Rattle.engine.specs.Fitting.{Fittable, patchedCount, FitGives, patchNumber};
+ghost use Rattle.engine.specs.Fitting.{Fittable, patchedCount, FitGives, patchNumber, sheetFitNumber, ungolden, FitReady};
+use super::choose::reading_count;
 use super::fanout::mark_fanout;
 use super::netlist::put_netlist;
 use super::renumber::move_nets;
@@ -19,6 +22,8 @@ use super::tree::put_trees;
 use super::tree::trees_size;
 use records::Counts;
 use records::Support;
+use records::read;
+use records::read_sheet;
 
 // The number, and how many bytes of the reply buffer the patched netlist takes; on refusal the length is 0.
 pub struct FitReply {
@@ -274,4 +279,105 @@ fn fit_patch(
         old.outputs,
     );
     FitReply { number: 0, len }
+}
+
+// The reply to a sheet's bytes for the good job in places, and its netlist, or number 7, 8 or 9.
+fn fit_sheet(
+    kinds: &[u8],
+    firsts: &[u16],
+    seconds: &[u16],
+    outputs: &[u16],
+    nets: &[u16],
+    weights: &[u16],
+    counts: Counts,
+    sheet: &[u8],
+    reply: &mut [u8],
+) -> FitReply
+    requires { ⌜ FitReady counts (sidePlaces (now kinds) (now firsts) (now seconds) (now outputs)) (now nets) (now weights) ⌝ }
+    requires { ⌜ 2075 ≤ length (now reply) ⌝ }
+    ensures { λ r. ⌜ FitGives
+        (sheetFitNumber
+        (ungolden counts (sidePlaces (now (kinds .entry)) (now (firsts .entry)) (now (seconds .entry)) (now (outputs .entry)))
+        (now (nets .entry)) (now (weights .entry)))
+        (now (sheet .entry)))
+        (fittedBytes
+        (ungolden counts (sidePlaces (now (kinds .entry)) (now (firsts .entry)) (now (seconds .entry)) (now (outputs .entry)))
+        (now (nets .entry)) (now (weights .entry)))
+        (patchOf (now (sheet .entry)) .support) (patchOf (now (sheet .entry)) .table))
+        (now (reply .entry)) r (now (reply .exit)) ⌝ }
+{
+    let answer = read_sheet(counts.targets, counts.candidates, nets, weights, sheet);
+    if answer.number != 0 {
+        return FitReply {
+            number: answer.number,
+            len: 0,
+        };
+    }
+    let support = answer.support;
+    let start = answer.table;
+    let end = start + reading_count(support.len);
+    fit_patch(
+        kinds,
+        firsts,
+        seconds,
+        outputs,
+        counts,
+        support,
+        &sheet[start..end],
+        reply,
+    )
+}
+
+// The service fit: the patched netlist of a job's bytes and a sheet's, at the start of the reply buffer. Refused are a buffer below
+// 2,075 bytes (1), what read refuses of the job (2 to 6) and read_sheet of the sheet (7, 8), and a patched netlist of more than 400
+// gates (9). It evaluates no gate; it passes over the old gates five times and over the table some k + 1 times for each target,
+// where k is the size of the support.
+pub fn fit(job: &[u8], sheet: &[u8], reply: &mut [u8]) -> FitReply
+    ensures reply { λ r. ⌜ r ≡ fitReply (now (reply .entry)) (now (job .entry)) (now (sheet .entry)) ⌝ }
+    ensures lent { λ _. ⌜ now (reply .exit) ≡ fittedBuffer (now (reply .entry)) (now (job .entry)) (now (sheet .entry)) ⌝ }
+{
+    if reply.len() < 2075 {
+        return FitReply { number: 1, len: 0 };
+    }
+    let mut kinds = [0u8; 400];
+    let mut firsts = [0u16; 400];
+    let mut seconds = [0u16; 400];
+    let mut outputs = [0u16; 32];
+    let mut golden_kinds = [0u8; 400];
+    let mut golden_firsts = [0u16; 400];
+    let mut golden_seconds = [0u16; 400];
+    let mut golden_outputs = [0u16; 32];
+    let mut nets = [0u16; 10];
+    let mut weights = [0u16; 10];
+    let found = read(
+        job,
+        &mut kinds,
+        &mut firsts,
+        &mut seconds,
+        &mut outputs,
+        &mut golden_kinds,
+        &mut golden_firsts,
+        &mut golden_seconds,
+        &mut golden_outputs,
+        &mut nets,
+        &mut weights,
+    );
+    if found.number != 0 {
+        return FitReply {
+            number: found.number,
+            len: 0,
+        };
+    }
+    let counts = found.counts;
+    fit_sheet(
+        &kinds,
+        &firsts,
+        &seconds,
+        &outputs,
+        &nets,
+        &weights,
+        counts,
+        sheet,
+        reply,
+    )
 }

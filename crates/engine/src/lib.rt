@@ -32,6 +32,8 @@ pub use deciding::PatchCost;
 pub use deciding::UnfixableInput;
 pub use deciding::Verdict;
 pub use deciding::decide;
+pub use fitting::FitReply;
+pub use fitting::fit;
 pub use ternary::ternary_entry;
 pub use ternary::ternary_table;
 pub use text::rectify_text;

@@ -6,7 +6,7 @@ use borrow.Author.Needs.{needs}
 use denote.Ref.{now}
 use lib.ListN.{take}
 use Rattle.engine.specs.Fitting.{patchedCount}
-use Rattle.engine.proofs.Laws.FitReplies.{gates-few, gates-held, patch-refused, patch-accepted}
+use Rattle.engine.proofs.Laws.FitSheet.{gates-few, gates-held, patch-refused, patch-accepted}
 use Rattle.engine.proofs.Laws.FitPlaced.{outputs-wider}
 use Rattle.engine.proofs.Laws.Tree.{treesSize-le}
 use Rattle.engine.proofs.fitting.fit_patch.Statement.{statement}
