@@ -1,13 +1,12 @@
 -- Laws of fit's code (specs/Fitting): new numbers of nets, and gates moved to them. Assumes nothing.
 use Prim.Native.Nat.{ℕ, zero, suc, _+_, _-_, _^_, _≤_, _<_}
-use mathlib.Core.Path.{_≡_, refl, sym, _∙_, ap, subst}
+use mathlib.Core.Path.{_≡_, refl, sym, _∙_, ap}
 use mathlib.Core.Logic.{⊎-elim}
-use mathlib.Core.List.{List, [], _∷_, _++_, map, append-assoc, append-nil, map-append}
+use mathlib.Core.List.{List, [], _∷_, _++_, map, append-nil, map-append}
 use mathlib.Core.Bool.{Bool, true, false, cond, true≢false}
 use native.Mathlib.Nat.{add-zero, zero-add}
-use native.Mathlib.Numerals.{add-one}
 use native.Mathlib.Omega.{arith}
-use borrow.Author.Tests.{eq-eqb, ne-eqb, eqb-true, ltb-true, ltb-false, lt-ltb, le-ltb}
+use borrow.Author.Tests.{eq-eqb, ne-eqb, ltb-true, ltb-false, lt-ltb, le-ltb}
 use lib.Dec.{eqb, ltb}
 use lib.ListN.{length, getD, take, drop, set, length-set, length-append, length-map, length-drop, drop-of-length-le, List·getD-append}
 use lib.Seq.{take-all, getD-set-same, getD-set-other}
@@ -24,7 +23,8 @@ use Rattle.engine.specs.Building.{GateRoom, GatesPut, TreesPut}
 use Rattle.engine.specs.Inner.{Evaluable}
 use Rattle.engine.specs.Fitting.{marked, Numbered, movedFrom, FreePlaced, numberedTrees, TreesPlaced}
 use Rattle.engine.proofs.Laws.Choice.{true-or-false, length-keep-le}
-use Rattle.engine.proofs.Laws.EvalWords.{gates-both}
+use Rattle.engine.proofs.Laws.EvalWords.{length-gates}
+use Rattle.engine.proofs.Laws.FitGates.{good-at}
 use Rattle.engine.proofs.Laws.Tree.{gates-put-append, room-kept, room-less}
 
 -- ---- keep
@@ -192,14 +192,17 @@ module _ (ns : List ℕ) (net k a b : ℕ) (e : gateGood net (gateOf k a b) ≡ 
       (true-or-false (ltb k 4)))
       (true-or-false (ltb k 2))
 
--- each of the gates in places is good
-module _ (ks xs ys : List ℕ) (count base : ℕ) (g : gatesGood base (gatesFrom count ks xs ys) ≡ true) where
-  good-from : (i : ℕ) → i ≤ count → gatesGood (base + i) (drop i (gatesFrom count ks xs ys)) ≡ true
-  good-from zero h = rw add-zero g
-  good-from (suc i) h = rw add-one at (gates-both ks xs ys count base i h (good-from i (omega arith)) .1)
+-- the gates in places, each good at its net
+module _ (ks xs ys : List ℕ) (count : ℕ) where
+  gate-at : (i : ℕ) → i < count
+      → getD (gatesFrom count ks xs ys) i (gateOf 0 0 0) ≡ gateOf (getD ks i 0) (getD xs i 0) (getD ys i 0)
+  unfolding gatesFrom
+  gate-at i h = getD-tabulate count _ i (gateOf 0 0 0) h
 
-  pub good-at : (i : ℕ) → i < count → gateGood (base + i) (gateOf (getD ks i 0) (getD xs i 0) (getD ys i 0)) ≡ true
-  good-at i h = gates-both ks xs ys count base i h (good-from i (omega arith)) .0
+  pub place-good : (base : ℕ) → gatesGood base (gatesFrom count ks xs ys) ≡ true → (i : ℕ) → i < count
+      → gateGood (base + i) (gateOf (getD ks i 0) (getD xs i 0) (getD ys i 0)) ≡ true
+  place-good base g i h =
+      rw (gate-at i h) at (good-at base (gatesFrom count ks xs ys) g i (omega (arith, length-gates count ks xs ys)))
 
 movedFrom-snoc : (gs : List Gate) (ns is : List ℕ) (i : ℕ)
     → movedFrom gs ns (is ++ (i ∷ [])) ≡ movedFrom gs ns is ++ (moved ns (getD gs i (gateOf 0 0 0)) ∷ [])
@@ -211,10 +214,6 @@ movedFrom-snoc gs ns is i = map-append (λ k. moved ns (getD gs k (gateOf 0 0 0)
 module _ (ks xs ys ms ns : List ℕ) (gates base b : ℕ) where
   abbrev olds : List Gate
   olds = gatesFrom gates ks xs ys
-
-  old-at : (i : ℕ) → i < gates → getD olds i (gateOf 0 0 0) ≡ gateOf (getD ks i 0) (getD xs i 0) (getD ys i 0)
-  unfolding gatesFrom
-  old-at i h = getD-tabulate gates _ i (gateOf 0 0 0) h
 
   pub putting-none : (count : ℕ) (ks₀ xs₀ ys₀ : List ℕ)
       → GatesPut count ks₀ xs₀ ys₀ (movedFrom olds ns (marked ms base b 0)) count ks₀ xs₀ ys₀
@@ -232,7 +231,8 @@ module _ (ks xs ys ms ns : List ℕ) (gates base b : ℕ) where
     putting-next h g m {x} {y} e f p =
         let k = getD ks i 0 in
         let v : gateOf k x y ≡ moved ns (getD olds i (gateOf 0 0 0)) =
-        rw (e, f, old-at i h) (moved-slots ns (base + i) k (getD xs i 0) (getD ys i 0) (good-at ks xs ys gates base g i h)) in
+        rw (e, f, gate-at ks xs ys gates i h)
+        (moved-slots ns (base + i) k (getD xs i 0) (getD ys i 0) (place-good ks xs ys gates base g i h)) in
         let z : movedFrom olds ns (marked ms base b i) ++ (gateOf k x y ∷ []) ≡ movedFrom olds ns (marked ms base b (i + 1)) =
         ap (λ (q : Gate). movedFrom olds ns (marked ms base b i) ++ (q ∷ [])) v
         ∙ sym (movedFrom-snoc olds ns (marked ms base b i) i)

@@ -1,19 +1,18 @@
 -- The three groups of gates, placed one behind the other (specs/Fitting), are the gates of the patched netlist, and the numbers
 -- that the nets got are their new numbers. Assumes nothing.
-use Prim.Native.Nat.{ℕ, zero, suc, _+_, _-_, _^_, _≤_, _<_}
-use mathlib.Core.Path.{_≡_, refl, sym, _∙_, ap, subst}
+use Prim.Native.Nat.{ℕ, _+_, _-_, _^_, _≤_, _<_}
+use mathlib.Core.Path.{_≡_, refl, sym, _∙_, ap}
 use mathlib.Core.Logic.{_⊎_, inl, inr, ⊎-elim}
 use mathlib.Core.List.{List, [], _∷_, _++_, map, append-nil, List·Memᴰ as Mem, List·Memᴰ·head as here, List·Memᴰ·tail as there}
 use mathlib.Core.Bool.{Bool, true, false, cond}
-use native.Mathlib.Nat.{zero-add}
 use native.Mathlib.Omega.{arith}
 use borrow.Author.Tests.{eq-eqb, ne-eqb, ltb-true, lt-ltb, le-ltb}
-use lib.Dec.{eqb, ltb, leb}
-use lib.ListN.{length, getD, take, drop, length-append, length-map, length-drop, List·getD-append}
+use lib.Dec.{eqb, ltb}
+use lib.ListN.{length, getD, take, drop, length-map, List·getD-append}
 use lib.Seq.{length-take-le, getD-take, getD-drop, getD-append-add}
-use Rattle.records.specs.Bytes.{upFrom, tabulate}
-use Rattle.records.specs.Gate.{Gate, gateOf, operands, unused}
-use Rattle.records.specs.Netlist.{netAt, fanout}
+use Rattle.records.specs.Bytes.{upFrom}
+use Rattle.records.specs.Gate.{Gate, operands, unused}
+use Rattle.records.specs.Netlist.{netAt}
 use Rattle.records.specs.Job.{Job}
 use Rattle.records.specs.Refusal.{gatesGood, netlistsGood, oldNets}
 use Rattle.records.specs.Service.{gatesFrom}
@@ -23,14 +22,14 @@ use Rattle.records.proofs.Laws.Bytes.{and-both, length-upFrom}
 use Rattle.engine.specs.Choice.{keep}
 use Rattle.engine.specs.Inner.{Outputs}
 use Rattle.engine.specs.Walk.{FanoutMarks}
-use Rattle.engine.specs.Fit.{led, gateIndices, rank, Trees, treesFrom, trees, freeNumber, newNets, moved, movedGates, fitted, fits}
-use Rattle.engine.specs.Building.{GateRoom, NetRoom, GatesPut, treesSize}
+use Rattle.engine.specs.Fit.{led, gateIndices, rank, Trees, trees, freeNumber, newNets, moved, movedGates, fitted}
+use Rattle.engine.specs.Building.{GateRoom, NetRoom, treesSize}
 use Rattle.engine.specs.Fitting.{marked, movedFrom, oldJob, FreePlaced, numberedTrees, TreesPlaced, RestPlaced, GatesPlaced}
 use Rattle.engine.specs.Fitting.{patchedJob, Fittable, patchedCount}
-use Rattle.engine.proofs.Laws.Choice.{true-or-false, mem-keep, mem-below, mem-upFrom, map-agree, all-true, all-of-members}
+use Rattle.engine.proofs.Laws.Choice.{mem-keep, mem-below, mem-upFrom, map-agree, all-true, all-of-members}
 use Rattle.engine.proofs.Laws.EvalWords.{length-gates}
 use Rattle.engine.proofs.Laws.FitCode.{keep-append, upFrom-append}
-use Rattle.engine.proofs.Laws.FitNets.{mark-cases, mark-target, oldNet, oldGate, operand-below, operand-unmarked, NetCase, input, target, gate, net-case, mem-indices, ledStart, number-input, number-target, number-free, number-led, number-support, length-moved, length-fitted}
+use Rattle.engine.proofs.Laws.FitNets.{mark-cases, mark-target, oldNet, oldGate, operand-below, operand-unmarked, NetCase, input, target, gate, net-case, mem-indices, number-input, number-target, number-free, number-led, number-support}
 use Rattle.engine.proofs.Laws.FitTree.{length-nets}
 use Rattle.engine.proofs.Laws.Tree.{gates-put-append, room-kept, room-less, length-trees}
 

@@ -1,6 +1,5 @@
 -- `engine::fitting::fit` meets its contract. Assumes nothing.
 use mathlib.Core.Path.{_∙_}
-use native.Mathlib.Omega.{arith}
 use borrow.Author.Needs.{needs}
 use denote.Ref.{now}
 use Rattle.engine.proofs.Laws.Decide.{lentPlaces, lent-refusal, read-number}

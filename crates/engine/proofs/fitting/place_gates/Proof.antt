@@ -2,7 +2,6 @@
 use mathlib.Core.Path.{_≡_, _∙_}
 use native.Mathlib.Omega.{arith}
 use borrow.Author.Needs.{needs}
-use denote.Ref.{now}
 use lib.ListN.{length}
 use Rattle.engine.proofs.Laws.FitCode.{evaluable-same}
 use Rattle.engine.proofs.Laws.FitPlaced.{support-outputs, outputs-wider, marks-room, trees-room, rest-small, rest-room, patch-placed}

@@ -1,7 +1,5 @@
 -- `engine::fitting::place_rest` meets its contract. Assumes nothing.
-use native.Mathlib.Omega.{arith}
 use borrow.Author.Needs.{needs}
-use denote.Ref.{now}
 use Rattle.engine.proofs.Laws.FitCode.{evaluable-same}
 use Rattle.engine.proofs.fitting.place_rest.Statement.{statement}
 use Rattle.engine.proofs.fitting.place_rest.Tie as tie

@@ -5,14 +5,13 @@ use mathlib.Core.Path.{_≡_}
 use mathlib.Core.List.{List}
 use mathlib.Core.Logic.{⊎-elim}
 use native.Mathlib.Omega.{arith}
-use borrow.Author.Needs.{needs}
 use denote.Ref.{now}
-use lib.ListN.{length, getD}
+use lib.ListN.{getD}
 use Rattle.records.specs.Service.{gatesFrom}
 use Rattle.records.proofs.Laws.Gate.{slots-le}
 use Rattle.engine.specs.Building.{GatesPut}
 use Rattle.engine.specs.Fitting.{marked, movedFrom}
-use Rattle.engine.proofs.Laws.FitCode.{good-at, putting-none, putting-next, putting-skip, putting-room}
+use Rattle.engine.proofs.Laws.FitCode.{place-good, putting-none, putting-next, putting-skip, putting-room}
 use Rattle.engine.proofs.renumber.put_moved.Statement.{statement}
 use Rattle.engine.proofs.renumber.put_moved.Tie as tie
 
@@ -27,8 +26,8 @@ abbrev μ-loop : tie.MeasureT-loop
 loop-holds : tie.Need-loop-holds Inv-loop μ-loop
 loop-holds c = (omega arith, putting-none _ _ _ _ _ _ _ _ _ _ _ _)
 
-add-at : tie.Need-add-at Inv-loop μ-loop
-add-at c = omega arith
+add-net : tie.Need-add-net Inv-loop μ-loop
+add-net c = omega arith
 
 shared-slice-read-if1 : tie.Need-shared-slice-read-if1 Inv-loop μ-loop
 shared-slice-read-if1 c = omega arith
@@ -51,7 +50,7 @@ slots c =
     let a = s .args in
     let i = c .before .loop .i in
     slots-le (a .base + i) _ _ _
-    (good-at (now (a .kinds)) (now (a .firsts)) (now (a .seconds)) (a .gates) (a .base) (s .pre .0 .good) i (c .loop-test .taken))
+    (place-good (now (a .kinds)) (now (a .firsts)) (now (a .seconds)) (a .gates) (a .base) (s .pre .0 .good) i (c .loop-test .taken))
 
 moved-slot-requires : tie.Need-moved-slot-requires Inv-loop μ-loop
 moved-slot-requires c κs = let q = slots (c .before .before .before .before) in omega arith
@@ -123,7 +122,7 @@ put-moved-spec =
     Inv-loop
     μ-loop
     loop-holds
-    add-at
+    add-net
     shared-slice-read-if1
     shared-slice-read-kind
     mul-moved-slot
