@@ -330,8 +330,8 @@ fn fit_sheet(
 
 // The service fit: the patched netlist of a job's bytes and a sheet's, at the start of the reply buffer. Refused are a buffer below
 // 2,075 bytes (1), what read refuses of the job (2 to 6) and read_sheet of the sheet (7, 8), and a patched netlist of more than 400
-// gates (9). It evaluates no gate; it passes over the old gates five times and over the table some k + 1 times for each target,
-// where k is the size of the support.
+// gates (9). It evaluates no gate: it passes five times over the old gates, and at most 6 * (k + 1) times over each target's column of
+// the table, for a support of k nets.
 pub fn fit(job: &[u8], sheet: &[u8], reply: &mut [u8]) -> FitReply
     ensures reply { λ r. ⌜ r ≡ fitReply (now (reply .entry)) (now (job .entry)) (now (sheet .entry)) ⌝ }
     ensures lent { λ _. ⌜ now (reply .exit) ≡ fittedBuffer (now (reply .entry)) (now (job .entry)) (now (sheet .entry)) ⌝ }

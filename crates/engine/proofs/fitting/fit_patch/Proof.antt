@@ -1,4 +1,4 @@
--- `engine::fitting::fit_patch` meets its contract. Assumes nothing.
+-- `engine::fitting::fit_patch` meets its contract: number 9 by the trees' gate count, before any byte is written. Assumes nothing.
 use Prim.Native.Nat.{_≤_}
 use mathlib.Core.Path.{refl}
 use native.Mathlib.Omega.{arith}

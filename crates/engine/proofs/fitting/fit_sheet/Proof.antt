@@ -1,4 +1,5 @@
--- `engine::fitting::fit_sheet` meets its contract. Assumes nothing.
+-- `engine::fitting::fit_sheet` meets its contract: a sheet that is read is of candidates, and its table stands where the reply
+-- says. Assumes nothing.
 use Prim.Native.Nat.{_+_, _≤_}
 use native.Mathlib.Omega.{arith}
 use borrow.Author.Needs.{needs}

@@ -1,4 +1,4 @@
--- `engine::fitting::place_gates` meets its contract. Assumes nothing.
+-- `engine::fitting::place_gates` meets its contract: the three groups, one behind the other. Assumes nothing.
 use mathlib.Core.Path.{_≡_, _∙_}
 use native.Mathlib.Omega.{arith}
 use borrow.Author.Needs.{needs}

@@ -1,4 +1,4 @@
--- `engine::netlist::put_netlist` meets its contract. Assumes nothing.
+-- `engine::netlist::put_netlist` meets its contract: three fields, one behind the other. Assumes nothing.
 use native.Mathlib.Omega.{arith}
 use borrow.Author.Needs.{needs}
 use denote.Ref.{now}
