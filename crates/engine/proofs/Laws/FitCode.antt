@@ -8,7 +8,8 @@ use native.Mathlib.Nat.{add-zero, zero-add}
 use native.Mathlib.Omega.{arith}
 use borrow.Author.Tests.{eq-eqb, ne-eqb, ltb-true, ltb-false, lt-ltb, le-ltb}
 use lib.Dec.{eqb, ltb}
-use lib.ListN.{length, getD, take, drop, set, length-set, length-append, length-map, length-drop, drop-of-length-le, List·getD-append}
+use lib.ListN.{length, getD, take, drop, set, length-set, length-append, length-map, length-drop}
+use lib.ListN.{drop-of-length-le, List·getD-append}
 use lib.Seq.{take-all, getD-set-same, getD-set-other}
 use Rattle.records.specs.Bytes.{upFrom, tabulate, placed}
 use Rattle.records.specs.Gate.{Gate, gateOf, operands, unused}
@@ -176,7 +177,8 @@ module _ (ns : List ℕ) (net k a b : ℕ) (e : gateGood net (gateOf k a b) ≡ 
   unfolding moved gateOf operands unused netAt
   moved-one h l = rw (le-ltb k 2 h, lt-ltb k 4 l, arity-one k h l)
 
-  moved-two : 4 ≤ k → k < 10 → gateOf k (cond (ltb k 2) a (getD ns a 0)) (cond (ltb k 4) b (getD ns b 0)) ≡ moved ns (gateOf k a b)
+  moved-two : 4 ≤ k → k < 10
+      → gateOf k (cond (ltb k 2) a (getD ns a 0)) (cond (ltb k 4) b (getD ns b 0)) ≡ moved ns (gateOf k a b)
   unfolding moved gateOf operands unused netAt
   moved-two h l = rw (le-ltb k 2 (omega arith), le-ltb k 4 h, arity-two k h l)
 
@@ -219,7 +221,13 @@ module _ (ks xs ys ms ns : List ℕ) (gates base b : ℕ) where
       → GatesPut count ks₀ xs₀ ys₀ (movedFrom olds ns (marked ms base b 0)) count ks₀ xs₀ ys₀
   unfolding movedFrom marked upFrom keep
   putting-none count ks₀ xs₀ ys₀ =
-      record { end = sym (add-zero count); gates = sym (append-nil (gatesFrom count ks₀ xs₀ ys₀)); kinds = refl; firsts = refl; seconds = refl }
+      record {
+        end = sym (add-zero count);
+        gates = sym (append-nil (gatesFrom count ks₀ xs₀ ys₀));
+        kinds = refl;
+        firsts = refl;
+        seconds = refl;
+      }
 
   module _ {count end : ℕ} {ks₀ xs₀ ys₀ ks₁ xs₁ ys₁ : List ℕ} (i : ℕ)
       (w : GatesPut count ks₀ xs₀ ys₀ (movedFrom olds ns (marked ms base b i)) end ks₁ xs₁ ys₁) where
@@ -248,7 +256,8 @@ module _ (ks xs ys ms ns : List ℕ) (gates base b : ℕ) where
         → GateRoom (end + 1) ks₁ xs₁ ys₁
     unfolding movedFrom
     putting-room h m r =
-        let n : length (movedFrom olds ns (marked ms base b i)) ≡ length (marked ms base b i) = length-map (marked ms base b i) _ in
+        let is = marked ms base b i in
+        let n : length (movedFrom olds ns is) ≡ length is = length-map is _ in
         let k = length-append (marked ms base b i) (i ∷ []) in
         let l = ap length (marked-next ms base b i m) in
         let u = marked-le ms base b (i + 1) gates (omega arith) in

@@ -1,5 +1,5 @@
--- `engine::fitting::place_trees` meets its contract: the places from the inputs on are those of the targets' numbers first. Assumes
--- nothing.
+-- `engine::fitting::place_trees` meets its contract: the targets' numbers stand first among the places from the inputs on.
+-- Assumes nothing.
 use Prim.Native.Nat.{_-_, _≤_}
 use mathlib.Core.Path.{ap}
 use native.Mathlib.Omega.{arith}
