@@ -80,8 +80,8 @@ pub record TreesPlaced (n m count : ℕ) (is table before after ks xs ys : List 
   pub nets : after ≡ take n before ++ (numberedTrees n m count before is table .nets ++ drop m (drop n before))
 
 -- the old gates with mark 1 stand behind the first from gates, and have their numbers
-pub record RestPlaced (gs : List Gate) (count n base from : ℕ) (ms before after ks xs ys : List ℕ) (r : ℕ) (ks′ xs′ ys′ : List ℕ) :
-    Type 0 where
+pub record RestPlaced (gs : List Gate) (count n base from : ℕ) (ms before after ks xs ys : List ℕ) (r : ℕ)
+    (ks′ xs′ ys′ : List ℕ) : Type 0 where
   pub many : ℕ
   pub numbered : Numbered ms base 1 count (n + from) before after many
   pub gates : GatesPut from ks xs ys (movedFrom gs after (marked ms base 1 count)) r ks′ xs′ ys′

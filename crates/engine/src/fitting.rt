@@ -31,7 +31,8 @@ pub struct FitReply {
     pub len: usize,
 }
 
-// The old gates that no target leads to, at the start of the new places; how many they are. They and the inputs get their numbers.
+// The old gates that no target leads to, at the start of the new places; how many they are. They and the inputs get their
+// numbers.
 fn place_free(
     kinds: &[u8],
     firsts: &[u16],
@@ -48,8 +49,8 @@ fn place_free(
     requires { ⌜ Evaluable (now kinds) (now firsts) (now seconds) gates base (length (now numbers)) ⌝ }
     requires { ⌜ (base + gates ≤ length (now marks)) × (inputs ≤ base) × (inputs + gates < 65536) ⌝ }
     requires { ⌜ GateRoom gates (now «new_kinds») (now «new_firsts») (now «new_seconds») ⌝ }
-    ensures { λ r. ⌜ FreePlaced (gatesFrom gates (now (kinds .entry)) (now (firsts .entry)) (now (seconds .entry))) gates inputs base
-        (now (marks .entry)) (now (numbers .entry)) (now (numbers .exit))
+    ensures { λ r. ⌜ FreePlaced (gatesFrom gates (now (kinds .entry)) (now (firsts .entry)) (now (seconds .entry)))
+        gates inputs base (now (marks .entry)) (now (numbers .entry)) (now (numbers .exit))
         (now («new_kinds» .entry)) (now («new_firsts» .entry)) (now («new_seconds» .entry)) r
         (now («new_kinds» .exit)) (now («new_firsts» .exit)) (now («new_seconds» .exit)) ⌝ }
 {
@@ -132,8 +133,8 @@ fn place_rest(
     requires { ⌜ (base + gates ≤ length (now marks)) × (inputs + count + gates < 65536) ⌝ }
     requires { ⌜ GateRoom (count + length (marked (now marks) base 1 gates))
         (now «new_kinds») (now «new_firsts») (now «new_seconds») ⌝ }
-    ensures { λ r. ⌜ RestPlaced (gatesFrom gates (now (kinds .entry)) (now (firsts .entry)) (now (seconds .entry))) gates inputs base
-        count (now (marks .entry)) (now (numbers .entry)) (now (numbers .exit))
+    ensures { λ r. ⌜ RestPlaced (gatesFrom gates (now (kinds .entry)) (now (firsts .entry)) (now (seconds .entry)))
+        gates inputs base count (now (marks .entry)) (now (numbers .entry)) (now (numbers .exit))
         (now («new_kinds» .entry)) (now («new_firsts» .entry)) (now («new_seconds» .entry)) r
         (now («new_kinds» .exit)) (now («new_firsts» .exit)) (now («new_seconds» .exit)) ⌝ }
 {
@@ -238,10 +239,12 @@ fn fit_patch(
     requires { ⌜ 2075 ≤ length (now reply) ⌝ }
     ensures { λ r. ⌜ FitGives
         (patchNumber
-        (patchedJob counts (now (kinds .entry)) (now (firsts .entry)) (now (seconds .entry)) (take (counts .old .outputs) (now (outputs .entry))))
+        (patchedJob counts (now (kinds .entry)) (now (firsts .entry)) (now (seconds .entry))
+        (take (counts .old .outputs) (now (outputs .entry))))
         (take (support .len) (support .nets)) (take (2 ^ support .len) (now (table .entry))))
         (fittedBytes
-        (patchedJob counts (now (kinds .entry)) (now (firsts .entry)) (now (seconds .entry)) (take (counts .old .outputs) (now (outputs .entry))))
+        (patchedJob counts (now (kinds .entry)) (now (firsts .entry)) (now (seconds .entry))
+        (take (counts .old .outputs) (now (outputs .entry))))
         (take (support .len) (support .nets)) (take (2 ^ support .len) (now (table .entry))))
         (now (reply .entry)) r (now (reply .exit)) ⌝ }
 {
@@ -328,10 +331,10 @@ fn fit_sheet(
     )
 }
 
-// The service fit: the patched netlist of a job's bytes and a sheet's, at the start of the reply buffer. Refused are a buffer below
-// 2,075 bytes (1), what read refuses of the job (2 to 6) and read_sheet of the sheet (7, 8), and a patched netlist of more than 400
-// gates (9). It evaluates no gate; it passes over the old gates five times and over the table some k + 1 times for each target,
-// where k is the size of the support.
+// The service fit: the patched netlist of a job's bytes and a sheet's, at the start of the reply buffer. Refused are a buffer
+// below 2,075 bytes (1), what read refuses of the job (2 to 6) and read_sheet of the sheet (7, 8), and a patched netlist of more
+// than 400 gates (9). It evaluates no gate: it passes five times over the old gates, and at most 6 * (k + 1) times over each
+// target's column of the table, for a support of k nets.
 pub fn fit(job: &[u8], sheet: &[u8], reply: &mut [u8]) -> FitReply
     ensures reply { λ r. ⌜ r ≡ fitReply (now (reply .entry)) (now (job .entry)) (now (sheet .entry)) ⌝ }
     ensures lent { λ _. ⌜ now (reply .exit) ≡ fittedBuffer (now (reply .entry)) (now (job .entry)) (now (sheet .entry)) ⌝ }

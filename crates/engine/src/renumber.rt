@@ -103,8 +103,8 @@ pub(super) fn put_moved(
     let mut end = count;
     let mut i = 0usize;
     while i < gates {
-        let at = base + i;
-        if marks[at] == mark {
+        let net = base + i;
+        if marks[net] == mark {
             let kind = kinds[i];
             let a = moved_slot(kind, 2, firsts[i], numbers);
             let b = moved_slot(kind, 4, seconds[i], numbers);

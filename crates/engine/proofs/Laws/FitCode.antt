@@ -1,15 +1,15 @@
 -- Laws of fit's code (specs/Fitting): new numbers of nets, and gates moved to them. Assumes nothing.
 use Prim.Native.Nat.{ℕ, zero, suc, _+_, _-_, _^_, _≤_, _<_}
-use mathlib.Core.Path.{_≡_, refl, sym, _∙_, ap, subst}
+use mathlib.Core.Path.{_≡_, refl, sym, _∙_, ap}
 use mathlib.Core.Logic.{⊎-elim}
-use mathlib.Core.List.{List, [], _∷_, _++_, map, append-assoc, append-nil, map-append}
+use mathlib.Core.List.{List, [], _∷_, _++_, map, append-nil, map-append}
 use mathlib.Core.Bool.{Bool, true, false, cond, true≢false}
 use native.Mathlib.Nat.{add-zero, zero-add}
-use native.Mathlib.Numerals.{add-one}
 use native.Mathlib.Omega.{arith}
-use borrow.Author.Tests.{eq-eqb, ne-eqb, eqb-true, ltb-true, ltb-false, lt-ltb, le-ltb}
+use borrow.Author.Tests.{eq-eqb, ne-eqb, ltb-true, ltb-false, lt-ltb, le-ltb}
 use lib.Dec.{eqb, ltb}
-use lib.ListN.{length, getD, take, drop, set, length-set, length-append, length-map, length-drop, drop-of-length-le, List·getD-append}
+use lib.ListN.{length, getD, take, drop, set, length-set, length-append, length-map, length-drop}
+use lib.ListN.{drop-of-length-le, List·getD-append}
 use lib.Seq.{take-all, getD-set-same, getD-set-other}
 use Rattle.records.specs.Bytes.{upFrom, tabulate, placed}
 use Rattle.records.specs.Gate.{Gate, gateOf, operands, unused}
@@ -24,7 +24,8 @@ use Rattle.engine.specs.Building.{GateRoom, GatesPut, TreesPut}
 use Rattle.engine.specs.Inner.{Evaluable}
 use Rattle.engine.specs.Fitting.{marked, Numbered, movedFrom, FreePlaced, numberedTrees, TreesPlaced}
 use Rattle.engine.proofs.Laws.Choice.{true-or-false, length-keep-le}
-use Rattle.engine.proofs.Laws.EvalWords.{gates-both}
+use Rattle.engine.proofs.Laws.EvalWords.{length-gates}
+use Rattle.engine.proofs.Laws.FitGates.{good-at}
 use Rattle.engine.proofs.Laws.Tree.{gates-put-append, room-kept, room-less}
 
 -- ---- keep
@@ -176,7 +177,8 @@ module _ (ns : List ℕ) (net k a b : ℕ) (e : gateGood net (gateOf k a b) ≡ 
   unfolding moved gateOf operands unused netAt
   moved-one h l = rw (le-ltb k 2 h, lt-ltb k 4 l, arity-one k h l)
 
-  moved-two : 4 ≤ k → k < 10 → gateOf k (cond (ltb k 2) a (getD ns a 0)) (cond (ltb k 4) b (getD ns b 0)) ≡ moved ns (gateOf k a b)
+  moved-two : 4 ≤ k → k < 10
+      → gateOf k (cond (ltb k 2) a (getD ns a 0)) (cond (ltb k 4) b (getD ns b 0)) ≡ moved ns (gateOf k a b)
   unfolding moved gateOf operands unused netAt
   moved-two h l = rw (le-ltb k 2 (omega arith), le-ltb k 4 h, arity-two k h l)
 
@@ -192,14 +194,17 @@ module _ (ns : List ℕ) (net k a b : ℕ) (e : gateGood net (gateOf k a b) ≡ 
       (true-or-false (ltb k 4)))
       (true-or-false (ltb k 2))
 
--- each of the gates in places is good
-module _ (ks xs ys : List ℕ) (count base : ℕ) (g : gatesGood base (gatesFrom count ks xs ys) ≡ true) where
-  good-from : (i : ℕ) → i ≤ count → gatesGood (base + i) (drop i (gatesFrom count ks xs ys)) ≡ true
-  good-from zero h = rw add-zero g
-  good-from (suc i) h = rw add-one at (gates-both ks xs ys count base i h (good-from i (omega arith)) .1)
+-- the gates in places, each good at its net
+module _ (ks xs ys : List ℕ) (count : ℕ) where
+  gate-at : (i : ℕ) → i < count
+      → getD (gatesFrom count ks xs ys) i (gateOf 0 0 0) ≡ gateOf (getD ks i 0) (getD xs i 0) (getD ys i 0)
+  unfolding gatesFrom
+  gate-at i h = getD-tabulate count _ i (gateOf 0 0 0) h
 
-  pub good-at : (i : ℕ) → i < count → gateGood (base + i) (gateOf (getD ks i 0) (getD xs i 0) (getD ys i 0)) ≡ true
-  good-at i h = gates-both ks xs ys count base i h (good-from i (omega arith)) .0
+  pub place-good : (base : ℕ) → gatesGood base (gatesFrom count ks xs ys) ≡ true → (i : ℕ) → i < count
+      → gateGood (base + i) (gateOf (getD ks i 0) (getD xs i 0) (getD ys i 0)) ≡ true
+  place-good base g i h =
+      rw (gate-at i h) at (good-at base (gatesFrom count ks xs ys) g i (omega (arith, length-gates count ks xs ys)))
 
 movedFrom-snoc : (gs : List Gate) (ns is : List ℕ) (i : ℕ)
     → movedFrom gs ns (is ++ (i ∷ [])) ≡ movedFrom gs ns is ++ (moved ns (getD gs i (gateOf 0 0 0)) ∷ [])
@@ -212,15 +217,17 @@ module _ (ks xs ys ms ns : List ℕ) (gates base b : ℕ) where
   abbrev olds : List Gate
   olds = gatesFrom gates ks xs ys
 
-  old-at : (i : ℕ) → i < gates → getD olds i (gateOf 0 0 0) ≡ gateOf (getD ks i 0) (getD xs i 0) (getD ys i 0)
-  unfolding gatesFrom
-  old-at i h = getD-tabulate gates _ i (gateOf 0 0 0) h
-
   pub putting-none : (count : ℕ) (ks₀ xs₀ ys₀ : List ℕ)
       → GatesPut count ks₀ xs₀ ys₀ (movedFrom olds ns (marked ms base b 0)) count ks₀ xs₀ ys₀
   unfolding movedFrom marked upFrom keep
   putting-none count ks₀ xs₀ ys₀ =
-      record { end = sym (add-zero count); gates = sym (append-nil (gatesFrom count ks₀ xs₀ ys₀)); kinds = refl; firsts = refl; seconds = refl }
+      record {
+        end = sym (add-zero count);
+        gates = sym (append-nil (gatesFrom count ks₀ xs₀ ys₀));
+        kinds = refl;
+        firsts = refl;
+        seconds = refl;
+      }
 
   module _ {count end : ℕ} {ks₀ xs₀ ys₀ ks₁ xs₁ ys₁ : List ℕ} (i : ℕ)
       (w : GatesPut count ks₀ xs₀ ys₀ (movedFrom olds ns (marked ms base b i)) end ks₁ xs₁ ys₁) where
@@ -232,7 +239,8 @@ module _ (ks xs ys ms ns : List ℕ) (gates base b : ℕ) where
     putting-next h g m {x} {y} e f p =
         let k = getD ks i 0 in
         let v : gateOf k x y ≡ moved ns (getD olds i (gateOf 0 0 0)) =
-        rw (e, f, old-at i h) (moved-slots ns (base + i) k (getD xs i 0) (getD ys i 0) (good-at ks xs ys gates base g i h)) in
+        rw (e, f, gate-at ks xs ys gates i h)
+        (moved-slots ns (base + i) k (getD xs i 0) (getD ys i 0) (place-good ks xs ys gates base g i h)) in
         let z : movedFrom olds ns (marked ms base b i) ++ (gateOf k x y ∷ []) ≡ movedFrom olds ns (marked ms base b (i + 1)) =
         ap (λ (q : Gate). movedFrom olds ns (marked ms base b i) ++ (q ∷ [])) v
         ∙ sym (movedFrom-snoc olds ns (marked ms base b i) i)
@@ -248,7 +256,8 @@ module _ (ks xs ys ms ns : List ℕ) (gates base b : ℕ) where
         → GateRoom (end + 1) ks₁ xs₁ ys₁
     unfolding movedFrom
     putting-room h m r =
-        let n : length (movedFrom olds ns (marked ms base b i)) ≡ length (marked ms base b i) = length-map (marked ms base b i) _ in
+        let is = marked ms base b i in
+        let n : length (movedFrom olds ns is) ≡ length is = length-map is _ in
         let k = length-append (marked ms base b i) (i ∷ []) in
         let l = ap length (marked-next ms base b i m) in
         let u = marked-le ms base b (i + 1) gates (omega arith) in

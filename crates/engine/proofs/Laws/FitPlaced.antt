@@ -1,19 +1,18 @@
 -- The three groups of gates, placed one behind the other (specs/Fitting), are the gates of the patched netlist, and the numbers
 -- that the nets got are their new numbers. Assumes nothing.
-use Prim.Native.Nat.{ℕ, zero, suc, _+_, _-_, _^_, _≤_, _<_}
-use mathlib.Core.Path.{_≡_, refl, sym, _∙_, ap, subst}
+use Prim.Native.Nat.{ℕ, _+_, _-_, _^_, _≤_, _<_}
+use mathlib.Core.Path.{_≡_, refl, sym, _∙_, ap}
 use mathlib.Core.Logic.{_⊎_, inl, inr, ⊎-elim}
 use mathlib.Core.List.{List, [], _∷_, _++_, map, append-nil, List·Memᴰ as Mem, List·Memᴰ·head as here, List·Memᴰ·tail as there}
 use mathlib.Core.Bool.{Bool, true, false, cond}
-use native.Mathlib.Nat.{zero-add}
 use native.Mathlib.Omega.{arith}
 use borrow.Author.Tests.{eq-eqb, ne-eqb, ltb-true, lt-ltb, le-ltb}
-use lib.Dec.{eqb, ltb, leb}
-use lib.ListN.{length, getD, take, drop, length-append, length-map, length-drop, List·getD-append}
+use lib.Dec.{eqb, ltb}
+use lib.ListN.{length, getD, take, drop, length-map, List·getD-append}
 use lib.Seq.{length-take-le, getD-take, getD-drop, getD-append-add}
-use Rattle.records.specs.Bytes.{upFrom, tabulate}
-use Rattle.records.specs.Gate.{Gate, gateOf, operands, unused}
-use Rattle.records.specs.Netlist.{netAt, fanout}
+use Rattle.records.specs.Bytes.{upFrom}
+use Rattle.records.specs.Gate.{Gate, operands, unused}
+use Rattle.records.specs.Netlist.{netAt}
 use Rattle.records.specs.Job.{Job}
 use Rattle.records.specs.Refusal.{gatesGood, netlistsGood, oldNets}
 use Rattle.records.specs.Service.{gatesFrom}
@@ -23,14 +22,16 @@ use Rattle.records.proofs.Laws.Bytes.{and-both, length-upFrom}
 use Rattle.engine.specs.Choice.{keep}
 use Rattle.engine.specs.Inner.{Outputs}
 use Rattle.engine.specs.Walk.{FanoutMarks}
-use Rattle.engine.specs.Fit.{led, gateIndices, rank, Trees, treesFrom, trees, freeNumber, newNets, moved, movedGates, fitted, fits}
-use Rattle.engine.specs.Building.{GateRoom, NetRoom, GatesPut, treesSize}
+use Rattle.engine.specs.Fit.{led, gateIndices, rank, Trees, trees, freeNumber, newNets, moved, movedGates, fitted}
+use Rattle.engine.specs.Building.{GateRoom, NetRoom, treesSize}
 use Rattle.engine.specs.Fitting.{marked, movedFrom, oldJob, FreePlaced, numberedTrees, TreesPlaced, RestPlaced, GatesPlaced}
 use Rattle.engine.specs.Fitting.{patchedJob, Fittable, patchedCount}
-use Rattle.engine.proofs.Laws.Choice.{true-or-false, mem-keep, mem-below, mem-upFrom, map-agree, all-true, all-of-members}
+use Rattle.engine.proofs.Laws.Choice.{mem-keep, mem-below, mem-upFrom, map-agree, all-true, all-of-members}
 use Rattle.engine.proofs.Laws.EvalWords.{length-gates}
 use Rattle.engine.proofs.Laws.FitCode.{keep-append, upFrom-append}
-use Rattle.engine.proofs.Laws.FitNets.{mark-cases, mark-target, oldNet, oldGate, operand-below, operand-unmarked, NetCase, input, target, gate, net-case, mem-indices, ledStart, number-input, number-target, number-free, number-led, number-support, length-moved, length-fitted}
+use Rattle.engine.proofs.Laws.FitNets.{mark-cases, mark-target, oldNet, oldGate, operand-below, operand-unmarked}
+use Rattle.engine.proofs.Laws.FitNets.{NetCase, input, target, gate, net-case, mem-indices}
+use Rattle.engine.proofs.Laws.FitNets.{number-input, number-target, number-free, number-led, number-support}
 use Rattle.engine.proofs.Laws.FitTree.{length-nets}
 use Rattle.engine.proofs.Laws.Tree.{gates-put-append, room-kept, room-less, length-trees}
 
@@ -61,7 +62,9 @@ keep-below p n k h =
     let low = keep p (upFrom 0 k) in
     let high = keep p (upFrom (0 + k) (n - k)) in
     let e : keep p (upFrom 0 n) ≡ low ++ high =
-    ap (λ (i : ℕ). keep p (upFrom 0 i)) (sym m) ∙ ap (keep p) (upFrom-append 0 k (n - k)) ∙ keep-append p (upFrom 0 k) (upFrom (0 + k) (n - k)) in
+    ap (λ (i : ℕ). keep p (upFrom 0 i)) (sym m)
+    ∙ ap (keep p) (upFrom-append 0 k (n - k))
+    ∙ keep-append p (upFrom 0 k) (upFrom (0 + k) (n - k)) in
     ap (keep (λ x. ltb x k)) e
     ∙ keep-append (λ x. ltb x k) low high
     ∙ ap (λ (l : List ℕ). l ++ keep (λ x. ltb x k) high)
@@ -146,7 +149,8 @@ length-movedFrom gs ns ks = length-map ks _
 
 module _ (j : Job) (is t ms : List ℕ) (f : FanoutMarks (j .inputs) (j .targets) (j .old .gates) ms)
     {d₀ d₁ ks₀ xs₀ ys₀ ks₁ xs₁ ys₁ : List ℕ} {a : ℕ}
-    (w₁ : FreePlaced (j .old .gates) (length (j .old .gates)) (j .inputs) (j .inputs + j .targets) ms d₀ d₁ ks₀ xs₀ ys₀ a ks₁ xs₁ ys₁)
+    (w₁ : FreePlaced (j .old .gates) (length (j .old .gates)) (j .inputs) (j .inputs + j .targets) ms d₀ d₁ ks₀ xs₀ ys₀
+    a ks₁ xs₁ ys₁)
   where
     free-case : {i : ℕ} → NetCase (j .inputs) (j .targets) (length (j .old .gates)) i → netAt (led j) i ≡ 0
         → getD d₁ i 0 ≡ netAt (newNets j is t) i
@@ -188,7 +192,8 @@ module _ (n m : ℕ) (d ns : List ℕ) (e : length ns ≡ m) (r : n + m ≤ leng
 
   over-before : (i : ℕ) → i < n → getD over i 0 ≡ getD d i 0
   over-before i h =
-      List·getD-append (take n d) (ns ++ drop m (drop n d)) 0 i (omega (arith, length-take-le n d (omega arith))) ∙ getD-take n d i 0 h
+      List·getD-append (take n d) (ns ++ drop m (drop n d)) 0 i (omega (arith, length-take-le n d (omega arith)))
+      ∙ getD-take n d i 0 h
 
   over-at : (i : ℕ) → i < m → getD over (n + i) 0 ≡ getD ns i 0
   over-at i h =
@@ -210,9 +215,11 @@ module _ (n m : ℕ) (d ns : List ℕ) (e : length ns ≡ m) (r : n + m ≤ leng
 module _ (j : Job) (is t ms : List ℕ) (f : FanoutMarks (j .inputs) (j .targets) (j .old .gates) ms)
     {d₀ d₁ d₂ d₃ ks₀ xs₀ ys₀ ks₁ xs₁ ys₁ ks₂ xs₂ ys₂ ks₃ xs₃ ys₃ : List ℕ} {a b c : ℕ}
     (room : oldNets j ≤ length d₀) (free : (i : ℕ) → Mem i is → (i < oldNets j) × (netAt (led j) i ≡ 0))
-    (w₁ : FreePlaced (j .old .gates) (length (j .old .gates)) (j .inputs) (j .inputs + j .targets) ms d₀ d₁ ks₀ xs₀ ys₀ a ks₁ xs₁ ys₁)
+    (w₁ : FreePlaced (j .old .gates) (length (j .old .gates)) (j .inputs) (j .inputs + j .targets) ms d₀ d₁ ks₀ xs₀ ys₀
+    a ks₁ xs₁ ys₁)
     (w₂ : TreesPlaced (j .inputs) (j .targets) a is t d₁ d₂ ks₁ xs₁ ys₁ b ks₂ xs₂ ys₂)
-    (w₃ : RestPlaced (j .old .gates) (length (j .old .gates)) (j .inputs) (j .inputs + j .targets) b ms d₂ d₃ ks₂ xs₂ ys₂ c ks₃ xs₃ ys₃)
+    (w₃ : RestPlaced (j .old .gates) (length (j .old .gates)) (j .inputs) (j .inputs + j .targets) b ms d₂ d₃ ks₂ xs₂ ys₂
+    c ks₃ xs₃ ys₃)
   where
     long : j .inputs + j .targets ≤ length d₁
     unfolding oldNets
@@ -322,7 +329,8 @@ module _ {c : Counts} {ks xs ys : List ℕ} {s : Support} {table : List ℕ} (h 
             (λ i m. lt-ltb i 424 (omega (arith, h .free i m .0, net-count, net-most)));
       }
 
-  pub trees-count : length (trees job (take (s .len) (s .nets)) (take (2 ^ s .len) table) .gates) ≡ treesSize (c .targets) 0 (s .len) table
+  pub trees-count : length (trees job (take (s .len) (s .nets)) (take (2 ^ s .len) table) .gates)
+      ≡ treesSize (c .targets) 0 (s .len) table
   unfolding trees
   trees-count =
       let is = take (s .len) (s .nets) in
@@ -332,8 +340,8 @@ module _ {c : Counts} {ks xs ys : List ℕ} {s : Support} {table : List ℕ} (h 
   module _ (ms : List ℕ) (f : FanoutMarks (c .inputs) (c .targets) (gatesFrom (c .old .gates) ks xs ys) ms)
       (fit : patchedCount c s table ≤ 400)
       {d₀ d₁ ks₀ xs₀ ys₀ ks₁ xs₁ ys₁ : List ℕ} {a : ℕ} (room : GateRoom 400 ks₀ xs₀ ys₀)
-      (w₁ : FreePlaced (gatesFrom (c .old .gates) ks xs ys) (c .old .gates) (c .inputs) (c .inputs + c .targets) ms d₀ d₁ ks₀ xs₀ ys₀ a
-      ks₁ xs₁ ys₁) where
+      (w₁ : FreePlaced (gatesFrom (c .old .gates) ks xs ys) (c .old .gates) (c .inputs) (c .inputs + c .targets) ms d₀ d₁
+      ks₀ xs₀ ys₀ a ks₁ xs₁ ys₁) where
     placed₁ : FreePlaced (job .old .gates) (length (job .old .gates)) (c .inputs) (c .inputs + c .targets) ms d₀ d₁ ks₀ xs₀ ys₀ a
         ks₁ xs₁ ys₁
     placed₁ = rw gate-count w₁
@@ -349,7 +357,8 @@ module _ {c : Counts} {ks xs ys : List ℕ} {s : Support} {table : List ℕ} (h 
         }
 
     module _ {d₂ ks₂ xs₂ ys₂ : List ℕ} {b : ℕ}
-        (w₂ : TreesPlaced (c .inputs) (c .targets) a (take (s .len) (s .nets)) (take (2 ^ s .len) table) d₁ d₂ ks₁ xs₁ ys₁ b ks₂ xs₂ ys₂)
+        (w₂ : TreesPlaced (c .inputs) (c .targets) a (take (s .len) (s .nets)) (take (2 ^ s .len) table) d₁ d₂ ks₁ xs₁ ys₁
+        b ks₂ xs₂ ys₂)
       where
         grown : b ≡ a + treesSize (c .targets) 0 (s .len) table
         grown =
@@ -372,7 +381,8 @@ module _ {c : Counts} {ks xs ys : List ℕ} {s : Support} {table : List ℕ} (h 
             ks₂ xs₂ ys₂ r ks₃ xs₃ ys₃) where
           pub patch-placed : GatesPlaced job (take (s .len) (s .nets)) (take (2 ^ s .len) table) d₃ ks₀ xs₀ ys₀ r ks₃ xs₃ ys₃
           patch-placed =
-              gates-placed job (take (s .len) (s .nets)) (take (2 ^ s .len) table) ms f (omega (arith, net-count, net-most)) (h .free)
+              gates-placed job (take (s .len) (s .nets)) (take (2 ^ s .len) table) ms f
+              (omega (arith, net-count, net-most)) (h .free)
               placed₁ w₂ (rw gate-count w₃)
               (oldJob-good (c .inputs) (c .targets) (gatesFrom (c .old .gates) ks xs ys) [] (h .evaluable .good))
 

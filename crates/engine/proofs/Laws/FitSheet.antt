@@ -1,12 +1,12 @@
 -- Laws of fit's replies (specs/Fitting): the number, and the bytes in the buffer. Assumes nothing.
 use Prim.Native.Nat.{ℕ, _+_, _-_, _^_, _≤_, _<_}
 use mathlib.Core.Path.{_≡_, refl, sym, _∙_, ap, subst}
-use mathlib.Core.List.{List, [], _∷_, _++_, map, List·Memᴰ as Mem}
-use mathlib.Core.Bool.{Bool, true, false, cond}
+use mathlib.Core.List.{List, [], _++_, map, List·Memᴰ as Mem}
+use mathlib.Core.Bool.{true}
 use native.Mathlib.Nat.{zero-add}
 use native.Mathlib.Omega.{arith}
-use borrow.Author.Tests.{ltb-true, le-leb, lt-leb, eq-eqb, ne-eqb}
-use lib.Dec.{leb, ltb, eqb}
+use borrow.Author.Tests.{ltb-true, le-leb, lt-leb, ne-eqb}
+use lib.Dec.{leb, ltb}
 use lib.ListN.{length, getD, take, drop, length-drop}
 use lib.Seq.{length-take-le, take-all}
 use Rattle.records.specs.Bytes.{tabulate, upFrom}
@@ -15,18 +15,21 @@ use Rattle.records.specs.Netlist.{netAt}
 use Rattle.records.specs.Job.{Job, jobOf}
 use Rattle.records.specs.Refusal.{firstFailing, oldNets, partTests, jobTests, jobRefusal}
 use Rattle.records.specs.Sheet.{patchOf, sheetWhole, patchGood, sheetTests}
-use Rattle.records.specs.Service.{SidePlaces, sidePlaces, places, gatesFrom, netlistFrom, candidatesFrom, jobFrom, sheetRoomy, sheetReply}
+use Rattle.records.specs.Service.{SidePlaces, sidePlaces, places, gatesFrom, netlistFrom, candidatesFrom, jobFrom}
+use Rattle.records.specs.Service.{sheetRoomy, sheetReply}
 use Rattle.records.specs.Claims.{PartsGood}
 use Rattle.records.specs.declared.job.Counts.{Counts}
 use Rattle.records.specs.declared.sheet.Support.{Support}
 use Rattle.records.specs.declared.sheet.SheetReply.{SheetReply}
 use Rattle.records.proofs.Laws.Accepted.{read-accepts, sheet-accepts}
 use Rattle.engine.specs.Inner.{Outputs, BytesPut}
-use Rattle.engine.specs.Fit.{led, gateIndices, freeNet, freeNumber, trees, gateNumber, newNets, movedGates, fitted, fittedBytes, fits, longestFit}
+use Rattle.engine.specs.Fit.{led, gateIndices, freeNet, freeNumber, trees, gateNumber, newNets, movedGates}
+use Rattle.engine.specs.Fit.{fitted, fittedBytes, fits, longestFit}
 use Rattle.engine.specs.Compare.{pairTests}
 use Rattle.engine.specs.Reply.{fitTests, fitNumber, fitReply, fittedBuffer}
 use Rattle.engine.specs.Building.{GateRoom}
-use Rattle.engine.specs.Fitting.{oldJob, patchedJob, GatesPlaced, Fittable, patchedCount, netlistBytes, FitGives, patchNumber, sheetFitNumber, ungolden, FitReady}
+use Rattle.engine.specs.Fitting.{oldJob, patchedJob, GatesPlaced, Fittable, patchedCount, netlistBytes}
+use Rattle.engine.specs.Fitting.{FitGives, patchNumber, sheetFitNumber, ungolden, FitReady}
 use Rattle.engine.specs.declared.fitting.FitReply.{FitReply}
 use Rattle.engine.proofs.Laws.Choice.{all-true, map-agree}
 use Rattle.engine.proofs.Laws.Compare.{reply-number, accepted-sheet, support-few, table-part, failing-append}
@@ -92,10 +95,11 @@ module _ {c : Counts} {ks xs ys : List ℕ} {s : Support} {table : List ℕ} (h 
         (ap length (bare-gates (c .inputs) (c .targets) (gatesFrom (c .old .gates) ks xs ys) os support entries) ∙ patched-count)
 
     pub patch-refused : (d : List ℕ) → 400 < patchedCount c s table
-        → FitGives (patchNumber (patchedJob c ks xs ys os) support entries) (fittedBytes (patchedJob c ks xs ys os) support entries) d
-        (record { number = 9; len = 0 }) d
+        → FitGives (patchNumber (patchedJob c ks xs ys os) support entries)
+        (fittedBytes (patchedJob c ks xs ys os) support entries) d (record { number = 9; len = 0 }) d
     patch-refused d l =
-        let n : patchNumber (patchedJob c ks xs ys os) support entries ≡ 9 = rw (fits-count, lt-leb (patchedCount c s table) 400 l) in
+        let n : patchNumber (patchedJob c ks xs ys os) support entries ≡ 9 =
+        rw (fits-count, lt-leb (patchedCount c s table) 400 l) in
         rw n (gives-refused (fittedBytes (patchedJob c ks xs ys os) support entries) d 9 (λ z. let f : ⊥ = omega arith in f))
 
   module _ (fit : patchedCount c s table ≤ 400) {ns ks₀ xs₀ ys₀ ks₁ xs₁ ys₁ : List ℕ} {r : ℕ}
@@ -114,7 +118,8 @@ module _ {c : Counts} {ks xs ys : List ℕ} {s : Support} {table : List ℕ} (h 
         e
         ∙ map-agree (λ i. getD ns i 0) (netAt (newNets j support entries)) (take count os)
         (λ i m.
-        let l = ltb-true i (c .inputs + c .targets + c .old .gates) (all-true (λ k. ltb k (c .inputs + c .targets + c .old .gates)) (take count os) (o .below) i m) in
+        let n = c .inputs + c .targets + c .old .gates in
+        let l = ltb-true i n (all-true (λ k. ltb k n) (take count os) (o .below) i m) in
         w .numbers i (omega (arith, net-count h)))
         ∙ ap (λ (l : List ℕ). map (netAt l) (take count os))
         (sym (bare-nets (c .inputs) (c .targets) (gatesFrom (c .old .gates) ks xs ys) (take count os) support entries))
@@ -250,8 +255,11 @@ module _ {c : Counts} {ks xs ys os nets weights : List ℕ} (h : FitReady c (sid
           let is = patchOf p .support in
           let t = patchOf p .table in
           let none = sidePlaces [] [] [] [] in
-          rw
-          (accepted-number, ← fits-places c ks xs ys os none nets weights is t, ← bytes-places c ks xs ys os none nets weights is t)
+          rw (
+            accepted-number,
+            ← fits-places c ks xs ys os none nets weights is t,
+            ← bytes-places c ks xs ys os none nets weights is t,
+          )
           (rw (read .nets, part-all) at g)
 
 -- ---- a job's bytes and a sheet's
@@ -260,11 +268,13 @@ module _ (d s p : List ℕ) where
   abbrev bytes : List ℕ
   bytes = fittedBytes (jobOf s) (patchOf p .support) (patchOf p .table)
 
-  pub fit-gives : {r : FitReply} {e : List ℕ} → FitGives (fitNumber d s p) bytes d r e → (r ≡ fitReply d s p) × (e ≡ fittedBuffer d s p)
+  pub fit-gives : {r : FitReply} {e : List ℕ} → FitGives (fitNumber d s p) bytes d r e
+      → (r ≡ fitReply d s p) × (e ≡ fittedBuffer d s p)
   unfolding fitReply fittedBuffer
   fit-gives g = (g .reply, g .buffer)
 
-  fit-declined : (n : ℕ) → fitNumber d s p ≡ n → (n ≡ 0 → ⊥) → FitGives (fitNumber d s p) bytes d (record { number = n; len = 0 }) d
+  fit-declined : (n : ℕ) → fitNumber d s p ≡ n → (n ≡ 0 → ⊥)
+      → FitGives (fitNumber d s p) bytes d (record { number = n; len = 0 }) d
   fit-declined n q z = rw q (gives-refused bytes d n z)
 
   pub fit-short : length d < longestFit → FitGives (fitNumber d s p) bytes d (record { number = 1; len = 0 }) d
@@ -298,11 +308,14 @@ module _ (d s p : List ℕ) where
         → FitGives (fitNumber d s p) bytes d r e
     fit-accepted n c old golden nets weights q g =
         rw (passed-job n, ← q)
-        (rw (ungolden-number c old golden nets weights p, ungolden-bytes c old golden nets weights p (patchOf p .support) (patchOf p .table))
+        (rw (
+          ungolden-number c old golden nets weights p,
+          ungolden-bytes c old golden nets weights p (patchOf p .support) (patchOf p .table),
+        )
         at g)
 
 -- what read left in the places
-pub fit-ready : {s : List ℕ} {c : Counts} {old golden : SidePlaces} {nets weights : List ℕ} → ReadJob s c (places old golden nets weights)
-    → FitReady c old nets weights
+pub fit-ready : {s : List ℕ} {c : Counts} {old golden : SidePlaces} {nets weights : List ℕ}
+    → ReadJob s c (places old golden nets weights) → FitReady c old nets weights
 fit-ready {golden = golden} q =
     record { golden = golden; ready = q .ready; weighted = q .weights; good = subst PartsGood (sym (q .job)) (q .good) }

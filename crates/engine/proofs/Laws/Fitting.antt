@@ -1,22 +1,19 @@
 -- Laws of a netlist's bytes (specs/Fitting, netlistBytes): gates and nets put into places, and their fields put one after the
 -- other. Assumes nothing.
-use Prim.Native.Nat.{ℕ, suc, _+_, _*_, _/_, _%_, _≤_, _<_}
-use mathlib.Core.Path.{_≡_, refl, sym, _∙_, ap}
-use mathlib.Core.List.{List, [], _∷_, _++_}
+use Prim.Native.Nat.{ℕ, suc, _+_, _*_, _/_, _%_, _≤_}
+use mathlib.Core.Path.{_≡_, sym, _∙_, ap}
+use mathlib.Core.List.{List, [], _∷_}
 use native.Mathlib.Nat.{zero-add}
-use native.Mathlib.Numerals.{add-one}
 use native.Mathlib.Omega.{arith}
 use lib.ListN.{length, getD, take, set, length-append}
-use lib.Seq.{length-take-le}
 use Rattle.records.specs.Bytes.{tabulate, flat, bytePair, placed, field}
 use Rattle.records.specs.Gate.{Gate, gateOf}
 use Rattle.records.specs.Job.{gateBytes}
 use Rattle.records.specs.Service.{gatesFrom}
 use Rattle.records.proofs.Laws.Bytes.{take-placed}
-use Rattle.records.proofs.Laws.Job.{Put, sets-placed, length-field, length-outputs, length-flat-tabulate, length-gateBytes, five-each}
+use Rattle.records.proofs.Laws.Job.{Put, sets-placed, length-field, length-flat-tabulate, length-gateBytes}
 use Rattle.engine.specs.Inner.{BytesPut}
 use Rattle.engine.specs.Fitting.{netlistBytes}
-use Rattle.engine.proofs.Laws.EvalWords.{length-gates}
 use Rattle.engine.proofs.Laws.Sheet.{put-then, length-nets}
 
 -- ---- gates as bytes

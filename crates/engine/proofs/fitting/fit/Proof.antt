@@ -1,18 +1,33 @@
--- `engine::fitting::fit` meets its contract. Assumes nothing.
-use mathlib.Core.Path.{_∙_}
-use native.Mathlib.Omega.{arith}
+-- `engine::fitting::fit` meets its contract: the job is read into places, and the sheet fitted to it there. Assumes nothing.
+use Prim.Native.Nat.{_≤_}
+use mathlib.Core.Path.{_≡_, _∙_}
 use borrow.Author.Needs.{needs}
 use denote.Ref.{now}
+use lib.ListN.{length}
+use Rattle.records.specs.Refusal.{jobRefusal}
+use Rattle.engine.specs.Fit.{longestFit}
 use Rattle.engine.proofs.Laws.Decide.{lentPlaces, lent-refusal, read-number}
 use Rattle.engine.proofs.Laws.FitSheet.{fit-gives, fit-short, fit-refused, fit-accepted, fit-ready}
 use Rattle.engine.proofs.Laws.Read.{read-job}
 use Rattle.engine.proofs.fitting.fit.Statement.{statement}
 use Rattle.engine.proofs.fitting.fit.Tie as tie
 
+-- the places of read, and what is known there
+abbrev start : tie.After-read → tie.Start
+start t =
+    t .before .before .before .before .before .before .before .before .before .before .before .before .before .before .before
+
+long : (t : tie.After-read) → longestFit ≤ length (now (start t .args .reply))
+long t = t .before .before .before .before .before .before .before .before .before .before .before .if1 .left
+
+number : (t : tie.After-read) → jobRefusal (now (start t .args .job)) ≡ t .read .result .number
+number t = read-number (now (start t .args .job)) (t .read .ensures .0)
+
 returns : tie.Need-returns
 returns c =
     let a = c .before .before .before .before .args in
-    fit-gives (now (a .reply)) (now (a .job)) (now (a .sheet)) (fit-short (now (a .reply)) (now (a .job)) (now (a .sheet)) (c .if1 .taken))
+    fit-gives (now (a .reply)) (now (a .job)) (now (a .sheet))
+    (fit-short (now (a .reply)) (now (a .job)) (now (a .sheet)) (c .if1 .taken))
 
 slice-aggregate-read : tie.Need-slice-aggregate-read
 slice-aggregate-read c = search needs
@@ -49,11 +64,11 @@ read-requires c κs = search needs
 
 returns-2 : tie.Need-returns-2
 returns-2 c =
-    let a = c .before .before .before .before .before .before .before .before .before .before .before .before .before .before .before .before .before .before .before .before .before .before .before .before .before .before .before .args in
-    let r = c .before .before .before .before .before .before .before .before .before .before .before .before .read in
+    let t =
+    c .before .before .before .before .before .before .before .before .before .before .before .before in
+    let a = start t .args in
     fit-gives (now (a .reply)) (now (a .job)) (now (a .sheet))
-    (fit-refused (now (a .reply)) (now (a .job)) (now (a .sheet)) (c .before .before .before .before .before .before .before .before .before .before .before .before .before .before .before .before .before .before .before .before .before .before .before .if1 .left) (r .result .number)
-    (read-number (now (a .job)) (r .ensures .0)) (c .if2 .taken))
+    (fit-refused (now (a .reply)) (now (a .job)) (now (a .sheet)) (long t) (t .read .result .number) (number t) (c .if2 .taken))
 
 slice-aggregate-fit-sheet : tie.Need-slice-aggregate-fit-sheet
 slice-aggregate-fit-sheet c = search needs
@@ -75,23 +90,27 @@ slice-aggregate-fit-sheet-6 c = search needs
 
 fit-sheet-requires : tie.Need-fit-sheet-requires
 fit-sheet-requires c κs =
-    let a = c .before .before .before .before .before .before .before .before .before .before .before .before .before .before .before .before .before .before .before .before .before .before .before .before .before .before .before .before .before .before .before .before .before .before .before .args in
-    let r = c .before .before .before .before .before .before .before .before .before .before .before .before .before .before .before .before .before .before .before .before .read in
-    let n = read-number (now (a .job)) (r .ensures .0) ∙ c .before .before .before .before .before .before .before .before .if2 .left in
-    (fit-ready (read-job lentPlaces (now (a .job)) (r .ensures .0) (r .ensures .1) (lent-refusal (now (a .job)) ∙ n)), c .before .before .before .before .before .before .before .before .before .before .before .before .before .before .before .before .before .before .before .before .before .before .before .before .before .before .before .before .before .before .before .if1 .left)
+    let e = c .before .before .before .before .before .before .before .before in
+    let t =
+    e .before .before .before .before .before .before .before .before .before .before .before .before in
+    let job = now (start t .args .job) in
+    let q = read-job lentPlaces job (t .read .ensures .0) (t .read .ensures .1) (lent-refusal job ∙ number t ∙ e .if2 .left) in
+    (fit-ready q, long t)
 
 same-length : tie.Need-same-length
 same-length c = search needs
 
 returns-3 : tie.Need-returns-3
 returns-3 c =
-    let a = c .before .before .before .before .before .before .before .before .before .before .before .before .before .before .before .before .before .before .before .before .before .before .before .before .before .before .before .before .before .before .before .before .before .before .before .before .before .before .args in
-    let r = c .before .before .before .before .before .before .before .before .before .before .before .before .before .before .before .before .before .before .before .before .before .before .before .read in
-    let n = read-number (now (a .job)) (r .ensures .0) ∙ c .before .before .before .before .before .before .before .before .before .before .before .if2 .left in
-    let q = read-job lentPlaces (now (a .job)) (r .ensures .0) (r .ensures .1) (lent-refusal (now (a .job)) ∙ n) in
-    fit-gives (now (a .reply)) (now (a .job)) (now (a .sheet))
-    (fit-accepted (now (a .reply)) (now (a .job)) (now (a .sheet)) (c .before .before .before .before .before .before .before .before .before .before .before .before .before .before .before .before .before .before .before .before .before .before .before .before .before .before .before .before .before .before .before .before .before .before .if1 .left) n _ _ _ _ _ (q .job)
-    (c .before .before .fit-sheet .ensures))
+    let e = c .before .before .before .before .before .before .before .before .before .before .before in
+    let t =
+    e .before .before .before .before .before .before .before .before .before .before .before .before in
+    let a = start t .args in
+    let job = now (a .job) in
+    let n = number t ∙ e .if2 .left in
+    let q = read-job lentPlaces job (t .read .ensures .0) (t .read .ensures .1) (lent-refusal job ∙ n) in
+    fit-gives (now (a .reply)) job (now (a .sheet))
+    (fit-accepted (now (a .reply)) job (now (a .sheet)) (long t) n _ _ _ _ _ (q .job) (c .before .before .fit-sheet .ensures))
 
 pub fit-spec : {M : Type 1} → statement M
 fit-spec =

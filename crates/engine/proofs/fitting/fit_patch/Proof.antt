@@ -1,5 +1,5 @@
--- `engine::fitting::fit_patch` meets its contract. Assumes nothing.
-use Prim.Native.Nat.{_+_, _≤_}
+-- `engine::fitting::fit_patch` meets its contract: number 9 by the trees' gate count, before any byte is written. Assumes nothing.
+use Prim.Native.Nat.{_≤_}
 use mathlib.Core.Path.{refl}
 use native.Mathlib.Omega.{arith}
 use borrow.Author.Needs.{needs}
@@ -23,7 +23,12 @@ size-small : (u : tie.After-trees-size) → u .trees-size .result ≤ 20480
 size-small u =
     let a = start u .args in
     let h = start u .pre .0 in
-    omega (arith, u .trees-size .ensures, treesSize-le (a .counts .targets) 0 (a .support .len) (now (a .table)) (h .few), h .within .targets)
+    omega (
+      arith,
+      u .trees-size .ensures,
+      treesSize-le (a .counts .targets) 0 (a .support .len) (now (a .table)) (h .few),
+      h .within .targets,
+    )
 
 -- the patched netlist has at most 400 gates
 fitting : (t : tie.After-place-gates)
@@ -31,7 +36,9 @@ fitting : (t : tie.After-place-gates)
 fitting t = omega (arith, t .before .before .before .before .before .if1 .left, sizing t .trees-size .ensures)
 
 trees-size-requires : tie.Need-trees-size-requires
-trees-size-requires c κs = let h = c .before .before .before .before .before .before .before .pre .0 in (h .few, h .entries, h .within .targets)
+trees-size-requires c κs =
+    let h = c .before .before .before .before .before .before .before .pre .0 in
+    (h .few, h .entries, h .within .targets)
 
 add-if1 : tie.Need-add-if1
 add-if1 c = omega (arith, size-small (c .before), start (c .before) .pre .0 .within .old .gates)
@@ -60,7 +67,10 @@ place-gates-requires c κs =
     let u = c .before .before .before .before .before .before in
     let s = start u in (
       s .pre .0,
-      ((refl, omega (arith, c .before .before .before .before .if1 .left, u .trees-size .ensures)), record { kinds = omega arith; firsts = omega arith; seconds = omega arith }),
+      (
+        (refl, omega (arith, c .before .before .before .before .if1 .left, u .trees-size .ensures)),
+        record { kinds = omega arith; firsts = omega arith; seconds = omega arith },
+      ),
     )
 
 slice-aggregate-move-nets : tie.Need-slice-aggregate-move-nets
@@ -97,7 +107,8 @@ put-netlist-requires c κs =
     let l = c .before .before .before .before .before .before .move-nets .kept .1 .1 .1 .0 in (
       (s .pre .1 .1, omega (arith, w .inputs), gates-few h (fitting t) (t .place-gates .ensures), w .old .outputs),
       (
-        gates-held h (fitting t) (t .place-gates .ensures) (record { kinds = omega arith; firsts = omega arith; seconds = omega arith }),
+        gates-held h (fitting t) (t .place-gates .ensures)
+            (record { kinds = omega arith; firsts = omega arith; seconds = omega arith }),
         omega (arith, w .old .outputs),
       ),
     )
@@ -110,8 +121,10 @@ returns-2 c =
     let t = c .before .before .before .before .before .before .before .before .before .before .before .before .before .before .before .before in
     let s = start (sizing t) in
     let a = s .args in
-    patch-accepted (s .pre .0) (fitting t) (t .place-gates .ensures) (now (a .outputs)) _ (now (a .reply)) (a .counts .old .outputs) _
-    (s .pre .1 .0) (c .before .before .before .before .before .before .before .before .before .move-nets .ensures) (c .before .before .put-netlist .ensures)
+    patch-accepted (s .pre .0) (fitting t) (t .place-gates .ensures) (now (a .outputs)) _ (now (a .reply))
+    (a .counts .old .outputs) _
+    (s .pre .1 .0) (c .before .before .before .before .before .before .before .before .before .move-nets .ensures)
+    (c .before .before .put-netlist .ensures)
 
 pub fit-patch-spec : {M : Type 1} → statement M
 fit-patch-spec =

@@ -1,4 +1,5 @@
--- `engine::fitting::fit_sheet` meets its contract. Assumes nothing.
+-- `engine::fitting::fit_sheet` meets its contract: a sheet that is read is of candidates, and its table stands where the reply
+-- says. Assumes nothing.
 use Prim.Native.Nat.{_+_, _≤_}
 use native.Mathlib.Omega.{arith}
 use borrow.Author.Needs.{needs}
@@ -69,7 +70,8 @@ returns-2 c =
     let u = c .before .before .before .before .before in
     let t = answer u in
     let s = start t in
-    sheet-accepted (s .pre .0) _ (t .read-sheet .ensures) (u .before .before .if1 .left) _ (u .reading-count .ensures) (c .before .before .fit-patch .ensures)
+    sheet-accepted (s .pre .0) _ (t .read-sheet .ensures) (u .before .before .if1 .left) _ (u .reading-count .ensures)
+    (c .before .before .fit-patch .ensures)
 
 pub fit-sheet-spec : {M : Type 1} → statement M
 fit-sheet-spec =

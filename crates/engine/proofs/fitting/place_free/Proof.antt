@@ -1,4 +1,4 @@
--- `engine::fitting::place_free` meets its contract. Assumes nothing.
+-- `engine::fitting::place_free` meets its contract: the numbers first, then the gates that have them. Assumes nothing.
 use mathlib.Core.Path.{_∙_}
 use native.Mathlib.Omega.{arith}
 use borrow.Author.Needs.{needs}
@@ -6,6 +6,14 @@ use denote.Ref.{now}
 use Rattle.engine.proofs.Laws.FitCode.{evaluable-same, free-room, free-placed}
 use Rattle.engine.proofs.fitting.place_free.Statement.{statement}
 use Rattle.engine.proofs.fitting.place_free.Tie as tie
+
+-- the places of the three calls
+abbrev numbering : tie.After-number-gates → tie.After-number-inputs
+numbering u = u .before .before .before .before
+
+abbrev start : tie.After-number-gates → tie.Start
+start u =
+    numbering u .before .before .before .before .before .before .before .before .before .before
 
 number-inputs-requires : tie.Need-number-inputs-requires
 number-inputs-requires c κs = search needs
@@ -17,9 +25,11 @@ number-gates-requires c κs =
 
 put-moved-requires : tie.Need-put-moved-requires
 put-moved-requires c κs =
-    let s = c .before .before .before .before .before .before .before .before .before .before .before .before .before .before .before .before .before .before .before .before in
-    let l = c .before .before .before .before .before .before .number-gates .ensures .long in
-    (evaluable-same (s .pre .0) (l ∙ c .before .before .before .before .before .before .before .before .before .before .number-inputs .kept .1 .0), (s .pre .1 .0 .0, free-room _ _ _ _ (s .pre .1 .1)))
+    let u = c .before .before .before .before .before .before in
+    let s = start u in (
+      evaluable-same (s .pre .0) (u .number-gates .ensures .long ∙ numbering u .number-inputs .kept .1 .0),
+      (s .pre .1 .0 .0, free-room _ _ _ _ (s .pre .1 .1)),
+    )
 
 same-length : tie.Need-same-length
 same-length c = search needs
@@ -35,10 +45,11 @@ same-length-4 c = search needs
 
 returns : tie.Need-returns
 returns c =
-    let s = c .before .before .before .before .before .before .before .before .before .before .before .before .before .before .before .before .before .before .before .before .before .before .before .before .before .before .before in
-    let a = s .args in
-    free-placed _ _ _ _ _ (now (a .numbers)) (s .pre .1 .0 .1) (omega (arith, s .pre .0 .room)) (c .before .before .before .before .before .before .before .before .before .before .before .before .before .before .before .before .before .number-inputs .ensures)
-    (c .before .before .before .before .before .before .before .before .before .before .before .before .before .number-gates .ensures) (c .before .before .before .before .before .before .put-moved .ensures)
+    let v = c .before .before .before .before .before .before in
+    let u = v .before .before .before .before .before .before .before in
+    let s = start u in
+    free-placed _ _ _ _ _ (now (s .args .numbers)) (s .pre .1 .0 .1) (omega (arith, s .pre .0 .room))
+    (numbering u .number-inputs .ensures) (u .number-gates .ensures) (v .put-moved .ensures)
 
 pub place-free-spec : {M : Type 1} → statement M
 place-free-spec =

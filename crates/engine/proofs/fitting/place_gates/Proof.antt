@@ -1,8 +1,7 @@
--- `engine::fitting::place_gates` meets its contract. Assumes nothing.
+-- `engine::fitting::place_gates` meets its contract: the three groups, one behind the other. Assumes nothing.
 use mathlib.Core.Path.{_≡_, _∙_}
 use native.Mathlib.Omega.{arith}
 use borrow.Author.Needs.{needs}
-use denote.Ref.{now}
 use lib.ListN.{length}
 use Rattle.engine.proofs.Laws.FitCode.{evaluable-same}
 use Rattle.engine.proofs.Laws.FitPlaced.{support-outputs, outputs-wider, marks-room, trees-room, rest-small, rest-room, patch-placed}
@@ -27,7 +26,9 @@ numbers-long : (t : tie.After-place-free) → length (t .place-free .last .1 .1 
 numbers-long t = t .place-free .ensures .long ∙ start t .pre .1 .0 .0
 
 add-base : tie.Need-add-base
-add-base c = let w = c .before .before .before .before .before .before .before .before .before .pre .0 .within in omega (arith, w .inputs, w .targets)
+add-base c =
+    let w = c .before .before .before .before .before .before .before .before .before .pre .0 .within in
+    omega (arith, w .inputs, w .targets)
 
 slice-aggregate-mark-fanout : tie.Need-slice-aggregate-mark-fanout
 slice-aggregate-mark-fanout c = search needs
@@ -45,7 +46,11 @@ place-free-requires c κs =
     let w = h .within in (
       evaluable-same (h .evaluable) (s .pre .1 .0 .0),
       (
-        (marks-room h (c .before .before .before .before .before .before .mark-fanout .ensures), omega arith, omega (arith, w .inputs, w .old .gates)),
+        (
+          marks-room h (c .before .before .before .before .before .before .mark-fanout .ensures),
+          omega arith,
+          omega (arith, w .inputs, w .old .gates),
+        ),
         room-less (s .pre .1 .1) (w .old .gates),
       ),
     )

@@ -1,7 +1,5 @@
--- `engine::fitting::place_rest` meets its contract. Assumes nothing.
-use native.Mathlib.Omega.{arith}
+-- `engine::fitting::place_rest` meets its contract: the numbers first, then the gates that have them. Assumes nothing.
 use borrow.Author.Needs.{needs}
-use denote.Ref.{now}
 use Rattle.engine.proofs.Laws.FitCode.{evaluable-same}
 use Rattle.engine.proofs.fitting.place_rest.Statement.{statement}
 use Rattle.engine.proofs.fitting.place_rest.Tie as tie
@@ -14,9 +12,9 @@ number-gates-requires c κs = search needs
 
 put-moved-requires : tie.Need-put-moved-requires
 put-moved-requires c κs =
-    let s = c .before .before .before .before .before .before .before .before .before .before .before .before .before .before .before .before in
-    let l = c .before .before .before .before .before .before .number-gates .ensures .long in
-    (evaluable-same (s .pre .0) l, (s .pre .1 .0 .0, s .pre .1 .1))
+    let u = c .before .before .before .before .before .before in
+    let s = u .before .before .before .before .before .before .before .before .before .before in
+    (evaluable-same (s .pre .0) (u .number-gates .ensures .long), (s .pre .1 .0 .0, s .pre .1 .1))
 
 same-length : tie.Need-same-length
 same-length c = search needs
@@ -32,7 +30,9 @@ same-length-4 c = search needs
 
 returns : tie.Need-returns
 returns c =
-    record { many = c .before .before .before .before .before .before .before .before .before .before .before .before .before .number-gates .result; numbered = c .before .before .before .before .before .before .before .before .before .before .before .before .before .number-gates .ensures; gates = c .before .before .before .before .before .before .put-moved .ensures }
+    let v = c .before .before .before .before .before .before in
+    let u = v .before .before .before .before .before .before .before in
+    record { many = u .number-gates .result; numbered = u .number-gates .ensures; gates = v .put-moved .ensures }
 
 pub place-rest-spec : {M : Type 1} → statement M
 place-rest-spec =

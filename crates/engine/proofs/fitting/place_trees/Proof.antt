@@ -1,4 +1,5 @@
--- `engine::fitting::place_trees` meets its contract. Assumes nothing.
+-- `engine::fitting::place_trees` meets its contract: the targets' numbers stand first among the places from the inputs on.
+-- Assumes nothing.
 use Prim.Native.Nat.{_-_, _≤_}
 use mathlib.Core.Path.{ap}
 use native.Mathlib.Omega.{arith}
@@ -53,10 +54,12 @@ same-length-4 c = search needs
 
 returns : tie.Need-returns
 returns c =
-    let s = c .before .before .before .before .before .before .before .before .before .before .before .before .before .before .before .before .before .before .before .before .before .before .before .before in
+    let v = c .before .before .before .before .before .before .before .before in
+    let u = v .before .before .before .before .before .before in
+    let s = u .before .before .before .before .before .before .before .before .before .before in
     let a = s .args in
     trees-placed (a .inputs) (a .targets) (a .count) (a .support .len) (a .support .nets) (now (a .numbers))
-    (c .before .before .before .before .before .before .before .before .before .before .before .before .before .before .move-nets .ensures) (c .before .before .before .before .before .before .before .before .put-trees .ensures)
+    (u .move-nets .ensures) (v .put-trees .ensures)
 
 pub place-trees-spec : {M : Type 1} → statement M
 place-trees-spec =

@@ -19,7 +19,12 @@ abbrev μ-loop : tie.MeasureT-loop
 μ-loop kinds firsts seconds count bytes₀ i₀ bytes i = count - i
 
 loop-holds : tie.Need-loop-holds Inv-loop μ-loop
-loop-holds c = (omega arith, put-none gateBytes (gateAt (now (c .before .before .before .before .args .kinds)) (now (c .before .before .before .before .args .firsts)) (now (c .before .before .before .before .args .seconds))) _ 0)
+loop-holds c = (
+  omega arith,
+  put-none gateBytes
+      (gateAt (now (c .before .before .before .before .args .kinds)) (now (c .before .before .before .before .args .firsts))
+      (now (c .before .before .before .before .args .seconds))) _ 0,
+)
 
 mul-two-bytes : tie.Need-mul-two-bytes Inv-loop μ-loop
 mul-two-bytes c = search needs
@@ -96,10 +101,12 @@ loop-again c =
     let a = c .before .before .before .before .before .before .before .before .before .before .before .args in
     let g = gateAt (now (a .kinds)) (now (a .firsts)) (now (a .seconds)) in
     let r : 5 * l .i + 5 ≤ length (now (a .bytes)) = omega arith in
-    let e = gate-stores (l .bytes) (5 * l .i) (getD (now (a .kinds)) (l .i) 0) (getD (now (a .firsts)) (l .i) 0) (getD (now (a .seconds)) (l .i) 0)
+    let e = gate-stores (l .bytes) (5 * l .i) (getD (now (a .kinds)) (l .i) 0) (getD (now (a .firsts)) (l .i) 0)
+    (getD (now (a .seconds)) (l .i) 0)
     (c .before .before .before .two-bytes .ensures) (c .before .two-bytes2 .ensures) (omega arith) in (
       omega arith,
-      put-next gateBytes g (now (a .bytes)) 0 5 (λ i. length-gateBytes _ _ _) (l .bytes) _ (l .i) (5 * l .i) (omega arith) (omega arith) e
+      put-next gateBytes g (now (a .bytes)) 0 5 (λ i. length-gateBytes _ _ _) (l .bytes) _ (l .i) (5 * l .i) (omega arith)
+          (omega arith) e
           (l .inv .1),
     )
 
@@ -111,7 +118,8 @@ returns c =
     let l = c .before .loop in
     let a = c .before .before .before .before .before .before .args in
     let e : l .i ≡ a .count = omega arith in
-    gates-start (now (a .kinds)) (now (a .firsts)) (now (a .seconds)) (now (a .bytes)) (a .count) (omega arith) (rw e at (l .inv .1))
+    gates-start (now (a .kinds)) (now (a .firsts)) (now (a .seconds)) (now (a .bytes)) (a .count) (omega arith)
+    (rw e at (l .inv .1))
 
 pub gate-bytes-spec : {M : Type 1} → statement M
 gate-bytes-spec =

@@ -59,7 +59,8 @@ loop-again c =
     let l = c .before .before .before .loop in
     let a = c .before .before .before .before .before .before .args in (
       omega arith,
-      put-next bytePair (λ k. getD (now (a .nets)) k 0) (now (a .bytes)) 0 2 (λ i. length-bytePair _) (l .bytes) _ (l .i) (2 * l .i)
+      put-next bytePair (λ k. getD (now (a .nets)) k 0) (now (a .bytes)) 0 2 (λ i. length-bytePair _) (l .bytes) _ (l .i)
+          (2 * l .i)
           (omega arith) (omega arith) (pair-placed (l .bytes) (2 * l .i) _ (c .two-bytes .ensures) (omega arith)) (l .inv .1),
     )
 

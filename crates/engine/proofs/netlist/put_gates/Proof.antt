@@ -34,7 +34,8 @@ returns : tie.Need-returns
 returns c =
     let a = c .before .before .before .before .before .before .before .before .before .before .before .before .args in
     let n = length-gate-bytes (now (a .kinds)) (now (a .firsts)) (now (a .seconds)) (a .count) in
-    field-bytes (now (a .reply)) (a .at) 2 _ (c .before .before .before .before .before .before .gate-bytes .ensures) (omega arith) (omega arith)
+    field-bytes (now (a .reply)) (a .at) 2 _ (c .before .before .before .before .before .before .gate-bytes .ensures)
+    (omega arith) (omega arith)
     (c .before .before .put-field .ensures)
 
 pub put-gates-spec : {M : Type 1} → statement M

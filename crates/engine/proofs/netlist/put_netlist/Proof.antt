@@ -1,4 +1,4 @@
--- `engine::netlist::put_netlist` meets its contract. Assumes nothing.
+-- `engine::netlist::put_netlist` meets its contract: three fields, one behind the other. Assumes nothing.
 use native.Mathlib.Omega.{arith}
 use borrow.Author.Needs.{needs}
 use denote.Ref.{now}
@@ -36,8 +36,10 @@ returns c =
     let u = v .before .before .before .before in
     let s = u .before .before .before .before .before .before .before in
     let a = s .args in
-    netlist-put (a .inputs) (now (a .kinds)) (now (a .firsts)) (now (a .seconds)) (a .gates) (now (a .nets)) (a .outputs) (s .pre .1 .1)
-    (omega (arith, s .pre .0 .0, s .pre .0 .2, s .pre .0 .3)) (u .put-inputs .ensures) (v .put-gates .ensures) (w .put-outputs .ensures)
+    netlist-put (a .inputs) (now (a .kinds)) (now (a .firsts)) (now (a .seconds)) (a .gates) (now (a .nets)) (a .outputs)
+    (s .pre .1 .1)
+    (omega (arith, s .pre .0 .0, s .pre .0 .2, s .pre .0 .3)) (u .put-inputs .ensures) (v .put-gates .ensures)
+    (w .put-outputs .ensures)
 
 pub put-netlist-spec : {M : Type 1} → statement M
 put-netlist-spec =

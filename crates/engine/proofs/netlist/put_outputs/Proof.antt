@@ -33,7 +33,8 @@ returns : tie.Need-returns
 returns c =
     let a = c .before .before .before .before .before .before .before .before .before .before .args in
     let n = length-nets (now (a .outputs)) (a .count) (omega arith) in
-    field-bytes (now (a .reply)) (a .at) 3 _ (c .before .before .before .before .before .before .pair-bytes .ensures) (omega arith) (omega arith)
+    field-bytes (now (a .reply)) (a .at) 3 _ (c .before .before .before .before .before .before .pair-bytes .ensures)
+    (omega arith) (omega arith)
     (c .before .before .put-field .ensures)
 
 pub put-outputs-spec : {M : Type 1} → statement M

@@ -33,8 +33,11 @@ loop-less c = omega arith
 
 loop-again : tie.Need-loop-again Inv-loop μ-loop
 loop-again c =
-    let l = c .before .loop in
-    (omega arith, filled-next (now (c .before .before .args .numbers)) (λ k. k) (l .numbers) (l .i) (l .i) (omega arith) refl (l .inv .1))
+    let l = c .before .loop in (
+      omega arith,
+      filled-next (now (c .before .before .args .numbers)) (λ k. k) (l .numbers) (l .i) (l .i) (omega arith) refl
+          (l .inv .1),
+    )
 
 same-length : tie.Need-same-length Inv-loop μ-loop
 same-length c = c .before .loop .inv .1 .0

@@ -5,21 +5,21 @@ use mathlib.Core.Path.{_≡_}
 use mathlib.Core.List.{List}
 use mathlib.Core.Logic.{⊎-elim}
 use native.Mathlib.Omega.{arith}
-use borrow.Author.Needs.{needs}
 use denote.Ref.{now}
-use lib.ListN.{length, getD}
+use lib.ListN.{getD}
 use Rattle.records.specs.Service.{gatesFrom}
 use Rattle.records.proofs.Laws.Gate.{slots-le}
 use Rattle.engine.specs.Building.{GatesPut}
 use Rattle.engine.specs.Fitting.{marked, movedFrom}
-use Rattle.engine.proofs.Laws.FitCode.{good-at, putting-none, putting-next, putting-skip, putting-room}
+use Rattle.engine.proofs.Laws.FitCode.{place-good, putting-none, putting-next, putting-skip, putting-room}
 use Rattle.engine.proofs.renumber.put_moved.Statement.{statement}
 use Rattle.engine.proofs.renumber.put_moved.Tie as tie
 
 abbrev Inv-loop : tie.InvT-loop
 Inv-loop kinds firsts seconds gates marks base mark numbers count ks₀ xs₀ ys₀ end₀ i₀ ks xs ys end i =
     (i ≤ gates)
-    × GatesPut count ks₀ xs₀ ys₀ (movedFrom (gatesFrom gates kinds firsts seconds) numbers (marked marks base mark i)) end ks xs ys
+    × GatesPut count ks₀ xs₀ ys₀ (movedFrom (gatesFrom gates kinds firsts seconds) numbers (marked marks base mark i)) end ks xs
+    ys
 
 abbrev μ-loop : tie.MeasureT-loop
 μ-loop kinds firsts seconds gates marks base mark numbers count ks₀ xs₀ ys₀ end₀ i₀ ks xs ys end i = gates - i
@@ -27,8 +27,8 @@ abbrev μ-loop : tie.MeasureT-loop
 loop-holds : tie.Need-loop-holds Inv-loop μ-loop
 loop-holds c = (omega arith, putting-none _ _ _ _ _ _ _ _ _ _ _ _)
 
-add-at : tie.Need-add-at Inv-loop μ-loop
-add-at c = omega arith
+add-net : tie.Need-add-net Inv-loop μ-loop
+add-net c = omega arith
 
 shared-slice-read-if1 : tie.Need-shared-slice-read-if1 Inv-loop μ-loop
 shared-slice-read-if1 c = omega arith
@@ -43,7 +43,8 @@ shared-slice-read-moved-slot : tie.Need-shared-slice-read-moved-slot Inv-loop μ
 shared-slice-read-moved-slot c = omega arith
 
 -- gate i's operands stand at or below its net
-slots : (c : tie.In-loop Inv-loop μ-loop) → let a = c .before .before .before .before .before .before .before .before .before .before .args in
+slots : (c : tie.In-loop Inv-loop μ-loop)
+    → let a = c .before .before .before .before .before .before .before .before .before .before .args in
     let i = c .before .loop .i in
     (getD (now (a .firsts)) i 0 ≤ a .base + i) × (getD (now (a .seconds)) i 0 ≤ a .base + i)
 slots c =
@@ -51,7 +52,8 @@ slots c =
     let a = s .args in
     let i = c .before .loop .i in
     slots-le (a .base + i) _ _ _
-    (good-at (now (a .kinds)) (now (a .firsts)) (now (a .seconds)) (a .gates) (a .base) (s .pre .0 .good) i (c .loop-test .taken))
+    (place-good (now (a .kinds)) (now (a .firsts)) (now (a .seconds)) (a .gates) (a .base) (s .pre .0 .good) i
+    (c .loop-test .taken))
 
 moved-slot-requires : tie.Need-moved-slot-requires Inv-loop μ-loop
 moved-slot-requires c κs = let q = slots (c .before .before .before .before) in omega arith
@@ -69,7 +71,9 @@ put-gate-requires : tie.Need-put-gate-requires Inv-loop μ-loop
 put-gate-requires c κs =
     let l = c .before .before .before .before .before .before .before .before .before .before .before .loop in
     let s = c .before .before .before .before .before .before .before .before .before .before .before .before .before .before .before .before .before .before .before .before in
-    putting-room _ _ _ _ _ _ _ _ (l .i) (l .inv .1) (c .before .before .before .before .before .before .before .before .before .before .loop-test .taken) (c .before .before .before .before .before .before .before .before .if1 .taken) (s .pre .1 .1)
+    putting-room _ _ _ _ _ _ _ _ (l .i) (l .inv .1)
+    (c .before .before .before .before .before .before .before .before .before .before .loop-test .taken)
+    (c .before .before .before .before .before .before .before .before .if1 .taken) (s .pre .1 .1)
 
 add-i : tie.Need-add-i Inv-loop μ-loop
 add-i c = omega arith
@@ -123,7 +127,7 @@ put-moved-spec =
     Inv-loop
     μ-loop
     loop-holds
-    add-at
+    add-net
     shared-slice-read-if1
     shared-slice-read-kind
     mul-moved-slot
