@@ -13,7 +13,8 @@ uint8_t records_read(const uint8_t *job, size_t, uint8_t *old_kinds, size_t, uin
 size_t records_write(const size_t counts[7], const uint8_t *old_kinds, size_t, const uint16_t *old_firsts, size_t,
     const uint16_t *old_seconds, size_t, const uint16_t *old_outputs, size_t, const uint8_t *golden_kinds, size_t,
     const uint16_t *golden_firsts, size_t, const uint16_t *golden_seconds, size_t, const uint16_t *golden_outputs,
-    size_t, const uint16_t *nets, size_t, const uint16_t *weights, size_t, uint8_t *buf, size_t);
+    size_t, const uint16_t *nets, size_t, const uint16_t *weights, size_t, uint8_t *buf, size_t,
+    uint32_t *number);
 
 static uint8_t data[65536], ours_back[LONGEST], plain_back[LONGEST];
 static size_t data_len, ours_len, plain_len, counts[7];
@@ -28,10 +29,11 @@ static int ours_read(void) {
 
 static int ours_write(void) {
     struct netlist *o = &ours.old, *g = &ours.golden;
+    uint32_t number;
     ours_len = records_write(counts, o->kinds, GATES, o->firsts, GATES, o->seconds, GATES, o->outs, OUTPUTS, g->kinds,
         GATES, g->firsts, GATES, g->seconds, GATES, g->outs, OUTPUTS, ours.nets, CANDIDATES, ours.weights, CANDIDATES,
-        ours_back, LONGEST);
-    return ours_len == 0;
+        ours_back, LONGEST, &number);
+    return (int)number;
 }
 
 static int plain_read(void) { return read_job(data, data_len, &plain); }

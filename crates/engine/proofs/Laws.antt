@@ -8,8 +8,12 @@ pub mod Drive
 pub mod Eval
 pub mod EvalWords
 pub mod Fanout
+pub mod FitCode
+pub mod Fitting
 pub mod FitGates
 pub mod FitNets
+pub mod FitPlaced
+pub mod FitSheet
 pub mod FitTree
 pub mod Fitted
 pub mod Loop
@@ -31,6 +35,7 @@ pub mod Support
 pub mod Survey
 pub mod Ternary
 pub mod Text
+pub mod Tree
 pub mod VectorSets
 pub mod Verdict
 pub mod Visit

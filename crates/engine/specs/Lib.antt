@@ -18,3 +18,5 @@ pub mod Sets
 pub mod Rule
 pub mod Partial
 pub mod Driven
+pub mod Building
+pub mod Fitting

@@ -9,7 +9,7 @@ use records::Support;
 use records::put_field;
 
 // A number as two bytes.
-fn two_bytes(x: u16) -> [u8; 2]
+pub(super) fn two_bytes(x: u16) -> [u8; 2]
     ensures { λ r. ⌜ r ≡ bytePair x ⌝ }
 {
     [(x / 256) as u8, (x % 256) as u8]

@@ -73,7 +73,8 @@ pub extern "C" fn records_read(
     reply.number
 }
 
-// records::write of as many parts as counts says: the length of the job is returned, 0 on refusal.
+// records::write of as many parts as counts says: the length of the job is returned, 0 on refusal, and the reply's number is left
+// in number, 0 where the parts are accepted.
 #[no_mangle]
 pub extern "C" fn records_write(
     counts: &[usize; 7],
@@ -88,13 +89,20 @@ pub extern "C" fn records_write(
     nets: &[u16],
     weights: &[u16],
     buf: &mut [u8],
+    number: &mut u32,
 ) -> usize
-    ensures reply { λ r. ⌜ r ≡ writeReply (rowCounts (now (counts .entry)))
+    ensures length { λ r. ⌜ r ≡ writeReply (rowCounts (now (counts .entry)))
         (places
         (sidePlaces (now («old_kinds» .entry)) (now («old_firsts» .entry)) (now («old_seconds» .entry)) (now («old_outputs» .entry)))
         (sidePlaces (now («golden_kinds» .entry)) (now («golden_firsts» .entry)) (now («golden_seconds» .entry)) (now («golden_outputs» .entry)))
         (now (nets .entry)) (now (weights .entry)))
         (now (buf .entry)) .len ⌝ }
+    ensures number { λ _. ⌜ now (number .exit) ≡ writeReply (rowCounts (now (counts .entry)))
+        (places
+        (sidePlaces (now («old_kinds» .entry)) (now («old_firsts» .entry)) (now («old_seconds» .entry)) (now («old_outputs» .entry)))
+        (sidePlaces (now («golden_kinds» .entry)) (now («golden_firsts» .entry)) (now («golden_seconds» .entry)) (now («golden_outputs» .entry)))
+        (now (nets .entry)) (now (weights .entry)))
+        (now (buf .entry)) .number ⌝ }
     ensures lent { λ _. ⌜ now (buf .exit) ≡ writtenBytes (rowCounts (now (counts .entry)))
         (places
         (sidePlaces (now («old_kinds» .entry)) (now («old_firsts» .entry)) (now («old_seconds» .entry)) (now («old_outputs» .entry)))
@@ -129,5 +137,6 @@ pub extern "C" fn records_write(
         weights,
         buf,
     );
+    *number = reply.number as u32;
     reply.len
 }

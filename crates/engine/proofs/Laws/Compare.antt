@@ -216,7 +216,7 @@ module _ {c : Counts} {old golden : SidePlaces} {nets : List ℕ} (r : Ready c o
   unfolding sheetNumber firstFailing
   tests-number = rw room
 
-  reply-number : firstFailing (sheetTests (c .targets) candidates p) ≡ s .number
+  pub reply-number : firstFailing (sheetTests (c .targets) candidates p) ≡ s .number
   reply-number =
       sym tests-number
       ∙ sym (sheet-number (c .targets) (c .candidates) nets weights p)
@@ -259,7 +259,7 @@ module _ {c : Counts} {old golden : SidePlaces} {nets : List ℕ} (r : Ready c o
         }
 
     -- the bytes from the table's start to its end
-    table-part : (k : ℕ) → k ≡ 2 ^ s .support .len
+    pub table-part : (k : ℕ) → k ≡ 2 ^ s .support .len
         → take (s .table + k - s .table) (drop (s .table) p) ≡ take (2 ^ s .support .len) (drop (s .table) p)
     table-part k q =
         let u : s .table + k - s .table ≡ 2 ^ s .support .len = omega arith in
@@ -321,7 +321,7 @@ unfolding roomy sideRoomy
 roomy-empty = refl
 
 -- where a test fails, later ones play no part
-failing-append : (ts us : List Test) → (firstFailing ts ≡ 0 → ⊥) → firstFailing (ts ++ us) ≡ firstFailing ts
+pub failing-append : (ts us : List Test) → (firstFailing ts ≡ 0 → ⊥) → firstFailing (ts ++ us) ≡ firstFailing ts
 unfolding firstFailing
 failing-append [] us z = absurd (z refl)
 failing-append (t ∷ ts) us z = go (t .number) (t .passes) (failing-append ts us) z

@@ -212,7 +212,7 @@ module _ (j : Job) (b : ℕ) where
   unfolding gateIndices
   indices-ascend = ascends-keep (λ i. eqb (netAt (led j) (oldNet j i)) b) 0 (length (j .old .gates))
 
-  mem-indices : (k : ℕ) → Mem k (gateIndices j b) ↔ ((k < length (j .old .gates)) × (netAt (led j) (oldNet j k) ≡ b))
+  pub mem-indices : (k : ℕ) → Mem k (gateIndices j b) ↔ ((k < length (j .old .gates)) × (netAt (led j) (oldNet j k) ≡ b))
   unfolding gateIndices
   mem-indices k =
       let p : ℕ → Bool = λ i. eqb (netAt (led j) (oldNet j i)) b in

@@ -276,7 +276,7 @@ candidate-good j (c ∷ cs) g i e =
     (or-cases (eqb (c .net) i) (isCandidate cs i) e)
 
 -- the support of an accepted sheet is of nets that no target leads to
-support-free : (j : Job) → candidatesGood j ≡ true → (p : Patch) → patchGood (j .targets) (j .candidates) p ≡ true
+pub support-free : (j : Job) → candidatesGood j ≡ true → (p : Patch) → patchGood (j .targets) (j .candidates) p ≡ true
     → (i : ℕ) → Mem i (p .support) → (i < oldNets j) × (netAt (led j) i ≡ 0)
 unfolding candidatesGood patchGood candidateGood led
 support-free j g p e i m =

@@ -7,48 +7,54 @@ use borrow.Author.Needs.{needs}
 use Rattle.records_c.proofs.records_write.Statement.{statement}
 use Rattle.records_c.proofs.records_write.Tie as tie
 
-element-copy-out-t17 : tie.Need-element-copy-out-t17
-element-copy-out-t17 c = search needs
+element-copy-out-t18 : tie.Need-element-copy-out-t18
+element-copy-out-t18 c = search needs
 
-element-copy-out-t20 : tie.Need-element-copy-out-t20
-element-copy-out-t20 c = search needs
+element-copy-out-t21 : tie.Need-element-copy-out-t21
+element-copy-out-t21 c = search needs
 
-element-copy-out-t23 : tie.Need-element-copy-out-t23
-element-copy-out-t23 c = search needs
+element-copy-out-t24 : tie.Need-element-copy-out-t24
+element-copy-out-t24 c = search needs
 
-element-copy-out-t26 : tie.Need-element-copy-out-t26
-element-copy-out-t26 c = search needs
+element-copy-out-t27 : tie.Need-element-copy-out-t27
+element-copy-out-t27 c = search needs
 
-element-copy-out-t30 : tie.Need-element-copy-out-t30
-element-copy-out-t30 c = search needs
+element-copy-out-t31 : tie.Need-element-copy-out-t31
+element-copy-out-t31 c = search needs
 
-element-copy-out-t33 : tie.Need-element-copy-out-t33
-element-copy-out-t33 c = search needs
+element-copy-out-t34 : tie.Need-element-copy-out-t34
+element-copy-out-t34 c = search needs
 
-element-copy-out-t37 : tie.Need-element-copy-out-t37
-element-copy-out-t37 c = search needs
+element-copy-out-t38 : tie.Need-element-copy-out-t38
+element-copy-out-t38 c = search needs
 
 write-requires : tie.Need-write-requires
 write-requires c κs = search needs
+
+cast-number : tie.Need-cast-number
+cast-number c = search needs
 
 same-length : tie.Need-same-length
 same-length c = search needs
 
 returns : tie.Need-returns
 unfolding rowCounts
-returns c = let e = c .before .before .write .ensures in (ap (λ (r : WriteReply). r .len) (e .0), e .1)
+returns c =
+    let e = c .before .before .before .write .ensures in
+    (ap (λ (r : WriteReply). r .len) (e .0), (ap (λ (r : WriteReply). r .number) (e .0), e .1))
 
 pub records-write-spec : {M : Type 1} → statement M
 records-write-spec =
     tie.close
     (tie.spec
-    element-copy-out-t17
-    element-copy-out-t20
-    element-copy-out-t23
-    element-copy-out-t26
-    element-copy-out-t30
-    element-copy-out-t33
-    element-copy-out-t37
+    element-copy-out-t18
+    element-copy-out-t21
+    element-copy-out-t24
+    element-copy-out-t27
+    element-copy-out-t31
+    element-copy-out-t34
+    element-copy-out-t38
     write-requires
+    cast-number
     same-length
     returns)

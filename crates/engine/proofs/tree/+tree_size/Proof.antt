@@ -1,0 +1,174 @@
+-- `engine::tree::tree_size` meets its contract: it calls itself on each half, and the number of nets falls. Assumes nothing.
+use Prim.Native.Nat.{ℕ, _-_, _≤_, _<_}
+use mathlib.Core.Path.{_≡_, sym, _∙_}
+use mathlib.Core.List.{List}
+use native.Mathlib.Omega.{arith}
+use borrow.Author.Needs.{needs}
+use denote.Ref.{now}
+use Rattle.engine.specs.Building.{columnPart, shapeOf}
+use Rattle.engine.specs.declared.tree.Shape.the-variants as Shape
+use Rattle.engine.proofs.Laws.Tree.{size-constant, size-equal, size-split, deep-equal, deep-split}
+use Rattle.engine.proofs.Laws.Tree.{part-low, part-high, treeSize-small}
+use borrow.Fn.Kinds.{In}
+use borrow.Fn.PlainCycle.{Measures, is, falls, and}
+use Rattle.engine.proofs.tree.tree_size.Reads as tree-size
+use Rattle.engine.proofs.tree.tree_size.Kinds as tree-size-kinds
+use Rattle.engine.proofs.tree.+tree_size.Lts-tree_size as tree-size-lts
+use Rattle.engine.proofs.choose.reading_count.Reads as reading-count-reads
+use Rattle.engine.proofs.tree.shape_of.Reads as shape-of-reads
+use Rattle.engine.proofs.tree.+tree_size.{statement}
+use Rattle.engine.proofs.tree.+tree_size.Tie.{close}
+
+abbrev μ-tree-size : Measures 1 tree-size-kinds.ps ℕ
+μ-tree-size κs a = a .1 .1 .0
+
+abbrev tree-size-at : ℕ → In 1 tree-size-kinds.ps
+tree-size-at t = and 1 tree-size-kinds.ps (is 1 tree-size-kinds.ps μ-tree-size t) tree-size.Pre
+
+abbrev tree-size-below : ℕ → In 1 tree-size-kinds.ps
+tree-size-below t =
+    and 1 tree-size-kinds.ps (falls 1 tree-size-kinds.ps _<_ μ-tree-size t) tree-size.Pre
+
+-- what the calls ask and give
+abbrev calls : ℕ → tree-size-lts.Claims
+calls t = (
+  shape-of-reads.Asked,
+  shape-of-reads.Learnt,
+  tree-size-below t,
+  tree-size.Post,
+  reading-count-reads.Asked,
+  reading-count-reads.Learnt,
+)
+
+-- the column that a call is about
+abbrev columnAt : (t : ℕ) → tree-size-lts.Start (calls t) (tree-size-at t) tree-size.Post → List ℕ
+columnAt t s = let a = s .args in columnPart (now (a .table)) (a .at) (a .k) (a .t)
+
+-- where its halves are equal, and where they are not
+equal : (t : ℕ) (c : tree-size-lts.After-enum-told2 (calls t) (tree-size-at t) tree-size.Post)
+    → let s = c .before .before .before .before in
+    (shapeOf (s .args .k) (columnAt t s) ≡ Shape.Equal) × (0 < s .args .k)
+equal t c =
+    let s = c .before .before .before .before in
+    let q = sym (c .before .before .shape-of .ensures) ∙ c .enum-told2 .given .1 in
+    (q, deep-equal (s .args .k) (columnAt t s) q)
+
+split : (t : ℕ) (c : tree-size-lts.After-enum-told3 (calls t) (tree-size-at t) tree-size.Post)
+    → let s = c .before .before .before .before in
+    (shapeOf (s .args .k) (columnAt t s) ≡ Shape.Split) × (0 < s .args .k)
+split t c =
+    let s = c .before .before .before .before in
+    let q = sym (c .before .before .shape-of .ensures) ∙ c .enum-told3 .given .1 in
+    (q, deep-split (s .args .k) (columnAt t s) q)
+
+tree-size-shape-of-requires : (t : ℕ) → tree-size-lts.Need-shape-of-requires (calls t) (tree-size-at t) tree-size.Post
+tree-size-shape-of-requires t c κs = search needs
+
+tree-size-enum-told : (t : ℕ) → tree-size-lts.Need-enum-told (calls t) (tree-size-at t) tree-size.Post
+tree-size-enum-told t c = search needs
+
+tree-size-enum-told-2 : (t : ℕ) → tree-size-lts.Need-enum-told-2 (calls t) (tree-size-at t) tree-size.Post
+tree-size-enum-told-2 t c = search needs
+
+tree-size-sub-tree-size : (t : ℕ) → tree-size-lts.Need-sub-tree-size (calls t) (tree-size-at t) tree-size.Post
+tree-size-sub-tree-size t c = equal t c .1
+
+tree-size-tree-size-requires : (t : ℕ) → tree-size-lts.Need-tree-size-requires (calls t) (tree-size-at t) tree-size.Post
+tree-size-tree-size-requires t c κs =
+    let s = c .before .before .before .before in
+    let d = equal t c .1 in
+    (omega (arith, s .pre .0), part-low (s .pre .1) d)
+
+tree-size-enum-told-3 : (t : ℕ) → tree-size-lts.Need-enum-told-3 (calls t) (tree-size-at t) tree-size.Post
+tree-size-enum-told-3 t c = search needs
+
+tree-size-sub-reading-count : (t : ℕ) → tree-size-lts.Need-sub-reading-count (calls t) (tree-size-at t) tree-size.Post
+tree-size-sub-reading-count t c = split t c .1
+
+tree-size-reading-count-requires : (t : ℕ) → tree-size-lts.Need-reading-count-requires (calls t) (tree-size-at t) tree-size.Post
+tree-size-reading-count-requires t c κs = let p = c .before .before .before .before .pre .1 in omega arith
+
+tree-size-sub-tree-size-2 : (t : ℕ) → tree-size-lts.Need-sub-tree-size-2 (calls t) (tree-size-at t) tree-size.Post
+tree-size-sub-tree-size-2 t c = split t (c .before) .1
+
+tree-size-tree-size-requires-2 : (t : ℕ) → tree-size-lts.Need-tree-size-requires-2 (calls t) (tree-size-at t) tree-size.Post
+tree-size-tree-size-requires-2 t c κs =
+    let s = c .before .before .before .before .before in
+    let d = split t (c .before) .1 in
+    (omega (arith, s .pre .0), part-low (s .pre .1) d)
+
+tree-size-add-tree-size : (t : ℕ) → tree-size-lts.Need-add-tree-size (calls t) (tree-size-at t) tree-size.Post
+tree-size-add-tree-size t c =
+    let s = c .before .before .before .before .before .before in
+    let p = part-high (s .pre .1) (split t (c .before .before) .1) (c .before .reading-count .ensures) in
+    omega arith
+
+tree-size-sub-tree-size-3 : (t : ℕ) → tree-size-lts.Need-sub-tree-size-3 (calls t) (tree-size-at t) tree-size.Post
+tree-size-sub-tree-size-3 t c = split t (c .before .before) .1
+
+tree-size-tree-size-requires-3 : (t : ℕ) → tree-size-lts.Need-tree-size-requires-3 (calls t) (tree-size-at t) tree-size.Post
+tree-size-tree-size-requires-3 t c κs =
+    let s = c .before .before .before .before .before .before in
+    let d = split t (c .before .before) .1 in
+    (omega (arith, s .pre .0), part-high (s .pre .1) d (c .before .reading-count .ensures))
+
+sizes-small : (t : ℕ) (c : tree-size-lts.After-tree-size3 (calls t) (tree-size-at t) tree-size.Post)
+    → (c .before .tree-size2 .result < 5120) × (c .tree-size3 .result < 5120)
+sizes-small t c =
+    let s = c .before .before .before .before .before .before .before in
+    let m : s .args .k - 1 ≤ 10 = omega (arith, s .pre .1 .most) in (
+      rw (c .before .tree-size2 .ensures) (treeSize-small (s .args .k - 1) _ m),
+      rw (c .tree-size3 .ensures) (treeSize-small (s .args .k - 1) _ m),
+    )
+
+tree-size-add-result : (t : ℕ) → tree-size-lts.Need-add-result (calls t) (tree-size-at t) tree-size.Post
+tree-size-add-result t c =
+    let b = sizes-small t c in
+    omega arith
+
+tree-size-add-result-2 : (t : ℕ) → tree-size-lts.Need-add-result-2 (calls t) (tree-size-at t) tree-size.Post
+tree-size-add-result-2 t c =
+    let b = sizes-small t c in
+    omega arith
+
+tree-size-returns : (t : ℕ) → tree-size-lts.Need-returns (calls t) (tree-size-at t) tree-size.Post
+tree-size-returns t c =
+    let s = c .before .before .before .before in
+    sym (size-constant (s .args .k) (columnAt t s) _ (sym (c .before .before .shape-of .ensures) ∙ c .enum-told .given .1))
+
+tree-size-returns-2 : (t : ℕ) → tree-size-lts.Need-returns-2 (calls t) (tree-size-at t) tree-size.Post
+tree-size-returns-2 t c =
+    let a = c .before .before .before .before .before .args in
+    c .tree-size .ensures ∙ sym (size-equal (now (a .table)) (a .at) (a .k) (a .t) (equal t (c .before) .0))
+
+tree-size-returns-3 : (t : ℕ) → tree-size-lts.Need-returns-3 (calls t) (tree-size-at t) tree-size.Post
+tree-size-returns-3 t c =
+    let a = c .before .before .before .before .before .before .before .args in
+    sym
+    (size-split (now (a .table)) (a .at) (a .k) (a .t) _ _ _ (split t (c .before .before .before) .0)
+    (c .before .before .reading-count .ensures)
+    (c .before .tree-size2 .ensures)
+    (c .tree-size3 .ensures))
+
+pub +tree-size-spec : {M : Type 1} → statement M
++tree-size-spec = close μ-tree-size λ t. tree-size-lts.spec (calls t)
+    (tree-size-at t)
+    tree-size.Post
+    (tree-size-shape-of-requires t)
+    (tree-size-enum-told t)
+    (tree-size-enum-told-2 t)
+    (tree-size-sub-tree-size t)
+    (tree-size-tree-size-requires t)
+    (tree-size-enum-told-3 t)
+    (tree-size-sub-reading-count t)
+    (tree-size-reading-count-requires t)
+    (tree-size-sub-tree-size-2 t)
+    (tree-size-tree-size-requires-2 t)
+    (tree-size-add-tree-size t)
+    (tree-size-sub-tree-size-3 t)
+    (tree-size-tree-size-requires-3 t)
+    (tree-size-add-result t)
+    (tree-size-add-result-2 t)
+    (tree-size-returns t)
+    (tree-size-returns-2 t)
+    (tree-size-returns-3 t)
