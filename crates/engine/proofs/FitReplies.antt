@@ -26,7 +26,7 @@ use Rattle.engine.specs.Compare.{pairTests}
 use Rattle.engine.specs.Tree.{column, tree}
 use Rattle.engine.specs.Fit.{Trees, treesFrom, trees, gateIndices, newNets, moved, movedGates, fitted, fittedBytes, fits, longestFit}
 use Rattle.engine.specs.Reply.{compareNumber, fitTests, fitNumber, fitReply, fittedBuffer}
-use Rattle.engine.specs.Claims.{FitAccepts, FitRefuses, FitIndependent, LongestFit, FittedIn, FittedGiven}
+use Rattle.engine.specs.Claims.{FitAccepts, FitRefuses, FitIndependent, LongestFit, FittedIn, FittedGiven, VectorsIgnored}
 use Rattle.engine.specs.declared.fitting.FitReply.{FitReply}
 use Rattle.engine.proofs.Laws.FitTree.{TreeCase, zeros, ones, halves, choice, choosing, tree-case}
 use Rattle.engine.proofs.Laws.Fitted.{sheet-entries, fitted-driven, fitted-netlist}
@@ -260,3 +260,7 @@ fit-independent d e s p h =
       nothing-of d s p z ∙ sym (nothing-of e s p y),
     ))
     (zero-or-not (fitNumber d s p))
+
+pub vectors-ignored : VectorsIgnored
+unfolding fitReply fittedBuffer
+vectors-ignored d s p q e f g h = (rw (e, f, g, h) refl, rw (e, f, g, h) refl)

@@ -12,7 +12,7 @@
 --                           buffer held before plays no part; no sheet has more than 1,076 bytes
 --   GivesPatch, PatchGiven, GivesUnfixable, GivesBlind, VectorsGiven  the same of what decide replies and writes
 --   CompareAccepts, ComparesEqual, ComparesDiffers                    what compare accepts and replies
---   FitAccepts, FitRefuses, FitIndependent, LongestFit, FittedGiven    what fit accepts, replies and writes
+--   FitAccepts, FitRefuses, FitIndependent, LongestFit, FittedGiven, VectorsIgnored    what fit accepts, replies and writes
 use Prim.Native.Nat.{ℕ, _+_, _^_, _≤_, _<_}
 use mathlib.Core.Path.{_≡_}
 use mathlib.Core.Logic.{_↔_}
@@ -269,3 +269,10 @@ abbrev pub FittedGiven : Type 0
 FittedGiven =
     (d s p : List ℕ) → fitNumber d s p ≡ 0
     → FittedIn (jobOf s) (patchOf p) (take (fitReply d s p .len) (fittedBuffer d s p))
+
+-- Document 01: "Field 19 is checked for length (1 to 2^m) and for entries below 2^m, and has no other effect."
+abbrev pub VectorsIgnored : Type 0
+VectorsIgnored =
+    (d s p q : List ℕ) → fitNumber d s p ≡ 0 → fitNumber d s q ≡ 0
+    → patchOf p .support ≡ patchOf q .support → patchOf p .table ≡ patchOf q .table
+    → (fitReply d s p ≡ fitReply d s q) × (fittedBuffer d s p ≡ fittedBuffer d s q)
