@@ -4,8 +4,8 @@
 --   gateIndices j b        the indices of the old gates with mark b, ascending
 --   rank xs i              how many elements of xs are below i
 --   Trees, trees           the gates of all targets' trees and the net of each; those of a job
---   freeNet j i, gateNumber j is t i     the new net of old gate i: where no target leads to it, and in general
---   freeNumber j i         the new number of an old net that no target leads to
+--   newFreeGate j i, newGate j is t i     the new net of old gate i: where no target leads to it, and in general
+--   newFreeNet j i         the new number of an old net that no target leads to
 --   treesFrom next ..      the trees of the targets k, k + 1, .., one after the other, the first gate driving net next, and the
 --                          net of each
 --   newNets j is t         the new number of each old net
@@ -50,25 +50,25 @@ treesFrom (suc m) k next is t =
     record { gates = gs ++ r .gates; nets = (next + length gs - 1) ∷ r .nets }
 
 -- the new number of old gate i where no target leads to it
-unfoldable pub freeNet : Job → ℕ → ℕ
-freeNet j i = j .inputs + rank (gateIndices j 0) i
+unfoldable pub newFreeGate : Job → ℕ → ℕ
+newFreeGate j i = j .inputs + rank (gateIndices j 0) i
 
 -- the new number of an old net that is an input or a gate that no target leads to: of the support
-unfoldable pub freeNumber : Job → ℕ → ℕ
-freeNumber j i = cond (ltb i (j .inputs)) i (freeNet j (i - (j .inputs + j .targets)))
+unfoldable pub newFreeNet : Job → ℕ → ℕ
+newFreeNet j i = cond (ltb i (j .inputs)) i (newFreeGate j (i - (j .inputs + j .targets)))
 
 unfoldable pub trees : Job → List ℕ → List ℕ → Trees
-trees j is t = treesFrom (j .targets) 0 (j .inputs + length (gateIndices j 0)) (map (freeNumber j) is) t
+trees j is t = treesFrom (j .targets) 0 (j .inputs + length (gateIndices j 0)) (map (newFreeNet j) is) t
 
-unfoldable pub gateNumber : Job → List ℕ → List ℕ → ℕ → ℕ
-gateNumber j is t i =
+unfoldable pub newGate : Job → List ℕ → List ℕ → ℕ → ℕ
+newGate j is t i =
     cond (eqb (netAt (led j) (j .inputs + j .targets + i)) 0)
-    (freeNet j i)
+    (newFreeGate j i)
     (j .inputs + length (gateIndices j 0) + length (trees j is t .gates) + rank (gateIndices j 1) i)
 
 unfoldable pub newNets : Job → List ℕ → List ℕ → List ℕ
 newNets j is t =
-    upFrom 0 (j .inputs) ++ trees j is t .nets ++ tabulate (length (j .old .gates)) (gateNumber j is t)
+    upFrom 0 (j .inputs) ++ trees j is t .nets ++ tabulate (length (j .old .gates)) (newGate j is t)
 
 unfoldable pub moved : List ℕ → Gate → Gate
 moved ns g = record { kind = g .kind; slots = map (netAt ns) (operands g) ++ unused g }

@@ -3,7 +3,7 @@
 --   rectifies j x v       vector v rectifies input x (01: v fixes x): with the targets set to v, the old outputs at x are the
 --                         golden ones
 --   rectifiable j x       some vector rectifies x (01: x is fixable)
---   unlisted j vs x       no vector of the list vs rectifies x
+--   unrectified j vs x       no vector of the list vs rectifies x
 --   Listed                what the loop gives: the vector list, and the input at which it stopped for want of a vector
 --   rounds j k vs         k rounds of the loop from the list vs
 --   vectorLoop j          the loop, from the single vector 0. Each round appends a vector that is not listed yet, so as many
@@ -22,8 +22,8 @@ rectifies j x v = same (oldOutputs j x v) (goldenOutputs j x)
 unfoldable pub rectifiable : Job → ℕ → Bool
 rectifiable j x = any (rectifies j x) (allVectors j)
 
-unfoldable pub unlisted : Job → List ℕ → ℕ → Bool
-unlisted j vs x = not (any (rectifies j x) vs)
+unfoldable pub unrectified : Job → List ℕ → ℕ → Bool
+unrectified j vs x = not (any (rectifies j x) vs)
 
 pub record Listed : Type 0 where
   pub vectors : List ℕ
@@ -34,7 +34,7 @@ pub record Listed : Type 0 where
 unfoldable pub rounds : Job → ℕ → List ℕ → Listed
 rounds j zero vs = record { vectors = vs; stuck = none }
 rounds j (suc k) vs =
-    elim (first (unlisted j vs) (allInputs j)) [
+    elim (first (unrectified j vs) (allInputs j)) [
       | none ↦ record { vectors = vs; stuck = none }
       | some x ↦
           elim (first (rectifies j x) (allVectors j))

@@ -4,7 +4,7 @@
 --                         No target leads to them, so the vector has no say; it is 0 here
 --   giving j is r         the inputs that give reading r
 --   drivenBy j is t x     the vector that the table t over the nets is gives at input x: its entry at the reading of x
---   golden j is t         the old circuit driven by t has the golden outputs on every input
+--   equalsGolden j is t         the old circuit driven by t has the golden outputs on every input
 --   Carries j is          the nets carry a table (01): some table over them, with entries below 2 ^ m, makes the driven old
 --                         outputs equal the golden ones on every input
 --   shared j is r         the smallest vector that rectifies every input giving reading r, if there is one
@@ -43,14 +43,14 @@ giving j is r = keep (λ x. eqb (reading j is x) r) (allInputs j)
 unfoldable pub drivenBy : Job → List ℕ → List ℕ → ℕ → ℕ
 drivenBy j is t x = getD t (reading j is x) 0
 
-unfoldable pub golden : Job → List ℕ → List ℕ → Bool
-golden j is t = all (λ x. rectifies j x (drivenBy j is t x)) (allInputs j)
+unfoldable pub equalsGolden : Job → List ℕ → List ℕ → Bool
+equalsGolden j is t = all (λ x. rectifies j x (drivenBy j is t x)) (allInputs j)
 
 pub record Carries (j : Job) (is : List ℕ) : Type 0 where
   pub table : List ℕ
   pub entries : length table ≡ 2 ^ length is
   pub below : (r : ℕ) → r < length table → getD table r 0 < 2 ^ j .targets
-  pub equal : golden j is table ≡ true
+  pub equal : equalsGolden j is table ≡ true
 
 -- ---- sound supports and their tables
 

@@ -3,7 +3,7 @@ use Prim.Native.Nat.{ℕ, _+_, _-_, _*_, _%_, _^_, min, _≤_, _<_}
 use mathlib.Core.Path.{_≡_, refl, sym, _∙_, ap, subst}
 use mathlib.Core.Logic.{⊎-elim}
 use mathlib.Core.List.{List, [], _∷_, _++_, map}
-use mathlib.Core.Bool.{Bool, true, false, cond, not, false≢true}
+use mathlib.Core.Bool.{Bool, true, false, cond, not}
 use native.Mathlib.Nat.{one-mul}
 use native.Mathlib.Omega.{arith}
 use borrow.Author.Tests.{ltb-true, ltb-false, le-leb, eqb-true, eq-eqb, ne-eqb}
@@ -15,7 +15,7 @@ use Rattle.records.specs.Bytes.{upFrom, all}
 use Rattle.records.specs.Gate.{Gate}
 use Rattle.records.specs.Netlist.{netAt, values}
 use Rattle.records.specs.Job.{Candidate, jobOf}
-use Rattle.records.specs.Refusal.{Test, firstFailing, partTests, jobTests}
+use Rattle.records.specs.Refusal.{Test, firstFailing, partTests, jobTests, jobRefusal}
 use Rattle.records.specs.Sheet.{patchOf, isCandidate, sheetTests}
 use Rattle.records.specs.Service.{SidePlaces, Places, sidePlaces, places, gatesFrom, netlistFrom, candidatesFrom, jobFrom}
 use Rattle.records.specs.Service.{sideRoomy, roomy, readNumber, readReply, sheetRoomy, sheetNumber, sheetReply}
@@ -36,7 +36,9 @@ use Rattle.engine.specs.Driven.{vectorAt, Drivable, differing, Differing
 use Rattle.engine.specs.Driven.{declinedComparison, sheetComparison}
 use Rattle.engine.specs.declared.comparing.Comparison.{Comparison}
 use Rattle.engine.specs.declared.comparing.Comparison.the-variants as Comparison
-use Rattle.engine.proofs.Laws.Choice.{true-or-false, or-cases, all-true, all-of-members, Least}
+use Rattle.engine.proofs.Laws.Choice.{true-or-false, all-true, all-of-members, Least}
+use Rattle.engine.proofs.Laws.Decide.{lentPlaces, lent-refusal, read-number}
+use Rattle.engine.proofs.Laws.Support.{candidate-passes}
 use Rattle.engine.proofs.Laws.EvalWords.{length-gates}
 use Rattle.engine.proofs.Laws.Ready.{ready-within, ready-outputs-equal, ready-outputs, ready-golden-outputs}
 use Rattle.engine.proofs.Laws.Ready.{ready-candidates, ready-candidates-below}
@@ -187,18 +189,6 @@ module _ (c : Counts) (old golden : SidePlaces) (is table : List ℕ) where
 
 -- ---- a sheet
 
--- a candidate is below what all candidates are below
-candidate-below : (n : ℕ) (cs : List Candidate) → all (λ i. ltb i n) (map (λ (k : Candidate). k .net) cs) ≡ true → (i : ℕ)
-    → isCandidate cs i ≡ true → ltb i n ≡ true
-unfolding isCandidate
-candidate-below n [] h i e = absurd (false≢true e)
-candidate-below n (k ∷ cs) h i e =
-    let p = all-cons (λ x. ltb x n) (k .net) (map (λ (d : Candidate). d .net) cs) h in
-    ⊎-elim
-    (λ (t : eqb (k .net) i ≡ true). subst (λ (x : ℕ). ltb x n ≡ true) (eqb-true (k .net) i t) (p .0))
-    (λ (t : isCandidate cs i ≡ true). candidate-below n cs (p .1) i t)
-    (or-cases (eqb (k .net) i) (isCandidate cs i) e)
-
 module _ {c : Counts} {old golden : SidePlaces} {nets : List ℕ} (r : Ready c old golden nets) (weights p : List ℕ)
     (h : c .candidates ≤ length weights) {s : SheetReply} (e : s ≡ sheetReply (c .targets) (c .candidates) nets weights p) where
   abbrev candidates : List Candidate
@@ -254,7 +244,7 @@ module _ {c : Counts} {old golden : SidePlaces} {nets : List ℕ} (r : Ready c o
               rw (a .nets)
               (all-of-members (λ i. ltb i n) is
               (λ i m.
-              candidate-below n candidates (rw candidates-nets (ready-candidates-below r .below)) i
+              candidate-passes (λ x. ltb x n) candidates (rw candidates-nets (ready-candidates-below r .below)) i
               (all-true (isCandidate candidates) is (a .candidates) i m)));
         }
 
@@ -309,17 +299,6 @@ module _ {c : Counts} {old golden : SidePlaces} {nets : List ℕ} (r : Ready c o
 
 -- ---- a job's bytes and a sheet's
 
--- what the places of read hold before it
-abbrev pub emptySide : SidePlaces
-emptySide = sidePlaces (replicate 400 0) (replicate 400 0) (replicate 400 0) (replicate 32 0)
-
-abbrev pub emptyPlaces : Places
-emptyPlaces = places emptySide emptySide (replicate 10 0) (replicate 10 0)
-
-roomy-empty : roomy emptyPlaces ≡ true
-unfolding roomy sideRoomy
-roomy-empty = refl
-
 -- where a test fails, later ones play no part
 pub failing-append : (ts us : List Test) → (firstFailing ts ≡ 0 → ⊥) → firstFailing (ts ++ us) ≡ firstFailing ts
 unfolding firstFailing
@@ -330,27 +309,19 @@ failing-append (t ∷ ts) us z = go (t .number) (t .passes) (failing-append ts u
     go k true f y = f y
     go k false f y = refl
 
-module _ (s : List ℕ) {r : ReadReply} (e : r ≡ readReply emptyPlaces s) where
-  read-number : r .number ≡ readNumber emptyPlaces s
-  unfolding readReply
-  read-number = ap (λ (x : ReadReply). x .number) e
-
-  job-number : readNumber emptyPlaces s ≡ firstFailing (jobTests s)
-  unfolding readNumber firstFailing
-  job-number = rw roomy-empty
-
+module _ (s : List ℕ) {r : ReadReply} (e : r ≡ readReply lentPlaces s) where
   pub declined-job : (q : List ℕ) → (r .number ≡ 0 → ⊥)
       → record { number = r .number; result = Comparison.Declined } ≡ compareReply s q
-  unfolding compareReply compareNumber pairTests
+  unfolding compareReply compareNumber pairTests jobRefusal
   declined-job q z =
-      let n : firstFailing (jobTests s) ≡ r .number = sym (read-number ∙ job-number) in
+      let n : firstFailing (jobTests s) ≡ r .number = read-number s e in
       rw (failing-append (jobTests s) _ (λ a. z (sym n ∙ a)), n, ne-eqb (r .number) 0 z)
 
-  pub accepted-job : r .number ≡ 0 → readNumber emptyPlaces s ≡ 0
-  accepted-job z = sym read-number ∙ z
+  pub accepted-job : r .number ≡ 0 → readNumber lentPlaces s ≡ 0
+  accepted-job z = lent-refusal s ∙ read-number s e ∙ z
 
   pub compared-job : (q : List ℕ) → r .number ≡ 0 → sheetComparison (jobOf s) q ≡ compareReply s q
   unfolding compareReply compareNumber pairTests jobTests partTests firstFailing sheetComparison declinedComparison
   compared-job q z =
-      let a = read-accepts emptyPlaces s .0 (accepted-job z) in
+      let a = read-accepts lentPlaces s .0 (accepted-job z) in
       rw (a .1, a .2 .counts, a .2 .gates, a .2 .outputs, a .2 .candidates)

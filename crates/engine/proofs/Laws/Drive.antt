@@ -13,14 +13,7 @@ use Rattle.engine.specs.Eval.{bit, bits, numberOf}
 use Rattle.engine.specs.Inner.{Loaded, Evaluated, Outputs, BlockValues, HoldsBlock, tableVector, outputBits}
 use Rattle.engine.specs.Driven.{vectorAt}
 use Rattle.engine.proofs.Laws.Fanout.{revalued}
-use Rattle.engine.proofs.Laws.Rectify.{outputs-of-words}
-
--- the words of picked nets have in each scenario the bits that the nets have
-pub picked-bits : (j n : ℕ) (nets vs picks words : List ℕ) → map (bit j) (take n nets) ≡ vs
-    → all (λ o. ltb o n) picks ≡ true → words ≡ map (λ o. getD nets o 0) picks → map (bit j) words ≡ map (netAt vs) picks
-unfolding outputBits
-picked-bits j n nets vs picks words e h s =
-    ap (map (bit j)) s ∙ map-map (bit j) (λ o. getD nets o 0) picks ∙ outputs-of-words j n nets vs picks e h
+use Rattle.engine.proofs.Laws.Rectify.{picked-bits}
 
 pub held-at-zero : {gs : List Gate} {n m b : ℕ} {before nets : List ℕ} → BlockValues gs n m b (λ j. 0) before nets
     → HoldsBlock gs n m b nets

@@ -26,7 +26,7 @@ use Rattle.records.specs.Inner.{leafMarks}
 use Rattle.records.proofs.Laws.Bytes.{and-left, length-upFrom, getD-upFrom, getD-tabulate}
 use Rattle.records.proofs.Laws.Gate.{on-bit, gateGood-parts}
 use Rattle.engine.specs.Choice.{keep}
-use Rattle.engine.specs.Fit.{led, gateIndices, rank, freeNet, freeNumber, trees, gateNumber, newNets, moved, movedGates, fitted}
+use Rattle.engine.specs.Fit.{led, gateIndices, rank, newFreeGate, newFreeNet, trees, newGate, newNets, moved, movedGates, fitted}
 use Rattle.engine.proofs.Laws.Choice.{all-true, all-of-members, mem-keep, mem-below, keep-lt, true-or-false}
 use Rattle.engine.proofs.Laws.Eval.{Bits, bits-nil, bits-cons, bits-append, bits-map, netAt-lt, gateValue-lt}
 use Rattle.engine.proofs.Laws.Fanout.{leaf-target, length-leafMarks}
@@ -246,14 +246,14 @@ module _ (j : Job) (is t : List ℕ) where
       ∙ omega (
         arith,
         length-upFrom 0 (j .inputs),
-        length-nets (j .targets) 0 (j .inputs + length (gateIndices j 0)) (map (freeNumber j) is) t,
+        length-nets (j .targets) 0 (j .inputs + length (gateIndices j 0)) (map (newFreeNet j) is) t,
       )
 
   pub number-input : (i : ℕ) → i < j .inputs → netAt (newNets j is t) i ≡ i
   unfolding newNets netAt
   number-input i h =
       let u = upFrom 0 (j .inputs) in
-      List·getD-append (u ++ trees j is t .nets) (tabulate (length (j .old .gates)) (gateNumber j is t)) 0 i
+      List·getD-append (u ++ trees j is t .nets) (tabulate (length (j .old .gates)) (newGate j is t)) 0 i
       (omega (arith, length-front))
       ∙ List·getD-append u (trees j is t .nets) 0 i (omega (arith, length-upFrom 0 (j .inputs)))
       ∙ getD-upFrom 0 (j .inputs) i 0 h
@@ -263,19 +263,19 @@ module _ (j : Job) (is t : List ℕ) where
   unfolding newNets netAt
   number-target i h =
       let u = upFrom 0 (j .inputs) in
-      List·getD-append (u ++ trees j is t .nets) (tabulate (length (j .old .gates)) (gateNumber j is t)) 0 (j .inputs + i)
+      List·getD-append (u ++ trees j is t .nets) (tabulate (length (j .old .gates)) (newGate j is t)) 0 (j .inputs + i)
       (omega (arith, length-front))
       ∙ ap (λ (n : ℕ). getD (u ++ trees j is t .nets) (n + i) 0) (sym (length-upFrom 0 (j .inputs)))
       ∙ getD-append-add u (trees j is t .nets) i 0
 
-  number-gate : (k : ℕ) → k < length (j .old .gates) → netAt (newNets j is t) (oldNet j k) ≡ gateNumber j is t k
+  number-gate : (k : ℕ) → k < length (j .old .gates) → netAt (newNets j is t) (oldNet j k) ≡ newGate j is t k
   unfolding newNets netAt
   number-gate k h =
       let u = upFrom 0 (j .inputs) ++ trees j is t .nets in
-      let gs = tabulate (length (j .old .gates)) (gateNumber j is t) in
+      let gs = tabulate (length (j .old .gates)) (newGate j is t) in
       ap (λ (n : ℕ). getD (u ++ gs) (n + k) 0) (sym length-front)
       ∙ getD-append-add u gs k 0
-      ∙ getD-tabulate (length (j .old .gates)) (gateNumber j is t) k 0 h
+      ∙ getD-tabulate (length (j .old .gates)) (newGate j is t) k 0 h
 
   -- the new net of each gate with mark b is start and its rank among them
   abbrev pub Numbered : ℕ → ℕ → Type 0
@@ -284,16 +284,16 @@ module _ (j : Job) (is t : List ℕ) where
       → netAt (newNets j is t) (oldNet j k) ≡ start + rank (gateIndices j b) k
 
   pub number-free : Numbered 0 (j .inputs)
-  unfolding gateNumber freeNet
+  unfolding newGate newFreeGate
   number-free k h e = number-gate k h ∙ rw (eq-eqb (netAt (led j) (oldNet j k)) 0 e)
 
   pub number-led : Numbered 1 ledStart
-  unfolding gateNumber
+  unfolding newGate
   number-led k h e = number-gate k h ∙ rw (ne-eqb (netAt (led j) (oldNet j k)) 0 (λ z. omega arith))
 
   support-case : {i : ℕ} → NetCase (j .inputs) (j .targets) (length (j .old .gates)) i → netAt (led j) i ≡ 0
-      → freeNumber j i ≡ netAt (newNets j is t) i
-  unfolding freeNumber freeNet
+      → newFreeNet j i ≡ netAt (newNets j is t) i
+  unfolding newFreeNet newFreeGate
   support-case (input {i} h) e = rw (lt-ltb i (j .inputs) h) (sym (number-input i h))
   support-case (target {i} h) e = let f : ⊥ = omega (arith, mark-target j i h) in absurd f
   support-case (gate {k} h) e =
@@ -302,7 +302,7 @@ module _ (j : Job) (is t : List ℕ) where
       rw (l, d) (sym (number-free k h e))
 
   -- the number by which the trees read a net that no target leads to
-  pub number-support : (i : ℕ) → i < oldNets j → netAt (led j) i ≡ 0 → freeNumber j i ≡ netAt (newNets j is t) i
+  pub number-support : (i : ℕ) → i < oldNets j → netAt (led j) i ≡ 0 → newFreeNet j i ≡ netAt (newNets j is t) i
   unfolding oldNets
   number-support i h e = support-case (net-case (j .inputs) (j .targets) (length (j .old .gates)) i h) e
 
@@ -310,7 +310,7 @@ module _ (j : Job) (is t : List ℕ) where
   unfolding trees
   number-target-below i h =
       rw (number-target i h)
-      (trees-below (j .targets) 0 (j .inputs + length (gateIndices j 0)) (map (freeNumber j) is) t i h)
+      (trees-below (j .targets) 0 (j .inputs + length (gateIndices j 0)) (map (newFreeNet j) is) t i h)
 
   number-free-below : (k : ℕ) → k < length (j .old .gates) → netAt (led j) (oldNet j k) ≡ 0
       → netAt (newNets j is t) (oldNet j k) < j .inputs + length (gateIndices j 0)
@@ -324,7 +324,7 @@ module _ (j : Job) (is t : List ℕ) where
 
   -- .. which is below the trees' first net
   pub support-below : (i : ℕ) → i < oldNets j → netAt (led j) i ≡ 0
-      → freeNumber j i < j .inputs + length (gateIndices j 0)
+      → newFreeNet j i < j .inputs + length (gateIndices j 0)
   unfolding oldNets
   support-below i h e =
       rw (number-support i h e) (support-below-case (net-case (j .inputs) (j .targets) (length (j .old .gates)) i h) e)
@@ -472,16 +472,16 @@ module _ (j : Job) (is t : List ℕ) (good : netlistsGood j ≡ true) where
 
   module _ (free : (i : ℕ) → Mem i is → (i < oldNets j) × (netAt (led j) i ≡ 0)) where
     -- the trees read nets before their first
-    tree-nets : (r : ℕ) → r < length (map (freeNumber j) is)
-        → getD (map (freeNumber j) is) r 0 < j .inputs + length (gateIndices j 0)
+    tree-nets : (r : ℕ) → r < length (map (newFreeNet j) is)
+        → getD (map (newFreeNet j) is) r 0 < j .inputs + length (gateIndices j 0)
     tree-nets r h =
-        let p = mem-of-map (freeNumber j) is (mem-at (map (freeNumber j) is) r h) in
+        let p = mem-of-map (newFreeNet j) is (mem-at (map (newFreeNet j) is) r h) in
         let q = free (p .0) (p .1) in
         rw (p .2) at (support-below j is t (p .0) (q .0) (q .1))
 
     all-trees-good : gatesGood (j .inputs + length (gateIndices j 0)) (trees j is t .gates) ≡ true
     unfolding trees
-    all-trees-good = trees-good (j .targets) 0 (j .inputs + length (gateIndices j 0)) (map (freeNumber j) is) t tree-nets
+    all-trees-good = trees-good (j .targets) 0 (j .inputs + length (gateIndices j 0)) (map (newFreeNet j) is) t tree-nets
 
     -- the fitted gates are good over the inputs
     pub fitted-good : gatesGood (j .inputs) (fitted j is t .gates) ≡ true

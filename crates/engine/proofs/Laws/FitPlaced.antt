@@ -22,7 +22,7 @@ use Rattle.records.proofs.Laws.Bytes.{and-both, length-upFrom}
 use Rattle.engine.specs.Choice.{keep}
 use Rattle.engine.specs.Inner.{Outputs}
 use Rattle.engine.specs.Walk.{FanoutMarks}
-use Rattle.engine.specs.Fit.{led, gateIndices, rank, Trees, trees, freeNumber, newNets, moved, movedGates, fitted}
+use Rattle.engine.specs.Fit.{led, gateIndices, rank, Trees, trees, newFreeNet, newNets, moved, movedGates, fitted}
 use Rattle.engine.specs.Building.{GateRoom, NetRoom, treesSize}
 use Rattle.engine.specs.Fitting.{marked, movedFrom, oldJob, FreePlaced, numberedTrees, TreesPlaced, RestPlaced, GatesPlaced}
 use Rattle.engine.specs.Fitting.{patchedJob, Fittable, patchedCount}
@@ -181,7 +181,7 @@ module _ (j : Job) (is t ms : List ℕ) (f : FanoutMarks (j .inputs) (j .targets
     trees-same free =
         rw (
           free-count,
-          map-agree (λ o. getD d₁ o 0) (freeNumber j) is
+          map-agree (λ o. getD d₁ o 0) (newFreeNet j) is
               (λ i m. let r = free i m in free-number i (r .0) (r .1) ∙ sym (number-support j is t i (r .0) (r .1))),
         )
 
@@ -227,7 +227,7 @@ module _ (j : Job) (is t ms : List ℕ) (f : FanoutMarks (j .inputs) (j .targets
 
     nets-long : length (trees j is t .nets) ≡ j .targets
     unfolding trees
-    nets-long = length-nets (j .targets) 0 (j .inputs + length (gateIndices j 0)) (map (freeNumber j) is) t
+    nets-long = length-nets (j .targets) 0 (j .inputs + length (gateIndices j 0)) (map (newFreeNet j) is) t
 
     second : d₂ ≡ over (j .inputs) (j .targets) d₁ (trees j is t .nets) nets-long long
     second = rw (trees-same j is t ms f w₁ free) at (w₂ .nets)
@@ -334,8 +334,8 @@ module _ {c : Counts} {ks xs ys : List ℕ} {s : Support} {table : List ℕ} (h 
   unfolding trees
   trees-count =
       let is = take (s .len) (s .nets) in
-      length-trees (c .targets) 0 (s .len) _ (map (freeNumber job) is) table
-      (length-map is (freeNumber job) ∙ length-take-le (s .len) (s .nets) (h .long))
+      length-trees (c .targets) 0 (s .len) _ (map (newFreeNet job) is) table
+      (length-map is (newFreeNet job) ∙ length-take-le (s .len) (s .nets) (h .long))
 
   module _ (ms : List ℕ) (f : FanoutMarks (c .inputs) (c .targets) (gatesFrom (c .old .gates) ks xs ys) ms)
       (fit : patchedCount c s table ≤ 400)

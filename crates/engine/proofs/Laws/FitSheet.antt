@@ -23,7 +23,7 @@ use Rattle.records.specs.declared.sheet.Support.{Support}
 use Rattle.records.specs.declared.sheet.SheetReply.{SheetReply}
 use Rattle.records.proofs.Laws.Accepted.{read-accepts, sheet-accepts}
 use Rattle.engine.specs.Inner.{Outputs, BytesPut}
-use Rattle.engine.specs.Fit.{led, gateIndices, freeNet, freeNumber, trees, gateNumber, newNets, movedGates}
+use Rattle.engine.specs.Fit.{led, gateIndices, newFreeGate, newFreeNet, trees, newGate, newNets, movedGates}
 use Rattle.engine.specs.Fit.{fitted, fittedBytes, fits, longestFit}
 use Rattle.engine.specs.Compare.{pairTests}
 use Rattle.engine.specs.Reply.{fitTests, fitNumber, fitReply, fittedBuffer}
@@ -57,11 +57,11 @@ module _ (bytes d : List ℕ) where
 
 module _ (n m : ℕ) (gs : List Gate) (os : List ℕ) (is t : List ℕ) where
   bare-nets : newNets (oldJob n m gs os) is t ≡ newNets (oldJob n m gs []) is t
-  unfolding newNets trees gateNumber freeNumber freeNet gateIndices led
+  unfolding newNets trees newGate newFreeNet newFreeGate gateIndices led
   bare-nets = refl
 
   bare-gates : fitted (oldJob n m gs os) is t .gates ≡ fitted (oldJob n m gs []) is t .gates
-  unfolding fitted movedGates newNets trees gateNumber freeNumber freeNet gateIndices led
+  unfolding fitted movedGates newNets trees newGate newFreeNet newFreeGate gateIndices led
   bare-gates = refl
 
   bytes-netlist : fittedBytes (oldJob n m gs os) is t
@@ -152,11 +152,11 @@ module _ (c : Counts) (ks xs ys os : List ℕ) (golden : SidePlaces) (nets weigh
   whole = jobFrom c (places (sidePlaces ks xs ys os) golden nets weights)
 
   fits-places : fits (patchedJob c ks xs ys (take (c .old .outputs) os)) is t ≡ fits whole is t
-  unfolding jobFrom netlistFrom fits fitted movedGates newNets trees gateNumber freeNumber freeNet gateIndices led
+  unfolding jobFrom netlistFrom fits fitted movedGates newNets trees newGate newFreeNet newFreeGate gateIndices led
   fits-places = refl
 
   bytes-places : fittedBytes (patchedJob c ks xs ys (take (c .old .outputs) os)) is t ≡ fittedBytes whole is t
-  unfolding jobFrom netlistFrom fittedBytes fitted movedGates newNets trees gateNumber freeNumber freeNet gateIndices led
+  unfolding jobFrom netlistFrom fittedBytes fitted movedGates newNets trees newGate newFreeNet newFreeGate gateIndices led
   bytes-places = refl
 
   free-places : (i : ℕ) → (i < oldNets whole) × (netAt (led whole) i ≡ 0)
@@ -169,11 +169,11 @@ module _ (c : Counts) (old golden : SidePlaces) (nets weights p : List ℕ) wher
   given = jobFrom c (places old golden nets weights)
 
   ungolden-number : sheetFitNumber (ungolden c old nets weights) p ≡ sheetFitNumber given p
-  unfolding jobFrom netlistFrom sheetFitNumber fits fitted movedGates newNets trees gateNumber freeNumber freeNet gateIndices led
+  unfolding jobFrom netlistFrom sheetFitNumber fits fitted movedGates newNets trees newGate newFreeNet newFreeGate gateIndices led
   ungolden-number = refl
 
   ungolden-bytes : (is t : List ℕ) → fittedBytes (ungolden c old nets weights) is t ≡ fittedBytes given is t
-  unfolding jobFrom netlistFrom fittedBytes fitted movedGates newNets trees gateNumber freeNumber freeNet gateIndices led
+  unfolding jobFrom netlistFrom fittedBytes fitted movedGates newNets trees newGate newFreeNet newFreeGate gateIndices led
   ungolden-bytes is t = refl
 
 module _ {c : Counts} {ks xs ys os nets weights : List ℕ} (h : FitReady c (sidePlaces ks xs ys os) nets weights) (p : List ℕ)

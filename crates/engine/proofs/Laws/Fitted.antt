@@ -4,7 +4,7 @@ use Prim.Native.Nat.{ℕ, zero, suc, _+_, _^_, _<_}
 use mathlib.Core.Path.{_≡_, sym, _∙_, ap, subst}
 use mathlib.Core.Logic.{⊎-elim}
 use mathlib.Core.List.{List, [], _∷_, _++_, map, map-map, List·Memᴰ as Mem}
-use mathlib.Core.Bool.{true, _&&_, false≢true}
+use mathlib.Core.Bool.{true, _&&_}
 use native.Mathlib.Nat.{zero-add}
 use native.Mathlib.Omega.{arith}
 use borrow.Author.Tests.{ltb-true, eqb-true}
@@ -22,9 +22,10 @@ use Rattle.records.proofs.Laws.Shape.{length-netsOf}
 use Rattle.records.proofs.Laws.SheetShape.{sheetWhole-facts}
 use Rattle.engine.specs.Eval.{bit, bits, numberOf, oldValues, oldOutputs}
 use Rattle.engine.specs.Support.{reading, drivenBy}
-use Rattle.engine.specs.Fit.{led, gateIndices, rank, freeNumber, trees, newNets, moved, movedGates, fitted}
+use Rattle.engine.specs.Fit.{led, gateIndices, rank, newFreeNet, trees, newNets, moved, movedGates, fitted}
 use Rattle.engine.specs.Claims.{FittedOutputs, FittedGood}
-use Rattle.engine.proofs.Laws.Choice.{map-agree, all-true, or-cases}
+use Rattle.engine.proofs.Laws.Support.{all-nets, candidate-passes}
+use Rattle.engine.proofs.Laws.Choice.{map-agree, all-true}
 use Rattle.engine.proofs.Laws.Eval.{values-bits, bits-bits}
 use Rattle.engine.proofs.Laws.FitGates.{valueOf-local, Consistent, consistent-left, consistent-right, netAt-extended, consistent-extended}
 use Rattle.engine.proofs.Laws.FitTree.{trees-value}
@@ -201,12 +202,12 @@ module _ (j : Job) (is t : List ℕ) (good : netlistsGood j ≡ true)
         (λ i h e. let f : ⊥ = omega (arith, mark-target j i h) in absurd f)
 
   -- the trees read the reading that the input gives
-  fitted-reading : numberOf (map (netAt (fittedValues j is t x)) (map (freeNumber j) is)) ≡ reading j is x
+  fitted-reading : numberOf (map (netAt (fittedValues j is t x)) (map (newFreeNet j) is)) ≡ reading j is x
   unfolding reading
   fitted-reading =
       ap numberOf
-      (map-map (netAt (fittedValues j is t x)) (freeNumber j) is
-      ∙ map-agree (λ i. netAt (fittedValues j is t x) (freeNumber j i)) (netAt (oldValues j x 0)) is
+      (map-map (netAt (fittedValues j is t x)) (newFreeNet j) is
+      ∙ map-agree (λ i. netAt (fittedValues j is t x) (newFreeNet j i)) (netAt (oldValues j x 0)) is
       (λ i m.
       let s = support i m in
       ap (netAt (fittedValues j is t x)) (number-support j is t i (s .0) (s .1)) ∙ free-same 0 i (s .0) (s .1)))
@@ -218,13 +219,13 @@ module _ (j : Job) (is t : List ℕ) (good : netlistsGood j ≡ true)
     unfolding trees drivenBy
     driven-target i h =
         let ws = fittedValues j is t x in
-        let ks = map (freeNumber j) is in
+        let ks = map (newFreeNet j) is in
         ap (netAt ws) (number-target j is t i h)
         ∙ trees-value ws (values-bits (bits (j .inputs) x) (bits-bits (j .inputs) x) (fitted j is t .gates)) (j .targets) 0
         (j .inputs + length (gateIndices j 0))
         ks
         t
-        (entries ∙ ap (λ (n : ℕ). 2 ^ n) (sym (length-map is (freeNumber j))))
+        (entries ∙ ap (λ (n : ℕ). 2 ^ n) (sym (length-map is (newFreeNet j))))
         (fitted-groups .1)
         i
         h
@@ -263,18 +264,6 @@ module _ (j : Job) (is t : List ℕ) where
 
 -- ---- accepted sheets
 
--- a candidate passes the test of candidates
-candidate-good : (j : Job) (cs : List Candidate) → all (λ (c : Candidate). candidateGood j (c .net)) cs ≡ true
-    → (i : ℕ) → isCandidate cs i ≡ true → candidateGood j i ≡ true
-unfolding isCandidate
-candidate-good j [] g i e = absurd (false≢true e)
-candidate-good j (c ∷ cs) g i e =
-    let p = all-cons (λ (d : Candidate). candidateGood j (d .net)) c cs g in
-    ⊎-elim
-    (λ (q : eqb (c .net) i ≡ true). subst (λ (k : ℕ). candidateGood j k ≡ true) (eqb-true (c .net) i q) (p .0))
-    (λ (q : isCandidate cs i ≡ true). candidate-good j cs (p .1) i q)
-    (or-cases (eqb (c .net) i) (isCandidate cs i) e)
-
 -- the support of an accepted sheet is of nets that no target leads to
 pub support-free : (j : Job) → candidatesGood j ≡ true → (p : Patch) → patchGood (j .targets) (j .candidates) p ≡ true
     → (i : ℕ) → Mem i (p .support) → (i < oldNets j) × (netAt (led j) i ≡ 0)
@@ -291,7 +280,10 @@ support-free j g p e i m =
     e
     1 in
     let c =
-    candidate-good j (j .candidates) (and-right a (all (λ (c : Candidate). candidateGood j (c .net)) (j .candidates)) g) i
+    candidate-passes (candidateGood j) (j .candidates)
+    (sym (all-nets (candidateGood j) (j .candidates))
+    ∙ and-right a (all (λ (c : Candidate). candidateGood j (c .net)) (j .candidates)) g)
+    i
     (all-true (isCandidate (j .candidates)) (p .support) q i m) in
     let below = ltb i (oldNets j) in
     let unmarked = eqb (netAt (led j) i) 0 in

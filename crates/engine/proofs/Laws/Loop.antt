@@ -17,7 +17,7 @@ use Rattle.records.specs.Job.{Job}
 use Rattle.records.proofs.Laws.Bytes.{false-of, length-upFrom}
 use Rattle.engine.specs.Choice.{any, keep, first}
 use Rattle.engine.specs.Eval.{allInputs, allVectors, oldOutputs, goldenOutputs}
-use Rattle.engine.specs.Rectify.{rectifies, rectifiable, unlisted, Listed, rounds, vectorLoop}
+use Rattle.engine.specs.Rectify.{rectifies, rectifiable, unrectified, Listed, rounds, vectorLoop}
 use Rattle.engine.proofs.Laws.Choice.{not-both, true-or-false, or-right, any-true, any-of-member, length-keep-le, keep-lt, none-or-some, first-none, mem-below, Least, first-least, first-none-below}
 use Rattle.engine.proofs.Laws.Support.{rectifies-iff-outputs, rectifiable-of}
 
@@ -75,16 +75,16 @@ rectifiable-iff j x = (
 -- ---- a round
 
 module _ (j : Job) (k : ℕ) (vs : List ℕ) where
-  pub rounds-done : first (unlisted j vs) (allInputs j) ≡ none → rounds j (suc k) vs ≡ record { vectors = vs; stuck = none }
+  pub rounds-done : first (unrectified j vs) (allInputs j) ≡ none → rounds j (suc k) vs ≡ record { vectors = vs; stuck = none }
   unfolding rounds
   rounds-done e = rw (e, rounds)
 
-  pub rounds-stuck : (x : ℕ) → first (unlisted j vs) (allInputs j) ≡ some x → first (rectifies j x) (allVectors j) ≡ none
+  pub rounds-stuck : (x : ℕ) → first (unrectified j vs) (allInputs j) ≡ some x → first (rectifies j x) (allVectors j) ≡ none
       → rounds j (suc k) vs ≡ record { vectors = vs; stuck = some x }
   unfolding rounds
   rounds-stuck x e f = rw (e, f, rounds)
 
-  pub rounds-again : (x v : ℕ) → first (unlisted j vs) (allInputs j) ≡ some x
+  pub rounds-again : (x v : ℕ) → first (unrectified j vs) (allInputs j) ≡ some x
       → first (rectifies j x) (allVectors j) ≡ some v → rounds j (suc k) vs ≡ rounds j k (vs ++ (v ∷ []))
   unfolding rounds
   rounds-again x v e f = rw (e, f, rounds)
@@ -102,16 +102,16 @@ listing-start j =
     }
 
 -- the vector that a round appends is new
-pub round-new : (j : Job) (vs : List ℕ) (x v : ℕ) → first (unlisted j vs) (allInputs j) ≡ some x
+pub round-new : (j : Job) (vs : List ℕ) (x v : ℕ) → first (unrectified j vs) (allInputs j) ≡ some x
     → first (rectifies j x) (allVectors j) ≡ some v → Mem v vs → ⊥
-unfolding allInputs allVectors unlisted
+unfolding allInputs allVectors unrectified
 round-new j vs x v e f m =
-    let a = first-least (unlisted j vs) (2 ^ j .inputs) x e in
+    let a = first-least (unrectified j vs) (2 ^ j .inputs) x e in
     let b = first-least (rectifies j x) (2 ^ j .targets) v f in
     not-both (any-of-member (rectifies j x) vs v m (b .holds)) (not-true (any (rectifies j x) vs) (a .holds))
 
 pub listing-round : (j : Job) (vs : List ℕ) (x v : ℕ) → Listing j vs
-    → first (unlisted j vs) (allInputs j) ≡ some x → first (rectifies j x) (allVectors j) ≡ some v
+    → first (unrectified j vs) (allInputs j) ≡ some x → first (rectifies j x) (allVectors j) ≡ some v
     → Listing j (vs ++ (v ∷ []))
 unfolding allVectors
 listing-round j vs x v h e f =
@@ -129,7 +129,7 @@ listing-length j vs h = length-distinct-le (2 ^ j .targets) vs (h .distinct) (h 
 -- how the loop ends: stuck is the smallest input that no listed vector rectifies, and no other vector rectifies it
 pub record Finished (j : Job) (l : Listed) : Type 0 where
   pub listing : Listing j (l .vectors)
-  pub earliest : first (unlisted j (l .vectors)) (allInputs j) ≡ l .stuck
+  pub earliest : first (unrectified j (l .vectors)) (allInputs j) ≡ l .stuck
   pub hopeless : (x : ℕ) → l .stuck ≡ some x → rectifiable j x ≡ false
 
 not-rectifiable : (j : Job) (x : ℕ) → first (rectifies j x) (allVectors j) ≡ none → rectifiable j x ≡ false
@@ -159,7 +159,7 @@ rounds-finished j (suc k) vs h l =
     rw (rounds-again j k vs x (t .0) (s .1) (t .1))
     (rounds-finished j k vs′ (listing-round j vs x (t .0) h (s .1) (t .1)) m))
     (none-or-some (first (rectifies j x) (allVectors j))))
-    (none-or-some (first (unlisted j vs) (allInputs j)))
+    (none-or-some (first (unrectified j vs) (allInputs j)))
 
 pub loop-finished : (j : Job) → Finished j (vectorLoop j)
 unfolding vectorLoop
@@ -177,9 +177,9 @@ pub length-vectors-le : (j : Job) → length (vectorLoop j .vectors) ≤ 2 ^ j .
 length-vectors-le j = listing-length j (vectorLoop j .vectors) (loop-finished j .listing)
 
 module _ (j : Job) where
-  rectifier : (x : ℕ) → unlisted j (vectorLoop j .vectors) x ≡ false
+  rectifier : (x : ℕ) → unrectified j (vectorLoop j .vectors) x ≡ false
       → (v : ℕ) × Mem v (vectorLoop j .vectors) × (rectifies j x v ≡ true)
-  unfolding unlisted
+  unfolding unrectified
   rectifier x u =
       let vs = vectorLoop j .vectors in
       any-true (rectifies j x) vs (not-false (any (rectifies j x) vs) u)
@@ -189,11 +189,11 @@ module _ (j : Job) where
       → (v : ℕ) × Mem v (vectorLoop j .vectors) × (rectifies j x v ≡ true)
   unfolding allInputs
   listed-of-none e x l =
-      rectifier x (first-none-below (unlisted j (vectorLoop j .vectors)) (2 ^ j .inputs) (loop-finished j .earliest ∙ e) x l)
+      rectifier x (first-none-below (unrectified j (vectorLoop j .vectors)) (2 ^ j .inputs) (loop-finished j .earliest ∙ e) x l)
 
-  stuck-least : (x : ℕ) → vectorLoop j .stuck ≡ some x → Least (unlisted j (vectorLoop j .vectors)) (2 ^ j .inputs) x
+  stuck-least : (x : ℕ) → vectorLoop j .stuck ≡ some x → Least (unrectified j (vectorLoop j .vectors)) (2 ^ j .inputs) x
   unfolding allInputs
-  stuck-least x e = first-least (unlisted j (vectorLoop j .vectors)) (2 ^ j .inputs) x (loop-finished j .earliest ∙ e)
+  stuck-least x e = first-least (unrectified j (vectorLoop j .vectors)) (2 ^ j .inputs) x (loop-finished j .earliest ∙ e)
 
   -- where it is stuck at x, each input below x has one
   pub listed-of-some : (x : ℕ) → vectorLoop j .stuck ≡ some x → (y : ℕ) → y < x

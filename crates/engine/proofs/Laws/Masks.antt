@@ -21,8 +21,9 @@ use Rattle.engine.specs.Support.{reading, candidateNets}
 use Rattle.engine.specs.Inner.{outputBits, Outputs, GoldenWords, RectifiesWord}
 use Rattle.engine.specs.Walk.{circuits, Ready, rectifiers, Masks, ReadingWords}
 use Rattle.engine.proofs.Laws.Choice.{map-agree, mem-below}
+use Rattle.engine.proofs.Laws.EvalWords.{length-gates}
 use Rattle.engine.proofs.Laws.Ready.{ready-outputs-equal, ready-golden-outputs, ready-candidates, ready-candidate-count, ready-candidates-below}
-use Rattle.engine.proofs.Laws.Rectify.{outputs-of-words}
+use Rattle.engine.proofs.Laws.Rectify.{picked-bits}
 
 module _ {c : Counts} {old golden : SidePlaces} {nets : List ℕ} (r : Ready c old golden nets) where
   abbrev oldGates : List Gate
@@ -32,12 +33,7 @@ module _ {c : Counts} {old golden : SidePlaces} {nets : List ℕ} (r : Ready c o
   goldenGates = gatesFrom (c .golden .gates) (golden .kinds) (golden .firsts) (golden .seconds)
 
   pub length-golden : length goldenGates ≡ c .golden .gates
-  unfolding gatesFrom
-  length-golden = length-tabulate (c .golden .gates) _
-
-  length-old : length oldGates ≡ c .old .gates
-  unfolding gatesFrom
-  length-old = length-tabulate (c .old .gates) _
+  length-golden = length-gates (c .golden .gates) (golden .kinds) (golden .firsts) (golden .seconds)
 
   -- a vector rectifies an input where the outputs of the places' netlists agree
   rectifies-places : (x v : ℕ)
@@ -104,16 +100,16 @@ module _ {c : Counts} {old golden : SidePlaces} {nets : List ℕ} (r : Ready c o
       ≡ values (bits (c .inputs) (64 * b + i) ++ bits (c .targets) 0) oldGates)
       → take (c .candidates) words ≡ map (λ o. getD ws o 0) (take (c .candidates) nets)
       → ReadingWords (circuits c old golden nets) b words
-  unfolding outputBits
   reading-words b ws words e s i h =
       let j = circuits c old golden nets in
       let vs = values (bits (c .inputs) (64 * b + i) ++ bits (c .targets) 0) oldGates in
       let below = subst (λ (k : ℕ). all (λ o. ltb o (c .inputs + c .targets + k)) (take (c .candidates) nets) ≡ true)
-      (sym length-old) (ready-candidates-below r .below) in
+      (sym (length-gates (c .old .gates) (old .kinds) (old .firsts) (old .seconds))) (ready-candidates-below r .below) in
       ap numberOf
       (ap (λ (k : ℕ). map (bit i) (take k words)) (ready-candidate-count r)
-      ∙ ap (map (bit i)) s
-      ∙ map-map (bit i) (λ o. getD ws o 0) (take (c .candidates) nets)
-      ∙ outputs-of-words i (c .inputs + c .targets + length oldGates) ws vs (take (c .candidates) nets) (e i h) below
+      ∙ picked-bits i (c .inputs + c .targets + length oldGates) ws vs (take (c .candidates) nets) (take (c .candidates) words)
+      (e i h)
+      below
+      s
       ∙ ap (map (netAt vs)) (sym (ready-candidates r)))
       ∙ sym (reading-places (64 * b + i))

@@ -350,10 +350,6 @@ outputs-known a b vs ws xs ys os ps count c d o p k =
     ∙ e .equal
     ∙ sym (d (getD ps i 0) (output-below ps count b p i l) .kept y))
 
-pub length-gatesFrom : (k : ℕ) (ks xs ys : List ℕ) → length (gatesFrom k ks xs ys) ≡ k
-unfolding gatesFrom
-length-gatesFrom k ks xs ys = length-tabulate k (λ i. gateOf (getD ks i 0) (getD xs i 0) (getD ys i 0))
-
 -- both netlists evaluated on a range, and their outputs known and equal
 pub settled-known : (gs hs : List Gate) (os ps : List ℕ) (count n m low prefix j k : ℕ) (d₀ d e₀ e : List ℕ)
     → length gs ≡ j → length hs ≡ k

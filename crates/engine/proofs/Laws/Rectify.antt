@@ -1,7 +1,7 @@
 -- Laws of rectifying words: the outputs in words are those of the definition. Assumes nothing.
 use Prim.Native.Nat.{ℕ, _+_, _-_, _*_, _%_, _^_, _≤_, _<_}
 use mathlib.Core.Path.{_≡_, refl, sym, _∙_, ap}
-use mathlib.Core.List.{List, [], _∷_, _++_, map}
+use mathlib.Core.List.{List, [], _∷_, _++_, map, map-map}
 use native.Mathlib.Nat.{le-trans, one-mul}
 use native.Mathlib.Omega.{arith}
 use borrow.Author.Count.{below-more}
@@ -26,6 +26,13 @@ pub outputs-of-words : (j n : ℕ) (nets vs os : List ℕ) → map (bit j) (take
     → outputBits j nets os ≡ map (netAt vs) os
 unfolding outputBits
 outputs-of-words j n nets vs os e h = sym (ap (λ (l : List ℕ). map (netAt l) os) (sym e) ∙ known-nets j n nets os h)
+
+-- the words of picked nets have in each scenario the bits that the nets have
+pub picked-bits : (j n : ℕ) (nets vs picks words : List ℕ) → map (bit j) (take n nets) ≡ vs
+    → all (λ o. ltb o n) picks ≡ true → words ≡ map (λ o. getD nets o 0) picks → map (bit j) words ≡ map (netAt vs) picks
+unfolding outputBits
+picked-bits j n nets vs picks words e h s =
+    ap (map (bit j)) s ∙ map-map (bit j) (λ o. getD nets o 0) picks ∙ outputs-of-words j n nets vs picks e h
 
 pub not-differs : (xs ys : List ℕ) → 1 - differs xs ys ≡ cond (same xs ys) 1 0
 unfolding differs

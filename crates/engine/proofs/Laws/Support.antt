@@ -4,7 +4,7 @@ use Prim.Native.Nat.{ℕ, _^_, _<_}
 use mathlib.Core.Path.{_≡_, refl, sym, _∙_, ap, subst}
 use mathlib.Core.Logic.{_↔_, ⊎-elim}
 use mathlib.Core.List.{List, [], _∷_, map, List·Memᴰ as Mem, List·Memᴰ·head as here, List·Memᴰ·tail as there, List·Memᴰ·cases-cons as cases-cons, List·Memᴰ·append-cases as append-cases, List·Memᴰ·eq-of-singleton as eq-of-singleton, Memᴰ·append-left as mem-append-left, Memᴰ·map as mem-map, Memᴰ·of-map as mem-of-map}
-use mathlib.Core.Bool.{Bool, true, false}
+use mathlib.Core.Bool.{Bool, true, false, _&&_, false≢true}
 use mathlib.Core.Option.{none, some}
 use native.Mathlib.Omega.{arith}
 use borrow.Author.Tests.{eqb-true, eq-eqb}
@@ -15,13 +15,15 @@ use Rattle.records.specs.Bytes.{upFrom, all}
 use Rattle.records.specs.Netlist.{netAt, fanout}
 use Rattle.records.specs.Job.{Job, Candidate}
 use Rattle.records.specs.Refusal.{oldNets, ascending, candidateGood, candidatesGood}
-use Rattle.records.proofs.Laws.Bytes.{and-right, length-tabulate, getD-tabulate}
+use Rattle.records.specs.Sheet.{isCandidate}
+use Rattle.records.proofs.Laws.Bytes.{and-right, all-cons, length-tabulate, getD-tabulate}
 use Rattle.engine.specs.Choice.{found, orZero}
 use Rattle.engine.specs.Eval.{numberOf, allInputs, allVectors, oldValues, oldOutputs, goldenOutputs}
 use Rattle.engine.specs.Rectify.{rectifies, rectifiable}
-use Rattle.engine.specs.Support.{reading, giving, drivenBy, golden, Carries, shared, sound, tableOf, subsets, candidateNets}
+use Rattle.engine.specs.Support.{reading, giving, drivenBy, equalsGolden, Carries, shared, sound, tableOf, subsets, candidateNets}
+use Rattle.engine.specs.Sets.{RectifiesAll}
 use Rattle.engine.proofs.Laws.Eval.{bits-map, netAt-lt, oldValues-bits, numberOf-lt, numberOf-agree, oldValues-agree}
-use Rattle.engine.proofs.Laws.Choice.{any-of-member, all-iff-below, all-true, all-of-members, all-false, mem-keep, mem-below, first-least, first-none-below, found-some, found-none, found-first, same-iff-equal, map-agree, not-both, true-or-false}
+use Rattle.engine.proofs.Laws.Choice.{any-of-member, all-iff-below, all-true, all-of-members, all-false, mem-keep, mem-below, first-least, first-none-below, found-some, found-none, found-first, same-iff-equal, map-agree, not-both, true-or-false, or-cases}
 
 module _ (j : Job) where
   pub rectifies-iff-outputs : (x v : ℕ) → (rectifies j x v ≡ true) ↔ (oldOutputs j x v ≡ goldenOutputs j x)
@@ -62,12 +64,12 @@ reading-among j is ks s x y e =
 -- ---- golden tables
 
 module _ (j : Job) (is t : List ℕ) where
-  golden-rectifies : (golden j is t ≡ true) ↔ ((x : ℕ) → x < 2 ^ j .inputs → rectifies j x (drivenBy j is t x) ≡ true)
-  unfolding golden
+  golden-rectifies : (equalsGolden j is t ≡ true) ↔ ((x : ℕ) → x < 2 ^ j .inputs → rectifies j x (drivenBy j is t x) ≡ true)
+  unfolding equalsGolden
   golden-rectifies = all-inputs j (λ x. rectifies j x (drivenBy j is t x))
 
   -- a table is golden where the driven old outputs are the golden ones at every input
-  pub golden-iff : (golden j is t ≡ true)
+  pub golden-iff : (equalsGolden j is t ≡ true)
       ↔ ((x : ℕ) → x < 2 ^ j .inputs → oldOutputs j x (drivenBy j is t x) ≡ goldenOutputs j x)
   golden-iff = (
     λ g x h. rectifies-iff-outputs j x (drivenBy j is t x) .0 (golden-rectifies .0 g x h),
@@ -75,7 +77,7 @@ module _ (j : Job) (is t : List ℕ) where
   )
 
   -- .. where it holds, at each reading that some input gives, a vector that rectifies every input giving it
-  pub golden-iff-readings : (golden j is t ≡ true)
+  pub golden-iff-readings : (equalsGolden j is t ≡ true)
       ↔ ((r y : ℕ) → y < 2 ^ j .inputs → reading j is y ≡ r
       → (x : ℕ) → x < 2 ^ j .inputs → reading j is x ≡ r → rectifies j x (getD t r 0) ≡ true)
   unfolding drivenBy
@@ -86,10 +88,7 @@ module _ (j : Job) (is t : List ℕ) where
 
 -- ---- shared vectors
 
--- vector v rectifies every input that gives reading r; some input giving it is not rectified by v
-abbrev pub RectifiesAll : Job → List ℕ → ℕ → ℕ → Type 0
-RectifiesAll j is r v = (x : ℕ) → x < 2 ^ j .inputs → reading j is x ≡ r → rectifies j x v ≡ true
-
+-- some input that gives reading r is not rectified by v
 abbrev pub FailsSome : Job → List ℕ → ℕ → ℕ → Type 0
 FailsSome j is r v = (x : ℕ) × (x < 2 ^ j .inputs) × (reading j is x ≡ r) × (rectifies j x v ≡ false)
 
@@ -165,7 +164,7 @@ module _ (j : Job) (is : List ℕ) where
       let o = shared j is r in
       rw (getD-tableOf r h) (shared-least j is r (orZero o) (found-some o (sound-iff-found .0 s r h)))
 
-  pub golden-of-sound : sound j is ≡ true → golden j is (tableOf j is) ≡ true
+  pub golden-of-sound : sound j is ≡ true → equalsGolden j is (tableOf j is) ≡ true
   golden-of-sound s =
       golden-iff-readings j is (tableOf j is) .1
       (λ r y l q. tableOf-least s r (subst (λ (k : ℕ). k < 2 ^ length is) q (reading-lt j is y)) .rectifies)
@@ -266,6 +265,25 @@ module _ (j : Job) (h : candidatesGood j ≡ true) where
       ap numberOf
       (map-agree (netAt (oldValues j x v)) (netAt (oldValues j x 0)) is
       (λ i m. candidate-value x v i (subsets-among (candidateNets j) is s i m)))
+
+-- a test of all candidates' nets
+pub all-nets : (p : ℕ → Bool) (cs : List Candidate)
+    → all (λ (c : Candidate). p (c .net)) cs ≡ all p (map (λ (c : Candidate). c .net) cs)
+unfolding all
+all-nets p [] = refl
+all-nets p (c ∷ cs) = ap (λ (b : Bool). p (c .net) && b) (all-nets p cs)
+
+-- .. is one of each net that is a candidate
+pub candidate-passes : (p : ℕ → Bool) (cs : List Candidate) → all p (map (λ (c : Candidate). c .net) cs) ≡ true → (i : ℕ)
+    → isCandidate cs i ≡ true → p i ≡ true
+unfolding isCandidate
+candidate-passes p [] h i e = absurd (false≢true e)
+candidate-passes p (c ∷ cs) h i e =
+    let a = all-cons p (c .net) (map (λ (d : Candidate). d .net) cs) h in
+    ⊎-elim
+    (λ (t : eqb (c .net) i ≡ true). subst (λ (k : ℕ). p k ≡ true) (eqb-true (c .net) i t) (a .0))
+    (λ (t : isCandidate cs i ≡ true). candidate-passes p cs (a .1) i t)
+    (or-cases (eqb (c .net) i) (isCandidate cs i) e)
 
 -- where the nets carry a table, every input is rectifiable
 pub rectifiable-of-carries : (j : Job) (is : List ℕ) → Carries j is → (x : ℕ) → x < 2 ^ j .inputs → rectifiable j x ≡ true

@@ -14,7 +14,7 @@ use Rattle.records.specs.Bytes.{upFrom}
 use Rattle.records.specs.Job.{Job}
 use Rattle.engine.specs.Choice.{any, first}
 use Rattle.engine.specs.Eval.{allInputs, allVectors}
-use Rattle.engine.specs.Rectify.{rectifies, unlisted, Listed, rounds, vectorLoop}
+use Rattle.engine.specs.Rectify.{rectifies, unrectified, Listed, rounds, vectorLoop}
 use Rattle.engine.specs.Walk.{rectifiers, listStep, listedFrom, startList}
 use Rattle.engine.proofs.Laws.Choice.{not-both, true-or-false, none-or-some, any-true, any-of-member, Least, first-least, first-none-below}
 use Rattle.engine.proofs.Laws.Loop.{rounds-done, rounds-stuck, rounds-again, Listing, listing-start, listing-round, listing-length}
@@ -101,10 +101,10 @@ module _ (j : Job) (t : j .targets ≤ 4) where
 
     module _ (a : any (rectifies j y) (l .vectors) ≡ false) where
       -- the loop's next round takes this input
-      next-input : first (unlisted j (l .vectors)) (allInputs j) ≡ some y
-      unfolding allInputs unlisted
+      next-input : first (unrectified j (l .vectors)) (allInputs j) ≡ some y
+      unfolding allInputs unrectified
       next-input =
-          first-of-least (unlisted j (l .vectors)) (2 ^ j .inputs) y
+          first-of-least (unrectified j (l .vectors)) (2 ^ j .inputs) y
           (record { below = b; holds = ap not a; smaller = λ z u. ap not (h .seen z u) })
 
       ended : first (rectifies j y) (allVectors j) ≡ none → Ended j (listStep l (rectifiers j y) y)
@@ -157,12 +157,12 @@ module _ (j : Job) (t : j .targets ≤ 4) where
         (true-or-false (any (rectifies j y) (l .vectors)))
 
   walk-end : (l : Listed) → Going j (2 ^ j .inputs) l → l ≡ vectorLoop j
-  unfolding allInputs unlisted
+  unfolding allInputs unrectified
   walk-end l h =
       listed-eta l none (h .going)
       ∙ sym
       (rounds-done j (h .left) (l .vectors)
-      (first-of-none (unlisted j (l .vectors)) (2 ^ j .inputs) (λ y u. ap not (h .seen y u))))
+      (first-of-none (unrectified j (l .vectors)) (2 ^ j .inputs) (λ y u. ap not (h .seen y u))))
       ∙ h .rest
 
   -- the list after all inputs is the loop's

@@ -17,11 +17,12 @@ use Rattle.records.proofs.Laws.Bytes.{length-tabulate}
 use Rattle.records.proofs.Laws.Job.{tabulate-getD}
 use Rattle.engine.specs.Choice.{first}
 use Rattle.engine.specs.Eval.{bit, allInputs, allVectors, oldValues, oldOutputs, goldenOutputs}
-use Rattle.engine.specs.Rectify.{rectifies, unlisted, Listed, rounds, vectorLoop}
+use Rattle.engine.specs.Rectify.{rectifies, unrectified, Listed, rounds, vectorLoop}
 use Rattle.engine.specs.Support.{reading, candidateNets}
 use Rattle.engine.specs.Walk.{circuits}
 use Rattle.engine.specs.Sets.{RectifiesAll, ReadingSets}
 use Rattle.engine.proofs.Laws.Choice.{none-or-some}
+use Rattle.engine.proofs.Laws.Support.{all-nets}
 use Rattle.engine.proofs.Laws.Loop.{rounds-done, rounds-stuck, rounds-again}
 
 module _ (c : Counts) (old golden : SidePlaces) (nets weights : List ℕ) where
@@ -31,9 +32,9 @@ module _ (c : Counts) (old golden : SidePlaces) (nets weights : List ℕ) where
   abbrev bare : Job
   bare = circuits c old golden nets
 
-  unlisted-weights : (vs : List ℕ) → first (unlisted priced vs) (allInputs priced) ≡ first (unlisted bare vs) (allInputs bare)
-  unfolding unlisted allInputs rectifies oldOutputs goldenOutputs oldValues circuits jobFrom
-  unlisted-weights vs = refl
+  unrectified-weights : (vs : List ℕ) → first (unrectified priced vs) (allInputs priced) ≡ first (unrectified bare vs) (allInputs bare)
+  unfolding unrectified allInputs rectifies oldOutputs goldenOutputs oldValues circuits jobFrom
+  unrectified-weights vs = refl
 
   rectifying-weights : (x : ℕ) → first (rectifies priced x) (allVectors priced) ≡ first (rectifies bare x) (allVectors bare)
   unfolding allVectors rectifies oldOutputs goldenOutputs oldValues circuits jobFrom
@@ -44,19 +45,19 @@ module _ (c : Counts) (old golden : SidePlaces) (nets weights : List ℕ) where
   rounds-weights zero vs = refl
   rounds-weights (suc k) vs =
       ⊎-elim
-      (λ e. rounds-done priced k vs (unlisted-weights vs ∙ e) ∙ sym (rounds-done bare k vs e))
+      (λ e. rounds-done priced k vs (unrectified-weights vs ∙ e) ∙ sym (rounds-done bare k vs e))
       (λ s.
       let x = s .0 in
       ⊎-elim
       (λ n.
-      rounds-stuck priced k vs x (unlisted-weights vs ∙ s .1) (rectifying-weights x ∙ n)
+      rounds-stuck priced k vs x (unrectified-weights vs ∙ s .1) (rectifying-weights x ∙ n)
       ∙ sym (rounds-stuck bare k vs x (s .1) n))
       (λ t.
-      rounds-again priced k vs x (t .0) (unlisted-weights vs ∙ s .1) (rectifying-weights x ∙ t .1)
+      rounds-again priced k vs x (t .0) (unrectified-weights vs ∙ s .1) (rectifying-weights x ∙ t .1)
       ∙ rounds-weights k (vs ++ (t .0 ∷ []))
       ∙ sym (rounds-again bare k vs x (t .0) (s .1) (t .1)))
       (none-or-some (first (rectifies bare x) (allVectors bare))))
-      (none-or-some (first (unlisted bare vs) (allInputs bare)))
+      (none-or-some (first (unrectified bare vs) (allInputs bare)))
 
   targets-weights : priced .targets ≡ bare .targets
   unfolding circuits jobFrom
@@ -97,16 +98,10 @@ module _ (c : Counts) (old golden : SidePlaces) (nets weights : List ℕ) where
 
   -- ---- good parts
 
-  all-nets : (j : Job) (cs : List Candidate)
-      → all (λ (k : Candidate). candidateGood j (k .net)) cs ≡ all (candidateGood j) (map (λ (k : Candidate). k .net) cs)
-  unfolding all
-  all-nets j [] = refl
-  all-nets j (k ∷ cs) = ap (λ (b : Bool). candidateGood j (k .net) && b) (all-nets j cs)
-
   candidates-good : (j : Job)
       → candidatesGood j ≡ (ascending (candidateNets j) && all (candidateGood j) (candidateNets j))
   unfolding candidatesGood candidateNets
-  candidates-good j = ap (λ (b : Bool). ascending (candidateNets j) && b) (all-nets j (j .candidates))
+  candidates-good j = ap (λ (b : Bool). ascending (candidateNets j) && b) (all-nets (candidateGood j) (j .candidates))
 
   candidate-good-weights : (is : List ℕ) → all (candidateGood priced) is ≡ all (candidateGood bare) is
   unfolding candidateGood oldNets circuits jobFrom

@@ -4,7 +4,8 @@ use mathlib.Core.Path.{_∙_, ap}
 use borrow.Author.Needs.{needs}
 use denote.Ref.{now}
 use Rattle.engine.specs.Driven.{sheetComparison}
-use Rattle.engine.proofs.Laws.Compare.{emptyPlaces, declined-job, accepted-job, compared-job}
+use Rattle.engine.proofs.Laws.Decide.{lentPlaces}
+use Rattle.engine.proofs.Laws.Compare.{declined-job, accepted-job, compared-job}
 use Rattle.engine.proofs.Laws.Read.{read-job}
 use Rattle.engine.proofs.comparing.compare.Statement.{statement}
 use Rattle.engine.proofs.comparing.compare.Tie as tie
@@ -85,7 +86,7 @@ compare-sheet-requires c κs =
     let a = u .before .before .before .before .before .before .before .before .before .before .before .before .before .args in
     let e = u .read .ensures in
     let z = accepted-job (now (a .job)) (e .0) (v .if1 .left) in
-    let r = read-job emptyPlaces (now (a .job)) (e .0) (e .1) z in
+    let r = read-job lentPlaces (now (a .job)) (e .0) (e .1) z in
     (r .ready, r .weights)
 
 returns-2 : tie.Need-returns-2
@@ -96,7 +97,7 @@ returns-2 c =
     let e = u .read .ensures in
     let y = v .if1 .left in
     let z = accepted-job (now (a .job)) (e .0) y in
-    let r = read-job emptyPlaces (now (a .job)) (e .0) (e .1) z in
+    let r = read-job lentPlaces (now (a .job)) (e .0) (e .1) z in
     c .compare-sheet .ensures
     ∙ ap (λ j. sheetComparison j (now (a .sheet))) (r .job)
     ∙ compared-job (now (a .job)) (e .0) (now (a .sheet)) y

@@ -24,16 +24,16 @@ returns-2 c =
     let a = b .args in
     step-listed (a .v) (a .set) (a .input) (b .pre .0) (sym (c .before .rectifies-any .ensures) ∙ c .if2 .taken)
 
-unlisted : (c : tie.Else2) → let a = c .before .before .before .before .args in
+unrectified : (c : tie.Else2) → let a = c .before .before .before .before .args in
     any (inSet (a .set)) (take (a .v .len) (a .v .list)) ≡ false
-unlisted c = sym (c .before .rectifies-any .ensures) ∙ c .if2 .left
+unrectified c = sym (c .before .rectifies-any .ensures) ∙ c .if2 .left
 
 returns-3 : tie.Need-returns-3
 returns-3 c =
     let b = c .before .before .before .before .before in
     let a = b .args in
     step-none (a .v) (a .set) (a .input) (b .pre .0) (c .before .before .before .before .if1 .left)
-    (unlisted (c .before))
+    (unrectified (c .before))
     (c .if3 .taken)
 
 returns-4 : tie.Need-returns-4
@@ -41,7 +41,7 @@ returns-4 c =
     let t = c .before .before .before in
     let b = t .before .before .before .before in
     let a = b .args in
-    step-full (a .v) (a .set) (a .input) (b .pre .0) (t .before .before .before .if1 .left) (unlisted t) (b .pre .1)
+    step-full (a .v) (a .set) (a .input) (b .pre .0) (t .before .before .before .if1 .left) (unrectified t) (b .pre .1)
     (c .before .before .if3 .left)
     (places (a .v .list) 16 (b .good .0 .1 .1 .0 .1 .0 .1))
     (c .if4 .taken)
@@ -60,7 +60,7 @@ returns-5 c =
     let t = e .before .before .before in
     let b = t .before .before .before .before in
     let a = b .args in
-    step-append (a .v) (a .set) (a .input) (b .pre .0) (t .before .before .before .if1 .left) (unlisted t) (b .pre .1)
+    step-append (a .v) (a .set) (a .input) (b .pre .0) (t .before .before .before .if1 .left) (unrectified t) (b .pre .1)
     (e .before .before .if3 .left)
     (c .append .result)
     (e .if4 .left)

@@ -3,7 +3,8 @@
 use native.Mathlib.Omega.{arith}
 use borrow.Author.Needs.{needs}
 use Rattle.engine.proofs.Laws.Rectify.{outputs-more}
-use Rattle.engine.proofs.Laws.Partial.{evaluable-zero, length-gatesFrom, settled-known}
+use Rattle.engine.proofs.Laws.EvalWords.{length-gates}
+use Rattle.engine.proofs.Laws.Partial.{evaluable-zero, settled-known}
 use Rattle.engine.proofs.partial.settled.Statement.{statement}
 use Rattle.engine.proofs.partial.settled.Tie as tie
 
@@ -40,7 +41,7 @@ returns c e =
     let d = c .before .before .before .before .before .before .before in
     let s = d .before .before .before .before .before .before .before .before .before .before in
     let a = s .args in
-    settled-known _ _ _ _ _ _ _ _ _ _ _ _ _ _ _ (length-gatesFrom (a .gates) _ _ _) (length-gatesFrom (a .golden-gates) _ _ _)
+    settled-known _ _ _ _ _ _ _ _ _ _ _ _ _ _ _ (length-gates (a .gates) _ _ _) (length-gates (a .golden-gates) _ _ _)
     (d .eval-range .ensures)
     (c .before .before .before .before .eval-range2 .ensures)
     (s .pre .1 .1 .1 .0)
