@@ -1,5 +1,5 @@
 -- What is promised of the engine beyond the contracts of its functions: the request's demands 1 to 3, of the definitions and of
--- what decide and compare reply. proofs/Theorems.antt and proofs/Replies.antt prove each. Assumes nothing.
+-- what decide, compare and fit reply. proofs/Theorems.antt, Replies.antt and FitReplies.antt prove each. Assumes nothing.
 --
 --   In x xs                 x is an element of xs
 --   Rectifiable             an input is fixable exactly when some vector makes the old outputs the golden ones

@@ -24,7 +24,7 @@ use Rattle.records.proofs.Laws.Field.{skip, positionOf, skip-drop, bodyLength-d
 use Rattle.records.proofs.Laws.Counts.{countsWithin-facts, countsWithin-countsOf}
 use Rattle.records.proofs.Laws.Shape.{length-netsOf}
 use Rattle.records.proofs.Laws.Sheet.{word-lt, net-at}
-use Rattle.records.proofs.Laws.RoundTrip.{below-take, below-drop}
+use Rattle.records.proofs.Laws.RoundTrip.{body-field, rest-field, fits-field, below-take, below-drop}
 use Rattle.records.proofs.Laws.Job.{placed-then, flat-append, flat-snoc, length-flat, length-bytePair, length-field}
 use Rattle.engine.specs.Choice.{same}
 use Rattle.engine.specs.Rectify.{vectorLoop}
@@ -529,29 +529,17 @@ module _ (s : List ℕ) where
 
 -- a field at the front
 module _ (t : ℕ) (xs r : List ℕ) where
-  field-bodyLength : bodyLength (field t xs ++ r) ≡ length xs
-  unfolding bodyLength field bytePair word
-  field-bodyLength = div-add-mod (length xs) 256
-
-  field-rest : rest (field t xs ++ r) ≡ r
-  unfolding rest
-  field-rest = rw field-bodyLength (drop-at (field t xs) r (3 + length xs) (length-field t xs))
-
   field-nth : nth 0 (field t xs ++ r) ≡ xs
-  unfolding nth body field bytePair
-  field-nth = rw field-bodyLength (take-append-seam xs r)
+  unfolding nth
+  field-nth = body-field t xs r
 
   field-nth-suc : (k : ℕ) → nth (suc k) (field t xs ++ r) ≡ nth k r
   unfolding nth
-  field-nth-suc k = ap (nth k) field-rest
+  field-nth-suc k = ap (nth k) (rest-field t xs r)
 
   field-whole : (ts : List ℕ) → whole ts r ≡ true → whole (t ∷ ts) (field t xs ++ r) ≡ true
-  unfolding whole bodyLength field
-  field-whole ts w =
-      let e : word (field t xs ++ r) 1 ≡ length xs = field-bodyLength in
-      let f : fits t (field t xs ++ r) ≡ true =
-      fits-whole (field t xs ++ r) 0 t refl (omega (arith, length-append (field t xs) r, length-field t xs)) in
-      rw (f, field-rest) w
+  unfolding whole
+  field-whole ts w = rw (fits-field t xs r, rest-field t xs r) w
 
 field-last : (t : ℕ) (xs : List ℕ) → (whole (t ∷ []) (field t xs) ≡ true) × (nth 0 (field t xs) ≡ xs)
 unfolding whole

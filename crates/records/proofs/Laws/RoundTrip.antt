@@ -199,21 +199,21 @@ joined t [] = []
 joined t (xs ∷ xss) = field t xs ++ joined (suc t) xss
 
 module _ (t : ℕ) (xs r : List ℕ) where
-  bodyLength-field : bodyLength (field t xs ++ r) ≡ length xs
+  pub bodyLength-field : bodyLength (field t xs ++ r) ≡ length xs
   unfolding bodyLength field bytePair word
   bodyLength-field = div-add-mod (length xs) 256
 
-  fits-field : fits t (field t xs ++ r) ≡ true
+  pub fits-field : fits t (field t xs ++ r) ≡ true
   unfolding field bodyLength
   fits-field =
       let e : word (field t xs ++ r) 1 ≡ length xs = bodyLength-field in
       fits-whole (field t xs ++ r) 0 t refl (omega (arith, length-append (field t xs) r, length-field t xs))
 
-  body-field : body (field t xs ++ r) ≡ xs
+  pub body-field : body (field t xs ++ r) ≡ xs
   unfolding body field bytePair
   body-field = rw bodyLength-field (take-append-seam xs r)
 
-  rest-field : rest (field t xs ++ r) ≡ r
+  pub rest-field : rest (field t xs ++ r) ≡ r
   unfolding rest
   rest-field = rw bodyLength-field (drop-at (field t xs) r (3 + length xs) (length-field t xs))
 
