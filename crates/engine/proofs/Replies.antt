@@ -16,7 +16,8 @@ use Rattle.records.specs.Refusal.{Test, firstFailing, jobTests, partTests, jobR
 use Rattle.records.specs.Sheet.{Patch, quad, patchOf, sheetTests}
 use Rattle.records.specs.Claims.{PartsGood}
 use Rattle.records.proofs.Laws.Bytes.{take-placed}
-use Rattle.records.proofs.Laws.Accepted.{passes-of-none, none-of-passes, read-accepts}
+use Rattle.records.proofs.Laws.Accepted.{passes-of-none, none-of-passes}
+use Rattle.records.proofs.Laws.ReadColumns.{columns-accepts}
 use Rattle.records.proofs.Laws.RoundTrip.{joined, nth-joined, netsOf-flat}
 use Rattle.engine.specs.Rectify.{rectifies, vectorLoop}
 use Rattle.engine.specs.Choice.{first}
@@ -51,9 +52,9 @@ pub decide-accepts : DecideAccepts
 decide-accepts d s = (
   λ e.
       let l = long-of-accepted d s e in
-      let u = read-accepts lentPlaces s .0 (lent-refusal s ∙ sym (number-long d s l) ∙ e) in
+      let u = columns-accepts lentPlaces s .0 (lent-refusal s ∙ sym (number-long d s l) ∙ e) in
       (l, u .1, u .2),
-  λ h. number-long d s (h .0) ∙ sym (lent-refusal s) ∙ read-accepts lentPlaces s .1 (lent-roomy, h .1, h .2),
+  λ h. number-long d s (h .0) ∙ sym (lent-refusal s) ∙ columns-accepts lentPlaces s .1 (lent-roomy, h .1, h .2),
 )
 
 pub decide-refuses : DecideRefuses

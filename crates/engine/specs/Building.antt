@@ -18,7 +18,7 @@ use lib.Dec.{eqb}
 use lib.ListN.{length, take, drop}
 use Rattle.records.specs.Bytes.{all}
 use Rattle.records.specs.Gate.{Gate, gateOf}
-use Rattle.records.specs.Service.{gatesFrom}
+use Rattle.records.specs.Columns.{gatesFrom}
 use Rattle.engine.specs.Choice.{same}
 use Rattle.engine.specs.Tree.{column, treeSize}
 use Rattle.engine.specs.Fit.{Trees, treesFrom}

@@ -17,7 +17,7 @@ use Rattle.records.specs.Netlist.{netAt, values}
 use Rattle.records.specs.Job.{Job}
 use Rattle.records.specs.Refusal.{firstFailing}
 use Rattle.records.specs.Sheet.{patchOf, sheetTests}
-use Rattle.records.specs.Service.{SidePlaces, gatesFrom}
+use Rattle.records.specs.Columns.{SideColumns, gatesFrom}
 use Rattle.records.specs.declared.job.Counts.{Counts}
 use Rattle.records.specs.declared.sheet.Support.{Support}
 use Rattle.engine.specs.Eval.{bit, bits, numberOf}
@@ -33,7 +33,7 @@ use Rattle.engine.specs.declared.comparing.CompareReply.{CompareReply}
 unfoldable pub vectorAt : List Gate → ℕ → ℕ → List ℕ → List ℕ → ℕ → ℕ
 vectorAt gs n m is t x = getD t (numberOf (map (netAt (values (bits n x ++ bits m 0) gs)) is)) 0
 
-pub record Drivable (c : Counts) (old golden : SidePlaces) (marks : List ℕ) (s : Support) (table : List ℕ) : Type 0 where
+pub record Drivable (c : Counts) (old golden : SideColumns) (marks : List ℕ) (s : Support) (table : List ℕ) : Type 0 where
   pub candidates : List ℕ
   pub ready : Ready c old golden candidates
   pub fanout : FanoutMarks (c .inputs) (c .targets) (gatesFrom (c .old .gates) (old .kinds) (old .firsts) (old .seconds)) marks

@@ -23,7 +23,7 @@ use Rattle.records.specs.Netlist.{netAt}
 use Rattle.records.specs.Job.{Job, gateBytes}
 use Rattle.records.specs.Refusal.{firstFailing, oldNets}
 use Rattle.records.specs.Sheet.{patchOf, sheetTests}
-use Rattle.records.specs.Service.{SidePlaces, sidePlaces, places, gatesFrom, jobFrom}
+use Rattle.records.specs.Columns.{SideColumns, sideColumns, columns, gatesFrom, columnsJob}
 use Rattle.records.specs.Claims.{PartsGood}
 use Rattle.records.specs.Inner.{Within}
 use Rattle.records.specs.declared.job.Counts.{Counts}
@@ -134,12 +134,12 @@ sheetFitNumber j p =
     ++ (record { number = 9; passes = fits j (patch .support) (patch .table) } ∷ []))
 
 -- the job in places whose golden netlist, which fit does not read, is left out
-abbrev pub ungolden : Counts → SidePlaces → List ℕ → List ℕ → Job
-ungolden c old nets weights = jobFrom c (places old (sidePlaces [] [] [] []) nets weights)
+abbrev pub ungolden : Counts → SideColumns → List ℕ → List ℕ → Job
+ungolden c old nets weights = columnsJob c (columns old (sideColumns [] [] [] []) nets weights)
 
 -- the places hold the parts of a good job, with some golden netlist
-pub record FitReady (c : Counts) (old : SidePlaces) (nets weights : List ℕ) : Type 0 where
-  pub golden : SidePlaces
+pub record FitReady (c : Counts) (old : SideColumns) (nets weights : List ℕ) : Type 0 where
+  pub golden : SideColumns
   pub ready : Ready c old golden nets
   pub weighted : c .candidates ≤ length weights
-  pub good : PartsGood (jobFrom c (places old golden nets weights))
+  pub good : PartsGood (columnsJob c (columns old golden nets weights))

@@ -19,7 +19,7 @@ use Rattle.records.specs.Gate.{Gate}
 use Rattle.records.specs.Netlist
 use Rattle.records.specs.Netlist.{netAt, values}
 use Rattle.records.specs.Refusal.{gatesGood}
-use Rattle.records.specs.Service.{gatesFrom}
+use Rattle.records.specs.Columns.{gatesFrom}
 use Rattle.engine.specs.Choice.{same}
 use Rattle.engine.specs.Eval.{bit, bits, numberOf}
 use Rattle.engine.specs.Verdict.{fourBytes}

@@ -30,7 +30,7 @@ use Rattle.records.specs.Bytes.{upFrom}
 use Rattle.records.specs.Gate.{Gate}
 use Rattle.records.specs.Netlist.{fanout}
 use Rattle.records.specs.Job.{Job}
-use Rattle.records.specs.Service.{SidePlaces, places, sideHeld, jobFrom}
+use Rattle.records.specs.Columns.{SideColumns, columns, sideColumnsHeld, columnsJob}
 use Rattle.records.specs.Claims.{PartsGood}
 use Rattle.records.specs.declared.job.Counts.{Counts}
 use Rattle.engine.specs.Choice.{any, first}
@@ -39,12 +39,12 @@ use Rattle.engine.specs.Rectify.{rectifies, Listed}
 use Rattle.engine.specs.Support.{reading, candidateNets}
 use Rattle.engine.specs.declared.list.Vectors.{Vectors}
 
-unfoldable pub circuits : Counts → SidePlaces → SidePlaces → List ℕ → Job
-circuits c old golden nets = jobFrom c (places old golden nets [])
+unfoldable pub circuits : Counts → SideColumns → SideColumns → List ℕ → Job
+circuits c old golden nets = columnsJob c (columns old golden nets [])
 
-pub record Ready (c : Counts) (old golden : SidePlaces) (nets : List ℕ) : Type 0 where
-  pub old-held : sideHeld (c .old) old ≡ true
-  pub golden-held : sideHeld (c .golden) golden ≡ true
+pub record Ready (c : Counts) (old golden : SideColumns) (nets : List ℕ) : Type 0 where
+  pub old-held : sideColumnsHeld (c .old) old ≡ true
+  pub golden-held : sideColumnsHeld (c .golden) golden ≡ true
   pub nets-held : c .candidates ≤ length nets
   pub good : PartsGood (circuits c old golden nets)
 

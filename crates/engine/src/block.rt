@@ -3,7 +3,7 @@ ghost use mathlib.Core.Path.{_≡_};
 ghost use Prim.Native.Nat.{ℕ, _+_, _*_, _^_, _≤_, _<_};
 ghost use lib.ListN.{length, getD};
 ghost use Rattle.engine.specs.Eval.{bit};
-ghost use Rattle.records.specs.Service.{gatesFrom};
+ghost use Rattle.records.specs.Columns.{gatesFrom};
 ghost use Rattle.engine.specs.Inner.{Evaluable, Loaded, BlockValues, tableVector};
 use super::list::gather;
 use super::word::eval_words;

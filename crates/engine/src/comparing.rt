@@ -3,7 +3,7 @@ ghost use mathlib.Core.Path.{_≡_};
 ghost use mathlib.Core.List.{[]};
 ghost use Prim.Native.Nat.{_+_, _*_, _^_, _≤_, _<_};
 ghost use lib.ListN.{length, take};
-ghost use Rattle.records.specs.Service.{sidePlaces, places, gatesFrom, jobFrom};
+ghost use Rattle.records.specs.Columns.{sideColumns, columns, gatesFrom, columnsJob};
 ghost use Rattle.engine.specs.Inner.{Evaluable, Outputs, BlockValues};
 ghost use Rattle.engine.specs.Compare.{difference};
 ghost use Rattle.engine.specs.Reply.{comparisonOf, compareReply};
@@ -18,7 +18,7 @@ use super::word::differ_word;
 use super::word::select_words;
 use records::Counts;
 use records::Support;
-use records::read;
+use records::read_columns;
 use records::read_sheet;
 
 pub struct DifferingInput {
@@ -88,14 +88,14 @@ fn driven_word(
     b: usize,
 ) -> u64
     requires { ⌜ Drivable counts
-        (sidePlaces (now kinds) (now firsts) (now seconds) (now outputs))
-        (sidePlaces (now «golden_kinds») (now «golden_firsts») (now «golden_seconds») (now «golden_outputs»))
+        (sideColumns (now kinds) (now firsts) (now seconds) (now outputs))
+        (sideColumns (now «golden_kinds») (now «golden_firsts») (now «golden_seconds») (now «golden_outputs»))
         (now marks) support (now table) ⌝ }
     ensures { λ r. ⌜ DifferingBits
         (differing
         (circuits counts
-        (sidePlaces (now (kinds .entry)) (now (firsts .entry)) (now (seconds .entry)) (now (outputs .entry)))
-        (sidePlaces (now («golden_kinds» .entry)) (now («golden_firsts» .entry)) (now («golden_seconds» .entry))
+        (sideColumns (now (kinds .entry)) (now (firsts .entry)) (now (seconds .entry)) (now (outputs .entry)))
+        (sideColumns (now («golden_kinds» .entry)) (now («golden_firsts» .entry)) (now («golden_seconds» .entry))
         (now («golden_outputs» .entry)))
         [])
         (take (support .len) (support .nets)) (now (table .entry)))
@@ -171,13 +171,13 @@ fn first_difference(
     marks: &[u8],
 ) -> Comparison
     requires { ⌜ Drivable counts
-        (sidePlaces (now kinds) (now firsts) (now seconds) (now outputs))
-        (sidePlaces (now «golden_kinds») (now «golden_firsts») (now «golden_seconds») (now «golden_outputs»))
+        (sideColumns (now kinds) (now firsts) (now seconds) (now outputs))
+        (sideColumns (now «golden_kinds») (now «golden_firsts») (now «golden_seconds») (now «golden_outputs»))
         (now marks) support (now table) ⌝ }
     ensures { λ r. ⌜ r ≡ comparisonOf (difference
         (circuits counts
-        (sidePlaces (now (kinds .entry)) (now (firsts .entry)) (now (seconds .entry)) (now (outputs .entry)))
-        (sidePlaces (now («golden_kinds» .entry)) (now («golden_firsts» .entry)) (now («golden_seconds» .entry))
+        (sideColumns (now (kinds .entry)) (now (firsts .entry)) (now (seconds .entry)) (now (outputs .entry)))
+        (sideColumns (now («golden_kinds» .entry)) (now («golden_firsts» .entry)) (now («golden_seconds» .entry))
         (now («golden_outputs» .entry)))
         [])
         (take (support .len) (support .nets)) (now (table .entry))) ⌝ }
@@ -229,14 +229,14 @@ fn compare_sheet(
     sheet: &[u8],
 ) -> CompareReply
     requires { ⌜ Ready counts
-        (sidePlaces (now kinds) (now firsts) (now seconds) (now outputs))
-        (sidePlaces (now «golden_kinds») (now «golden_firsts») (now «golden_seconds») (now «golden_outputs»)) (now nets) ⌝ }
+        (sideColumns (now kinds) (now firsts) (now seconds) (now outputs))
+        (sideColumns (now «golden_kinds») (now «golden_firsts») (now «golden_seconds») (now «golden_outputs»)) (now nets) ⌝ }
     requires { ⌜ counts .candidates ≤ length (now weights) ⌝ }
     ensures { λ r. ⌜ r ≡ sheetComparison
-        (jobFrom counts
-        (places
-        (sidePlaces (now (kinds .entry)) (now (firsts .entry)) (now (seconds .entry)) (now (outputs .entry)))
-        (sidePlaces (now («golden_kinds» .entry)) (now («golden_firsts» .entry)) (now («golden_seconds» .entry))
+        (columnsJob counts
+        (columns
+        (sideColumns (now (kinds .entry)) (now (firsts .entry)) (now (seconds .entry)) (now (outputs .entry)))
+        (sideColumns (now («golden_kinds» .entry)) (now («golden_firsts» .entry)) (now («golden_seconds» .entry))
         (now («golden_outputs» .entry)))
         (now (nets .entry)) (now (weights .entry))))
         (now (sheet .entry)) ⌝ }
@@ -296,7 +296,7 @@ pub fn compare(job: &[u8], sheet: &[u8]) -> CompareReply
     let mut golden_outputs = [0u16; 32];
     let mut nets = [0u16; 10];
     let mut weights = [0u16; 10];
-    let answer = read(
+    let answer = read_columns(
         job,
         &mut kinds,
         &mut firsts,

@@ -4,7 +4,7 @@ ghost use mathlib.Core.Bool.{true, false};
 ghost use Prim.Native.Nat.{_≤_, _<_};
 ghost use lib.ListN.{length};
 ghost use Rattle.records.specs.Job.{Job};
-ghost use Rattle.records.specs.Service.{sidePlaces, places, jobFrom};
+ghost use Rattle.records.specs.Columns.{sideColumns, columns, columnsJob};
 ghost use Rattle.engine.specs.Support.{sound, candidateNets};
 ghost use Rattle.engine.specs.Verdict.{blindReading, decidedBytes};
 ghost use Rattle.engine.specs.Reply.{declinedReply, decideReply};
@@ -22,7 +22,7 @@ use super::sheet::put_unfixable;
 use super::survey::survey;
 use super::table::fill_table;
 use records::Counts;
-use records::read;
+use records::read_columns;
 
 pub struct PatchCost {
     pub cost: u32,
@@ -165,14 +165,14 @@ fn decide_job(
     reply: &mut [u8],
 ) -> DecideReply
     requires { ⌜ Ready counts
-        (sidePlaces (now kinds) (now firsts) (now seconds) (now outputs))
-        (sidePlaces (now «golden_kinds») (now «golden_firsts») (now «golden_seconds») (now «golden_outputs»)) (now nets) ⌝ }
+        (sideColumns (now kinds) (now firsts) (now seconds) (now outputs))
+        (sideColumns (now «golden_kinds») (now «golden_firsts») (now «golden_seconds») (now «golden_outputs»)) (now nets) ⌝ }
     requires { ⌜ (counts .candidates ≤ length (now weights)) × (1076 ≤ length (now reply)) ⌝ }
     ensures { λ r. ⌜ Decided
-        (jobFrom counts
-        (places
-        (sidePlaces (now (kinds .entry)) (now (firsts .entry)) (now (seconds .entry)) (now (outputs .entry)))
-        (sidePlaces (now («golden_kinds» .entry)) (now («golden_firsts» .entry)) (now («golden_seconds» .entry)) (now («golden_outputs» .entry)))
+        (columnsJob counts
+        (columns
+        (sideColumns (now (kinds .entry)) (now (firsts .entry)) (now (seconds .entry)) (now (outputs .entry)))
+        (sideColumns (now («golden_kinds» .entry)) (now («golden_firsts» .entry)) (now («golden_seconds» .entry)) (now («golden_outputs» .entry)))
         (now (nets .entry)) (now (weights .entry))))
         (now (reply .entry)) r (now (reply .exit)) ⌝ }
 {
@@ -214,7 +214,7 @@ pub fn decide(job: &[u8], reply: &mut [u8]) -> DecideReply
     let mut golden_outputs = [0u16; 32];
     let mut nets = [0u16; 10];
     let mut weights = [0u16; 10];
-    let found = read(
+    let found = read_columns(
         job,
         &mut kinds,
         &mut firsts,

@@ -6,7 +6,7 @@ ghost use lib.ListN.{length, take};
 ghost use Rattle.records.specs.Gate.{gateOf};
 ghost use Rattle.records.specs.Netlist.{markOf};
 ghost use Rattle.records.specs.Inner.{leafMarks};
-ghost use Rattle.records.specs.Service.{gatesFrom};
+ghost use Rattle.records.specs.Columns.{gatesFrom};
 ghost use Rattle.engine.specs.Inner.{Evaluable, Evaluated, Unmarked};
 ghost use Rattle.engine.specs.Walk.{FanoutMarks};
 use super::word::gate_word;

@@ -3,7 +3,7 @@ ghost use mathlib.Core.Path.{_≡_};
 ghost use mathlib.Core.List.{[]};
 ghost use Prim.Native.Nat.{_+_, _^_, _≤_, _<_};
 ghost use lib.ListN.{length, take};
-ghost use Rattle.records.specs.Service.{sidePlaces, gatesFrom};
+ghost use Rattle.records.specs.Columns.{sideColumns, gatesFrom};
 ghost use Rattle.records.specs.Sheet.{patchOf};
 ghost use Rattle.engine.specs.Inner.{Evaluable, Outputs};
 ghost use Rattle.engine.specs.Fit.{fittedBytes};
@@ -22,7 +22,7 @@ use super::tree::put_trees;
 use super::tree::trees_size;
 use records::Counts;
 use records::Support;
-use records::read;
+use records::read_columns;
 use records::read_sheet;
 
 // The number, and how many bytes of the reply buffer the patched netlist takes; on refusal the length is 0.
@@ -296,15 +296,15 @@ fn fit_sheet(
     sheet: &[u8],
     reply: &mut [u8],
 ) -> FitReply
-    requires { ⌜ FitReady counts (sidePlaces (now kinds) (now firsts) (now seconds) (now outputs)) (now nets) (now weights) ⌝ }
+    requires { ⌜ FitReady counts (sideColumns (now kinds) (now firsts) (now seconds) (now outputs)) (now nets) (now weights) ⌝ }
     requires { ⌜ 2075 ≤ length (now reply) ⌝ }
     ensures { λ r. ⌜ FitGives
         (sheetFitNumber
-        (ungolden counts (sidePlaces (now (kinds .entry)) (now (firsts .entry)) (now (seconds .entry)) (now (outputs .entry)))
+        (ungolden counts (sideColumns (now (kinds .entry)) (now (firsts .entry)) (now (seconds .entry)) (now (outputs .entry)))
         (now (nets .entry)) (now (weights .entry)))
         (now (sheet .entry)))
         (fittedBytes
-        (ungolden counts (sidePlaces (now (kinds .entry)) (now (firsts .entry)) (now (seconds .entry)) (now (outputs .entry)))
+        (ungolden counts (sideColumns (now (kinds .entry)) (now (firsts .entry)) (now (seconds .entry)) (now (outputs .entry)))
         (now (nets .entry)) (now (weights .entry)))
         (patchOf (now (sheet .entry)) .support) (patchOf (now (sheet .entry)) .table))
         (now (reply .entry)) r (now (reply .exit)) ⌝ }
@@ -352,7 +352,7 @@ pub fn fit(job: &[u8], sheet: &[u8], reply: &mut [u8]) -> FitReply
     let mut golden_outputs = [0u16; 32];
     let mut nets = [0u16; 10];
     let mut weights = [0u16; 10];
-    let found = read(
+    let found = read_columns(
         job,
         &mut kinds,
         &mut firsts,

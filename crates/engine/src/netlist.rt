@@ -5,7 +5,7 @@ ghost use Prim.Native.Nat.{_+_, _*_, _≤_, _<_};
 ghost use lib.ListN.{length, take};
 ghost use Rattle.records.specs.Bytes.{flat, bytePair, field};
 ghost use Rattle.records.specs.Job.{gateBytes};
-ghost use Rattle.records.specs.Service.{gatesFrom};
+ghost use Rattle.records.specs.Columns.{gatesFrom};
 ghost use Rattle.engine.specs.Inner.{BytesPut};
 ghost use Rattle.engine.specs.Building.{GateRoom};
 ghost use Rattle.engine.specs.Fitting.{netlistBytes};

@@ -6,7 +6,7 @@ ghost use mathlib.Core.Bool.{true};
 ghost use Prim.Native.Nat.{ℕ, _+_, _≤_, _<_};
 ghost use lib.ListN.{length, getD, take};
 ghost use Rattle.records.specs.Bytes.{tabulate, placed};
-ghost use Rattle.records.specs.Service.{gatesFrom};
+ghost use Rattle.records.specs.Columns.{gatesFrom};
 ghost use Rattle.engine.specs.Ternary.{unknown};
 ghost use Rattle.engine.specs.Inner.{Evaluable, Outputs};
 ghost use Rattle.engine.specs.Partial.{PartlyEvaluated, partialInput, RangeValues, Known, Settled};

@@ -1,7 +1,7 @@
 // Where vectors rectify the inputs of a block.
 ghost use Prim.Native.Nat.{ℕ, _+_, _≤_, _<_};
 ghost use lib.ListN.{length};
-ghost use Rattle.records.specs.Service.{gatesFrom};
+ghost use Rattle.records.specs.Columns.{gatesFrom};
 ghost use Rattle.engine.specs.Inner.{Evaluable, Outputs, HoldsBlock, HoldsSome, VectorWord, VectorMasks};
 ghost use Rattle.engine.specs.Walk.{FanoutMarks};
 use super::block::load_targets;

@@ -6,7 +6,7 @@ ghost use Prim.Native.Nat.{_+_, _≤_, _<_};
 ghost use lib.Dec.{ltb};
 ghost use lib.ListN.{length, getD, take};
 ghost use Rattle.records.specs.Bytes.{tabulate, placed};
-ghost use Rattle.records.specs.Service.{gatesFrom};
+ghost use Rattle.records.specs.Columns.{gatesFrom};
 ghost use Rattle.engine.specs.Inner.{Evaluable, Outputs};
 ghost use Rattle.engine.specs.Building.{GateRoom, GatesPut};
 ghost use Rattle.engine.specs.Fitting.{marked, Numbered, movedFrom};

@@ -1,7 +1,7 @@
 // The search over all inputs: the highest input is set first, 0 before 1.
 ghost use mathlib.Core.Path.{_≡_};
 ghost use Prim.Native.Nat.{_+_, _*_, _^_, _≤_};
-ghost use Rattle.records.specs.Service.{sidePlaces, gatesFrom};
+ghost use Rattle.records.specs.Columns.{sideColumns, gatesFrom};
 ghost use Rattle.engine.specs.Walk.{circuits, Ready, FanoutMarks, Progress};
 ghost use Rattle.engine.specs.Walk.{Aligned};
 use super::list::Vectors;
@@ -30,20 +30,20 @@ pub(super) fn search(
     sets: &mut [u16],
 ) -> Vectors
     requires { ⌜ Ready counts
-        (sidePlaces (now kinds) (now firsts) (now seconds) (now outputs))
-        (sidePlaces (now «golden_kinds») (now «golden_firsts») (now «golden_seconds») (now «golden_outputs»)) (now nets) ⌝ }
+        (sideColumns (now kinds) (now firsts) (now seconds) (now outputs))
+        (sideColumns (now «golden_kinds») (now «golden_firsts») (now «golden_seconds») (now «golden_outputs»)) (now nets) ⌝ }
     requires { ⌜ FanoutMarks (counts .inputs) (counts .targets)
         (gatesFrom (counts .old .gates) (now kinds) (now firsts) (now seconds)) (now marks) ⌝ }
     requires { ⌜ Aligned (counts .inputs) low prefix ⌝ }
     requires { ⌜ Progress
         (circuits counts
-        (sidePlaces (now kinds) (now firsts) (now seconds) (now outputs))
-        (sidePlaces (now «golden_kinds») (now «golden_firsts») (now «golden_seconds») (now «golden_outputs»)) (now nets))
+        (sideColumns (now kinds) (now firsts) (now seconds) (now outputs))
+        (sideColumns (now «golden_kinds») (now «golden_firsts») (now «golden_seconds») (now «golden_outputs»)) (now nets))
         (prefix * 2 ^ low) list (now sets) ⌝ }
     ensures { λ r. ⌜ Progress
         (circuits counts
-        (sidePlaces (now (kinds .entry)) (now (firsts .entry)) (now (seconds .entry)) (now (outputs .entry)))
-        (sidePlaces (now («golden_kinds» .entry)) (now («golden_firsts» .entry)) (now («golden_seconds» .entry)) (now («golden_outputs» .entry)))
+        (sideColumns (now (kinds .entry)) (now (firsts .entry)) (now (seconds .entry)) (now (outputs .entry)))
+        (sideColumns (now («golden_kinds» .entry)) (now («golden_firsts» .entry)) (now («golden_seconds» .entry)) (now («golden_outputs» .entry)))
         (now (nets .entry)))
         ((prefix + 1) * 2 ^ low) r (now (sets .exit)) ⌝ }
 {

@@ -2,7 +2,7 @@
 ghost use mathlib.Core.Path.{_≡_};
 ghost use Prim.Native.Nat.{_-_, _^_, _≤_};
 ghost use lib.ListN.{length, replicate};
-ghost use Rattle.records.specs.Service.{sidePlaces};
+ghost use Rattle.records.specs.Columns.{sideColumns};
 ghost use Rattle.engine.specs.Walk.{circuits, Ready, Progress};
 use super::fanout::mark_fanout;
 use super::list::Vectors;
@@ -51,13 +51,13 @@ pub(super) fn survey(
     sets: &mut [u16],
 ) -> Vectors
     requires { ⌜ Ready counts
-        (sidePlaces (now kinds) (now firsts) (now seconds) (now outputs))
-        (sidePlaces (now «golden_kinds») (now «golden_firsts») (now «golden_seconds») (now «golden_outputs»)) (now nets) ⌝ }
+        (sideColumns (now kinds) (now firsts) (now seconds) (now outputs))
+        (sideColumns (now «golden_kinds») (now «golden_firsts») (now «golden_seconds») (now «golden_outputs»)) (now nets) ⌝ }
     requires { ⌜ length (now sets) ≡ 1024 ⌝ }
     ensures { λ r. ⌜ Progress
         (circuits counts
-        (sidePlaces (now (kinds .entry)) (now (firsts .entry)) (now (seconds .entry)) (now (outputs .entry)))
-        (sidePlaces (now («golden_kinds» .entry)) (now («golden_firsts» .entry)) (now («golden_seconds» .entry)) (now («golden_outputs» .entry)))
+        (sideColumns (now (kinds .entry)) (now (firsts .entry)) (now (seconds .entry)) (now (outputs .entry)))
+        (sideColumns (now («golden_kinds» .entry)) (now («golden_firsts» .entry)) (now («golden_seconds» .entry)) (now («golden_outputs» .entry)))
         (now (nets .entry)))
         (2 ^ counts .inputs) r (now (sets .exit)) ⌝ }
 {

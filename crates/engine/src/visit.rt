@@ -2,7 +2,7 @@
 ghost use mathlib.Core.Path.{_≡_};
 ghost use mathlib.Core.Bool.{false};
 ghost use Prim.Native.Nat.{_+_, _*_, _^_, _≤_};
-ghost use Rattle.records.specs.Service.{sidePlaces, gatesFrom};
+ghost use Rattle.records.specs.Columns.{sideColumns, gatesFrom};
 ghost use Rattle.engine.specs.Walk.{circuits, Ready, FanoutMarks, Progress};
 use super::block::eval_block;
 use super::list::Vectors;
@@ -31,20 +31,20 @@ pub(super) fn visit_block(
     sets: &mut [u16],
 ) -> Vectors
     requires { ⌜ Ready counts
-        (sidePlaces (now kinds) (now firsts) (now seconds) (now outputs))
-        (sidePlaces (now «golden_kinds») (now «golden_firsts») (now «golden_seconds») (now «golden_outputs»)) (now nets) ⌝ }
+        (sideColumns (now kinds) (now firsts) (now seconds) (now outputs))
+        (sideColumns (now «golden_kinds») (now «golden_firsts») (now «golden_seconds») (now «golden_outputs»)) (now nets) ⌝ }
     requires { ⌜ FanoutMarks (counts .inputs) (counts .targets)
         (gatesFrom (counts .old .gates) (now kinds) (now firsts) (now seconds)) (now marks) ⌝ }
     requires { ⌜ (count ≤ 64) × (64 * b + count ≤ 2 ^ counts .inputs) × (list .stuck ≡ false) ⌝ }
     requires { ⌜ Progress
         (circuits counts
-        (sidePlaces (now kinds) (now firsts) (now seconds) (now outputs))
-        (sidePlaces (now «golden_kinds») (now «golden_firsts») (now «golden_seconds») (now «golden_outputs»)) (now nets))
+        (sideColumns (now kinds) (now firsts) (now seconds) (now outputs))
+        (sideColumns (now «golden_kinds») (now «golden_firsts») (now «golden_seconds») (now «golden_outputs»)) (now nets))
         (64 * b) list (now sets) ⌝ }
     ensures { λ r. ⌜ Progress
         (circuits counts
-        (sidePlaces (now (kinds .entry)) (now (firsts .entry)) (now (seconds .entry)) (now (outputs .entry)))
-        (sidePlaces (now («golden_kinds» .entry)) (now («golden_firsts» .entry)) (now («golden_seconds» .entry)) (now («golden_outputs» .entry)))
+        (sideColumns (now (kinds .entry)) (now (firsts .entry)) (now (seconds .entry)) (now (outputs .entry)))
+        (sideColumns (now («golden_kinds» .entry)) (now («golden_firsts» .entry)) (now («golden_seconds» .entry)) (now («golden_outputs» .entry)))
         (now (nets .entry)))
         (64 * b + count) r (now (sets .exit)) ⌝ }
 {

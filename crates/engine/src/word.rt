@@ -4,7 +4,7 @@ ghost use mathlib.Core.List.{[], _∷_, map};
 ghost use Prim.Native.Nat.{ℕ, _≤_, _<_};
 ghost use lib.ListN.{length, getD, take};
 ghost use Rattle.records.specs.Gate.{arity, gateValue};
-ghost use Rattle.records.specs.Service.{gatesFrom};
+ghost use Rattle.records.specs.Columns.{gatesFrom};
 ghost use Rattle.engine.specs.Eval.{bit};
 ghost use Rattle.engine.specs.Inner.{Evaluable, Evaluated, Outputs, outputBits, differs};
 

@@ -5,9 +5,12 @@ pub mod Columns
 pub mod Counts
 pub mod Field
 pub mod Gate
+pub mod Gates
 pub mod Job
 pub mod Netlist
 pub mod Put
+pub mod ReadColumns
+pub mod Reading
 pub mod Refusal
 pub mod Reply
 pub mod RoundTrip
@@ -15,3 +18,5 @@ pub mod Shape
 pub mod Sheet
 pub mod SheetReply
 pub mod SheetShape
+pub mod Walk
+pub mod Writing

@@ -1,6 +1,7 @@
 -- What specs/Claims.antt promises of the record library, each by one citation. Assumes nothing.
-use Rattle.records.specs.Claims.{First, ReadAccepts, WriteAccepts, SheetAccepts, ReadRefuses, WriteRefuses, SheetRefuses, ReadWrite, WriteRead, LongestJob, LongestJobMet}
+use Rattle.records.specs.Claims.{First, ReadAccepts, WriteAccepts, SheetAccepts, ReadRefuses, WriteRefuses, SheetRefuses, ReadWrite, WriteRead, LongestJob, LongestJobMet, ColumnsRead, ColumnsRefuses, ColumnsGiven, ColumnsWrite}
 use Rattle.records.proofs.Laws.Accepted as accepted
+use Rattle.records.proofs.Laws.ReadColumns as over-columns
 
 pub first : First
 first = accepted.first
@@ -34,3 +35,15 @@ longest-job = accepted.longest
 
 pub longest-job-met : LongestJobMet
 longest-job-met = accepted.longest-met
+
+pub columns-read : ColumnsRead
+columns-read = over-columns.columns-read
+
+pub columns-refuses : ColumnsRefuses
+columns-refuses = over-columns.columns-refuses
+
+pub columns-given : ColumnsGiven
+columns-given = over-columns.columns-given
+
+pub columns-write : ColumnsWrite
+columns-write = over-columns.columns-write

@@ -16,7 +16,7 @@
 --   nth k s           the bytes of the field that stands after k others
 use Prim.Native.Nat.{ℕ, zero, suc, _+_, _*_, _/_, _%_}
 use mathlib.Core.List.{List, [], _∷_, _++_, map}
-use mathlib.Core.Bool.{Bool, true, false, _&&_}
+use mathlib.Core.Bool.{Bool, true, _&&_}
 use lib.ListN.{length, getD, take, drop}
 use lib.Dec.{leb, eqb}
 
@@ -41,7 +41,7 @@ bytePair x = x / 256 ∷ x % 256 ∷ []
 unfoldable pub word : List ℕ → ℕ → ℕ
 word s at = 256 * getD s at 0 + getD s (at + 1) 0
 
-unfoldable pub placed : List ℕ → ℕ → List ℕ → List ℕ
+unfoldable pub placed : {A : Type 0} → List A → ℕ → List A → List A
 placed d at xs = take at d ++ xs ++ drop (at + length xs) d
 
 -- ---- fields

@@ -8,6 +8,7 @@
 --   ReadRefuses, WriteRefuses, SheetRefuses     a refusal gives length 0 (read: counts of 0) and alters nothing lent
 --   ReadWrite, WriteRead          the round trip
 --   LongestJob, LongestJobMet     no accepted job has more than 4,188 bytes, and one has as many
+--   ColumnsRead, ColumnsRefuses, ColumnsGiven, ColumnsWrite      read_columns and write_columns give what read and write give
 use Prim.Native.Nat.{ℕ, _≤_, _<_}
 use mathlib.Core.Path.{_≡_}
 use mathlib.Core.Logic.{_↔_}
@@ -19,6 +20,7 @@ use Rattle.records.specs.Job.{Job, jobWhole, jobOf}
 use Rattle.records.specs.Refusal.{Test, firstFailing, countsGood, netlistsGood, outputsGood, candidatesGood, jobRefusal, longestJob}
 use Rattle.records.specs.Sheet.{patchOf, sheetWhole, patchGood}
 use Rattle.records.specs.Service.{Places, roomy, noCounts, readNumber, readReply, readPlaces, held, candidatesFrom, jobFrom, writeNumber, writeReply, writtenBytes, sheetRoomy, sheetNumber, sheetReply}
+use Rattle.records.specs.Columns.{Columns, columnsRoomy, columnsNumber, columnsReply, columnsAfter, columnsJob, columnsHeld, columnsWriteReply, columnsWritten}
 use Rattle.records.specs.declared.job.Counts.{Counts}
 
 abbrev pub Below : ℕ → List ℕ → Type 0
@@ -102,3 +104,26 @@ LongestJob = (s : List ℕ) → jobRefusal s ≡ 0 → length s ≤ longestJob
 
 abbrev pub LongestJobMet : Type 0
 LongestJobMet = (s : List ℕ) × Below 256 s × (jobRefusal s ≡ 0) × (length s ≡ longestJob)
+
+-- ---- the services over columns
+
+-- Where there is room for the one as for the other, read_columns replies what read replies.
+abbrev pub ColumnsRead : Type 0
+ColumnsRead = (p : Columns) (q : Places) (s : List ℕ) → columnsRoomy p ≡ roomy q → columnsReply p s ≡ readReply q s
+
+-- A refusal alters no column.
+abbrev pub ColumnsRefuses : Type 0
+ColumnsRefuses =
+    (p : Columns) (s : List ℕ) → (columnsNumber p s ≡ 0 → ⊥)
+    → (columnsReply p s .counts ≡ noCounts) × (columnsAfter p s ≡ p)
+
+-- The columns of an accepted job hold it.
+abbrev pub ColumnsGiven : Type 0
+ColumnsGiven =
+    (p : Columns) (s : List ℕ) → columnsNumber p s ≡ 0 → columnsJob (columnsReply p s .counts) (columnsAfter p s) ≡ jobOf s
+
+-- Columns and places that hold the same job are written alike.
+abbrev pub ColumnsWrite : Type 0
+ColumnsWrite =
+    (c : Counts) (p : Columns) (q : Places) (d : List ℕ) → columnsJob c p ≡ jobFrom c q → columnsHeld c p ≡ held c q
+    → (columnsWriteReply c p d ≡ writeReply c q d) × (columnsWritten c p d ≡ writtenBytes c q d)

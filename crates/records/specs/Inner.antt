@@ -1,22 +1,24 @@
 -- What the library's private functions give: where fields stand, and the enums' cases from the tests of the other files.
 -- No public contract cites this file. Assumes nothing.
-use Prim.Native.Nat.{ℕ, zero, suc, _+_, _-_, _*_, _/_, _%_, _≤_, _<_}
+use Prim.Native.Nat.{ℕ, zero, suc, _+_, _-_, _*_, _/_, _%_, _^_, _≤_, _<_}
 use mathlib.Core.Path.{_≡_}
 use mathlib.Core.List.{List, [], _∷_, _++_, map}
 use mathlib.Core.Bool.{Bool, true, cond, _&&_}
-use lib.ListN.{length, getD, drop, replicate}
+use lib.ListN.{length, getD, set, take, drop, replicate}
 use lib.Dec.{leb, ltb, eqb}
 use Rattle.records.specs.Bytes.{upFrom, tabulate, all, flat, bytePair, word, placed, headSize, field, bodyLength, rest, fits, whole, nth}
-use Rattle.records.specs.Netlist.{Netlist, netAt}
-use Rattle.records.specs.Job.{Candidate, gateSize, netSize, candidateSize, gateBytes, jobWhole, jobOf, jobBytes}
-use Rattle.records.specs.Refusal.{maxInputs, maxTargets, maxGates, maxOutputs, maxCandidates, longestJob, netlistsGood, ascending, jobRefusal}
+use Rattle.records.specs.Netlist.{netAt}
+use Rattle.records.specs.Job.{Candidate, Job, gateSize, netSize, candidateSize, gateBytes, jobWhole, jobOf, jobBytes}
+use Rattle.records.specs.Refusal.{maxInputs, maxTargets, maxGates, maxOutputs, maxCandidates, longestJob, firstFailing, netlistsGood, ascending, jobTests, jobRefusal}
 use Rattle.records.specs.Sheet.{sheetWhole, isCandidate, costOf}
-use Rattle.records.specs.Service.{SidePlaces, Places, countsOf, noCounts, sideHeld, held, jobFrom}
+use Rattle.records.specs.Service.{Places, gatesIn, countsOf, noCounts, held, jobFrom, writeReply, writtenBytes}
+use Rattle.records.specs.declared.gate.Gate.{Gate as GateStruct}
 use Rattle.records.specs.declared.field.Field.{Field}
 use Rattle.records.specs.declared.field.Field.the-variants.{Body, Missing}
 use Rattle.records.specs.declared.field.Check.{Check}
 use Rattle.records.specs.declared.field.Check.the-variants.{Passed, Failed}
 use Rattle.records.specs.declared.field.Walk.{Walk}
+use Rattle.records.specs.declared.gates.GateSpans.{GateSpans}
 use Rattle.records.specs.declared.job.SideCounts.{SideCounts}
 use Rattle.records.specs.declared.job.Counts.{Counts}
 use Rattle.records.specs.declared.job.Starts.{Starts}
@@ -34,6 +36,8 @@ use Rattle.records.specs.declared.sheet.Costs.{Costs}
 use Rattle.records.specs.declared.sheet.Costs.the-variants.{Sum, Unfit}
 use Rattle.records.specs.declared.job.Checked.{Checked}
 use Rattle.records.specs.declared.job.Checked.the-variants.{Accepted, Refused}
+use Rattle.records.specs.declared.writing.WritePlan.{WritePlan}
+use Rattle.records.specs.declared.writing.WriteReply.{WriteReply}
 
 -- a check's answer for a test
 unfoldable pub checkOf : Bool → Check
@@ -49,6 +53,61 @@ fieldAt s at t = cond (fits t (drop at s)) (Body (at + headSize) (bodyLength (dr
 unfoldable pub startOf : ℕ → List ℕ → ℕ
 startOf zero s = headSize
 startOf (suc k) s = headSize + bodyLength s + startOf k (rest s)
+
+-- where the field's bytes end, 0 where there is none
+unfoldable pub endOf : Field → ℕ
+endOf (Body start len) = start + len
+endOf Missing = 0
+
+-- a walk before its first field, which has the tag t
+unfoldable pub walkFrom : ℕ → Walk
+walkFrom t =
+    record { check = Passed; tag = t; count = 0; at = 0; starts = replicate 6 0; lens = replicate 6 0 }
+
+-- the walk w with one more field
+unfoldable pub noted : Walk → Field → Walk
+noted w (Body start len) =
+    record {
+      check = w .check;
+      tag = suc (w .tag);
+      count = suc (w .count);
+      at = start + len;
+      starts = set (w .starts) (w .count) start;
+      lens = set (w .lens) (w .count) len;
+    }
+noted w Missing =
+    record {
+      check = Failed;
+      tag = suc (w .tag);
+      count = suc (w .count);
+      at = w .at;
+      starts = w .starts;
+      lens = w .lens;
+    }
+
+-- the walk over the bytes s after so many fields
+unfoldable pub walkAfter : List ℕ → ℕ → ℕ → Walk
+walkAfter s t zero = walkFrom t
+walkAfter s t (suc k) = let w = walkAfter s t k in noted w (fieldAt s (w .at) (w .tag))
+
+-- the walk w at the end of n bytes
+unfoldable pub ended : Walk → ℕ → Walk
+ended w n =
+    record {
+      check = cond (eqb (w .at) n) (w .check) Failed;
+      tag = w .tag;
+      count = w .count;
+      at = w .at;
+      starts = w .starts;
+      lens = w .lens;
+    }
+
+-- a walk that can note one more field
+pub record Notable (w : Walk) (f : Field) : Type 0 where
+  pub count : w .count < 6
+  pub tag : suc (w .tag) < 256
+  pub sizes : (length (w .starts) ≡ 6) × (length (w .lens) ≡ 6)
+  pub end : endOf f < 2 ^ 64
 
 -- whether the fields are whole; if they are, where each one's bytes start and how many they are
 pub record Walks (s : List ℕ) (first count : ℕ) (w : Walk) : Type 0 where
@@ -138,58 +197,165 @@ unmarkedAscending nets marks cs =
 
 -- ---- columns of records: count records of size bytes
 
-unfoldable pub byteColumn : List ℕ → ℕ → ℕ → List ℕ
-byteColumn s size count = tabulate count (λ i. getD s (size * i) 0)
-
 unfoldable pub wordColumn : List ℕ → ℕ → ℕ → ℕ → List ℕ
 wordColumn s size offset count = tabulate count (λ i. word s (size * i + offset))
 
--- ---- filling a netlist's places from the bytes of its gates gs and its outputs os
+-- ---- gate structs
 
-pub record SideFits (gs os : List ℕ) (p : SidePlaces) : Type 0 where
-  pub kinds : length gs / 5 ≤ length (p .kinds)
-  pub firsts : length gs / 5 ≤ length (p .firsts)
-  pub seconds : length gs / 5 ≤ length (p .seconds)
-  pub outputs : length os / 2 ≤ length (p .outputs)
+unfoldable pub noGate : GateStruct
+noGate = record { kind = 0; first = 0; second = 0 }
 
--- the tests of number 1 for read, on how many places there are
-unfoldable pub sideRoom : ℕ → ℕ → ℕ → ℕ → Bool
-sideRoom k a b o = leb maxGates k && leb maxGates a && leb maxGates b && leb maxOutputs o
+unfoldable pub noGates : List GateStruct
+noGates = replicate maxGates noGate
 
-unfoldable pub candidateRoom : ℕ → ℕ → Bool
-candidateRoom n w = leb maxCandidates n && leb maxCandidates w
+-- the gate struct at position at of the bytes s; count of them, from there on
+unfoldable pub structAt : List ℕ → ℕ → GateStruct
+structAt s at = record { kind = getD s at 0; first = word s (at + 1); second = word s (at + 3) }
+
+unfoldable pub structsAt : List ℕ → ℕ → ℕ → List GateStruct
+structsAt s at count = tabulate count (λ i. structAt s (at + gateSize * i))
+
+-- the bytes of the first count gates
+unfoldable pub gatesBytes : ℕ → List GateStruct → List ℕ
+gatesBytes count gs = flat gateBytes (gatesIn count gs)
+
+-- where the gates of a job with these counts stand and how many they are; nowhere and none where a count is outside its range
+unfoldable pub gateSpans : Counts → GateSpans
+gateSpans c =
+    cond (countsWithin c)
+    (record {
+      old = startsOf c .old;
+      «old_count» = c .old .gates;
+      golden = startsOf c .golden;
+      «golden_count» = c .golden .gates;
+    })
+    (record { old = 0; «old_count» = 0; golden = 0; «golden_count» = 0 })
+
+-- ---- reading: how many places there are for old gates a, old outputs b, golden gates c, golden outputs d, candidates e and f
+
+unfoldable pub room : ℕ → ℕ → ℕ → ℕ → ℕ → ℕ → Bool
+room a b c d e f =
+    (leb maxGates a && leb maxOutputs b) && (leb maxGates c && leb maxOutputs d) && leb maxCandidates e && leb maxCandidates f
 
 unfoldable pub refusedRead : ℕ → ReadReply
 refusedRead n = record { number = n; counts = noCounts }
 
+-- the reply of read, given whether there is room
+unfoldable pub replyIn : Bool → List ℕ → ReadReply
+replyIn roomy s =
+    let n = firstFailing (record { number = 1; passes = roomy } ∷ jobTests s) in
+    record { number = n; counts = cond (eqb n 0) (countsOf (jobOf s)) noCounts }
+
+-- the list d with xs at its start, where b holds
+unfoldable pub placedIf : Bool → List ℕ → List ℕ → List ℕ
+placedIf b d xs = cond b (placed d 0 xs) d
+
+-- what fill_rest asks of the reply and of how many places there are, and what it leaves in them
+pub record RestFits (r : ReadReply) (s : List ℕ) (b d e f : ℕ) : Type 0 where
+  pub laid : r .number ≡ 0 → Laid s (r .counts)
+  pub old : r .number ≡ 0 → maxOutputs ≤ b
+  pub golden : r .number ≡ 0 → maxOutputs ≤ d
+  pub nets : r .number ≡ 0 → maxCandidates ≤ e
+  pub weights : r .number ≡ 0 → maxCandidates ≤ f
+
+pub record RestFilled (r : ReadReply) (j : Job) (b d e f b′ d′ e′ f′ : List ℕ) : Type 0 where
+  pub old : b′ ≡ placedIf (eqb (r .number) 0) b (j .old .outputs)
+  pub golden : d′ ≡ placedIf (eqb (r .number) 0) d (j .golden .outputs)
+  pub nets : e′ ≡ placedIf (eqb (r .number) 0) e (map (λ (c : Candidate). c .net) (j .candidates))
+  pub weights : f′ ≡ placedIf (eqb (r .number) 0) f (map (λ (c : Candidate). c .weight) (j .candidates))
+
 -- ---- writing
 
--- the bytes of a netlist's two fields, the first with tag t
-unfoldable pub sideBytes : ℕ → Netlist → List ℕ
-sideBytes t l = field t (flat gateBytes (l .gates)) ++ field (suc t) (flat bytePair (l .outputs))
+-- the counts fit the places, of which there are so many: number 3 for write
+unfoldable pub holds : Counts → ℕ → ℕ → ℕ → ℕ → ℕ → ℕ → Bool
+holds n a b c d e f =
+    (leb (n .old .gates) a && leb (n .old .outputs) b)
+    && (leb (n .golden .gates) c && leb (n .golden .outputs) d)
+    && leb (n .candidates) e
+    && leb (n .candidates) f
 
--- a buffer of n bytes has room from position at on for a netlist's fields, and the places hold the counts
-pub record SidePut (n at t : ℕ) (c : SideCounts) (p : SidePlaces) : Type 0 where
+unfoldable pub refusedPlan : ℕ → WritePlan
+refusedPlan n = record { number = n; counts = noCounts }
+
+-- what write checks before a byte is put, size being the buffer's: the number, and the counts, all 0 on refusal
+unfoldable pub planOf : Counts → ℕ → Bool → WritePlan
+planOf c size held =
+    let n =
+    firstFailing
+    (record { number = 1; passes = leb longestJob size }
+    ∷ record { number = 3; passes = countsWithin c && held }
+    ∷ []) in
+    record { number = n; counts = cond (eqb n 0) c noCounts }
+
+-- a buffer of n bytes has room from position at on for a netlist's fields, and k places hold the outputs
+pub record SidePut (n at t : ℕ) (c : SideCounts) (k : ℕ) : Type 0 where
   pub tag : t < 255
-  pub within : sideWithin c ≡ true
-  pub held : sideHeld c p ≡ true
+  pub within : SideWithin c
+  pub held : c .outputs ≤ k
   pub room : at + 6 + 5 * c .gates + 2 * c .outputs ≤ n
 
-pub record JobPut (n : ℕ) (c : Counts) (p : Places) : Type 0 where
-  pub within : countsWithin c ≡ true
-  pub held : held c p ≡ true
+-- d is left as d′: a head for the gates, and behind the gates' bytes the field of the outputs
+pub record SideDone (d : List ℕ) (at t : ℕ) (c : SideCounts) (os : List ℕ) (r : ℕ) (d′ : List ℕ) : Type 0 where
+  pub end : r ≡ at + 6 + 5 * c .gates + 2 * c .outputs
+  pub bytes : d′
+      ≡ placed (placed d at (t ∷ bytePair (5 * c .gates)))
+      (at + 3 + 5 * c .gates)
+      (field (suc t) (flat bytePair (take (c .outputs) os)))
+
+-- a buffer of n bytes has room for a job, and the places for outputs and candidates hold the counts
+pub record JobPut (n : ℕ) (c : Counts) (b d e f : ℕ) : Type 0 where
+  pub within : Within c
+  pub old : c .old .outputs ≤ b
+  pub golden : c .golden .outputs ≤ d
+  pub nets : c .candidates ≤ e
+  pub weights : c .candidates ≤ f
   pub room : longestJob ≤ n
 
-pub record JobBytesPut (d : List ℕ) (c : Counts) (p : Places) (r : ℕ) (d′ : List ℕ) : Type 0 where
+-- the first r bytes of d′ are those of the job
+pub record JobDone (c : Counts) (p : Places) (r : ℕ) (d′ : List ℕ) : Type 0 where
   pub len : r ≡ length (jobBytes (jobFrom c p))
-  pub bytes : d′ ≡ placed d 0 (jobBytes (jobFrom c p))
+  pub bytes : take r d′ ≡ jobBytes (jobFrom c p)
 
--- the tests of number 3 for write, on how many places there are
-unfoldable pub sideHolds : SideCounts → ℕ → ℕ → ℕ → ℕ → Bool
-sideHolds c k a b o = leb (c .gates) k && leb (c .gates) a && leb (c .gates) b && leb (c .outputs) o
+-- the bytes z hold the gates gs and hs of a job with the counts c where the job has them
+pub record GatesPut (c : Counts) (gs hs : List GateStruct) (z : List ℕ) : Type 0 where
+  pub old : take (5 * c .old .gates) (drop (startsOf c .old) z) ≡ gatesBytes (c .old .gates) gs
+  pub golden : take (5 * c .golden .gates) (drop (startsOf c .golden) z) ≡ gatesBytes (c .golden .gates) hs
+  pub held : (c .old .gates ≤ length gs) × (c .golden .gates ≤ length hs)
 
-unfoldable pub candidatesHold : ℕ → ℕ → ℕ → Bool
-candidatesHold k n w = leb k n && leb k w
+-- what write_rest asks of an accepted plan
+pub record RestHeld (w : WritePlan) (b d e f z n : ℕ) : Type 0 where
+  pub scratch : z ≡ longestJob
+  pub put : w .number ≡ 0 → JobPut z (w .counts) b d e f
+  pub size : w .number ≡ 0 → longestJob ≤ n
+
+-- what write_rest replies and leaves in the buffer
+pub record RestWritten (w : WritePlan) (p : Places) (d : List ℕ) (r : WriteReply) (d′ : List ℕ) : Type 0 where
+  pub refused : (w .number ≡ 0 → ⊥) → (r ≡ record { number = w .number; len = 0 }) × (d′ ≡ d)
+  pub accepted : w .number ≡ 0 → (r ≡ writeReply (w .counts) p d) × (d′ ≡ writtenBytes (w .counts) p d)
+
+-- ---- columns
+
+-- so many places hold count gates
+unfoldable pub columnsHold : ℕ → ℕ → ℕ → ℕ → Bool
+columnsHold count k x y = leb count k && leb count x && leb count y
+
+-- the same as inequalities, for n gates
+pub record ColumnsHold (n count k x y : ℕ) : Type 0 where
+  pub gates : count ≤ n
+  pub kinds : count ≤ k
+  pub firsts : count ≤ x
+  pub seconds : count ≤ y
+
+-- the columns with the first count gates at their starts
+pub record Split (gs : List GateStruct) (count : ℕ) (ks xs ys ks′ xs′ ys′ : List ℕ) : Type 0 where
+  pub kinds : ks′ ≡ placed ks 0 (map (λ (g : GateStruct). g .kind) (take count gs))
+  pub firsts : xs′ ≡ placed xs 0 (map (λ (g : GateStruct). g .first) (take count gs))
+  pub seconds : ys′ ≡ placed ys 0 (map (λ (g : GateStruct). g .second) (take count gs))
+
+-- the first count gates of columns
+unfoldable pub structsFrom : ℕ → List ℕ → List ℕ → List ℕ → List GateStruct
+structsFrom count ks xs ys =
+    tabulate count (λ i. record { kind = getD ks i 0; first = getD xs i 0; second = getD ys i 0 })
 
 -- ---- sheets
 

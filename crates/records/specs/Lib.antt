@@ -6,5 +6,6 @@ pub mod Job
 pub mod Refusal
 pub mod Sheet
 pub mod Service
+pub mod Columns
 pub mod Inner
 pub mod Claims

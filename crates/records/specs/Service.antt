@@ -1,21 +1,24 @@
 -- What the services reply and what the lent places hold afterwards (document 01, "Numbers given when a call is
 -- declined"; docs/DECISIONS.md). Assumes nothing.
 --
+--   GateStruct            the struct Gate of src/gate.rt: kind, first and second operand slot
+--   slotOf i g            what stands in operand slot i of a gate
+--   gateFrom g, structOf g                 the gate that a gate struct holds, and back
 --   SidePlaces, Places    the lent places of a netlist, of a job
 --   sidePlaces, places    the same from the lists of their places
---   sideCountsOf l, countsOf j             the counts of a netlist, of a job
+--   sideCountsOf l, countsOf j, noCounts   the counts of a netlist, of a job, and of a refused one
 --   sideRoomy, roomy p    number 1 for read: places for the longest job
 --   filledSide, filled p j                 the places p with the parts of j at their starts
 --   readNumber, readReply, readPlaces      what read replies, and the places afterwards
 --   sideHeld, held c p    number 3 for write: no count of c exceeds its places
---   gatesFrom, netlistFrom, candidatesFrom, jobFrom c p     the job whose parts stand at the starts of the places p, as many as the counts c say
+--   gatesIn, netlistFrom, candidatesFrom, jobFrom c p     the job whose parts stand at the starts of the places p, as many as the counts c say
 --   writeNumber, writeReply, writtenBytes  what write replies, and the reply buffer afterwards
 --   sheetRoomy            number 3 for read_sheet: target and candidate counts within their ranges and places
 --   sheetNumber, sheetReply                what read_sheet replies
 --   fieldFits d at xs     a field of the bytes xs fits into the buffer d from position at on, and its length into two bytes
 use Prim.Native.Nat.{ℕ, _+_, _-_}
-use mathlib.Core.List.{List, [], _∷_, _++_, map}
-use mathlib.Core.Bool.{Bool, true, cond, _&&_}
+use mathlib.Core.List.{List, _∷_, _++_, map}
+use mathlib.Core.Bool.{Bool, cond, _&&_}
 use lib.ListN.{length, getD, take, replicate}
 use lib.Dec.{leb, ltb, eqb}
 use Rattle.records.specs.Bytes.{tabulate, placed, headSize, nth}
@@ -24,16 +27,24 @@ use Rattle.records.specs.Netlist.{Netlist}
 use Rattle.records.specs.Job.{Candidate, Job, jobOf, jobBytes}
 use Rattle.records.specs.Refusal.{maxTargets, maxGates, maxOutputs, maxCandidates, longestJob, firstFailing, partTests, jobTests}
 use Rattle.records.specs.Sheet.{patchOf, sheetTests}
+use Rattle.records.specs.declared.gate.Gate.{Gate as GateStruct}
 use Rattle.records.specs.declared.job.SideCounts.{SideCounts}
 use Rattle.records.specs.declared.job.Counts.{Counts}
 use Rattle.records.specs.declared.reading.ReadReply.{ReadReply}
 use Rattle.records.specs.declared.writing.WriteReply.{WriteReply}
 use Rattle.records.specs.declared.sheet.SheetReply.{SheetReply}
 
+unfoldable pub slotOf : ℕ → Gate → ℕ
+slotOf i g = getD (g .slots) i 0
+
+unfoldable pub gateFrom : GateStruct → Gate
+gateFrom g = gateOf (g .kind) (g .first) (g .second)
+
+unfoldable pub structOf : Gate → GateStruct
+structOf g = record { kind = g .kind; first = slotOf 0 g; second = slotOf 1 g }
+
 pub record SidePlaces : Type 0 where
-  pub kinds : List ℕ
-  pub firsts : List ℕ
-  pub seconds : List ℕ
+  pub gates : List GateStruct
   pub outputs : List ℕ
 
 pub record Places : Type 0 where
@@ -42,8 +53,8 @@ pub record Places : Type 0 where
   pub nets : List ℕ
   pub weights : List ℕ
 
-abbrev pub sidePlaces : List ℕ → List ℕ → List ℕ → List ℕ → SidePlaces
-sidePlaces ks xs ys os = record { kinds = ks; firsts = xs; seconds = ys; outputs = os }
+abbrev pub sidePlaces : List GateStruct → List ℕ → SidePlaces
+sidePlaces gs os = record { gates = gs; outputs = os }
 
 abbrev pub places : SidePlaces → SidePlaces → List ℕ → List ℕ → Places
 places old golden nets weights = record { old = old; golden = golden; nets = nets; weights = weights }
@@ -64,11 +75,7 @@ countsOf j =
     }
 
 unfoldable pub sideRoomy : SidePlaces → Bool
-sideRoomy p =
-    leb maxGates (length (p .kinds))
-    && leb maxGates (length (p .firsts))
-    && leb maxGates (length (p .seconds))
-    && leb maxOutputs (length (p .outputs))
+sideRoomy p = leb maxGates (length (p .gates)) && leb maxOutputs (length (p .outputs))
 
 unfoldable pub roomy : Places → Bool
 roomy p =
@@ -77,18 +84,9 @@ roomy p =
     && leb maxCandidates (length (p .nets))
     && leb maxCandidates (length (p .weights))
 
--- what stands in operand slot i of a gate
-unfoldable pub slotOf : ℕ → Gate → ℕ
-slotOf i g = getD (g .slots) i 0
-
 unfoldable pub filledSide : SidePlaces → Netlist → SidePlaces
 filledSide p l =
-    record {
-      kinds = placed (p .kinds) 0 (map (λ (g : Gate). g .kind) (l .gates));
-      firsts = placed (p .firsts) 0 (map (slotOf 0) (l .gates));
-      seconds = placed (p .seconds) 0 (map (slotOf 1) (l .gates));
-      outputs = placed (p .outputs) 0 (l .outputs);
-    }
+    record { gates = placed (p .gates) 0 (map structOf (l .gates)); outputs = placed (p .outputs) 0 (l .outputs) }
 
 unfoldable pub filled : Places → Job → Places
 filled p j =
@@ -121,15 +119,11 @@ readPlaces p s = cond (eqb (readNumber p s) 0) (filled p (jobOf s)) p
 
 -- ---- write
 
-unfoldable pub gatesFrom : ℕ → List ℕ → List ℕ → List ℕ → List Gate
-gatesFrom k kinds firsts seconds = tabulate k (λ i. gateOf (getD kinds i 0) (getD firsts i 0) (getD seconds i 0))
+unfoldable pub gatesIn : ℕ → List GateStruct → List Gate
+gatesIn k gs = map gateFrom (take k gs)
 
 unfoldable pub netlistFrom : SideCounts → SidePlaces → Netlist
-netlistFrom c p =
-    record {
-      gates = gatesFrom (c .gates) (p .kinds) (p .firsts) (p .seconds);
-      outputs = take (c .outputs) (p .outputs);
-    }
+netlistFrom c p = record { gates = gatesIn (c .gates) (p .gates); outputs = take (c .outputs) (p .outputs) }
 
 unfoldable pub candidatesFrom : ℕ → List ℕ → List ℕ → List Candidate
 candidatesFrom k nets weights = tabulate k (λ i. record { net = getD nets i 0; weight = getD weights i 0 })
@@ -145,11 +139,7 @@ jobFrom c p =
     }
 
 unfoldable pub sideHeld : SideCounts → SidePlaces → Bool
-sideHeld c p =
-    leb (c .gates) (length (p .kinds))
-    && leb (c .gates) (length (p .firsts))
-    && leb (c .gates) (length (p .seconds))
-    && leb (c .outputs) (length (p .outputs))
+sideHeld c p = leb (c .gates) (length (p .gates)) && leb (c .outputs) (length (p .outputs))
 
 unfoldable pub held : Counts → Places → Bool
 held c p =

@@ -12,9 +12,9 @@
 --   patchGood m cs p      number 8: the support ascends and is of candidates, the entries are below 2 ^ m, the cost is the sum
 --   sheetTests m cs s     the tests of the bytes s, numbers 7 and 8
 use Prim.Native.Nat.{ℕ, _+_, _*_, _/_, _%_, _^_}
-use mathlib.Core.List.{List, [], _∷_, map}
+use mathlib.Core.List.{List, [], _∷_}
 use mathlib.Core.Bool.{Bool, false, cond, _&&_, _||_}
-use lib.ListN.{length, getD}
+use lib.ListN.{length}
 use lib.Dec.{leb, ltb, eqb}
 use Rattle.records.specs.Bytes.{all, word, whole, nth}
 use Rattle.records.specs.Job.{Candidate, netsOf}

@@ -1,21 +1,19 @@
-// Numbers of a job's bytes put into lent places.
+// Bytes, and the numbers they hold, put into lent places.
 ghost use mathlib.Core.Path.{_≡_};
 ghost use Prim.Native.Nat.{_+_, _*_, _≤_};
 ghost use lib.ListN.{length};
 ghost use Rattle.records.specs.Bytes.{placed};
-ghost use Rattle.records.specs.Inner.{byteColumn, wordColumn};
+ghost use Rattle.records.specs.Inner.{wordColumn};
 use super::field::word_at;
 
-// The first byte of each of count records of size bytes.
-pub(super) fn fill_bytes(s: &[u8], size: usize, count: usize, places: &mut [u8])
-    requires { ⌜ (1 ≤ size) × (size * count ≤ length (now s)) × (count ≤ length (now places)) ⌝ }
-    ensures { λ _. ⌜ now (places .exit) ≡ placed (now (places .entry)) 0 (byteColumn (now (s .entry)) size count) ⌝ }
+// All of src to the start of buf.
+pub(super) fn copy(src: &[u8], buf: &mut [u8])
+    requires { ⌜ length (now src) ≤ length (now buf) ⌝ }
+    ensures { λ _. ⌜ now (buf .exit) ≡ placed (now (buf .entry)) 0 (now (src .entry)) ⌝ }
 {
     let mut i = 0usize;
-    let mut at = 0usize;
-    while i < count {
-        places[i] = s[at];
-        at += size;
+    while i < src.len() {
+        buf[i] = src[i];
         i += 1;
     }
 }

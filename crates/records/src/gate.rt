@@ -6,6 +6,13 @@ ghost use lib.ListN.{take};
 ghost use Rattle.records.specs.Gate.{arity, gateValue, gateOf};
 ghost use Rattle.records.specs.Refusal.{gateGood};
 
+// A gate as it stands in a lent place: its kind and its two operand slots, used or not.
+pub struct Gate {
+    pub kind: u8,
+    pub first: u16,
+    pub second: u16,
+}
+
 // How many operands a kind has.
 pub(super) fn operand_count(kind: u8) -> usize
     ensures { λ r. ⌜ r ≡ arity kind ⌝ }

@@ -3,6 +3,7 @@ ghost use mathlib.Core.Path.{_≡_};
 ghost use lib.ListN.{length};
 ghost use Rattle.records.specs.Job.{jobOf};
 ghost use Rattle.records.specs.Refusal.{netlistsGood, outputsGood, candidatesGood};
+ghost use Rattle.records.specs.Service.{noCounts};
 ghost use Rattle.records.specs.Inner.{checkOf, lengthsGood, countsWithin, Within, shapeOf, startsOf, Laid, LaidGates, checkedOf};
 use super::candidate::check_candidates;
 use super::field::Check;
@@ -25,6 +26,23 @@ pub struct Counts {
     pub old: SideCounts,
     pub golden: SideCounts,
     pub candidates: usize,
+}
+
+// Counts of 0, as a refusal gives them.
+pub(super) fn no_counts() -> Counts
+    ensures { λ r. ⌜ r ≡ noCounts ⌝ }
+{
+    let none = SideCounts {
+        gates: 0,
+        outputs: 0,
+    };
+    Counts {
+        inputs: 0,
+        targets: 0,
+        old: none,
+        golden: none,
+        candidates: 0,
+    }
 }
 
 // Where the bytes of fields 2 to 6 start, and where the last one's end.
@@ -76,7 +94,7 @@ fn check_lengths(lens: [usize; 6]) -> Check
 }
 
 // The six fields, and that each has a length that its records allow.
-pub(super) fn shaped(job: &[u8]) -> Shape
+fn shaped(job: &[u8]) -> Shape
     ensures { λ r. ⌜ r ≡ shapeOf (now (job .entry)) ⌝ }
 {
     let w = walked(job, 1, 6);

@@ -1,10 +1,12 @@
-// The record library: a job's bytes read into lent places, parts written as a job's bytes, a patch sheet read against
-// a job's candidates, the gates' values, and a field put into a buffer. Every service answers with a number of document
-// 01, 0 where it accepts, and leaves every lent place as it was where it does not.
+// The record library: a job's bytes read into lent places, parts written as a job's bytes, with gates as structs or in columns, a
+// patch sheet read against a job's candidates, the gates' values, and a field put into a buffer. Each service that reads or writes
+// answers with a number of document 01, 0 where it accepts, and leaves every lent place as it was where it does not.
 mod candidate;
+mod columns;
 mod field;
 mod fill;
 mod gate;
+mod gates;
 mod job;
 mod netlist;
 mod put;
@@ -12,6 +14,9 @@ mod reading;
 mod sheet;
 mod writing;
 
+pub use columns::read_columns;
+pub use columns::write_columns;
+pub use gate::Gate;
 pub use gate::value;
 pub use job::Counts;
 pub use job::SideCounts;

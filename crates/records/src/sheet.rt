@@ -3,7 +3,7 @@ ghost use mathlib.Core.Path.{_≡_};
 ghost use Prim.Native.Nat.{_+_, _*_, _^_, _≤_, _<_};
 ghost use lib.ListN.{length, take};
 ghost use lib.Dec.{ltb};
-ghost use Rattle.records.specs.Bytes.{all, word};
+ghost use Rattle.records.specs.Bytes.{all};
 ghost use Rattle.records.specs.Job.{netsOf};
 ghost use Rattle.records.specs.Sheet.{quad};
 ghost use Rattle.records.specs.Service.{candidatesFrom, sheetReply};

@@ -1,17 +1,21 @@
 // The service write: parts into a job's bytes.
 ghost use mathlib.Core.Path.{_≡_};
-ghost use Prim.Native.Nat.{_≤_};
+ghost use mathlib.Core.List.{List};
 ghost use lib.ListN.{length};
-ghost use Rattle.records.specs.Bytes.{placed};
 ghost use Rattle.records.specs.Service.{sidePlaces, places, writeReply, writtenBytes};
-ghost use Rattle.records.specs.Inner.{checkOf, sideHolds, candidatesHold};
+ghost use Rattle.records.specs.Inner.{checkOf, holds, refusedPlan, planOf, GatesPut, RestHeld, RestWritten};
+ghost use Rattle.records.specs.declared.gate.Gate.{Gate as GateStruct};
 use super::field::Check;
+use super::fill::copy;
+use super::gate::Gate;
+use super::gates::gate_spans;
+use super::gates::put_gates;
 use super::job::Checked;
 use super::job::Counts;
-use super::job::SideCounts;
 use super::job::check_counts;
 use super::job::check_job;
-use super::put::put_job;
+use super::job::no_counts;
+use super::put::put_rest;
 
 // The number, and how many bytes of the buffer hold the job, 0 on refusal.
 pub struct WriteReply {
@@ -19,135 +23,120 @@ pub struct WriteReply {
     pub len: usize,
 }
 
-// Whether a netlist's counts are at most these numbers of places.
-fn check_side_held(
-    c: SideCounts,
-    kinds: usize,
-    firsts: usize,
-    seconds: usize,
-    outputs: usize,
-) -> Check
-    ensures { λ r. ⌜ r ≡ checkOf (sideHolds c kinds firsts seconds outputs) ⌝ }
-{
-    if kinds < c.gates {
-        return Check::Failed;
-    }
-    if firsts < c.gates {
-        return Check::Failed;
-    }
-    if seconds < c.gates {
-        return Check::Failed;
-    }
-    if outputs < c.outputs {
-        return Check::Failed;
-    }
-    Check::Passed
+// What is known before a byte is put: the number, and the counts, all 0 on refusal.
+pub struct WritePlan {
+    pub number: u8,
+    pub counts: Counts,
 }
 
-// Whether the candidates are at most these numbers of places.
-fn check_candidates_held(count: usize, nets: usize, weights: usize) -> Check
-    ensures { λ r. ⌜ r ≡ checkOf (candidatesHold count nets weights) ⌝ }
+fn refused_plan(number: u8) -> WritePlan
+    ensures { λ r. ⌜ r ≡ refusedPlan number ⌝ }
 {
-    if nets < count {
-        return Check::Failed;
-    }
-    if weights < count {
-        return Check::Failed;
-    }
-    Check::Passed
-}
-
-// All of src to the start of buf.
-fn copy(src: &[u8], buf: &mut [u8])
-    requires { ⌜ length (now src) ≤ length (now buf) ⌝ }
-    ensures { λ _. ⌜ now (buf .exit) ≡ placed (now (buf .entry)) 0 (now (src .entry)) ⌝ }
-{
-    let mut i = 0usize;
-    while i < src.len() {
-        buf[i] = src[i];
-        i += 1;
+    WritePlan {
+        number,
+        counts: no_counts(),
     }
 }
 
-// The service write: the job whose parts stand at the starts of the places, as many as counts says. Refused are a
-// buffer below 4,188 bytes (1), a count outside its range or above its places (3), gates (4), outputs (5) and
-// candidates (6). The bytes are put into a buffer of the function's own, checked there as read checks them, and
-// copied: time linear in the job's bytes.
-pub fn write(
+// Whether the counts are at most these numbers of places.
+fn check_held(
     counts: Counts,
-    old_kinds: &[u8],
-    old_firsts: &[u16],
-    old_seconds: &[u16],
-    old_outputs: &[u16],
-    golden_kinds: &[u8],
-    golden_firsts: &[u16],
-    golden_seconds: &[u16],
-    golden_outputs: &[u16],
-    nets: &[u16],
-    weights: &[u16],
-    buf: &mut [u8],
-) -> WriteReply
-    ensures reply { λ r. ⌜ r ≡ writeReply counts
-        (places
-        (sidePlaces (now («old_kinds» .entry)) (now («old_firsts» .entry)) (now («old_seconds» .entry)) (now («old_outputs» .entry)))
-        (sidePlaces (now («golden_kinds» .entry)) (now («golden_firsts» .entry)) (now («golden_seconds» .entry)) (now («golden_outputs» .entry)))
-        (now (nets .entry)) (now (weights .entry)))
-        (now (buf .entry)) ⌝ }
-    ensures lent { λ r. ⌜ now (buf .exit) ≡ writtenBytes counts
-        (places
-        (sidePlaces (now («old_kinds» .entry)) (now («old_firsts» .entry)) (now («old_seconds» .entry)) (now («old_outputs» .entry)))
-        (sidePlaces (now («golden_kinds» .entry)) (now («golden_firsts» .entry)) (now («golden_seconds» .entry)) (now («golden_outputs» .entry)))
-        (now (nets .entry)) (now (weights .entry)))
-        (now (buf .entry)) ⌝ }
+    old: usize,
+    old_outputs: usize,
+    golden: usize,
+    golden_outputs: usize,
+    nets: usize,
+    weights: usize,
+) -> Check
+    ensures { λ r. ⌜ r ≡ checkOf (holds counts old «old_outputs» golden «golden_outputs» nets weights) ⌝ }
 {
-    if buf.len() < 4188 {
-        return WriteReply { number: 1, len: 0 };
+    let old_counts = counts.old;
+    let golden_counts = counts.golden;
+    if old < old_counts.gates {
+        return Check::Failed;
+    }
+    if old_outputs < old_counts.outputs {
+        return Check::Failed;
+    }
+    if golden < golden_counts.gates {
+        return Check::Failed;
+    }
+    if golden_outputs < golden_counts.outputs {
+        return Check::Failed;
+    }
+    if nets < counts.candidates {
+        return Check::Failed;
+    }
+    if weights < counts.candidates {
+        return Check::Failed;
+    }
+    Check::Passed
+}
+
+// The plan for a buffer of so many bytes and so many places.
+fn plan_write(
+    counts: Counts,
+    size: usize,
+    old: usize,
+    old_outputs: usize,
+    golden: usize,
+    golden_outputs: usize,
+    nets: usize,
+    weights: usize,
+) -> WritePlan
+    ensures { λ r. ⌜ r ≡ planOf counts size (holds counts old «old_outputs» golden «golden_outputs» nets weights) ⌝ }
+{
+    if size < 4188 {
+        return refused_plan(1);
     }
     let first = check_counts(counts);
     let Check::Passed = first else {
-        return WriteReply { number: 3, len: 0 };
+        return refused_plan(3);
     };
-    let old = counts.old;
-    let second = check_side_held(
-        old,
-        old_kinds.len(),
-        old_firsts.len(),
-        old_seconds.len(),
-        old_outputs.len(),
-    );
-    let Check::Passed = second else {
-        return WriteReply { number: 3, len: 0 };
-    };
-    let golden = counts.golden;
-    let third = check_side_held(
-        golden,
-        golden_kinds.len(),
-        golden_firsts.len(),
-        golden_seconds.len(),
-        golden_outputs.len(),
-    );
-    let Check::Passed = third else {
-        return WriteReply { number: 3, len: 0 };
-    };
-    let fourth = check_candidates_held(counts.candidates, nets.len(), weights.len());
-    let Check::Passed = fourth else {
-        return WriteReply { number: 3, len: 0 };
-    };
-    let mut scratch = [0u8; 4188];
-    let len = put_job(
-        &mut scratch,
+    let second = check_held(
         counts,
-        old_kinds,
-        old_firsts,
-        old_seconds,
+        old,
         old_outputs,
-        golden_kinds,
-        golden_firsts,
-        golden_seconds,
+        golden,
         golden_outputs,
         nets,
         weights,
     );
+    let Check::Passed = second else {
+        return refused_plan(3);
+    };
+    WritePlan { number: 0, counts }
+}
+
+// The rest of the job around the gates' bytes in scratch, checked there and copied to the buffer.
+fn write_rest(
+    plan: WritePlan,
+    old_outputs: &[u16],
+    golden_outputs: &[u16],
+    nets: &[u16],
+    weights: &[u16],
+    scratch: &mut [u8],
+    buf: &mut [u8],
+) -> WriteReply
+    requires { ⌜ RestHeld plan
+        (length (now «old_outputs»)) (length (now «golden_outputs»)) (length (now nets)) (length (now weights))
+        (length (now scratch)) (length (now buf)) ⌝ }
+    ensures { λ r. ⌜ ((gs hs : List GateStruct) → (plan .number ≡ 0 → GatesPut (plan .counts) gs hs (now (scratch .entry)))
+        → RestWritten plan
+        (places
+        (sidePlaces gs (now («old_outputs» .entry)))
+        (sidePlaces hs (now («golden_outputs» .entry)))
+        (now (nets .entry)) (now (weights .entry)))
+        (now (buf .entry)) r (now (buf .exit))) ⌝ }
+{
+    if plan.number != 0 {
+        return WriteReply {
+            number: plan.number,
+            len: 0,
+        };
+    }
+    let counts = plan.counts;
+    let len = put_rest(scratch, counts, old_outputs, golden_outputs, nets, weights);
     let answer = check_job(&scratch[..len]);
     match answer {
         Checked::Refused(number) => WriteReply { number, len: 0 },
@@ -156,4 +145,56 @@ pub fn write(
             WriteReply { number: 0, len }
         }
     }
+}
+
+// The service write: the job whose parts stand at the starts of the places, as many as counts says. Refused are a
+// buffer below 4,188 bytes (1), a count outside its range or above its places (3), gates (4), outputs (5) and
+// candidates (6). The bytes are put into a buffer of the function's own, checked there as read checks them, and
+// copied; a refused plan has no gates to put. Time linear in the job's bytes.
+pub fn write(
+    counts: Counts,
+    old: &[Gate],
+    old_outputs: &[u16],
+    golden: &[Gate],
+    golden_outputs: &[u16],
+    nets: &[u16],
+    weights: &[u16],
+    buf: &mut [u8],
+) -> WriteReply
+    ensures reply { λ r. ⌜ r ≡ writeReply counts
+        (places
+        (sidePlaces (now (old .entry)) (now («old_outputs» .entry)))
+        (sidePlaces (now (golden .entry)) (now («golden_outputs» .entry)))
+        (now (nets .entry)) (now (weights .entry)))
+        (now (buf .entry)) ⌝ }
+    ensures lent { λ r. ⌜ now (buf .exit) ≡ writtenBytes counts
+        (places
+        (sidePlaces (now (old .entry)) (now («old_outputs» .entry)))
+        (sidePlaces (now (golden .entry)) (now («golden_outputs» .entry)))
+        (now (nets .entry)) (now (weights .entry)))
+        (now (buf .entry)) ⌝ }
+{
+    let plan = plan_write(
+        counts,
+        buf.len(),
+        old.len(),
+        old_outputs.len(),
+        golden.len(),
+        golden_outputs.len(),
+        nets.len(),
+        weights.len(),
+    );
+    let spans = gate_spans(plan.counts);
+    let mut scratch = [0u8; 4188];
+    put_gates(old, spans.old_count, spans.old, &mut scratch);
+    put_gates(golden, spans.golden_count, spans.golden, &mut scratch);
+    write_rest(
+        plan,
+        old_outputs,
+        golden_outputs,
+        nets,
+        weights,
+        &mut scratch,
+        buf,
+    )
 }

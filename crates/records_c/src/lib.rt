@@ -1,10 +1,10 @@
-// The record library's read and write for a C program: tools/bench measures them there. The seven counts of a job go in
+// The record library's read_columns and write_columns for a C program: tools/bench measures them there. The seven counts of a job go in
 // a row: inputs, targets, old gates and outputs, golden gates and outputs, candidates.
 ghost use mathlib.Core.Path.{_≡_};
-ghost use Rattle.records.specs.Service.{sidePlaces, places, readReply, readPlaces, writeReply, writtenBytes};
+ghost use Rattle.records.specs.Columns.{sideColumns, columns, columnsReply, columnsAfter, columnsWriteReply, columnsWritten};
 ghost use Rattle.records_c.specs.Row.{rowAfter, rowCounts};
 
-// records::read: the reply's number is returned; an accepted job's counts are left in counts, which a refusal keeps.
+// records::read_columns: the reply's number is returned; an accepted job's counts are left in counts, which a refusal keeps.
 #[no_mangle]
 pub extern "C" fn records_read(
     job: &[u8],
@@ -20,31 +20,31 @@ pub extern "C" fn records_read(
     weights: &mut [u16],
     counts: &mut [usize; 7],
 ) -> u8
-    ensures number { λ r. ⌜ r ≡ readReply
-        (places
-        (sidePlaces (now («old_kinds» .entry)) (now («old_firsts» .entry)) (now («old_seconds» .entry)) (now («old_outputs» .entry)))
-        (sidePlaces (now («golden_kinds» .entry)) (now («golden_firsts» .entry)) (now («golden_seconds» .entry)) (now («golden_outputs» .entry)))
+    ensures number { λ r. ⌜ r ≡ columnsReply
+        (columns
+        (sideColumns (now («old_kinds» .entry)) (now («old_firsts» .entry)) (now («old_seconds» .entry)) (now («old_outputs» .entry)))
+        (sideColumns (now («golden_kinds» .entry)) (now («golden_firsts» .entry)) (now («golden_seconds» .entry)) (now («golden_outputs» .entry)))
         (now (nets .entry)) (now (weights .entry)))
         (now (job .entry)) .number ⌝ }
-    ensures counted { λ _. ⌜ now (counts .exit) ≡ rowAfter (readReply
-        (places
-        (sidePlaces (now («old_kinds» .entry)) (now («old_firsts» .entry)) (now («old_seconds» .entry)) (now («old_outputs» .entry)))
-        (sidePlaces (now («golden_kinds» .entry)) (now («golden_firsts» .entry)) (now («golden_seconds» .entry)) (now («golden_outputs» .entry)))
+    ensures counted { λ _. ⌜ now (counts .exit) ≡ rowAfter (columnsReply
+        (columns
+        (sideColumns (now («old_kinds» .entry)) (now («old_firsts» .entry)) (now («old_seconds» .entry)) (now («old_outputs» .entry)))
+        (sideColumns (now («golden_kinds» .entry)) (now («golden_firsts» .entry)) (now («golden_seconds» .entry)) (now («golden_outputs» .entry)))
         (now (nets .entry)) (now (weights .entry)))
         (now (job .entry))) (now (counts .entry)) ⌝ }
     ensures lent { λ _. ⌜
-        places
-        (sidePlaces (now («old_kinds» .exit)) (now («old_firsts» .exit)) (now («old_seconds» .exit)) (now («old_outputs» .exit)))
-        (sidePlaces (now («golden_kinds» .exit)) (now («golden_firsts» .exit)) (now («golden_seconds» .exit)) (now («golden_outputs» .exit)))
+        columns
+        (sideColumns (now («old_kinds» .exit)) (now («old_firsts» .exit)) (now («old_seconds» .exit)) (now («old_outputs» .exit)))
+        (sideColumns (now («golden_kinds» .exit)) (now («golden_firsts» .exit)) (now («golden_seconds» .exit)) (now («golden_outputs» .exit)))
         (now (nets .exit)) (now (weights .exit))
-        ≡ readPlaces
-        (places
-        (sidePlaces (now («old_kinds» .entry)) (now («old_firsts» .entry)) (now («old_seconds» .entry)) (now («old_outputs» .entry)))
-        (sidePlaces (now («golden_kinds» .entry)) (now («golden_firsts» .entry)) (now («golden_seconds» .entry)) (now («golden_outputs» .entry)))
+        ≡ columnsAfter
+        (columns
+        (sideColumns (now («old_kinds» .entry)) (now («old_firsts» .entry)) (now («old_seconds» .entry)) (now («old_outputs» .entry)))
+        (sideColumns (now («golden_kinds» .entry)) (now («golden_firsts» .entry)) (now («golden_seconds» .entry)) (now («golden_outputs» .entry)))
         (now (nets .entry)) (now (weights .entry)))
         (now (job .entry)) ⌝ }
 {
-    let reply = records::read(
+    let reply = records::read_columns(
         job,
         old_kinds,
         old_firsts,
@@ -73,7 +73,7 @@ pub extern "C" fn records_read(
     reply.number
 }
 
-// records::write of as many parts as counts says: the length of the job is returned, 0 on refusal, and the reply's number is left
+// records::write_columns of as many parts as counts says: the length of the job is returned, 0 on refusal, and the reply's number is left
 // in number, 0 where the parts are accepted.
 #[no_mangle]
 pub extern "C" fn records_write(
@@ -91,22 +91,22 @@ pub extern "C" fn records_write(
     buf: &mut [u8],
     number: &mut u32,
 ) -> usize
-    ensures length { λ r. ⌜ r ≡ writeReply (rowCounts (now (counts .entry)))
-        (places
-        (sidePlaces (now («old_kinds» .entry)) (now («old_firsts» .entry)) (now («old_seconds» .entry)) (now («old_outputs» .entry)))
-        (sidePlaces (now («golden_kinds» .entry)) (now («golden_firsts» .entry)) (now («golden_seconds» .entry)) (now («golden_outputs» .entry)))
+    ensures length { λ r. ⌜ r ≡ columnsWriteReply (rowCounts (now (counts .entry)))
+        (columns
+        (sideColumns (now («old_kinds» .entry)) (now («old_firsts» .entry)) (now («old_seconds» .entry)) (now («old_outputs» .entry)))
+        (sideColumns (now («golden_kinds» .entry)) (now («golden_firsts» .entry)) (now («golden_seconds» .entry)) (now («golden_outputs» .entry)))
         (now (nets .entry)) (now (weights .entry)))
         (now (buf .entry)) .len ⌝ }
-    ensures number { λ _. ⌜ now (number .exit) ≡ writeReply (rowCounts (now (counts .entry)))
-        (places
-        (sidePlaces (now («old_kinds» .entry)) (now («old_firsts» .entry)) (now («old_seconds» .entry)) (now («old_outputs» .entry)))
-        (sidePlaces (now («golden_kinds» .entry)) (now («golden_firsts» .entry)) (now («golden_seconds» .entry)) (now («golden_outputs» .entry)))
+    ensures number { λ _. ⌜ now (number .exit) ≡ columnsWriteReply (rowCounts (now (counts .entry)))
+        (columns
+        (sideColumns (now («old_kinds» .entry)) (now («old_firsts» .entry)) (now («old_seconds» .entry)) (now («old_outputs» .entry)))
+        (sideColumns (now («golden_kinds» .entry)) (now («golden_firsts» .entry)) (now («golden_seconds» .entry)) (now («golden_outputs» .entry)))
         (now (nets .entry)) (now (weights .entry)))
         (now (buf .entry)) .number ⌝ }
-    ensures lent { λ _. ⌜ now (buf .exit) ≡ writtenBytes (rowCounts (now (counts .entry)))
-        (places
-        (sidePlaces (now («old_kinds» .entry)) (now («old_firsts» .entry)) (now («old_seconds» .entry)) (now («old_outputs» .entry)))
-        (sidePlaces (now («golden_kinds» .entry)) (now («golden_firsts» .entry)) (now («golden_seconds» .entry)) (now («golden_outputs» .entry)))
+    ensures lent { λ _. ⌜ now (buf .exit) ≡ columnsWritten (rowCounts (now (counts .entry)))
+        (columns
+        (sideColumns (now («old_kinds» .entry)) (now («old_firsts» .entry)) (now («old_seconds» .entry)) (now («old_outputs» .entry)))
+        (sideColumns (now («golden_kinds» .entry)) (now («golden_firsts» .entry)) (now («golden_seconds» .entry)) (now («golden_outputs» .entry)))
         (now (nets .entry)) (now (weights .entry)))
         (now (buf .entry)) ⌝ }
 {
@@ -123,7 +123,7 @@ pub extern "C" fn records_write(
         },
         candidates: counts[6],
     };
-    let reply = records::write(
+    let reply = records::write_columns(
         all,
         old_kinds,
         old_firsts,

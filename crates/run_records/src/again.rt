@@ -26,7 +26,7 @@ fn read_all(
     nets: &mut [u16; 401],
     weights: &mut [u16; 401],
 ) -> records::ReadReply {
-    records::read(
+    records::read_columns(
         job,
         old_kinds,
         old_firsts,
@@ -56,7 +56,7 @@ fn write_all(
     weights: &[u16; 401],
 ) {
     let mut buf = new_buffer();
-    let r = records::write(
+    let r = records::write_columns(
         counts,
         old_kinds,
         old_firsts,

@@ -70,7 +70,7 @@ fn read_job(job: &[u8], short: u8) {
     let mut weights = new_words(10);
     let j = lent(10, 10, short);
     let weights_lent = &mut weights[0..j];
-    let r = records::read(
+    let r = records::read_columns(
         job,
         old_kinds_lent,
         old_firsts_lent,

@@ -79,7 +79,7 @@ pub(super) fn write_call(s: &[u8]) -> bool {
     let weights_lent = &weights[0..j_len];
     let mut buf = new_buffer();
     let k = least(word_at(s, 0), 4200);
-    let r = records::write(
+    let r = records::write_columns(
         counts_at(s),
         old_kinds_lent,
         old_firsts_lent,

@@ -116,7 +116,7 @@ fn show(job: &[u8]) {
     let mut golden_outputs = [0u16; 32];
     let mut nets = [0u16; 10];
     let mut weights = [0u16; 10];
-    let r = records::read(
+    let r = records::read_columns(
         job,
         &mut old_kinds,
         &mut old_firsts,

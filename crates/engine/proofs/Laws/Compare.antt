@@ -17,12 +17,14 @@ use Rattle.records.specs.Netlist.{netAt, values}
 use Rattle.records.specs.Job.{Candidate, jobOf}
 use Rattle.records.specs.Refusal.{Test, firstFailing, partTests, jobTests, jobRefusal}
 use Rattle.records.specs.Sheet.{patchOf, isCandidate, sheetTests}
-use Rattle.records.specs.Service.{SidePlaces, Places, sidePlaces, places, gatesFrom, netlistFrom, candidatesFrom, jobFrom}
-use Rattle.records.specs.Service.{sideRoomy, roomy, readNumber, readReply, sheetRoomy, sheetNumber, sheetReply}
+use Rattle.records.specs.Service.{candidatesFrom}
+use Rattle.records.specs.Columns.{SideColumns, Columns, sideColumns, columns, gatesFrom, columnsNetlist, columnsJob}
+use Rattle.records.specs.Service.{sheetRoomy, sheetNumber, sheetReply}
+use Rattle.records.specs.Columns.{sideColumnsRoomy, columnsRoomy, columnsNumber, columnsReply}
 use Rattle.records.specs.declared.job.Counts.{Counts}
 use Rattle.records.specs.declared.reading.ReadReply.{ReadReply}
 use Rattle.records.specs.declared.sheet.SheetReply.{SheetReply}
-use Rattle.records.proofs.Laws.Accepted.{read-accepts}
+use Rattle.records.proofs.Laws.ReadColumns.{columns-accepts}
 use Rattle.records.proofs.Laws.Bytes.{and-both, all-cons, length-tabulate}
 use Rattle.engine.specs.Choice.{first, same}
 use Rattle.engine.specs.Eval.{bit, bits, allInputs, oldValues, oldOutputs, goldenOutputs}
@@ -57,7 +59,7 @@ differs-not xs ys = go (same xs ys)
     go true = refl
     go false = refl
 
-module _ {c : Counts} {old golden : SidePlaces} {nets : List ℕ} (r : Ready c old golden nets) (is table : List ℕ) where
+module _ {c : Counts} {old golden : SideColumns} {nets : List ℕ} (r : Ready c old golden nets) (is table : List ℕ) where
   abbrev oldGates : List Gate
   oldGates = gatesFrom (c .old .gates) (old .kinds) (old .firsts) (old .seconds)
 
@@ -76,7 +78,7 @@ module _ {c : Counts} {old golden : SidePlaces} {nets : List ℕ} (r : Ready c o
 
   differing-places : (x : ℕ)
       → differing (circuits c old golden []) is table x ≡ not (same (drivenOutputs x) (goldenValues (c .golden .outputs) x))
-  unfolding rectifies drivenBy reading oldOutputs goldenOutputs oldValues circuits jobFrom netlistFrom vectorAt
+  unfolding rectifies drivenBy reading oldOutputs goldenOutputs oldValues circuits columnsJob columnsNetlist vectorAt
       drivenOutputs goldenValues
   differing-places x = refl
 
@@ -167,10 +169,10 @@ module _ {p : ℕ → Bool} {n size b word count r : ℕ} (s : Scanning p n size
 
 -- ---- the result
 
-module _ (c : Counts) (old golden : SidePlaces) (is table : List ℕ) where
+module _ (c : Counts) (old golden : SideColumns) (is table : List ℕ) where
   difference-places : difference (circuits c old golden []) is table
       ≡ first (differing (circuits c old golden []) is table) (upFrom 0 (2 ^ c .inputs))
-  unfolding difference allInputs circuits jobFrom
+  unfolding difference allInputs circuits columnsJob
   difference-places = refl
 
   pub differs-least : (x : ℕ) → Least (differing (circuits c old golden []) is table) (2 ^ c .inputs) x
@@ -189,7 +191,7 @@ module _ (c : Counts) (old golden : SidePlaces) (is table : List ℕ) where
 
 -- ---- a sheet
 
-module _ {c : Counts} {old golden : SidePlaces} {nets : List ℕ} (r : Ready c old golden nets) (weights p : List ℕ)
+module _ {c : Counts} {old golden : SideColumns} {nets : List ℕ} (r : Ready c old golden nets) (weights p : List ℕ)
     (h : c .candidates ≤ length weights) {s : SheetReply} (e : s ≡ sheetReply (c .targets) (c .candidates) nets weights p) where
   abbrev candidates : List Candidate
   candidates = candidatesFrom (c .candidates) nets weights
@@ -214,8 +216,8 @@ module _ {c : Counts} {old golden : SidePlaces} {nets : List ℕ} (r : Ready c o
 
   pub declined-sheet : (s .number ≡ 0 → ⊥)
       → record { number = s .number; result = Comparison.Declined }
-      ≡ sheetComparison (jobFrom c (places old golden nets weights)) p
-  unfolding sheetComparison declinedComparison jobFrom
+      ≡ sheetComparison (columnsJob c (columns old golden nets weights)) p
+  unfolding sheetComparison declinedComparison columnsJob
   declined-sheet z = rw (reply-number, ne-eqb (s .number) 0 z)
 
   module _ (z : s .number ≡ 0) where
@@ -230,7 +232,7 @@ module _ {c : Counts} {old golden : SidePlaces} {nets : List ℕ} (r : Ready c o
     support-few = omega (arith, accepted-sheet .few, length-candidates, ready-within r .candidates)
 
     candidates-nets : map (λ (k : Candidate). k .net) candidates ≡ take (c .candidates) nets
-    unfolding candidateNets jobFrom
+    unfolding candidateNets columnsJob
     candidates-nets = nets-weights c old golden nets weights ∙ ready-candidates r
 
     support-below : Outputs (s .support .nets) (s .support .len) (c .inputs + c .targets + c .old .gates)
@@ -272,14 +274,14 @@ module _ {c : Counts} {old golden : SidePlaces} {nets : List ℕ} (r : Ready c o
         }
 
     bare-difference : (is t : List ℕ)
-        → difference (circuits c old golden []) is t ≡ difference (jobFrom c (places old golden nets weights)) is t
-    unfolding difference allInputs rectifies oldOutputs goldenOutputs oldValues drivenBy reading circuits jobFrom
+        → difference (circuits c old golden []) is t ≡ difference (columnsJob c (columns old golden nets weights)) is t
+    unfolding difference allInputs rectifies oldOutputs goldenOutputs oldValues drivenBy reading circuits columnsJob
     bare-difference is t = refl
 
     sheet-accepted : (o : Comparison)
-        → o ≡ comparisonOf (difference (jobFrom c (places old golden nets weights)) (patchOf p .support) (patchOf p .table))
-        → record { number = 0; result = o } ≡ sheetComparison (jobFrom c (places old golden nets weights)) p
-    unfolding sheetComparison jobFrom
+        → o ≡ comparisonOf (difference (columnsJob c (columns old golden nets weights)) (patchOf p .support) (patchOf p .table))
+        → record { number = 0; result = o } ≡ sheetComparison (columnsJob c (columns old golden nets weights)) p
+    unfolding sheetComparison columnsJob
     sheet-accepted o q = rw (reply-number, eq-eqb (s .number) 0 z, q)
 
     pub compared-sheet : (k : ℕ) → k ≡ 2 ^ s .support .len → {o : Comparison}
@@ -287,7 +289,7 @@ module _ {c : Counts} {old golden : SidePlaces} {nets : List ℕ} (r : Ready c o
         ≡ comparisonOf
         (difference (circuits c old golden []) (take (s .support .len) (s .support .nets))
         (take (s .table + k - s .table) (drop (s .table) p)))
-        → record { number = 0; result = o } ≡ sheetComparison (jobFrom c (places old golden nets weights)) p
+        → record { number = 0; result = o } ≡ sheetComparison (columnsJob c (columns old golden nets weights)) p
     compared-sheet k q {o} d =
         let a = accepted-sheet in
         let j = circuits c old golden [] in
@@ -309,7 +311,7 @@ failing-append (t ∷ ts) us z = go (t .number) (t .passes) (failing-append ts u
     go k true f y = f y
     go k false f y = refl
 
-module _ (s : List ℕ) {r : ReadReply} (e : r ≡ readReply lentPlaces s) where
+module _ (s : List ℕ) {r : ReadReply} (e : r ≡ columnsReply lentPlaces s) where
   pub declined-job : (q : List ℕ) → (r .number ≡ 0 → ⊥)
       → record { number = r .number; result = Comparison.Declined } ≡ compareReply s q
   unfolding compareReply compareNumber pairTests jobRefusal
@@ -317,11 +319,11 @@ module _ (s : List ℕ) {r : ReadReply} (e : r ≡ readReply lentPlaces s) where
       let n : firstFailing (jobTests s) ≡ r .number = read-number s e in
       rw (failing-append (jobTests s) _ (λ a. z (sym n ∙ a)), n, ne-eqb (r .number) 0 z)
 
-  pub accepted-job : r .number ≡ 0 → readNumber lentPlaces s ≡ 0
+  pub accepted-job : r .number ≡ 0 → columnsNumber lentPlaces s ≡ 0
   accepted-job z = lent-refusal s ∙ read-number s e ∙ z
 
   pub compared-job : (q : List ℕ) → r .number ≡ 0 → sheetComparison (jobOf s) q ≡ compareReply s q
   unfolding compareReply compareNumber pairTests jobTests partTests firstFailing sheetComparison declinedComparison
   compared-job q z =
-      let a = read-accepts lentPlaces s .0 (accepted-job z) in
+      let a = columns-accepts lentPlaces s .0 (accepted-job z) in
       rw (a .1, a .2 .counts, a .2 .gates, a .2 .outputs, a .2 .candidates)

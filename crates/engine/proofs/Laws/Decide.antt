@@ -9,7 +9,7 @@ use lib.Dec.{leb, eqb}
 use lib.ListN.{length, replicate}
 use Rattle.records.specs.Job.{Job, jobOf}
 use Rattle.records.specs.Refusal.{firstFailing, jobTests, jobRefusal}
-use Rattle.records.specs.Service.{Places, places, sidePlaces, sideRoomy, roomy, readNumber, readReply}
+use Rattle.records.specs.Columns.{Columns, columns, sideColumns, sideColumnsRoomy, columnsRoomy, columnsNumber, columnsReply}
 use Rattle.records.specs.declared.reading.ReadReply.{ReadReply}
 use Rattle.engine.specs.Verdict.{longestSheet, decideNumber, decidedBytes}
 use Rattle.engine.specs.Reply.{declinedReply, decideReply}
@@ -27,28 +27,28 @@ module _ (d s : List ℕ) where
   unfolding decideNumber firstFailing jobRefusal
   number-long h = rw (le-leb longestSheet (length d) h)
 
-pub read-refusal : (p : Places) (s : List ℕ) → roomy p ≡ true → readNumber p s ≡ jobRefusal s
-unfolding readNumber firstFailing jobRefusal
+pub read-refusal : (p : Columns) (s : List ℕ) → columnsRoomy p ≡ true → columnsNumber p s ≡ jobRefusal s
+unfolding columnsNumber firstFailing jobRefusal
 read-refusal p s h = rw h
 
 -- the places that decide, compare and fit lend to read
-abbrev pub lentPlaces : Places
+abbrev pub lentPlaces : Columns
 lentPlaces =
-    places
-    (sidePlaces (replicate 400 0) (replicate 400 0) (replicate 400 0) (replicate 32 0))
-    (sidePlaces (replicate 400 0) (replicate 400 0) (replicate 400 0) (replicate 32 0))
+    columns
+    (sideColumns (replicate 400 0) (replicate 400 0) (replicate 400 0) (replicate 32 0))
+    (sideColumns (replicate 400 0) (replicate 400 0) (replicate 400 0) (replicate 32 0))
     (replicate 10 0) (replicate 10 0)
 
-pub lent-roomy : roomy lentPlaces ≡ true
-unfolding roomy sideRoomy
+pub lent-roomy : columnsRoomy lentPlaces ≡ true
+unfolding columnsRoomy sideColumnsRoomy
 lent-roomy = refl
 
-pub lent-refusal : (s : List ℕ) → readNumber lentPlaces s ≡ jobRefusal s
+pub lent-refusal : (s : List ℕ) → columnsNumber lentPlaces s ≡ jobRefusal s
 lent-refusal s = read-refusal lentPlaces s lent-roomy
 
 -- the number of what read replied there
-pub read-number : (s : List ℕ) {r : ReadReply} → r ≡ readReply lentPlaces s → jobRefusal s ≡ r .number
-unfolding readReply
+pub read-number : (s : List ℕ) {r : ReadReply} → r ≡ columnsReply lentPlaces s → jobRefusal s ≡ r .number
+unfolding columnsReply
 read-number s e = sym (lent-refusal s) ∙ ap (λ (x : ReadReply). x .number) (sym e)
 
 pub decided-job : {j k : Job} {d e : List ℕ} {r : DecideReply} → j ≡ k → Decided j d r e → Decided k d r e

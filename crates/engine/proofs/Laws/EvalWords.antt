@@ -13,7 +13,7 @@ use Rattle.records.specs.Bytes.{upFrom, tabulate, all}
 use Rattle.records.specs.Gate.{Gate, gateOf, arity, operands, gateValue}
 use Rattle.records.specs.Netlist.{netAt, extended, valueOf, values}
 use Rattle.records.specs.Refusal.{gateGood, gatesGood}
-use Rattle.records.specs.Service.{gatesFrom}
+use Rattle.records.specs.Columns.{gatesFrom}
 use Rattle.records.proofs.Laws.Bytes.{and-left, and-right, length-tabulate, drop-tabulate, drop-tabulate-end, tabulate-snoc}
 use Rattle.records.proofs.Laws.Gate.{gateGood-parts}
 use Rattle.engine.specs.Eval.{bit, bits}

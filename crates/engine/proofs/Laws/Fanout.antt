@@ -14,7 +14,7 @@ use Rattle.records.specs.Gate.{Gate, gateOf, arity, gateValue}
 use Rattle.records.specs.Netlist.{netAt, extended, valueOf, values, markOf, fanout}
 use Rattle.records.specs.Refusal.{gateGood, gatesGood}
 use Rattle.records.specs.Inner.{leafMarks}
-use Rattle.records.specs.Service.{gatesFrom}
+use Rattle.records.specs.Columns.{gatesFrom}
 use Rattle.records.proofs.Laws.Bytes.{length-tabulate, drop-tabulate-end}
 use Rattle.records.proofs.Laws.Netlist.{markOf-take}
 use Rattle.engine.specs.Eval.{bit, bits, numberOf}

@@ -15,7 +15,7 @@ use Rattle.records.specs.Bytes.{upFrom, tabulate, placed}
 use Rattle.records.specs.Gate.{Gate, gateOf, operands, unused}
 use Rattle.records.specs.Netlist.{netAt}
 use Rattle.records.specs.Refusal.{gateGood, gatesGood}
-use Rattle.records.specs.Service.{gatesFrom}
+use Rattle.records.specs.Columns.{gatesFrom}
 use Rattle.records.proofs.Laws.Bytes.{length-upFrom, length-tabulate, getD-tabulate, length-placed}
 use Rattle.records.proofs.Laws.Gate.{arity-low, arity-one, arity-two, gateGood-high}
 use Rattle.engine.specs.Choice.{keep}

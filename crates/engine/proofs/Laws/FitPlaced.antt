@@ -15,7 +15,7 @@ use Rattle.records.specs.Gate.{Gate, operands, unused}
 use Rattle.records.specs.Netlist.{netAt}
 use Rattle.records.specs.Job.{Job}
 use Rattle.records.specs.Refusal.{gatesGood, netlistsGood, oldNets}
-use Rattle.records.specs.Service.{gatesFrom}
+use Rattle.records.specs.Columns.{gatesFrom}
 use Rattle.records.specs.declared.job.Counts.{Counts}
 use Rattle.records.specs.declared.sheet.Support.{Support}
 use Rattle.records.proofs.Laws.Bytes.{and-both, length-upFrom}

@@ -15,13 +15,15 @@ use Rattle.records.specs.Netlist.{netAt}
 use Rattle.records.specs.Job.{Job, jobOf}
 use Rattle.records.specs.Refusal.{firstFailing, oldNets, partTests, jobTests, jobRefusal}
 use Rattle.records.specs.Sheet.{patchOf, sheetWhole, patchGood, sheetTests}
-use Rattle.records.specs.Service.{SidePlaces, sidePlaces, places, gatesFrom, netlistFrom, candidatesFrom, jobFrom}
+use Rattle.records.specs.Service.{candidatesFrom}
+use Rattle.records.specs.Columns.{SideColumns, sideColumns, columns, gatesFrom, columnsNetlist, columnsJob}
 use Rattle.records.specs.Service.{sheetRoomy, sheetReply}
 use Rattle.records.specs.Claims.{PartsGood}
 use Rattle.records.specs.declared.job.Counts.{Counts}
 use Rattle.records.specs.declared.sheet.Support.{Support}
 use Rattle.records.specs.declared.sheet.SheetReply.{SheetReply}
-use Rattle.records.proofs.Laws.Accepted.{read-accepts, sheet-accepts}
+use Rattle.records.proofs.Laws.Accepted.{sheet-accepts}
+use Rattle.records.proofs.Laws.ReadColumns.{columns-accepts}
 use Rattle.engine.specs.Inner.{Outputs, BytesPut}
 use Rattle.engine.specs.Fit.{led, gateIndices, newFreeGate, newFreeNet, trees, newGate, newNets, movedGates}
 use Rattle.engine.specs.Fit.{fitted, fittedBytes, fits, longestFit}
@@ -147,42 +149,42 @@ module _ {c : Counts} {ks xs ys : List ℕ} {s : Support} {table : List ℕ} (h 
 
 -- ---- a sheet
 
-module _ (c : Counts) (ks xs ys os : List ℕ) (golden : SidePlaces) (nets weights is t : List ℕ) where
+module _ (c : Counts) (ks xs ys os : List ℕ) (golden : SideColumns) (nets weights is t : List ℕ) where
   abbrev whole : Job
-  whole = jobFrom c (places (sidePlaces ks xs ys os) golden nets weights)
+  whole = columnsJob c (columns (sideColumns ks xs ys os) golden nets weights)
 
   fits-places : fits (patchedJob c ks xs ys (take (c .old .outputs) os)) is t ≡ fits whole is t
-  unfolding jobFrom netlistFrom fits fitted movedGates newNets trees newGate newFreeNet newFreeGate gateIndices led
+  unfolding columnsJob columnsNetlist fits fitted movedGates newNets trees newGate newFreeNet newFreeGate gateIndices led
   fits-places = refl
 
   bytes-places : fittedBytes (patchedJob c ks xs ys (take (c .old .outputs) os)) is t ≡ fittedBytes whole is t
-  unfolding jobFrom netlistFrom fittedBytes fitted movedGates newNets trees newGate newFreeNet newFreeGate gateIndices led
+  unfolding columnsJob columnsNetlist fittedBytes fitted movedGates newNets trees newGate newFreeNet newFreeGate gateIndices led
   bytes-places = refl
 
   free-places : (i : ℕ) → (i < oldNets whole) × (netAt (led whole) i ≡ 0)
       → (i < oldNets (patchedJob c ks xs ys [])) × (netAt (led (patchedJob c ks xs ys [])) i ≡ 0)
-  unfolding jobFrom netlistFrom oldNets led
+  unfolding columnsJob columnsNetlist oldNets led
   free-places i h = h
 
-module _ (c : Counts) (old golden : SidePlaces) (nets weights p : List ℕ) where
+module _ (c : Counts) (old golden : SideColumns) (nets weights p : List ℕ) where
   abbrev given : Job
-  given = jobFrom c (places old golden nets weights)
+  given = columnsJob c (columns old golden nets weights)
 
   ungolden-number : sheetFitNumber (ungolden c old nets weights) p ≡ sheetFitNumber given p
-  unfolding jobFrom netlistFrom sheetFitNumber fits fitted movedGates newNets trees newGate newFreeNet newFreeGate gateIndices led
+  unfolding columnsJob columnsNetlist sheetFitNumber fits fitted movedGates newNets trees newGate newFreeNet newFreeGate gateIndices led
   ungolden-number = refl
 
   ungolden-bytes : (is t : List ℕ) → fittedBytes (ungolden c old nets weights) is t ≡ fittedBytes given is t
-  unfolding jobFrom netlistFrom fittedBytes fitted movedGates newNets trees newGate newFreeNet newFreeGate gateIndices led
+  unfolding columnsJob columnsNetlist fittedBytes fitted movedGates newNets trees newGate newFreeNet newFreeGate gateIndices led
   ungolden-bytes is t = refl
 
-module _ {c : Counts} {ks xs ys os nets weights : List ℕ} (h : FitReady c (sidePlaces ks xs ys os) nets weights) (p : List ℕ)
+module _ {c : Counts} {ks xs ys os nets weights : List ℕ} (h : FitReady c (sideColumns ks xs ys os) nets weights) (p : List ℕ)
     {a : SheetReply} (e : a ≡ sheetReply (c .targets) (c .candidates) nets weights p) where
   abbrev bare : Job
-  bare = ungolden c (sidePlaces ks xs ys os) nets weights
+  bare = ungolden c (sideColumns ks xs ys os) nets weights
 
   refused-number : (a .number ≡ 0 → ⊥) → sheetFitNumber bare p ≡ a .number
-  unfolding sheetFitNumber jobFrom
+  unfolding sheetFitNumber columnsJob
   refused-number z =
       let q = reply-number (h .ready) weights p (h .weighted) e in
       failing-append (sheetTests (c .targets) (candidatesFrom (c .candidates) nets weights) p) _ (λ y. z (sym q ∙ y)) ∙ q
@@ -205,12 +207,12 @@ module _ {c : Counts} {ks xs ys os nets weights : List ℕ} (h : FitReady c (sid
     read = accepted-sheet (h .ready) weights p (h .weighted) e z
 
     accepted-number : sheetFitNumber bare p ≡ patchNumber bare (patchOf p .support) (patchOf p .table)
-    unfolding sheetFitNumber sheetTests firstFailing jobFrom
+    unfolding sheetFitNumber sheetTests firstFailing columnsJob
     accepted-number = rw (accepted .1, accepted .2)
 
     good-patch : patchGood (whole c ks xs ys os (h .golden) nets weights [] [] .targets)
         (whole c ks xs ys os (h .golden) nets weights [] [] .candidates) (patchOf p) ≡ true
-    unfolding jobFrom
+    unfolding columnsJob
     good-patch = accepted .2
 
     -- the bytes from the table's start to its end
@@ -254,7 +256,7 @@ module _ {c : Counts} {ks xs ys os nets weights : List ℕ} (h : FitReady c (sid
       sheet-accepted {d} {f} {r} g =
           let is = patchOf p .support in
           let t = patchOf p .table in
-          let none = sidePlaces [] [] [] [] in
+          let none = sideColumns [] [] [] [] in
           rw (
             accepted-number,
             ← fits-places c ks xs ys os none nets weights is t,
@@ -298,11 +300,11 @@ module _ (d s p : List ℕ) where
     passed-job : jobRefusal s ≡ 0 → fitNumber d s p ≡ sheetFitNumber (jobOf s) p
     unfolding fitNumber fitTests firstFailing pairTests jobTests partTests sheetFitNumber
     passed-job n =
-        let a = read-accepts lentPlaces s .0 (lent-refusal s ∙ n) in
+        let a = columns-accepts lentPlaces s .0 (lent-refusal s ∙ n) in
         rw (le-leb longestFit (length d) l, a .1, a .2 .counts, a .2 .gates, a .2 .outputs, a .2 .candidates)
 
-    pub fit-accepted : jobRefusal s ≡ 0 → (c : Counts) (old golden : SidePlaces) (nets weights : List ℕ)
-        → jobFrom c (places old golden nets weights) ≡ jobOf s → {r : FitReply} {e : List ℕ}
+    pub fit-accepted : jobRefusal s ≡ 0 → (c : Counts) (old golden : SideColumns) (nets weights : List ℕ)
+        → columnsJob c (columns old golden nets weights) ≡ jobOf s → {r : FitReply} {e : List ℕ}
         → FitGives (sheetFitNumber (ungolden c old nets weights) p)
         (fittedBytes (ungolden c old nets weights) (patchOf p .support) (patchOf p .table)) d r e
         → FitGives (fitNumber d s p) bytes d r e
@@ -315,7 +317,7 @@ module _ (d s p : List ℕ) where
         at g)
 
 -- what read left in the places
-pub fit-ready : {s : List ℕ} {c : Counts} {old golden : SidePlaces} {nets weights : List ℕ}
-    → ReadJob s c (places old golden nets weights) → FitReady c old nets weights
+pub fit-ready : {s : List ℕ} {c : Counts} {old golden : SideColumns} {nets weights : List ℕ}
+    → ReadJob s c (columns old golden nets weights) → FitReady c old nets weights
 fit-ready {golden = golden} q =
     record { golden = golden; ready = q .ready; weighted = q .weights; good = subst PartsGood (sym (q .job)) (q .good) }

@@ -9,7 +9,7 @@ use lib.ListN.{length, getD, take, set, length-append}
 use Rattle.records.specs.Bytes.{tabulate, flat, bytePair, placed, field}
 use Rattle.records.specs.Gate.{Gate, gateOf}
 use Rattle.records.specs.Job.{gateBytes}
-use Rattle.records.specs.Service.{gatesFrom}
+use Rattle.records.specs.Columns.{gatesFrom}
 use Rattle.records.proofs.Laws.Bytes.{take-placed}
 use Rattle.records.proofs.Laws.Job.{Put, sets-placed, length-field, length-flat-tabulate, length-gateBytes}
 use Rattle.engine.specs.Inner.{BytesPut}

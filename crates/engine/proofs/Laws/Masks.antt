@@ -10,7 +10,7 @@ use Rattle.records.specs.Bytes.{upFrom, all, tabulate}
 use Rattle.records.specs.Gate.{Gate}
 use Rattle.records.specs.Netlist.{netAt, values}
 use Rattle.records.specs.Job.{Job}
-use Rattle.records.specs.Service.{SidePlaces, gatesFrom, netlistFrom, jobFrom}
+use Rattle.records.specs.Columns.{SideColumns, gatesFrom, columnsNetlist, columnsJob}
 use Rattle.records.specs.declared.job.Counts.{Counts}
 use Rattle.records.proofs.Laws.Bytes.{length-tabulate}
 use Rattle.records.proofs.Laws.Job.{tabulate-getD}
@@ -25,7 +25,7 @@ use Rattle.engine.proofs.Laws.EvalWords.{length-gates}
 use Rattle.engine.proofs.Laws.Ready.{ready-outputs-equal, ready-golden-outputs, ready-candidates, ready-candidate-count, ready-candidates-below}
 use Rattle.engine.proofs.Laws.Rectify.{picked-bits}
 
-module _ {c : Counts} {old golden : SidePlaces} {nets : List ℕ} (r : Ready c old golden nets) where
+module _ {c : Counts} {old golden : SideColumns} {nets : List ℕ} (r : Ready c old golden nets) where
   abbrev oldGates : List Gate
   oldGates = gatesFrom (c .old .gates) (old .kinds) (old .firsts) (old .seconds)
 
@@ -41,7 +41,7 @@ module _ {c : Counts} {old golden : SidePlaces} {nets : List ℕ} (r : Ready c o
       ≡ same
       (map (netAt (values (bits (c .inputs) x ++ bits (c .targets) v) oldGates)) (take (c .old .outputs) (old .outputs)))
       (map (netAt (values (bits (c .inputs) x) goldenGates)) (take (c .golden .outputs) (golden .outputs)))
-  unfolding rectifies oldOutputs goldenOutputs oldValues circuits jobFrom netlistFrom
+  unfolding rectifies oldOutputs goldenOutputs oldValues circuits columnsJob columnsNetlist
   rectifies-places x v = refl
 
   -- bit i of a vector's mask says whether it rectifies input i of the block
@@ -63,11 +63,11 @@ module _ {c : Counts} {old golden : SidePlaces} {nets : List ℕ} (r : Ready c o
       ∙ ap (λ (t : Bool). cond t 1 0) (sym (rectifies-places (64 * b + i) v))
 
   vectors-of : allVectors (circuits c old golden nets) ≡ upFrom 0 (2 ^ c .targets)
-  unfolding allVectors circuits jobFrom
+  unfolding allVectors circuits columnsJob
   vectors-of = refl
 
   targets-of : circuits c old golden nets .targets ≡ c .targets
-  unfolding circuits jobFrom
+  unfolding circuits columnsJob
   targets-of = refl
 
   pub masks-of : (b : ℕ) (words masks : List ℕ) → 2 ^ c .targets ≤ length masks → GoldenWords goldenGates (c .inputs) b words
@@ -90,7 +90,7 @@ module _ {c : Counts} {old golden : SidePlaces} {nets : List ℕ} (r : Ready c o
   reading-places : (x : ℕ)
       → reading (circuits c old golden nets) (candidateNets (circuits c old golden nets)) x
       ≡ numberOf (map (netAt (values (bits (c .inputs) x ++ bits (c .targets) 0) oldGates)) (candidateNets (circuits c old golden nets)))
-  unfolding reading oldValues circuits jobFrom netlistFrom
+  unfolding reading oldValues circuits columnsJob columnsNetlist
   reading-places x = refl
 
   -- .. and the candidates' bits are its reading

@@ -17,7 +17,7 @@ use Rattle.records.specs.Gate.{Gate, gateOf, arity, operands, unused, gateValue
 use Rattle.records.specs.Netlist.{netAt, extended, valueOf, values}
 use Rattle.records.specs.Job.{Job}
 use Rattle.records.specs.Refusal.{gateGood}
-use Rattle.records.specs.Service.{SidePlaces, gatesFrom, netlistFrom, jobFrom}
+use Rattle.records.specs.Columns.{SideColumns, gatesFrom, columnsNetlist, columnsJob}
 use Rattle.records.specs.declared.job.Counts.{Counts}
 use Rattle.records.proofs.Laws.Bytes.{and-left, and-right, length-tabulate, getD-tabulate, drop-tabulate, drop-tabulate-end, tabulate-snoc, placed-nil, length-placed, take-placed, set-placed}
 use Rattle.records.proofs.Laws.Gate.{arity-two, gateGood-one, gateGood-two}
@@ -376,7 +376,7 @@ unfolding oldOutputs oldValues goldenOutputs
 rectifies-settled j low prefix s x v r = rectifies-iff-outputs j x v .1 (s x v r)
 
 -- .. of the job whose parts stand in places, by as many outputs as its counts say
-pub rectifies-circuits : (c : Counts) (old golden : SidePlaces) (nets : List ℕ) (low prefix : ℕ)
+pub rectifies-circuits : (c : Counts) (old golden : SideColumns) (nets : List ℕ) (low prefix : ℕ)
     → c .golden .outputs ≡ c .old .outputs
     → Settled
     (gatesFrom (c .old .gates) (old .kinds) (old .firsts) (old .seconds))
@@ -388,5 +388,5 @@ pub rectifies-circuits : (c : Counts) (old golden : SidePlaces) (nets : List ℕ
     low
     prefix
     → (x v : ℕ) → InRange low prefix x → rectifies (circuits c old golden nets) x v ≡ true
-unfolding circuits jobFrom netlistFrom
+unfolding circuits columnsJob columnsNetlist
 rectifies-circuits c old golden nets low prefix e s = rectifies-settled (circuits c old golden nets) low prefix (rw e s)

@@ -11,7 +11,7 @@ use lib.ListN.{length, take, replicate, length-replicate}
 use Rattle.records.specs.Bytes.{placed}
 use Rattle.records.specs.Job.{jobOf}
 use Rattle.records.specs.Claims.{PartsGood}
-use Rattle.records.proofs.Laws.Accepted.{read-accepts}
+use Rattle.records.proofs.Laws.ReadColumns.{columns-accepts}
 use Rattle.records.proofs.Laws.Bytes.{take-placed}
 use Rattle.engine.specs.Verdict.{sheetOf, longestSheet, decideNumber, decidedBytes}
 use Rattle.engine.specs.Reply.{verdictOf, declinedReply, decideReply}
@@ -79,7 +79,7 @@ module _ (s : List ℕ) {r : DecideReply} (e : r ≡ decideReply blank s) where
 
     good : PartsGood (jobOf s)
     good =
-        read-accepts lentPlaces s .0
+        columns-accepts lentPlaces s .0
         (lent-refusal s ∙ sym (number-long blank s (omega (arith, length-replicate {A = ℕ} longestSheet 0))) ∙ accepted)
         .2
 

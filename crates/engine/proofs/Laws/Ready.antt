@@ -12,7 +12,8 @@ use Rattle.records.specs.Bytes.{upFrom, all, tabulate}
 use Rattle.records.specs.Netlist.{netAt, fanout}
 use Rattle.records.specs.Job.{Job, Candidate}
 use Rattle.records.specs.Refusal.{countsGood, sideCountsGood, gatesGood, netlistsGood, oldNets, goldenNets, outputsGood, ascending, candidateGood, candidatesGood}
-use Rattle.records.specs.Service.{SidePlaces, places, sideHeld, gatesFrom, netlistFrom, candidatesFrom, jobFrom}
+use Rattle.records.specs.Service.{candidatesFrom}
+use Rattle.records.specs.Columns.{SideColumns, columns, sideColumnsHeld, gatesFrom, columnsNetlist, columnsJob}
 use Rattle.records.specs.Inner.{SideWithin, Within}
 use Rattle.records.specs.declared.job.SideCounts.{SideCounts}
 use Rattle.records.specs.declared.job.Counts.{Counts}
@@ -44,14 +45,14 @@ module _ (j : Job) (h : candidatesGood j ≡ true) where
       subst (λ (n : ℕ). ltb n (oldNets j) ≡ true) (k .2) (candidate-below (k .0) (k .1)))
 
 -- the places of a netlist are long enough
-pub record SideLong (c : SideCounts) (p : SidePlaces) : Type 0 where
+pub record SideLong (c : SideCounts) (p : SideColumns) : Type 0 where
   pub kinds : c .gates ≤ length (p .kinds)
   pub firsts : c .gates ≤ length (p .firsts)
   pub seconds : c .gates ≤ length (p .seconds)
   pub outputs : c .outputs ≤ length (p .outputs)
 
-side-long : (c : SideCounts) (p : SidePlaces) → sideHeld c p ≡ true → SideLong c p
-unfolding sideHeld
+side-long : (c : SideCounts) (p : SideColumns) → sideColumnsHeld c p ≡ true → SideLong c p
+unfolding sideColumnsHeld
 side-long c p h =
     let t =
     row-at (leb (c .gates) (length (p .kinds)))
@@ -67,30 +68,30 @@ side-long c p h =
       outputs = leb-true _ _ (t 3);
     }
 
-module _ (c : SideCounts) (p : SidePlaces) where
-  pub length-gates : length (netlistFrom c p .gates) ≡ c .gates
-  unfolding netlistFrom gatesFrom
+module _ (c : SideCounts) (p : SideColumns) where
+  pub length-gates : length (columnsNetlist c p .gates) ≡ c .gates
+  unfolding columnsNetlist gatesFrom
   length-gates = length-tabulate (c .gates) _
 
-  length-outputs : c .outputs ≤ length (p .outputs) → length (netlistFrom c p .outputs) ≡ c .outputs
-  unfolding netlistFrom
+  length-outputs : c .outputs ≤ length (p .outputs) → length (columnsNetlist c p .outputs) ≡ c .outputs
+  unfolding columnsNetlist
   length-outputs h = length-take-le (c .outputs) (p .outputs) h
 
-  side-within : c .outputs ≤ length (p .outputs) → sideCountsGood (netlistFrom c p) ≡ true → SideWithin c
+  side-within : c .outputs ≤ length (p .outputs) → sideCountsGood (columnsNetlist c p) ≡ true → SideWithin c
   unfolding sideCountsGood
   side-within l h =
       let t =
-      row-at (leb (length (netlistFrom c p .gates)) 400)
-      (leb 1 (length (netlistFrom c p .outputs)) ∷ leb (length (netlistFrom c p .outputs)) 32 ∷ [])
+      row-at (leb (length (columnsNetlist c p .gates)) 400)
+      (leb 1 (length (columnsNetlist c p .outputs)) ∷ leb (length (columnsNetlist c p .outputs)) 32 ∷ [])
       h in
       let g = length-gates in
       let o = length-outputs l in
-      let a : length (netlistFrom c p .gates) ≤ 400 = leb-true _ _ (t 0) in
-      let b : 1 ≤ length (netlistFrom c p .outputs) = leb-true _ _ (t 1) in
-      let d : length (netlistFrom c p .outputs) ≤ 32 = leb-true _ _ (t 2) in
+      let a : length (columnsNetlist c p .gates) ≤ 400 = leb-true _ _ (t 0) in
+      let b : 1 ≤ length (columnsNetlist c p .outputs) = leb-true _ _ (t 1) in
+      let d : length (columnsNetlist c p .outputs) ≤ 32 = leb-true _ _ (t 2) in
       record { gates = omega arith; some = omega arith; outputs = omega arith }
 
-module _ {c : Counts} {old golden : SidePlaces} {nets : List ℕ} (r : Ready c old golden nets) where
+module _ {c : Counts} {old golden : SideColumns} {nets : List ℕ} (r : Ready c old golden nets) where
   abbrev job : Job
   job = circuits c old golden nets
 
@@ -101,7 +102,7 @@ module _ {c : Counts} {old golden : SidePlaces} {nets : List ℕ} (r : Ready c o
   ready-golden = side-long (c .golden) golden (r .golden-held)
 
   counts-row : countsGood (circuits c old golden nets) ≡ true → Within c
-  unfolding countsGood circuits jobFrom candidatesFrom
+  unfolding countsGood circuits columnsJob candidatesFrom
   counts-row h =
       let j = circuits c old golden nets in
       let t =
@@ -126,13 +127,13 @@ module _ {c : Counts} {old golden : SidePlaces} {nets : List ℕ} (r : Ready c o
   ready-within = counts-row (r .good .counts)
 
   pub ready-targets : circuits c old golden nets .targets ≤ 4
-  unfolding circuits jobFrom
+  unfolding circuits columnsJob
   ready-targets = ready-within .targets
 
   gates-good : netlistsGood (circuits c old golden nets) ≡ true
       → (gatesGood (c .inputs + c .targets) (gatesFrom (c .old .gates) (old .kinds) (old .firsts) (old .seconds)) ≡ true)
       × (gatesGood (c .inputs) (gatesFrom (c .golden .gates) (golden .kinds) (golden .firsts) (golden .seconds)) ≡ true)
-  unfolding netlistsGood circuits jobFrom netlistFrom
+  unfolding netlistsGood circuits columnsJob columnsNetlist
   gates-good h =
       let t =
       row-at (gatesGood (c .inputs + c .targets) (gatesFrom (c .old .gates) (old .kinds) (old .firsts) (old .seconds)))
@@ -164,16 +165,16 @@ module _ {c : Counts} {old golden : SidePlaces} {nets : List ℕ} (r : Ready c o
       }
 
   outputs-row : outputsGood (circuits c old golden nets) ≡ true
-      → (all (λ i. ltb i (c .inputs + c .targets + length (netlistFrom (c .old) old .gates))) (take (c .old .outputs) (old .outputs)) ≡ true)
-      × (all (λ i. ltb i (c .inputs + length (netlistFrom (c .golden) golden .gates))) (take (c .golden .outputs) (golden .outputs)) ≡ true)
+      → (all (λ i. ltb i (c .inputs + c .targets + length (columnsNetlist (c .old) old .gates))) (take (c .old .outputs) (old .outputs)) ≡ true)
+      × (all (λ i. ltb i (c .inputs + length (columnsNetlist (c .golden) golden .gates))) (take (c .golden .outputs) (golden .outputs)) ≡ true)
       × (length (take (c .old .outputs) (old .outputs)) ≡ length (take (c .golden .outputs) (golden .outputs)))
-  unfolding outputsGood circuits jobFrom netlistFrom oldNets goldenNets
+  unfolding outputsGood circuits columnsJob columnsNetlist oldNets goldenNets
   outputs-row h =
       let os = take (c .old .outputs) (old .outputs) in
       let ps = take (c .golden .outputs) (golden .outputs) in
       let t =
-      row-at (all (λ i. ltb i (c .inputs + c .targets + length (netlistFrom (c .old) old .gates))) os)
-      (all (λ i. ltb i (c .inputs + length (netlistFrom (c .golden) golden .gates))) ps ∷ eqb (length os) (length ps) ∷ [])
+      row-at (all (λ i. ltb i (c .inputs + c .targets + length (columnsNetlist (c .old) old .gates))) os)
+      (all (λ i. ltb i (c .inputs + length (columnsNetlist (c .golden) golden .gates))) ps ∷ eqb (length os) (length ps) ∷ [])
       h in
       (t 0, t 1, eqb-true _ _ (t 2))
 
@@ -208,7 +209,7 @@ module _ {c : Counts} {old golden : SidePlaces} {nets : List ℕ} (r : Ready c o
   -- ---- candidates
 
   pub ready-candidates : candidateNets (circuits c old golden nets) ≡ take (c .candidates) nets
-  unfolding candidateNets circuits jobFrom candidatesFrom tabulate
+  unfolding candidateNets circuits columnsJob candidatesFrom tabulate
   ready-candidates =
       map-map (λ (k : Candidate). k .net) _ (upFrom 0 (c .candidates)) ∙ tabulate-getD nets (c .candidates) (r .nets-held)
 
@@ -219,7 +220,7 @@ module _ {c : Counts} {old golden : SidePlaces} {nets : List ℕ} (r : Ready c o
   ready-ascending = candidates-ascending (circuits c old golden nets) (r .good .candidates)
 
   old-nets : oldNets (circuits c old golden nets) ≡ c .inputs + c .targets + c .old .gates
-  unfolding oldNets circuits jobFrom
+  unfolding oldNets circuits columnsJob
   old-nets = ap (λ (k : ℕ). c .inputs + c .targets + k) (length-gates (c .old) old)
 
   -- the candidates have words among the old nets

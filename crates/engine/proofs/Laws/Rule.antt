@@ -28,7 +28,8 @@ use Rattle.records.proofs.Laws.Bytes.{false-of}
 use lib.Seq.{length-take-le}
 use Rattle.engine.proofs.Laws.Picked.{nets-from}
 use Rattle.engine.proofs.Laws.Sets.{sound-iff-full, blind-of-empty}
-use Rattle.records.specs.Service.{SidePlaces, places, candidatesFrom, jobFrom}
+use Rattle.records.specs.Service.{candidatesFrom}
+use Rattle.records.specs.Columns.{SideColumns, columns, columnsJob}
 use Rattle.records.specs.declared.job.Counts.{Counts}
 use Rattle.engine.proofs.Laws.Loop.{stuck-iff}
 use Rattle.engine.proofs.Laws.Ready.{ready-within, ready-targets, ready-ascending, ready-candidate-count}
@@ -145,16 +146,16 @@ module _ {j : Job} {k : ℕ} {is ws ss : List ℕ} {v : Vectors} (ni : k ≤ len
 
 -- ---- after the walk
 
-module _ {c : Counts} {old golden : SidePlaces} {nets : List ℕ} (weights : List ℕ) {v : Vectors} {ss : List ℕ}
+module _ {c : Counts} {old golden : SideColumns} {nets : List ℕ} (weights : List ℕ) {v : Vectors} {ss : List ℕ}
     (r : Ready c old golden nets) (p : Progress (circuits c old golden nets) (2 ^ c .inputs) v ss) where
   abbrev priced : Job
-  priced = jobFrom c (places old golden nets weights)
+  priced = columnsJob c (columns old golden nets weights)
 
   abbrev bare : Job
   bare = circuits c old golden nets
 
   inputs-of : bare .inputs ≡ c .inputs
-  unfolding circuits jobFrom
+  unfolding circuits columnsJob
   inputs-of = refl
 
   at-end : Progress bare (2 ^ bare .inputs) v ss
@@ -164,11 +165,11 @@ module _ {c : Counts} {old golden : SidePlaces} {nets : List ℕ} (weights : Lis
   walk-loop = at-end .listed ∙ walk-list bare (ready-targets r)
 
   candidates-of : priced .candidates ≡ candidatesFrom (c .candidates) nets weights
-  unfolding jobFrom
+  unfolding columnsJob
   candidates-of = refl
 
   targets-of : priced .targets ≡ bare .targets
-  unfolding circuits jobFrom
+  unfolding circuits columnsJob
   targets-of = refl
 
   pub ruleable : Ruleable priced (c .candidates) nets weights v ss

@@ -8,7 +8,7 @@ use native.Mathlib.Omega.{arith}
 use lib.ListN.{length, getD, take, set, replicate, length-set, length-replicate, replicate-append-replicate}
 use lib.Seq.{take-suc-set, take-all}
 use mathlib.Core.Bool.{false}
-use Rattle.records.specs.Service.{SidePlaces, jobFrom}
+use Rattle.records.specs.Columns.{SideColumns, columnsJob}
 use Rattle.records.specs.declared.job.Counts.{Counts}
 use Rattle.engine.specs.Walk.{circuits, Ready, listedOf, listedFrom, setsFrom, startSets, Held, Progress, Aligned}
 use Rattle.engine.specs.declared.list.Vectors.{Vectors}
@@ -51,10 +51,10 @@ zeros-below zero i = omega arith
 zeros-below (suc n) zero = omega arith
 zeros-below (suc n) (suc i) = zeros-below n i
 
-pub progress-start : {c : Counts} {old golden : SidePlaces} {nets ss : List ℕ} {all : ℕ} → Ready c old golden nets
+pub progress-start : {c : Counts} {old golden : SideColumns} {nets ss : List ℕ} {all : ℕ} → Ready c old golden nets
     → ss ≡ replicate 1024 all → all ≡ 2 ^ 2 ^ c .targets - 1
     → Progress (circuits c old golden nets) (0 * 2 ^ c .inputs) (record { list = replicate 16 0; len = 1; stuck = false; input = 0 }) ss
-unfolding circuits jobFrom listedOf listedFrom setsFrom startSets
+unfolding circuits columnsJob listedOf listedFrom setsFrom startSets
 progress-start {c} {old} {golden} {nets} {ss} {all} r e f =
     progress-at
     (record {

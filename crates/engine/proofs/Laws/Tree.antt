@@ -15,7 +15,7 @@ use lib.Seq.{getD-take, getD-drop, getD-set-same, getD-set-other}
 use lib.Pow.{pow-pos, pow-mono}
 use Rattle.records.specs.Bytes.{tabulate, all}
 use Rattle.records.specs.Gate.{Gate, gateOf}
-use Rattle.records.specs.Service.{gatesFrom}
+use Rattle.records.specs.Columns.{gatesFrom}
 use Rattle.records.proofs.Laws.Bytes.{and-both, tabulate-ext, tabulate-snoc}
 use Rattle.engine.specs.Choice.{same}
 use Rattle.engine.specs.Eval.{bit}

@@ -10,7 +10,7 @@ use lib.Pow.{pow-mono}
 use Rattle.records.specs.Bytes.{upFrom, tabulate}
 use Rattle.records.specs.Gate.{Gate}
 use Rattle.records.specs.Netlist.{values}
-use Rattle.records.specs.Service.{SidePlaces, gatesFrom, jobFrom}
+use Rattle.records.specs.Columns.{SideColumns, gatesFrom, columnsJob}
 use Rattle.records.specs.declared.job.Counts.{Counts}
 use Rattle.engine.specs.Eval.{bit, bits}
 use Rattle.engine.specs.Support.{candidateNets}
@@ -59,7 +59,7 @@ vectors-many h = pow-mono {j = 4} h
 pub vectors-within : {m : ℕ} → m ≤ 4 → 1 * 2 ^ m % 18446744073709551616 ≤ 16
 vectors-within {m} h = omega (arith, vectors-shifted m h, vectors-many h)
 
-module _ {c : Counts} {old golden : SidePlaces} {nets : List ℕ} (r : Ready c old golden nets) where
+module _ {c : Counts} {old golden : SideColumns} {nets : List ℕ} (r : Ready c old golden nets) where
   abbrev oldGates : List Gate
   oldGates = gatesFrom (c .old .gates) (old .kinds) (old .firsts) (old .seconds)
 
@@ -70,7 +70,7 @@ module _ {c : Counts} {old golden : SidePlaces} {nets : List ℕ} (r : Ready c o
   inputs-small = pow-mono {j = 20} (ready-within r .inputs)
 
   targets-of : circuits c old golden nets .targets ≡ c .targets
-  unfolding circuits jobFrom
+  unfolding circuits columnsJob
   targets-of = refl
 
   pub progress-visited : (b count : ℕ) (readings masks : List ℕ) {v after : Vectors} {ss ss′ gw ow ow′ w₀ m₀ : List ℕ}

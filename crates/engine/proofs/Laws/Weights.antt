@@ -10,7 +10,8 @@ use lib.ListN.{length, getD}
 use Rattle.records.specs.Bytes.{upFrom, all, tabulate}
 use Rattle.records.specs.Job.{Job, Candidate}
 use Rattle.records.specs.Refusal.{countsGood, netlistsGood, oldNets, goldenNets, outputsGood, ascending, candidateGood, candidatesGood}
-use Rattle.records.specs.Service.{SidePlaces, places, candidatesFrom, jobFrom}
+use Rattle.records.specs.Service.{candidatesFrom}
+use Rattle.records.specs.Columns.{SideColumns, columns, columnsJob}
 use Rattle.records.specs.Claims.{PartsGood}
 use Rattle.records.specs.declared.job.Counts.{Counts}
 use Rattle.records.proofs.Laws.Bytes.{length-tabulate}
@@ -25,19 +26,19 @@ use Rattle.engine.proofs.Laws.Choice.{none-or-some}
 use Rattle.engine.proofs.Laws.Support.{all-nets}
 use Rattle.engine.proofs.Laws.Loop.{rounds-done, rounds-stuck, rounds-again}
 
-module _ (c : Counts) (old golden : SidePlaces) (nets weights : List ℕ) where
+module _ (c : Counts) (old golden : SideColumns) (nets weights : List ℕ) where
   abbrev priced : Job
-  priced = jobFrom c (places old golden nets weights)
+  priced = columnsJob c (columns old golden nets weights)
 
   abbrev bare : Job
   bare = circuits c old golden nets
 
   unrectified-weights : (vs : List ℕ) → first (unrectified priced vs) (allInputs priced) ≡ first (unrectified bare vs) (allInputs bare)
-  unfolding unrectified allInputs rectifies oldOutputs goldenOutputs oldValues circuits jobFrom
+  unfolding unrectified allInputs rectifies oldOutputs goldenOutputs oldValues circuits columnsJob
   unrectified-weights vs = refl
 
   rectifying-weights : (x : ℕ) → first (rectifies priced x) (allVectors priced) ≡ first (rectifies bare x) (allVectors bare)
-  unfolding allVectors rectifies oldOutputs goldenOutputs oldValues circuits jobFrom
+  unfolding allVectors rectifies oldOutputs goldenOutputs oldValues circuits columnsJob
   rectifying-weights x = refl
 
   rounds-weights : (k : ℕ) (vs : List ℕ) → rounds priced k vs ≡ rounds bare k vs
@@ -60,11 +61,11 @@ module _ (c : Counts) (old golden : SidePlaces) (nets weights : List ℕ) where
       (none-or-some (first (unrectified bare vs) (allInputs bare)))
 
   targets-weights : priced .targets ≡ bare .targets
-  unfolding circuits jobFrom
+  unfolding circuits columnsJob
   targets-weights = refl
 
   pub loop-weights : vectorLoop priced ≡ vectorLoop bare
-  unfolding vectorLoop circuits jobFrom
+  unfolding vectorLoop circuits columnsJob
   loop-weights = rounds-weights (2 ^ c .targets) (0 ∷ [])
 
   nets-from : (ws : List ℕ) → map (λ (k : Candidate). k .net) (candidatesFrom (c .candidates) nets ws)
@@ -75,7 +76,7 @@ module _ (c : Counts) (old golden : SidePlaces) (nets weights : List ℕ) where
       ∙ sym (map-map (λ (k : Candidate). k .net) _ (upFrom 0 (c .candidates)))
 
   pub nets-weights : candidateNets priced ≡ candidateNets bare
-  unfolding candidateNets circuits jobFrom
+  unfolding candidateNets circuits columnsJob
   nets-weights = nets-from weights
 
   -- what a set of vectors says of a reading
@@ -83,7 +84,7 @@ module _ (c : Counts) (old golden : SidePlaces) (nets weights : List ℕ) where
   Says j is set r v = (bit v set ≡ 1) ↔ ((v < 2 ^ j .targets) × RectifiesAll j is r v)
 
   says-weights : (is : List ℕ) (set r v : ℕ) → Says bare is set r v → Says priced is set r v
-  unfolding reading rectifies oldOutputs goldenOutputs oldValues circuits jobFrom
+  unfolding reading rectifies oldOutputs goldenOutputs oldValues circuits columnsJob
   says-weights is set r v h = h
 
   pub sets-weights : (ss : List ℕ) → ReadingSets bare ss → ReadingSets priced ss
@@ -104,7 +105,7 @@ module _ (c : Counts) (old golden : SidePlaces) (nets weights : List ℕ) where
   candidates-good j = ap (λ (b : Bool). ascending (candidateNets j) && b) (all-nets (candidateGood j) (j .candidates))
 
   candidate-good-weights : (is : List ℕ) → all (candidateGood priced) is ≡ all (candidateGood bare) is
-  unfolding candidateGood oldNets circuits jobFrom
+  unfolding candidateGood oldNets circuits columnsJob
   candidate-good-weights is = refl
 
   candidates-good-weights : candidatesGood bare ≡ candidatesGood priced
@@ -115,7 +116,7 @@ module _ (c : Counts) (old golden : SidePlaces) (nets weights : List ℕ) where
       ∙ sym (candidates-good priced)
 
   counts-good-weights : countsGood bare ≡ countsGood priced
-  unfolding countsGood circuits jobFrom candidatesFrom
+  unfolding countsGood circuits columnsJob candidatesFrom
   counts-good-weights =
       rw (
         length-tabulate {A = Candidate} (c .candidates) (λ i. record { net = getD nets i 0; weight = 0 }),
@@ -123,7 +124,7 @@ module _ (c : Counts) (old golden : SidePlaces) (nets weights : List ℕ) where
       )
 
   netlists-good-weights : (netlistsGood priced ≡ true → netlistsGood bare ≡ true) × (outputsGood priced ≡ true → outputsGood bare ≡ true)
-  unfolding netlistsGood outputsGood oldNets goldenNets circuits jobFrom
+  unfolding netlistsGood outputsGood oldNets goldenNets circuits columnsJob
   netlists-good-weights = (λ e. e, λ e. e)
 
   pub good-weights : PartsGood priced → PartsGood bare

@@ -2,30 +2,31 @@
 -- Assumes nothing.
 use Prim.Native.Nat.{ℕ, zero, suc, _+_, _≤_, _<_}
 use mathlib.Core.Path.{_≡_, refl, sym, _∙_, ap}
-use mathlib.Core.List.{List, [], _∷_, _++_, map}
+use mathlib.Core.Logic.{_↔_}
+use mathlib.Core.List.{List, [], _∷_, map}
 use mathlib.Core.Bool.{Bool, true, false, cond}
-use native.Mathlib.Nat.{zero-add}
 use native.Mathlib.Omega.{arith}
 use borrow.Author.Tests.{ltb-true, leb-true, le-leb, eq-eqb, ne-eqb}
-use lib.Dec.{T, leb, ltb, lit<}
-use lib.ListN.{length, getD, take, drop, length-append, length-map, List·getD-append, List·getD-map}
-use lib.Seq.{ext-getD, take-append-seam, length-take-le}
+use lib.Dec.{T, ltb, lit<}
+use lib.ListN.{length, getD, length-map, List·getD-map}
+use lib.Seq.{ext-getD}
 use Rattle.records.specs.Bytes.{upFrom, all, flat, tabulate, bytePair, placed, field, nth}
 use Rattle.records.specs.Gate.{Gate, gateOf, arity, operands, unused, disj}
 use Rattle.records.specs.Netlist.{Netlist, netAt, extended, markOf, fanout}
-use Rattle.records.specs.Job.{Candidate, Job, gateAt, gatesOf, netlistOf, jobTags, jobOf, gateBytes, candidateBytes, jobBytes}
+use Rattle.records.specs.Job.{Candidate, Job, gateAt, gatesOf, netlistOf, jobTags, jobWhole, jobOf, gateBytes, candidateBytes, jobBytes}
 use Rattle.records.specs.Refusal.{sideCountsGood, countsGood, gateGood, gatesGood, netlistsGood, oldNets, goldenNets, outputsGood, ascending, candidateGood, candidatesGood, longestJob, Test, firstFailing, partTests, jobTests, partsRefusal, jobRefusal}
 use Rattle.records.specs.Sheet.{sheetTests}
-use Rattle.records.specs.Service.{SidePlaces, Places, sideCountsOf, countsOf, slotOf, filledSide, filled, gatesFrom, netlistFrom, candidatesFrom, jobFrom, sideHeld, held, readNumber, readReply, readPlaces, writeNumber, writeReply, writtenBytes, sheetNumber, sheetReply}
+use Rattle.records.specs.Service.{SidePlaces, Places, structOf, sideCountsOf, countsOf, roomy, filledSide, filled, gatesIn, netlistFrom, candidatesFrom, jobFrom, held, readNumber, readReply, readPlaces, writeNumber, writeReply, writtenBytes, sheetNumber, sheetReply}
 use Rattle.records.specs.Inner.{startOf, Within}
 use Rattle.records.specs.Claims.{Below, PartsGood, First, ReadAccepts, WriteAccepts, SheetAccepts, ReadRefuses, WriteRefuses, SheetRefuses, ReadWrite, WriteRead, LongestJob, LongestJobMet}
-use Rattle.records.specs.declared.job.SideCounts.{SideCounts}
+use Rattle.records.specs.declared.gate.Gate.{Gate as GateStruct}
 use Rattle.records.specs.declared.job.Counts.{Counts}
-use Rattle.records.proofs.Laws.Bytes.{and-left, and-right, and-both, row-at, length-tabulate, getD-tabulate}
+use Rattle.records.proofs.Laws.Bytes.{and-left, and-right, length-tabulate, getD-tabulate}
 use Rattle.records.proofs.Laws.Counts.{countsWithin-facts, countsWithin-countsOf}
 use Rattle.records.proofs.Laws.Field.{whole-end, startOf-suc, startOf-position}
 use Rattle.records.proofs.Laws.Shape.{JobWhole, jobWhole-facts, length-gatesOf, length-netsOf, length-candidatesOf}
-use Rattle.records.proofs.Laws.RoundTrip.{All, all-tabulate, Two, TwoEach, two-slots, two-jobFrom, read-write, write-read, jobRefusal-jobBytes}
+use Rattle.records.proofs.Laws.Job.{length-placed-front, take-placed-front, getD-placed-front, SideBounds, held-bounds, held-true, countsOf-jobFrom}
+use Rattle.records.proofs.Laws.RoundTrip.{All, all-tabulate, Two, TwoEach, gates-structs, two-jobFrom, read-write, write-read, jobRefusal-jobBytes}
 
 -- ---- tests in a row
 
@@ -68,14 +69,21 @@ module _ (j : Job) where
   unfolding partTests
   parts-pass g = (g .counts, (g .gates, (g .outputs, (g .candidates, tt))))
 
-pub read-accepts : ReadAccepts
-unfolding readNumber jobTests
-read-accepts p s = (
+-- a job's bytes, given whether there is room
+pub job-accepts : (b : Bool) (s : List ℕ)
+    → (firstFailing (record { number = 1; passes = b } ∷ jobTests s) ≡ 0)
+    ↔ ((b ≡ true) × (jobWhole s ≡ true) × PartsGood (jobOf s))
+unfolding jobTests
+job-accepts b s = (
   λ e.
       let u = passes-of-none _ (omega arith, (omega arith, parts-tests (jobOf s))) e in
       (u .0, u .1 .0, parts-good (jobOf s) (u .1 .1)),
   λ h. none-of-passes _ (h .0, (h .1, parts-pass (jobOf s) (h .2))),
 )
+
+pub read-accepts : ReadAccepts
+unfolding readNumber
+read-accepts p s = job-accepts (roomy p) s
 
 pub write-accepts : WriteAccepts
 unfolding writeNumber
@@ -181,65 +189,36 @@ longest-met =
 
 -- ---- places that hold the parts
 
-module _ (d xs : List ℕ) where
-  placed-front : placed d 0 xs ≡ xs ++ drop (length xs) d
-  unfolding placed
-  placed-front = rw zero-add
-
-  length-placed-front : length xs ≤ length (placed d 0 xs)
-  length-placed-front = rw placed-front (omega (arith, length-append xs (drop (length xs) d)))
-
-  take-placed-front : take (length xs) (placed d 0 xs) ≡ xs
-  take-placed-front = rw placed-front (take-append-seam xs (drop (length xs) d))
-
 -- a part of each record, in places of its own
-module _ {A : Type 0} (f : A → ℕ) (d : A) (ps : List ℕ) (xs : List A) where
-  getD-column : f d ≡ 0 → (i : ℕ) → i < length xs → getD (placed ps 0 (map f xs)) i 0 ≡ f (getD xs i d)
-  getD-column z i h =
-      ap (λ (l : List ℕ). getD l i 0) (placed-front ps (map f xs))
-      ∙ List·getD-append (map f xs) _ 0 i (omega (arith, length-map xs f))
+module _ {A B : Type 0} (f : A → B) (ps : List B) (xs : List A) where
+  pub column-room : length xs ≤ length (placed ps 0 (map f xs))
+  column-room = rw (← length-map xs f) (length-placed-front ps (map f xs))
+
+  pub getD-column : (d : A) (b : B) → f d ≡ b → (i : ℕ) → i < length xs → getD (placed ps 0 (map f xs)) i b ≡ f (getD xs i d)
+  getD-column d b z i h =
+      getD-placed-front ps (map f xs) i b (omega (arith, length-map xs f))
       ∙ ap (getD (map f xs) i) (sym z)
       ∙ List·getD-map f xs i d
 
-  column-room : leb (length xs) (length (placed ps 0 (map f xs))) ≡ true
-  column-room =
-      let n = length-placed-front ps (map f xs) in
-      le-leb (length xs) (length (placed ps 0 (map f xs))) (omega (arith, length-map xs f))
-
-tabulate-list : {A : Type 0} (d : A) (xs : List A) (f : ℕ → A) → ((i : ℕ) → i < length xs → f i ≡ getD xs i d)
+pub tabulate-list : {A : Type 0} (d : A) (xs : List A) (f : ℕ → A) → ((i : ℕ) → i < length xs → f i ≡ getD xs i d)
     → tabulate (length xs) f ≡ xs
 tabulate-list d xs f h =
     let n = length-tabulate (length xs) f in
     ext-getD d (tabulate (length xs) f) xs n (λ i l. getD-tabulate (length xs) f i d (omega arith) ∙ h i (omega arith))
 
-all-getD : {A : Type 0} (P : A → Type 0) (d : A) → P d → (xs : List A) → All P xs → (i : ℕ) → P (getD xs i d)
-all-getD P d z [] a i = z
-all-getD P d z (x ∷ xs) a zero = a .0
-all-getD P d z (x ∷ xs) a (suc i) = all-getD P d z xs (a .1) i
-
-gatesFrom-filled : (ks xs ys : List ℕ) (gs : List Gate) → All Two gs
-    → gatesFrom (length gs)
-    (placed ks 0 (map (λ (g : Gate). g .kind) gs)) (placed xs 0 (map (slotOf 0) gs)) (placed ys 0 (map (slotOf 1) gs))
-    ≡ gs
-unfolding gatesFrom gateOf slotOf
-gatesFrom-filled ks xs ys gs w =
-    let none : Gate = gateOf 0 0 0 in
-    tabulate-list none gs _
-    (λ i h.
-    rw (
-      getD-column (λ (g : Gate). g .kind) none ks gs refl i h,
-      getD-column (slotOf 0) none xs gs refl i h,
-      getD-column (slotOf 1) none ys gs refl i h,
-    )
-    (sym (two-slots (getD gs i none) (all-getD Two none refl gs w i))))
+gatesIn-placed : (ps : List GateStruct) (gs : List Gate) → All Two gs
+    → gatesIn (length gs) (placed ps 0 (map structOf gs)) ≡ gs
+unfolding gatesIn
+gatesIn-placed ps gs w =
+    rw (← length-map gs structOf, take-placed-front ps (map structOf gs)) (gates-structs gs w)
 
 netlistFrom-filled : (p : SidePlaces) (l : Netlist) → All Two (l .gates)
     → netlistFrom (sideCountsOf l) (filledSide p l) ≡ l
 unfolding netlistFrom sideCountsOf filledSide
 netlistFrom-filled p l w =
-    rw (gatesFrom-filled (p .kinds) (p .firsts) (p .seconds) (l .gates) w, take-placed-front (p .outputs) (l .outputs))
+    rw (gatesIn-placed (p .gates) (l .gates) w, take-placed-front (p .outputs) (l .outputs))
 
-candidatesFrom-filled : (ns ws : List ℕ) (cs : List Candidate)
+pub candidatesFrom-filled : (ns ws : List ℕ) (cs : List Candidate)
     → candidatesFrom (length cs)
     (placed ns 0 (map (λ (c : Candidate). c .net) cs)) (placed ws 0 (map (λ (c : Candidate). c .weight) cs))
     ≡ cs
@@ -249,8 +228,8 @@ candidatesFrom-filled ns ws cs =
     tabulate-list none cs _
     (λ i h.
     rw (
-      getD-column (λ (c : Candidate). c .net) none ns cs refl i h,
-      getD-column (λ (c : Candidate). c .weight) none ws cs refl i h,
+      getD-column (λ (c : Candidate). c .net) ns cs none 0 refl i h,
+      getD-column (λ (c : Candidate). c .weight) ws cs none 0 refl i h,
     ))
 
 -- the places of a read job hold its parts
@@ -263,47 +242,21 @@ jobFrom-filled p j w =
       candidatesFrom-filled (p .nets) (p .weights) (j .candidates),
     )
 
-sideHeld-filled : (p : SidePlaces) (l : Netlist) → sideHeld (sideCountsOf l) (filledSide p l) ≡ true
-unfolding sideHeld sideCountsOf filledSide
-sideHeld-filled p l =
-    and-both _ _
-    (and-both _ _
-    (and-both _ _
-    (column-room (λ (g : Gate). g .kind) (gateOf 0 0 0) (p .kinds) (l .gates))
-    (column-room (slotOf 0) (gateOf 0 0 0) (p .firsts) (l .gates)))
-    (column-room (slotOf 1) (gateOf 0 0 0) (p .seconds) (l .gates)))
-    (le-leb _ _ (length-placed-front (p .outputs) (l .outputs)))
+side-filled : (p : SidePlaces) (l : Netlist) → SideBounds (sideCountsOf l) (filledSide p l)
+unfolding sideCountsOf filledSide
+side-filled p l =
+    record { gates = column-room structOf (p .gates) (l .gates); outputs = length-placed-front (p .outputs) (l .outputs) }
 
 pub held-filled : (p : Places) (j : Job) → held (countsOf j) (filled p j) ≡ true
-unfolding held countsOf filled
+unfolding countsOf filled
 held-filled p j =
-    let none : Candidate = record { net = 0; weight = 0 } in
-    and-both _ _
-    (and-both _ _
-    (and-both _ _ (sideHeld-filled (p .old) (j .old)) (sideHeld-filled (p .golden) (j .golden)))
-    (column-room (λ (c : Candidate). c .net) none (p .nets) (j .candidates)))
-    (column-room (λ (c : Candidate). c .weight) none (p .weights) (j .candidates))
-
-held-outputs : (c : SideCounts) (p : SidePlaces) → sideHeld c p ≡ true → length (take (c .outputs) (p .outputs)) ≡ c .outputs
-unfolding sideHeld
-held-outputs c p h =
-    let n = c .gates in
-    let t =
-    row-at (leb n (length (p .kinds)))
-    (leb n (length (p .firsts)) ∷ leb n (length (p .seconds)) ∷ leb (c .outputs) (length (p .outputs)) ∷ [])
-    h in
-    length-take-le (c .outputs) (p .outputs) (leb-true _ _ (t 3))
-
--- places that hold the counts have parts of these counts
-pub countsOf-jobFrom : (c : Counts) (p : Places) → held c p ≡ true → countsOf (jobFrom c p) ≡ c
-unfolding held countsOf sideCountsOf jobFrom netlistFrom gatesFrom candidatesFrom
-countsOf-jobFrom c p h =
-    let n = c .candidates in
-    let t =
-    row-at (sideHeld (c .old) (p .old))
-    (sideHeld (c .golden) (p .golden) ∷ leb n (length (p .nets)) ∷ leb n (length (p .weights)) ∷ [])
-    h in
-    simp (length-tabulate, held-outputs (c .old) (p .old) (t 0), held-outputs (c .golden) (p .golden) (t 1))
+    held-true (countsOf j) (filled p j)
+    (record {
+      old = side-filled (p .old) (j .old);
+      golden = side-filled (p .golden) (j .golden);
+      nets = column-room (λ (c : Candidate). c .net) (p .nets) (j .candidates);
+      weights = column-room (λ (c : Candidate). c .weight) (p .weights) (j .candidates);
+    })
 
 -- ---- read, then write; write, then read
 
@@ -348,7 +301,7 @@ reread c p d e q h =
     let s = jobBytes j in
     let w = read-write j (two-jobFrom c p) in
     let n : readNumber q s ≡ 0 = read-accepts q s .1 (h, w .0, rw (w .1) (u .2)) in
-    let k : countsOf j ≡ c = countsOf-jobFrom c p (u .1) in
+    let k : countsOf j ≡ c = countsOf-jobFrom (held-bounds c p (u .1)) in
     let f : jobFrom c (filled q j) ≡ j =
     ap (λ (x : Counts). jobFrom x (filled q j)) (sym k) ∙ jobFrom-filled q j (two-jobFrom c p) in
     let m : writeReply c p d .len ≡ length s = write-len c p d e in

@@ -1,14 +1,14 @@
 -- Laws of specs/Bytes: numbered lists, tests over lists, and a list placed in another. Assumes nothing.
-use Prim.Native.Nat.{ℕ, zero, suc, _+_, _*_, _/_, _%_, _-_, _≤_, _<_}
-use mathlib.Core.Path.{_≡_, refl, sym, _∙_, ap, subst}
+use Prim.Native.Nat.{ℕ, zero, suc, _+_, _-_, _≤_, _<_}
+use mathlib.Core.Path.{_≡_, refl, sym, _∙_, ap}
 use mathlib.Core.List.{List, [], _∷_, _++_, map, append-assoc, append-nil}
 use mathlib.Core.Bool.{Bool, true, false, _&&_}
-use native.Mathlib.Nat.{add-zero, zero-add, add-suc, suc-add, add-assoc}
+use native.Mathlib.Nat.{add-zero, zero-add, add-suc, suc-add}
 use native.Mathlib.Numerals.{add-one}
 use native.Mathlib.Omega.{arith}
-use lib.ListN.{length, getD, take, drop, set, length-append, length-take, length-drop, length-map, take-append-drop, drop-of-length-le}
-use lib.Seq.{drop-cons, drop-length, ext-getD, length-take-le, take-at, drop-at, set-at, append-snoc, drop-drop, drop-append-add}
-use Rattle.records.specs.Bytes.{upFrom, tabulate, all, flat, bytePair, word, placed}
+use lib.ListN.{length, getD, take, drop, set, length-append, length-drop, length-map, take-append-drop, drop-of-length-le}
+use lib.Seq.{drop-cons, drop-length, getD-take, ext-getD, length-take-le, take-at, drop-at, set-at, append-snoc, drop-drop, take-append-seam, take-append-le, drop-append-le}
+use Rattle.records.specs.Bytes.{upFrom, tabulate, all, placed}
 
 -- ---- tests
 
@@ -139,59 +139,118 @@ module _ {A : Type 0} where
       ∙ map-upFrom-snoc f 0 n
       ∙ ap (λ (k : ℕ). map f (upFrom 0 n) ++ (f k ∷ [])) (zero-add n)
 
+  -- each element of a numbered list turned into another
+  pub map-tabulate : {B : Type 0} (n : ℕ) (f : ℕ → A) (g : A → B) → map g (tabulate n f) ≡ tabulate n (λ i. g (f i))
+  unfolding tabulate
+  map-tabulate n f g = go (upFrom 0 n)
+    where
+      go : (xs : List ℕ) → map g (map f xs) ≡ map (λ i. g (f i)) xs
+      go [] = refl
+      go (x ∷ xs) = ap (λ (l : List _). g (f x) ∷ l) (go xs)
+
+  -- the first n elements of a list, by number
+  pub tabulate-take : (d : A) (xs : List A) (n : ℕ) → n ≤ length xs → tabulate n (λ i. getD xs i d) ≡ take n xs
+  tabulate-take d xs n h =
+      let g : ℕ → A = λ i. getD xs i d in
+      ext-getD d (tabulate n g) (take n xs) (length-tabulate n g ∙ sym (length-take-le n xs h))
+      (λ i l.
+      let k : i < n = omega (arith, length-tabulate n g) in
+      getD-tabulate n g i d k ∙ sym (getD-take n xs i d k))
+
 -- ---- placed
 
-pub placed-nil : (d : List ℕ) (at : ℕ) → placed d at [] ≡ d
-unfolding placed
-placed-nil d at =
-    ap (λ (k : ℕ). take at d ++ [] ++ drop k d) (add-zero at)
-    ∙ ap (λ (r : List ℕ). r ++ drop at d) (append-nil (take at d))
-    ∙ take-append-drop at d
-
-module _ (d : List ℕ) (at : ℕ) (xs : List ℕ) (h : at + length xs ≤ length d) where
-  length-front : length (take at d ++ xs) ≡ at + length xs
-  length-front = length-append (take at d) xs ∙ ap (λ (k : ℕ). k + length xs) (length-take-le at d (omega arith))
-
-  pub length-placed : length (placed d at xs) ≡ length d
+module _ {A : Type 0} where
+  pub placed-nil : (d : List A) (at : ℕ) → placed d at [] ≡ d
   unfolding placed
-  length-placed =
-      length-append (take at d ++ xs) (drop (at + length xs) d)
-      ∙ omega (arith, length-front, length-drop (at + length xs) d)
+  placed-nil d at =
+      ap (λ (k : ℕ). take at d ++ [] ++ drop k d) (add-zero at)
+      ∙ ap (λ (r : List A). r ++ drop at d) (append-nil (take at d))
+      ∙ take-append-drop at d
 
-  pub drop-placed : drop (at + length xs) (placed d at xs) ≡ drop (at + length xs) d
+  -- a part of the first of two lists
+  part-append : (p q : List A) (a n : ℕ) → a + n ≤ length p → take n (drop a (p ++ q)) ≡ take n (drop a p)
+  part-append p q a n h =
+      ap (take n) (drop-append-le a p q (omega arith))
+      ∙ take-append-le n (drop a p) q (omega (arith, length-drop a p))
+
+  module _ (d : List A) (at : ℕ) (xs : List A) (h : at + length xs ≤ length d) where
+    length-front : length (take at d ++ xs) ≡ at + length xs
+    length-front = length-append (take at d) xs ∙ ap (λ (k : ℕ). k + length xs) (length-take-le at d (omega arith))
+
+    pub length-placed : length (placed d at xs) ≡ length d
+    unfolding placed
+    length-placed =
+        length-append (take at d ++ xs) (drop (at + length xs) d)
+        ∙ omega (arith, length-front, length-drop (at + length xs) d)
+
+    pub drop-placed : drop (at + length xs) (placed d at xs) ≡ drop (at + length xs) d
+    unfolding placed
+    drop-placed = drop-at (take at d ++ xs) (drop (at + length xs) d) (at + length xs) length-front
+
+    pub take-placed : take (at + length xs) (placed d at xs) ≡ take at d ++ xs
+    unfolding placed
+    take-placed = take-at (take at d ++ xs) (drop (at + length xs) d) (at + length xs) length-front
+
+    -- what is placed, taken out again; what stands before it and behind it is as it was
+    placed-split : placed d at xs ≡ take at d ++ (xs ++ drop (at + length xs) d)
+    unfolding placed
+    placed-split = append-assoc (take at d) xs (drop (at + length xs) d)
+
+    pub part-placed-same : take (length xs) (drop at (placed d at xs)) ≡ xs
+    part-placed-same =
+        let n : length (take at d) ≡ at = length-take-le at d (omega arith) in
+        rw (placed-split, drop-at (take at d) (xs ++ drop (at + length xs) d) at n)
+        (take-append-seam xs (drop (at + length xs) d))
+
+    pub part-placed-before : (a n : ℕ) → a + n ≤ at → take n (drop a (placed d at xs)) ≡ take n (drop a d)
+    part-placed-before a n l =
+        let k : length (take at d) ≡ at = length-take-le at d (omega arith) in
+        rw placed-split (part-append (take at d) (xs ++ drop (at + length xs) d) a n (omega arith))
+        ∙ sym (part-append (take at d) (drop at d) a n (omega arith))
+        ∙ ap (λ (l : List A). take n (drop a l)) (take-append-drop at d)
+
+    pub drop-placed-behind : (n : ℕ) → at + length xs ≤ n → drop n (placed d at xs) ≡ drop n d
+    drop-placed-behind n l =
+        let m : ℕ = at + length xs in
+        let e : m + (n - m) ≡ n = omega arith in
+        rw (← e, ← drop-drop (n - m) m (placed d at xs), ← drop-drop (n - m) m d) (ap (drop (n - m)) drop-placed)
+
+  -- what stands at a position, placed there
+  pub placed-same : (d : List A) (at : ℕ) (xs : List A) → take (length xs) (drop at d) ≡ xs → placed d at xs ≡ d
   unfolding placed
-  drop-placed = drop-at (take at d ++ xs) (drop (at + length xs) d) (at + length xs) length-front
+  placed-same d at xs e =
+      append-assoc (take at d) xs (drop (at + length xs) d)
+      ∙ ap (λ (r : List A). take at d ++ (xs ++ r)) (sym (drop-drop (length xs) at d))
+      ∙ ap (λ (r : List A). take at d ++ (r ++ drop (length xs) (drop at d))) (sym e)
+      ∙ ap (λ (r : List A). take at d ++ r) (take-append-drop (length xs) (drop at d))
+      ∙ take-append-drop at d
 
-  pub take-placed : take (at + length xs) (placed d at xs) ≡ take at d ++ xs
+  -- one list placed after another is the two placed together
+  pub placed-placed : (d : List A) (at : ℕ) (xs ys : List A) → at + length xs + length ys ≤ length d
+      → placed (placed d at xs) (at + length xs) ys ≡ placed d at (xs ++ ys)
   unfolding placed
-  take-placed = take-at (take at d ++ xs) (drop (at + length xs) d) (at + length xs) length-front
+  placed-placed d at xs ys h =
+      let f : at + length xs ≤ length d = omega arith in
+      let n : at + length xs + length ys ≡ at + length (xs ++ ys) = omega (arith, length-append xs ys) in
+      let e : drop (at + length xs + length ys) (placed d at xs) ≡ drop (at + length (xs ++ ys)) d =
+      sym (drop-drop (length ys) (at + length xs) (placed d at xs))
+      ∙ ap (λ (l : List A). drop (length ys) l) (drop-placed d at xs f)
+      ∙ drop-drop (length ys) (at + length xs) d
+      ∙ ap (λ (k : ℕ). drop k d) n in
+      ap (λ (l : List A). l ++ ys ++ drop (at + length xs + length ys) (placed d at xs)) (take-placed d at xs f)
+      ∙ ap (λ (l : List A). take at d ++ xs ++ ys ++ l) e
+      ∙ ap (λ (l : List A). l ++ drop (at + length (xs ++ ys)) d) (append-assoc (take at d) xs ys)
 
--- one list placed after another is the two placed together
-pub placed-placed : (d : List ℕ) (at : ℕ) (xs ys : List ℕ) → at + length xs + length ys ≤ length d
-    → placed (placed d at xs) (at + length xs) ys ≡ placed d at (xs ++ ys)
-unfolding placed
-placed-placed d at xs ys h =
-    let f : at + length xs ≤ length d = omega arith in
-    let n : at + length xs + length ys ≡ at + length (xs ++ ys) = omega (arith, length-append xs ys) in
-    let e : drop (at + length xs + length ys) (placed d at xs) ≡ drop (at + length (xs ++ ys)) d =
-    sym (drop-drop (length ys) (at + length xs) (placed d at xs))
-    ∙ ap (λ (l : List ℕ). drop (length ys) l) (drop-placed d at xs f)
-    ∙ drop-drop (length ys) (at + length xs) d
-    ∙ ap (λ (k : ℕ). drop k d) n in
-    ap (λ (l : List ℕ). l ++ ys ++ drop (at + length xs + length ys) (placed d at xs)) (take-placed d at xs f)
-    ∙ ap (λ (l : List ℕ). take at d ++ xs ++ ys ++ l) e
-    ∙ ap (λ (l : List ℕ). l ++ drop (at + length (xs ++ ys)) d) (append-assoc (take at d) xs ys)
-
--- a store just behind what is placed adds one element
-pub set-placed : (d : List ℕ) (at : ℕ) (xs : List ℕ) (x : ℕ) → at + length xs < length d
-    → set (placed d at xs) (at + length xs) x ≡ placed d at (xs ++ (x ∷ []))
-unfolding placed
-set-placed d at xs x h =
-    let p : List ℕ = take at d ++ xs in
-    let q : List ℕ = drop (suc (at + length xs)) d in
-    let n : suc (at + length xs) ≡ at + length (xs ++ (x ∷ [])) = omega (arith, length-append xs (x ∷ [])) in
-    ap (λ (l : List ℕ). set (p ++ l) (at + length xs) x) (drop-cons d (at + length xs) 0 h)
-    ∙ set-at p (getD d (at + length xs) 0) q x (at + length xs) (length-front d at xs (omega arith))
-    ∙ sym (append-snoc p x q)
-    ∙ ap (λ (l : List ℕ). l ++ q) (append-assoc (take at d) xs (x ∷ []))
-    ∙ ap (λ (k : ℕ). take at d ++ (xs ++ (x ∷ [])) ++ drop k d) n
+  -- a store just behind what is placed adds one element
+  pub set-placed : (d : List A) (at : ℕ) (xs : List A) (x : A) → at + length xs < length d
+      → set (placed d at xs) (at + length xs) x ≡ placed d at (xs ++ (x ∷ []))
+  unfolding placed
+  set-placed d at xs x h =
+      let p : List A = take at d ++ xs in
+      let q : List A = drop (suc (at + length xs)) d in
+      let n : suc (at + length xs) ≡ at + length (xs ++ (x ∷ [])) = omega (arith, length-append xs (x ∷ [])) in
+      ap (λ (l : List A). set (p ++ l) (at + length xs) x) (drop-cons d (at + length xs) x h)
+      ∙ set-at p (getD d (at + length xs) x) q x (at + length xs) (length-front d at xs (omega arith))
+      ∙ sym (append-snoc p x q)
+      ∙ ap (λ (l : List A). l ++ q) (append-assoc (take at d) xs (x ∷ []))
+      ∙ ap (λ (k : ℕ). take at d ++ (xs ++ (x ∷ [])) ++ drop k d) n

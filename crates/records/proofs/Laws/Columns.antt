@@ -1,126 +1,352 @@
--- Laws of columns: the numbers that read puts into places are those of the gates, nets and candidates. Assumes nothing.
-use Prim.Native.Nat.{ℕ, _+_, _*_, _/_, _≤_}
+-- Laws of read_columns and write_columns: gate structs split into columns and joined from them, and the replies over columns from
+-- those of read and write. Assumes nothing.
+use Prim.Native.Nat.{ℕ, _≤_, _<_}
 use mathlib.Core.Path.{_≡_, refl, sym, _∙_, ap}
-use mathlib.Core.List.{List, [], _∷_, map}
-use native.Mathlib.Nat.{add-zero}
-use mathlib.Core.Bool.{true}
+use mathlib.Core.List.{List, [], _∷_, map, map-map}
+use mathlib.Core.Bool.{Bool, true, false, true≢false, _&&_}
 use native.Mathlib.Omega.{arith}
-use borrow.Author.Tests.{leb-true}
-use lib.Dec.{leb}
-use lib.ListN.{length}
-use Rattle.records.specs.Bytes.{upFrom, tabulate, word, placed, nth}
-use Rattle.records.specs.Gate.{Gate, gateOf}
-use Rattle.records.specs.Job.{Candidate, gateAt, gatesOf, netsOf, candidateAt, candidatesOf, netlistOf, jobOf}
-use Rattle.records.specs.Service.{SidePlaces, Places, sidePlaces, places, slotOf, filledSide, filled, sideRoomy, roomy}
-use Rattle.records.specs.Inner.{byteColumn, wordColumn, sideRoom, SideFits, Laid}
+use borrow.Author.Tests.{eqb-true, eqb-false, ne-eqb, lt-leb, le-leb}
+use lib.Dec.{leb, eqb}
+use lib.ListN.{length, getD, take, length-map, length-replicate}
+use Rattle.records.specs.Bytes.{tabulate, placed}
+use Rattle.records.specs.Gate.{Gate}
+use Rattle.records.specs.Netlist.{Netlist}
+use Rattle.records.specs.Job.{jobOf}
+use Rattle.records.specs.Refusal.{firstFailing}
+use Rattle.records.specs.Service.{SidePlaces, Places, sidePlaces, places, gateFrom, structOf, sideCountsOf, countsOf, noCounts, sideRoomy, roomy, filledSide, filled, readNumber, readReply, readPlaces, gatesIn, netlistFrom, jobFrom, sideHeld, held, writeNumber, writeReply, writtenBytes}
+use Rattle.records.specs.Columns.{SideColumns, Columns, sideColumns, columns, sideColumnsRoomy, columnsRoomy, sideColumnsFilled, columnsFilled, columnsNumber, columnsReply, columnsAfter, gatesFrom, columnsNetlist, columnsJob, sideColumnsHeld, columnsHeld, columnsWriteNumber, columnsWriteReply, columnsWritten}
+use Rattle.records.specs.Inner.{countsWithin, Within, noGate, noGates, refusedRead, columnsHold, ColumnsHold, Split, structsFrom}
+use Rattle.records.specs.declared.gate.Gate.{Gate as GateStruct}
+use Rattle.records.specs.declared.columns.GatesRead.{GatesRead}
+use Rattle.records.specs.declared.job.SideCounts.{SideCounts}
 use Rattle.records.specs.declared.job.Counts.{Counts}
-use Rattle.records.proofs.Laws.Bytes.{row-at, tabulate-ext}
-use Rattle.records.proofs.Laws.Counts.{sideRoom-facts}
-use Rattle.records.proofs.Laws.Shape.{laid-counts}
+use Rattle.records.specs.declared.reading.ReadReply.{ReadReply}
+use Rattle.records.specs.declared.writing.WriteReply.{WriteReply}
+use Rattle.records.proofs.Laws.Bytes.{row-at, and-left, false-of, length-tabulate, map-tabulate, tabulate-take, placed-nil}
+use Rattle.records.proofs.Laws.Counts.{columnsHold-facts, countsWithin-facts, countsWithin-countsOf}
+use Rattle.records.proofs.Laws.Job.{Filled, length-placed-front, take-placed-front}
+use Rattle.records.proofs.Laws.Accepted.{read-accepts, read-refuses, read-counts, read-places}
+use Rattle.records.proofs.Laws.Reply.{write-counts}
 
-map-tabulate : {A B : Type 0} (n : ℕ) (f : ℕ → A) (g : A → B) → map g (tabulate n f) ≡ tabulate n (λ i. g (f i))
-unfolding tabulate
-map-tabulate n f g = go (upFrom 0 n)
-  where
-    go : (xs : List ℕ) → map g (map f xs) ≡ map (λ i. g (f i)) xs
-    go [] = refl
-    go (x ∷ xs) = ap (λ (l : List _). g (f x) ∷ l) (go xs)
+-- ---- gate structs and columns
 
-module _ (s : List ℕ) where
-  pub kinds-column : byteColumn s 5 (length s / 5) ≡ map (λ (g : Gate). g .kind) (gatesOf s)
-  unfolding byteColumn gatesOf gateAt gateOf
-  kinds-column = sym (map-tabulate (length s / 5) (gateAt s) (λ (g : Gate). g .kind))
+pub length-noGates : length noGates ≡ 400
+unfolding noGates
+length-noGates = length-replicate 400 noGate
 
-  pub firsts-column : wordColumn s 5 1 (length s / 5) ≡ map (slotOf 0) (gatesOf s)
-  unfolding wordColumn gatesOf gateAt gateOf slotOf
-  firsts-column = sym (map-tabulate (length s / 5) (gateAt s) (slotOf 0))
+-- the gates that columns must hold, at most m, from a list of n
+pub splits-of : (n m count k x y : ℕ) → count ≤ n → count ≤ m → columnsHold m k x y ≡ true → ColumnsHold n count k x y
+splits-of n m count k x y h l e =
+    let t = columnsHold-facts m k x y e in
+    record { gates = h; kinds = omega (arith, t .0); firsts = omega (arith, t .1); seconds = omega (arith, t .2) }
 
-  pub seconds-column : wordColumn s 5 3 (length s / 5) ≡ map (slotOf 1) (gatesOf s)
-  unfolding wordColumn gatesOf gateAt gateOf slotOf
-  seconds-column = sym (map-tabulate (length s / 5) (gateAt s) (slotOf 1))
+-- a loop that has put part f of the first gates at a column's start
+pub column-split : (f : GateStruct → ℕ) (gs : List GateStruct) (d₀ d : List ℕ) (i count : ℕ)
+    → i ≡ count → count ≤ length gs → Filled d₀ d i (λ k. f (getD gs k noGate)) → d ≡ placed d₀ 0 (map f (take count gs))
+column-split f gs d₀ d i count e h w =
+    w .1
+    ∙ ap (λ (n : ℕ). placed d₀ 0 (tabulate n (λ k. f (getD gs k noGate)))) e
+    ∙ ap (placed d₀ 0)
+    (sym (map-tabulate count (λ k. getD gs k noGate) f) ∙ ap (map f) (tabulate-take noGate gs count h))
 
-  pub nets-column : wordColumn s 2 0 (length s / 2) ≡ netsOf s
-  unfolding wordColumn netsOf
-  nets-column =
-      tabulate-ext (length s / 2) (λ i. word s (2 * i + 0)) (λ i. word s (2 * i)) (λ i l. ap (word s) (add-zero (2 * i)))
+-- a netlist's columns once the first gates are split into them: as filled from a netlist, or as they were
+module _ (q : SideColumns) {gs : List GateStruct} {count : ℕ} {ks xs ys : List ℕ}
+    (t : Split gs count (q .kinds) (q .firsts) (q .seconds) ks xs ys) (os : List ℕ) where
+  side-filled : (l : Netlist) → take count gs ≡ map structOf (l .gates) → os ≡ placed (q .outputs) 0 (l .outputs)
+      → sideColumns ks xs ys os ≡ sideColumnsFilled q l
+  unfolding sideColumnsFilled structOf
+  side-filled l e o = rw (column _ _ _ (t .kinds), column _ _ _ (t .firsts), column _ _ _ (t .seconds), o)
+    where
+      column : (f : GateStruct → ℕ) (d d′ : List ℕ) → d′ ≡ placed d 0 (map f (take count gs))
+          → d′ ≡ placed d 0 (map (λ (g : Gate). f (structOf g)) (l .gates))
+      column f d d′ p =
+          p ∙ ap (λ (z : List GateStruct). placed d 0 (map f z)) e ∙ ap (placed d 0) (map-map f structOf (l .gates))
 
-  pub candidate-nets-column : wordColumn s 4 0 (length s / 4) ≡ map (λ (c : Candidate). c .net) (candidatesOf s)
-  unfolding wordColumn candidatesOf candidateAt
-  candidate-nets-column =
-      tabulate-ext (length s / 4) (λ i. word s (4 * i + 0)) (λ i. word s (4 * i)) (λ i l. ap (word s) (add-zero (4 * i)))
-      ∙ sym (map-tabulate (length s / 4) (candidateAt s) (λ (c : Candidate). c .net))
+  side-left : count ≡ 0 → os ≡ q .outputs → sideColumns ks xs ys os ≡ q
+  side-left z o = rw (column _ _ _ (t .kinds), column _ _ _ (t .firsts), column _ _ _ (t .seconds), o)
+    where
+      column : (f : GateStruct → ℕ) (d d′ : List ℕ) → d′ ≡ placed d 0 (map f (take count gs)) → d′ ≡ d
+      column f d d′ p = p ∙ ap (λ (n : ℕ). placed d 0 (map f (take n gs))) z ∙ placed-nil d 0
 
-  pub weights-column : wordColumn s 4 2 (length s / 4) ≡ map (λ (c : Candidate). c .weight) (candidatesOf s)
-  unfolding wordColumn candidatesOf candidateAt
-  weights-column = sym (map-tabulate (length s / 4) (candidateAt s) (λ (c : Candidate). c .weight))
+-- the columns of q hold n gates
+abbrev pub sideHolds : SideColumns → ℕ → Bool
+sideHolds q n = columnsHold n (length (q .kinds)) (length (q .firsts)) (length (q .seconds))
 
--- a netlist's places, each list with its column at its start
-pub side-filled : (gs os : List ℕ) (p : SidePlaces) (ks xs ys ns : List ℕ)
-    → ks ≡ placed (p .kinds) 0 (byteColumn gs 5 (length gs / 5))
-    → xs ≡ placed (p .firsts) 0 (wordColumn gs 5 1 (length gs / 5))
-    → ys ≡ placed (p .seconds) 0 (wordColumn gs 5 3 (length gs / 5))
-    → ns ≡ placed (p .outputs) 0 (wordColumn os 2 0 (length os / 2))
-    → sidePlaces ks xs ys ns ≡ filledSide p (netlistOf gs os)
-unfolding filledSide netlistOf
-side-filled gs os p ks xs ys ns k a b o =
-    rw (k, a, b, o, kinds-column gs, firsts-column gs, seconds-column gs, nets-column os)
+-- ---- read_columns
 
--- ---- a whole job's places
+side-roomy : (q : SideColumns) → sideColumnsRoomy q ≡ (sideHolds q 400 && leb 32 (length (q .outputs)))
+unfolding sideColumnsRoomy columnsHold
+side-roomy q = refl
 
-pub sideRoomy-facts : (p : SidePlaces) → sideRoomy p ≡ true
-    → (400 ≤ length (p .kinds)) × (400 ≤ length (p .firsts)) × (400 ≤ length (p .seconds)) × (32 ≤ length (p .outputs))
-unfolding sideRoomy sideRoom
-sideRoomy-facts p h = sideRoom-facts (length (p .kinds)) (length (p .firsts)) (length (p .seconds)) (length (p .outputs)) h
+module _ (p : Columns) where
+  -- the places that read_columns hands to read
+  abbrev pub readInto : Places
+  readInto =
+      places (sidePlaces noGates (p .old .outputs)) (sidePlaces noGates (p .golden .outputs)) (p .nets) (p .weights)
 
-pub roomy-facts : (p : Places) → roomy p ≡ true
-    → (sideRoomy (p .old) ≡ true) × (sideRoomy (p .golden) ≡ true) × (10 ≤ length (p .nets)) × (10 ≤ length (p .weights))
-unfolding roomy
-roomy-facts p h =
-    let t =
-    row-at (sideRoomy (p .old)) (sideRoomy (p .golden) ∷ leb 10 (length (p .nets)) ∷ leb 10 (length (p .weights)) ∷ []) h in
-    (t 0, t 1, leb-true _ _ (t 2), leb-true _ _ (t 3))
+  roomy-rows : columnsRoomy p ≡ true → (sideHolds (p .old) 400 ≡ true) × (sideHolds (p .golden) 400 ≡ true)
+  unfolding columnsRoomy
+  roomy-rows h =
+      let t =
+      row-at (sideColumnsRoomy (p .old))
+      (sideColumnsRoomy (p .golden) ∷ leb 10 (length (p .nets)) ∷ leb 10 (length (p .weights)) ∷ [])
+      h in (
+        and-left _ (leb 32 (length (p .old .outputs))) (sym (side-roomy (p .old)) ∙ t 0),
+        and-left _ (leb 32 (length (p .golden .outputs))) (sym (side-roomy (p .golden)) ∙ t 1),
+      )
 
-side-fits : (p : SidePlaces) → sideRoomy p ≡ true → (gs os : List ℕ) → length gs / 5 ≤ 400 → length os / 2 ≤ 32 → SideFits gs os p
-side-fits p h gs os g o =
-    let f = sideRoomy-facts p h in
-    record { kinds = omega arith; firsts = omega arith; seconds = omega arith; outputs = omega arith }
+  module _ (s : List ℕ) where
+    columns-small : columnsRoomy p ≡ false → (refusedRead 1 ≡ columnsReply p s) × (p ≡ columnsAfter p s)
+    unfolding refusedRead columnsReply columnsAfter columnsNumber firstFailing
+    columns-small e = (rw e, rw e)
 
-module _ (s : List ℕ) (c : Counts) (l : Laid s c) (p : Places) (h : roomy p ≡ true) (gs os : List ℕ) where
-  pub old-fits : gs ≡ nth 1 s → os ≡ nth 2 s → SideFits gs os (p .old)
-  old-fits g o =
-      let w = l .within .old in
-      let n = laid-counts s c l in
-      rw (g, o)
-      (side-fits (p .old) (roomy-facts p h .0) (nth 1 s) (nth 2 s)
-      (omega (arith, ap (λ (x : Counts). x .old .gates) n))
-      (omega (arith, ap (λ (x : Counts). x .old .outputs) n)))
+    pub small-old : sideHolds (p .old) 400 ≡ false → (refusedRead 1 ≡ columnsReply p s) × (p ≡ columnsAfter p s)
+    small-old e = columns-small (false-of (columnsRoomy p) (λ t. true≢false (sym (roomy-rows t .0) ∙ e)))
 
-  pub golden-fits : gs ≡ nth 3 s → os ≡ nth 4 s → SideFits gs os (p .golden)
-  golden-fits g o =
-      let w = l .within .golden in
-      let n = laid-counts s c l in
-      rw (g, o)
-      (side-fits (p .golden) (roomy-facts p h .1) (nth 3 s) (nth 4 s)
-      (omega (arith, ap (λ (x : Counts). x .golden .gates) n))
-      (omega (arith, ap (λ (x : Counts). x .golden .outputs) n)))
+    pub small-golden : sideHolds (p .golden) 400 ≡ false → (refusedRead 1 ≡ columnsReply p s) × (p ≡ columnsAfter p s)
+    small-golden e = columns-small (false-of (columnsRoomy p) (λ t. true≢false (sym (roomy-rows t .1) ∙ e)))
 
-module _ (s : List ℕ) (c : Counts) (l : Laid s c) (p : Places) (h : roomy p ≡ true) (cs : List ℕ) (e : cs ≡ nth 5 s) where
-  pub candidates-fit : (4 * c .candidates ≤ length cs) × (c .candidates ≤ length (p .nets)) × (c .candidates ≤ length (p .weights))
-  candidates-fit =
-      let n = ap (λ (x : Counts). x .candidates) (laid-counts s c l) in
-      let f = roomy-facts p h in
-      let w = l .within .candidates in
-      let k = ap length e in
-      (omega arith, omega arith, omega arith)
+  module _ (h : sideHolds (p .old) 400 ≡ true) (g : sideHolds (p .golden) 400 ≡ true) where
+    roomy-readInto : columnsRoomy p ≡ roomy readInto
+    unfolding columnsRoomy roomy sideRoomy
+    roomy-readInto = rw (side-roomy (p .old), side-roomy (p .golden), h, g, length-noGates)
 
--- the places of a job, each netlist filled from its two fields and the candidates' columns at their starts
-pub job-filled : (s : List ℕ) (c : Counts) → Laid s c → (p : Places) (o g : SidePlaces) (ns ws gs os gs′ os′ cs : List ℕ)
-    → gs ≡ nth 1 s → os ≡ nth 2 s → gs′ ≡ nth 3 s → os′ ≡ nth 4 s → cs ≡ nth 5 s
-    → o ≡ filledSide (p .old) (netlistOf gs os) → g ≡ filledSide (p .golden) (netlistOf gs′ os′)
-    → ns ≡ placed (p .nets) 0 (wordColumn cs 4 0 (c .candidates))
-    → ws ≡ placed (p .weights) 0 (wordColumn cs 4 2 (c .candidates))
-    → places o g ns ws ≡ filled p (jobOf s)
-unfolding filled jobOf
-job-filled s c l p o g ns ws gs os gs′ os′ cs e₁ e₂ e₃ e₄ e₅ eo eg en ew =
-    let k = ap (λ (x : Counts). x .candidates) (laid-counts s c l) in
-    rw (eo, eg, en, ew, k, e₁, e₂, e₃, e₄, e₅, candidate-nets-column (nth 5 s), weights-column (nth 5 s))
+    number-readInto : (s : List ℕ) → columnsNumber p s ≡ readNumber readInto s
+    unfolding columnsNumber readNumber
+    number-readInto s = rw roomy-readInto
+
+-- what read finds of a netlist: its gates stand at the start of gs
+record Found (q : SideColumns) (l : Netlist) (gs : List GateStruct) (count : ℕ) (os : List ℕ) : Type 0 where
+  pub counted : count ≡ length (map structOf (l .gates))
+  pub gates : gs ≡ placed noGates 0 (map structOf (l .gates))
+  pub outputs : os ≡ placed (q .outputs) 0 (l .outputs)
+
+module _ {q : SideColumns} {l : Netlist} {gs : List GateStruct} {count : ℕ} {os : List ℕ} (f : Found q l gs count os) where
+  found-le : count ≤ length gs
+  found-le = rw (f .counted, f .gates) (length-placed-front noGates (map structOf (l .gates)))
+
+  found-take : take count gs ≡ map structOf (l .gates)
+  found-take = rw (f .counted, f .gates) (take-placed-front noGates (map structOf (l .gates)))
+
+-- once read is done: its reply and gates, and the outputs and candidates it leaves
+module _ (p : Columns) (s : List ℕ) (r : GatesRead) {b d n w : List ℕ} (e : r .reply ≡ readReply (readInto p) s)
+    (f : places (sidePlaces (r .old) b) (sidePlaces (r .golden) d) n w ≡ readPlaces (readInto p) s) where
+  module _ (z : readNumber (readInto p) s ≡ 0) where
+    counts-read : r .reply .counts ≡ countsOf (jobOf s)
+    counts-read = ap (λ (x : ReadReply). x .counts) e ∙ read-counts (readInto p) s z
+
+    places-read : places (sidePlaces (r .old) b) (sidePlaces (r .golden) d) n w ≡ filled (readInto p) (jobOf s)
+    places-read = f ∙ read-places (readInto p) s z
+
+    found-old : Found (p .old) (jobOf s .old) (r .old) (r .reply .counts .old .gates) b
+    unfolding countsOf sideCountsOf filled filledSide
+    found-old =
+        record {
+          counted = ap (λ (x : Counts). x .old .gates) counts-read ∙ sym (length-map (jobOf s .old .gates) structOf);
+          gates = ap (λ (x : Places). x .old .gates) places-read;
+          outputs = ap (λ (x : Places). x .old .outputs) places-read;
+        }
+
+    found-golden : Found (p .golden) (jobOf s .golden) (r .golden) (r .reply .counts .golden .gates) d
+    unfolding countsOf sideCountsOf filled filledSide
+    found-golden =
+        record {
+          counted = ap (λ (x : Counts). x .golden .gates) counts-read ∙ sym (length-map (jobOf s .golden .gates) structOf);
+          gates = ap (λ (x : Places). x .golden .gates) places-read;
+          outputs = ap (λ (x : Places). x .golden .outputs) places-read;
+        }
+
+    within-read : Within (r .reply .counts)
+    within-read =
+        rw counts-read
+        (countsWithin-facts (countsOf (jobOf s)) (countsWithin-countsOf (jobOf s) ∙ read-accepts (readInto p) s .0 z .2 .counts))
+
+  module _ (z : readNumber (readInto p) s ≡ 0 → ⊥) where
+    counts-refused : r .reply .counts ≡ noCounts
+    counts-refused = ap (λ (x : ReadReply). x .counts) e ∙ read-refuses (readInto p) s z .0
+
+    places-refused : places (sidePlaces (r .old) b) (sidePlaces (r .golden) d) n w ≡ readInto p
+    places-refused = f ∙ read-refuses (readInto p) s z .1
+
+    old-refused : r .reply .counts .old .gates ≡ 0
+    unfolding noCounts
+    old-refused = ap (λ (x : Counts). x .old .gates) counts-refused
+
+    golden-refused : r .reply .counts .golden .gates ≡ 0
+    unfolding noCounts
+    golden-refused = ap (λ (x : Counts). x .golden .gates) counts-refused
+
+  gates-read : (r .reply .counts .old .gates ≤ length (r .old))
+      × (r .reply .counts .old .gates ≤ 400)
+      × (r .reply .counts .golden .gates ≤ length (r .golden))
+      × (r .reply .counts .golden .gates ≤ 400)
+  gates-read = pick (eqb (readNumber (readInto p) s) 0) refl
+    where
+      pick : (t : Bool) → eqb (readNumber (readInto p) s) 0 ≡ t
+          → (r .reply .counts .old .gates ≤ length (r .old))
+          × (r .reply .counts .old .gates ≤ 400)
+          × (r .reply .counts .golden .gates ≤ length (r .golden))
+          × (r .reply .counts .golden .gates ≤ 400)
+      pick true h =
+          let z = eqb-true (readNumber (readInto p) s) 0 h in
+          let w = within-read z in
+          (found-le (found-old z), w .old .gates, found-le (found-golden z), w .golden .gates)
+      pick false h =
+          let z = eqb-false (readNumber (readInto p) s) 0 h in
+          rw (old-refused z, golden-refused z) (omega arith, omega arith, omega arith, omega arith)
+
+  pub old-splits : sideHolds (p .old) 400 ≡ true
+      → ColumnsHold (length (r .old)) (r .reply .counts .old .gates)
+      (length (p .old .kinds)) (length (p .old .firsts)) (length (p .old .seconds))
+  old-splits h = splits-of _ 400 _ _ _ _ (gates-read .0) (gates-read .1) h
+
+  pub golden-splits : sideHolds (p .golden) 400 ≡ true
+      → ColumnsHold (length (r .golden)) (r .reply .counts .golden .gates)
+      (length (p .golden .kinds)) (length (p .golden .firsts)) (length (p .golden .seconds))
+  golden-splits h = splits-of _ 400 _ _ _ _ (gates-read .2) (gates-read .3) h
+
+  -- the reply and the columns, once the gates are split
+  pub read-columns-ends : {ks xs ys gks gxs gys : List ℕ} → sideHolds (p .old) 400 ≡ true → sideHolds (p .golden) 400 ≡ true
+      → Split (r .old) (r .reply .counts .old .gates) (p .old .kinds) (p .old .firsts) (p .old .seconds) ks xs ys
+      → Split (r .golden) (r .reply .counts .golden .gates) (p .golden .kinds) (p .golden .firsts) (p .golden .seconds) gks gxs gys
+      → (r .reply ≡ columnsReply p s)
+      × (columns (sideColumns ks xs ys b) (sideColumns gks gxs gys d) n w ≡ columnsAfter p s)
+  unfolding readReply columnsReply columnsAfter columnsFilled filled
+  read-columns-ends {ks} {xs} {ys} {gks} {gxs} {gys} h g o k =
+      (e ∙ rw (number-readInto p h g s), pick (eqb (readNumber (readInto p) s) 0) refl)
+    where
+      pick : (t : Bool) → eqb (readNumber (readInto p) s) 0 ≡ t
+          → columns (sideColumns ks xs ys b) (sideColumns gks gxs gys d) n w ≡ columnsAfter p s
+      pick true t =
+          let z = eqb-true (readNumber (readInto p) s) 0 t in
+          let f₁ = found-old z in
+          let f₂ = found-golden z in
+          rw (
+            number-readInto p h g s,
+            t,
+            side-filled (p .old) o b (jobOf s .old) (found-take f₁) (f₁ .outputs),
+            side-filled (p .golden) k d (jobOf s .golden) (found-take f₂) (f₂ .outputs),
+            ap (λ (x : Places). x .nets) (places-read z),
+            ap (λ (x : Places). x .weights) (places-read z),
+          )
+      pick false t =
+          let z = eqb-false (readNumber (readInto p) s) 0 t in
+          let q = places-refused z in
+          rw (
+            number-readInto p h g s,
+            t,
+            side-left (p .old) o b (old-refused z) (ap (λ (x : Places). x .old .outputs) q),
+            side-left (p .golden) k d (golden-refused z) (ap (λ (x : Places). x .golden .outputs) q),
+            ap (λ (x : Places). x .nets) q,
+            ap (λ (x : Places). x .weights) q,
+          )
+
+-- ---- write_columns
+
+side-held : (k : SideCounts) (q : SideColumns)
+    → sideColumnsHeld k q ≡ (sideHolds q (k .gates) && leb (k .outputs) (length (q .outputs)))
+unfolding sideColumnsHeld columnsHold
+side-held k q = refl
+
+-- a netlist's gates joined from its columns
+abbrev pub joinedSide : SideCounts → SideColumns → SidePlaces
+joinedSide k q = sidePlaces (placed noGates 0 (structsFrom (k .gates) (q .kinds) (q .firsts) (q .seconds))) (q .outputs)
+
+module _ (k : SideCounts) (q : SideColumns) where
+  joined-count : k .gates ≡ length (structsFrom (k .gates) (q .kinds) (q .firsts) (q .seconds))
+  unfolding structsFrom
+  joined-count = sym (length-tabulate (k .gates) _)
+
+  joined-room : k .gates ≤ length (joinedSide k q .gates)
+  joined-room = omega (arith, joined-count, length-placed-front noGates (structsFrom (k .gates) (q .kinds) (q .firsts) (q .seconds)))
+
+  held-joined : sideHolds q (k .gates) ≡ true → sideHeld k (joinedSide k q) ≡ sideColumnsHeld k q
+  unfolding sideHeld
+  held-joined h = rw (le-leb _ _ joined-room, side-held k q, h)
+
+  gates-joined : gatesIn (k .gates) (joinedSide k q .gates) ≡ gatesFrom (k .gates) (q .kinds) (q .firsts) (q .seconds)
+  unfolding gatesIn gatesFrom gateFrom structsFrom
+  gates-joined =
+      let gs = structsFrom (k .gates) (q .kinds) (q .firsts) (q .seconds) in
+      ap (λ (n : ℕ). map gateFrom (take n (placed noGates 0 gs))) joined-count
+      ∙ ap (map gateFrom) (take-placed-front noGates gs)
+      ∙ map-tabulate (k .gates) _ gateFrom
+
+module _ (c : Counts) (p : Columns) where
+  -- the places that write_columns hands to write
+  abbrev pub writtenFrom : Places
+  writtenFrom = places (joinedSide (c .old) (p .old)) (joinedSide (c .golden) (p .golden)) (p .nets) (p .weights)
+
+  held-rows : columnsHeld c p ≡ true
+      → (sideHolds (p .old) (c .old .gates) ≡ true) × (sideHolds (p .golden) (c .golden .gates) ≡ true)
+  unfolding columnsHeld
+  held-rows h =
+      let t =
+      row-at (sideColumnsHeld (c .old) (p .old))
+      (sideColumnsHeld (c .golden) (p .golden)
+      ∷ leb (c .candidates) (length (p .nets))
+      ∷ leb (c .candidates) (length (p .weights))
+      ∷ [])
+      h in (
+        and-left _ (leb (c .old .outputs) (length (p .old .outputs))) (sym (side-held (c .old) (p .old)) ∙ t 0),
+        and-left _ (leb (c .golden .outputs) (length (p .golden .outputs))) (sym (side-held (c .golden) (p .golden)) ∙ t 1),
+      )
+
+  job-written : jobFrom c writtenFrom ≡ columnsJob c p
+  unfolding jobFrom netlistFrom columnsJob columnsNetlist
+  job-written = rw (gates-joined (c .old) (p .old), gates-joined (c .golden) (p .golden))
+
+  module _ (d : List ℕ) where
+    number-written : sideHolds (p .old) (c .old .gates) ≡ true → sideHolds (p .golden) (c .golden .gates) ≡ true
+        → writeNumber c writtenFrom d ≡ columnsWriteNumber c p d
+    unfolding writeNumber held columnsWriteNumber columnsHeld
+    number-written h g = rw (job-written, held-joined (c .old) (p .old) h, held-joined (c .golden) (p .golden) g)
+
+    written-columns : sideHolds (p .old) (c .old .gates) ≡ true → sideHolds (p .golden) (c .golden .gates) ≡ true
+        → (writeReply c writtenFrom d ≡ columnsWriteReply c p d) × (writtenBytes c writtenFrom d ≡ columnsWritten c p d)
+    unfolding writeReply writtenBytes columnsWriteReply columnsWritten
+    written-columns h g = let n = number-written h g in (rw (n, job-written), rw (n, job-written))
+
+    -- the reply and the buffer, once write is done with the joined gates
+    pub write-columns-ends : sideHolds (p .old) (c .old .gates) ≡ true → sideHolds (p .golden) (c .golden .gates) ≡ true
+        → (gs hs : List GateStruct) {r : WriteReply} {d′ : List ℕ}
+        → gs ≡ joinedSide (c .old) (p .old) .gates → hs ≡ joinedSide (c .golden) (p .golden) .gates
+        → let q = places (sidePlaces gs (p .old .outputs)) (sidePlaces hs (p .golden .outputs)) (p .nets) (p .weights) in
+        (r ≡ writeReply c q d) × (d′ ≡ writtenBytes c q d)
+        → (r ≡ columnsWriteReply c p d) × (d′ ≡ columnsWritten c p d)
+    write-columns-ends h g gs hs x y e =
+        let w = written-columns h g in (e .0 ∙ rw (x, y) (w .0), e .1 ∙ rw (x, y) (w .1))
+
+    put-other : (n : ℕ) → columnsWriteNumber c p d ≡ n → (n ≡ 0 → ⊥)
+        → (record { number = n; len = 0 } ≡ columnsWriteReply c p d) × (d ≡ columnsWritten c p d)
+    unfolding columnsWriteReply columnsWritten
+    put-other n e h = (rw (e, ne-eqb n 0 h), rw (e, ne-eqb n 0 h))
+
+    pub put-short : length d < 4188 → (record { number = 1; len = 0 } ≡ columnsWriteReply c p d) × (d ≡ columnsWritten c p d)
+    unfolding columnsWriteNumber firstFailing
+    put-short h = put-other 1 (rw (lt-leb 4188 (length d) h)) (λ z. omega arith)
+
+    module _ (l : 4188 ≤ length d) where
+      unheld : columnsHeld c p ≡ false → (record { number = 3; len = 0 } ≡ columnsWriteReply c p d) × (d ≡ columnsWritten c p d)
+      unfolding columnsWriteNumber firstFailing
+      unheld e = put-other 3 (rw (le-leb 4188 (length d) l, e)) (λ z. omega arith)
+
+      pub unheld-old : sideHolds (p .old) (c .old .gates) ≡ false
+          → (record { number = 3; len = 0 } ≡ columnsWriteReply c p d) × (d ≡ columnsWritten c p d)
+      unheld-old e = unheld (false-of (columnsHeld c p) (λ t. true≢false (sym (held-rows t .0) ∙ e)))
+
+      pub unheld-golden : sideHolds (p .golden) (c .golden .gates) ≡ false
+          → (record { number = 3; len = 0 } ≡ columnsWriteReply c p d) × (d ≡ columnsWritten c p d)
+      unheld-golden e = unheld (false-of (columnsHeld c p) (λ t. true≢false (sym (held-rows t .1) ∙ e)))
+
+      -- a count outside its range is 3, whether or not the columns hold the counts
+      pub put-counts : countsWithin c ≡ false → (record { number = 3; len = 0 } ≡ columnsWriteReply c p d) × (d ≡ columnsWritten c p d)
+      put-counts e = pick (columnsHeld c p) refl
+        where
+          pick : (b : Bool) → columnsHeld c p ≡ b → (record { number = 3; len = 0 } ≡ columnsWriteReply c p d) × (d ≡ columnsWritten c p d)
+          pick false h = unheld h
+          pick true h =
+              let t = held-rows h in
+              let w = written-columns (t .0) (t .1) in
+              let v = write-counts c writtenFrom d l e in
+              (v .0 ∙ w .0, v .1 ∙ w .1)

@@ -1,18 +1,16 @@
 -- Laws of counts and of a check's answer: tests as inequalities. Assumes nothing.
-use Prim.Native.Nat.{ℕ, _+_, _*_, _%_, _≤_, _<_}
-use mathlib.Core.Path.{_≡_, refl, sym, _∙_, ap}
+use Prim.Native.Nat.{ℕ, _%_, _≤_}
+use mathlib.Core.Path.{_≡_, refl}
 use mathlib.Core.Bool.{Bool, true, false, _&&_}
 use mathlib.Core.List.{List, [], _∷_}
 use native.Mathlib.Omega.{arith}
 use borrow.Author.Tests.{le-leb, leb-true, eqb-true, eq-eqb}
 use lib.Dec.{leb, eqb}
-use lib.ListN.{length, getD}
-use Rattle.records.specs.Netlist.{Netlist}
-use Rattle.records.specs.Job.{Job, jobOf, jobWhole}
+use lib.ListN.{getD}
+use Rattle.records.specs.Job.{Job}
 use Rattle.records.specs.Refusal.{sideCountsGood, countsGood}
-use Rattle.records.specs.Service.{sideCountsOf, countsOf}
-use Rattle.records.specs.Inner.{checkOf, lengthsGood, sideWithin, countsWithin, SideWithin, Within, sideRoom, candidateRoom}
-use Rattle.records.specs.declared.field.Check.{Check}
+use Rattle.records.specs.Service.{sideCountsOf, countsOf, noCounts}
+use Rattle.records.specs.Inner.{checkOf, lengthsGood, sideWithin, countsWithin, SideWithin, Within, startsOf, gateSpans, room, holds, columnsHold}
 use Rattle.records.specs.declared.field.Check.the-variants.{Passed, Failed}
 use Rattle.records.specs.declared.job.SideCounts.{SideCounts}
 use Rattle.records.specs.declared.job.Counts.{Counts}
@@ -84,6 +82,22 @@ pub countsWithin-countsOf : (j : Job) → countsWithin (countsOf j) ≡ countsGo
 unfolding countsWithin countsOf countsGood sideWithin sideCountsOf sideCountsGood
 countsWithin-countsOf j = refl
 
+-- where gates stand, by counts within their ranges and by none
+pub spans-within : (c : Counts) → Within c
+    → gateSpans c
+    ≡ record {
+      old = startsOf c .old;
+      «old_count» = c .old .gates;
+      golden = startsOf c .golden;
+      «golden_count» = c .golden .gates;
+    }
+unfolding gateSpans
+spans-within c h = rw (countsWithin-true c h)
+
+pub spans-none : gateSpans noCounts ≡ record { old = 0; «old_count» = 0; golden = 0; «golden_count» = 0 }
+unfolding gateSpans noCounts countsWithin sideWithin
+spans-none = refl
+
 -- ---- the lengths of a job's fields
 
 pub record LengthsGood (ns : List ℕ) : Type 0 where
@@ -126,25 +140,68 @@ lengthsGood-true ns h =
     (eq-eqb _ _ (h .goldens)))
     (eq-eqb _ _ (h .candidates))
 
--- ---- places enough
+-- ---- places enough: six tests of inequalities, two and two and one and one
 
-pub sideRoom-facts : (k a b o : ℕ) → sideRoom k a b o ≡ true → (400 ≤ k) × (400 ≤ a) × (400 ≤ b) × (32 ≤ o)
-unfolding sideRoom
-sideRoom-facts k a b o h =
-    let t = row-at (leb 400 k) (leb 400 a ∷ leb 400 b ∷ leb 32 o ∷ []) h in
-    (leb-true _ _ (t 0), leb-true _ _ (t 1), leb-true _ _ (t 2), leb-true _ _ (t 3))
+module _ (a a′ b b′ c c′ d d′ e e′ f f′ : ℕ) where
+  six-facts : ((leb a a′ && leb b b′) && (leb c c′ && leb d d′) && leb e e′ && leb f f′) ≡ true
+      → (a ≤ a′) × (b ≤ b′) × (c ≤ c′) × (d ≤ d′) × (e ≤ e′) × (f ≤ f′)
+  six-facts h =
+      let t = row-at (leb a a′ && leb b b′) ((leb c c′ && leb d d′) ∷ leb e e′ ∷ leb f f′ ∷ []) h in
+      let o = row-at (leb a a′) (leb b b′ ∷ []) (t 0) in
+      let g = row-at (leb c c′) (leb d d′ ∷ []) (t 1) in
+      (leb-true a a′ (o 0), leb-true b b′ (o 1), leb-true c c′ (g 0), leb-true d d′ (g 1), leb-true e e′ (t 2), leb-true f f′ (t 3))
 
-pub sideRoom-true : (k a b o : ℕ) → (400 ≤ k) × (400 ≤ a) × (400 ≤ b) × (32 ≤ o) → sideRoom k a b o ≡ true
-unfolding sideRoom
-sideRoom-true k a b o h =
-    and-both _ _
-    (and-both _ _ (and-both _ _ (le-leb _ _ (h .0)) (le-leb _ _ (h .1))) (le-leb _ _ (h .2)))
-    (le-leb _ _ (h .3))
+  six-true : (a ≤ a′) × (b ≤ b′) × (c ≤ c′) × (d ≤ d′) × (e ≤ e′) × (f ≤ f′)
+      → ((leb a a′ && leb b b′) && (leb c c′ && leb d d′) && leb e e′ && leb f f′) ≡ true
+  six-true h =
+      and-both _ _
+      (and-both _ _
+      (and-both _ _
+      (and-both _ _ (le-leb _ _ (h .0)) (le-leb _ _ (h .1)))
+      (and-both _ _ (le-leb _ _ (h .2)) (le-leb _ _ (h .3))))
+      (le-leb _ _ (h .4)))
+      (le-leb _ _ (h .5))
 
-pub candidateRoom-facts : (n w : ℕ) → candidateRoom n w ≡ true → (10 ≤ n) × (10 ≤ w)
-unfolding candidateRoom
-candidateRoom-facts n w h = let t = row-at (leb 10 n) (leb 10 w ∷ []) h in (leb-true _ _ (t 0), leb-true _ _ (t 1))
+pub room-facts : (a b c d e f : ℕ) → room a b c d e f ≡ true
+    → (400 ≤ a) × (32 ≤ b) × (400 ≤ c) × (32 ≤ d) × (10 ≤ e) × (10 ≤ f)
+unfolding room
+room-facts a b c d e f h = six-facts 400 a 32 b 400 c 32 d 10 e 10 f h
 
-pub candidateRoom-true : (n w : ℕ) → (10 ≤ n) × (10 ≤ w) → candidateRoom n w ≡ true
-unfolding candidateRoom
-candidateRoom-true n w h = and-both _ _ (le-leb _ _ (h .0)) (le-leb _ _ (h .1))
+pub room-true : (a b c d e f : ℕ) → (400 ≤ a) × (32 ≤ b) × (400 ≤ c) × (32 ≤ d) × (10 ≤ e) × (10 ≤ f) → room a b c d e f ≡ true
+unfolding room
+room-true a b c d e f h = six-true 400 a 32 b 400 c 32 d 10 e 10 f h
+
+-- ---- places that hold so many
+
+module _ (n : Counts) (a b c d e f : ℕ) where
+  pub holds-facts : holds n a b c d e f ≡ true
+      → (n .old .gates ≤ a)
+      × (n .old .outputs ≤ b)
+      × (n .golden .gates ≤ c)
+      × (n .golden .outputs ≤ d)
+      × (n .candidates ≤ e)
+      × (n .candidates ≤ f)
+  unfolding holds
+  holds-facts =
+      six-facts (n .old .gates) a (n .old .outputs) b (n .golden .gates) c (n .golden .outputs) d (n .candidates) e (n .candidates) f
+
+  pub holds-true : (n .old .gates ≤ a)
+      × (n .old .outputs ≤ b)
+      × (n .golden .gates ≤ c)
+      × (n .golden .outputs ≤ d)
+      × (n .candidates ≤ e)
+      × (n .candidates ≤ f)
+      → holds n a b c d e f ≡ true
+  unfolding holds
+  holds-true =
+      six-true (n .old .gates) a (n .old .outputs) b (n .golden .gates) c (n .golden .outputs) d (n .candidates) e (n .candidates) f
+
+pub columnsHold-facts : (count k x y : ℕ) → columnsHold count k x y ≡ true → (count ≤ k) × (count ≤ x) × (count ≤ y)
+unfolding columnsHold
+columnsHold-facts count k x y h =
+    let t = row-at (leb count k) (leb count x ∷ leb count y ∷ []) h in
+    (leb-true _ _ (t 0), leb-true _ _ (t 1), leb-true _ _ (t 2))
+
+pub columnsHold-true : (count k x y : ℕ) → (count ≤ k) × (count ≤ x) × (count ≤ y) → columnsHold count k x y ≡ true
+unfolding columnsHold
+columnsHold-true count k x y h = and-both _ _ (and-both _ _ (le-leb _ _ (h .0)) (le-leb _ _ (h .1))) (le-leb _ _ (h .2))

@@ -1,18 +1,17 @@
 -- Laws of fields: what stands at a position, and where each field of a walk starts and ends. Assumes nothing.
-use Prim.Native.Nat.{ℕ, zero, suc, _+_, _-_, _*_, _≤_, _<_}
+use Prim.Native.Nat.{ℕ, zero, suc, _+_, _-_, _≤_, _<_}
 use mathlib.Core.Path.{_≡_, refl, sym, _∙_, ap}
 use mathlib.Core.List.{List, [], _∷_}
 use mathlib.Core.Bool.{Bool, true, false, cond, _&&_}
-use native.Mathlib.Nat.{add-zero, zero-add, add-assoc}
-use native.Mathlib.Numerals.{add-one}
+use native.Mathlib.Nat.{add-zero, add-assoc}
 use native.Mathlib.Omega.{arith}
 use borrow.Author.Tests.{lt-leb, le-leb, eq-eqb, ne-eqb, leb-true, eqb-true}
-use borrow.Author.Count.{below-more}
 use lib.Dec.{leb, eqb}
-use lib.ListN.{length, getD, take, drop, set, length-take, length-drop, length-set}
-use lib.Seq.{getD-drop, drop-drop, length-take-le, getD-set-same, getD-set-other}
-use Rattle.records.specs.Bytes.{upFrom, word, bodyLength, body, rest, fits, whole, nth}
-use Rattle.records.specs.Inner.{startOf, fieldAt}
+use lib.ListN.{length, getD, take, drop, length-drop}
+use lib.Seq.{getD-drop, drop-drop, length-take-le}
+use Rattle.records.specs.Bytes.{word, bodyLength, body, rest, fits, whole, nth}
+use Rattle.records.specs.Inner.{startOf, fieldAt, endOf}
+use Rattle.records.specs.declared.field.Field.{Field}
 use Rattle.records.specs.declared.field.Field.the-variants.{Body, Missing}
 use Rattle.records.proofs.Laws.Bytes.{and-left, and-right, and-both, and-false-left, and-false-right}
 
@@ -145,57 +144,6 @@ module _ (ts s : List ℕ) (w : whole ts s ≡ true) (k : ℕ) (h : k < length t
       ∙ ap (λ (l : List ℕ). take (bodyLength (skip k s)) (drop 3 l)) (sym (skip-drop k s))
       ∙ sym (nth-body k s)
 
--- ---- a turn of the walk
-
-whole-cons : (t n : ℕ) (s : List ℕ) → fits t s ≡ true → whole (upFrom t (suc n)) s ≡ whole (upFrom (suc t) n) (rest s)
-unfolding whole upFrom
-whole-cons t n s h = rw h
-
-pub whole-missing : (t n : ℕ) (s : List ℕ) → fits t s ≡ false → whole (upFrom t (suc n)) s ≡ false
-unfolding whole upFrom
-whole-missing t n s h = rw h
-
-pub whole-turn : (s : List ℕ) (at t n : ℕ) → fits t (drop at s) ≡ true
-    → whole (upFrom t (suc n)) (drop at s) ≡ whole (upFrom (t + 1) n) (drop (at + 3 + bodyLength (drop at s)) s)
-unfolding rest
-whole-turn s at t n h =
-    let b = bodyLength (drop at s) in
-    let e : at + (3 + b) ≡ at + 3 + b = omega arith in
-    whole-cons t n (drop at s) h
-    ∙ ap (λ (l : List ℕ). whole (upFrom (suc t) n) l) (drop-drop (3 + b) at s ∙ ap (λ (k : ℕ). drop k s) e)
-    ∙ ap (λ (k : ℕ). whole (upFrom k n) (drop (at + 3 + b) s)) (sym (add-one t))
-
--- two lists hold where each of the first k fields' bytes start and how many they are
-pub record Bounds (s xs ys : List ℕ) (k : ℕ) : Type 0 where
-  pub starts : (i : ℕ) → i < k → getD xs i 0 ≡ startOf i s
-  pub lens : (i : ℕ) → i < k → getD ys i 0 ≡ length (nth i s)
-
-store-more : (f : ℕ → ℕ) (xs : List ℕ) (k x : ℕ) → k < length xs → x ≡ f k → ((i : ℕ) → i < k → getD xs i 0 ≡ f i)
-    → (i : ℕ) → i < k + 1 → getD (set xs k x) i 0 ≡ f i
-store-more f xs k x h e old =
-    below-more _ k
-    (λ i l. getD-set-other xs k i x 0 (omega arith) ∙ old i l)
-    (getD-set-same xs k x 0 h ∙ e)
-
-pub bounds-turn : (s starts lens : List ℕ) (k at t : ℕ) → Bounds s starts lens k → k < length starts → k < length lens
-    → at ≡ positionOf k s → fits t (drop at s) ≡ true
-    → Bounds s (set starts k (at + 3)) (set lens k (bodyLength (drop at s))) (k + 1)
-bounds-turn s starts lens k at t b hs hl p f =
-    let d : drop at s ≡ skip k s = ap (λ (n : ℕ). drop n s) p ∙ sym (skip-drop k s) in
-    let e : at + 3 ≡ startOf k s = ap (λ (n : ℕ). n + 3) p ∙ sym (startOf-position k s) in
-    let n : bodyLength (drop at s) ≡ length (nth k s) = ap bodyLength d ∙ sym (length-nth k t s (rw d at f)) in
-    record {
-      starts = store-more (λ i. startOf i s) starts k (at + 3) hs e (b .starts);
-      lens = store-more (λ i. length (nth i s)) lens k (bodyLength (drop at s)) hl n (b .lens);
-    }
-
-pub position-turn : (s : List ℕ) (k at : ℕ) → at ≡ positionOf k s → at + 3 + bodyLength (drop at s) ≡ positionOf (k + 1) s
-position-turn s k at p =
-    let d : drop at s ≡ skip k s = ap (λ (n : ℕ). drop n s) p ∙ sym (skip-drop k s) in
-    let e = ap bodyLength d in
-    let q : positionOf (k + 1) s ≡ positionOf (suc k) s = ap (λ (n : ℕ). positionOf n s) (add-one k) in
-    omega (arith, positionOf-suc k s)
-
 -- ---- what reading a field answers
 
 pick-body : (b : Bool) (x y x′ y′ : ℕ) → cond b (Body x y) Missing ≡ Body x′ y′ → (b ≡ true) × (x′ ≡ x) × (y′ ≡ y)
@@ -215,3 +163,11 @@ module _ (s : List ℕ) (at t : ℕ) where
   pub fieldAt-missing : fieldAt s at t ≡ Missing → fits t (drop at s) ≡ false
   unfolding fieldAt
   fieldAt-missing e = pick-missing (fits t (drop at s)) (at + 3) (bodyLength (drop at s)) e
+
+  -- the field found ends within the bytes
+  pub end-within : (f : Field) → fieldAt s at t ≡ f → endOf f ≤ length s
+  unfolding endOf
+  end-within Missing e = omega arith
+  end-within (Body a b) e =
+      let f = fieldAt-body a b e in
+      omega (arith, f .1, f .2, fits-room t (drop at s) (f .0), length-drop at s)

@@ -1,26 +1,25 @@
--- Laws of specs/Job: pieces put one after the other, how many bytes a job takes, what the tests of counts tell, and
--- the bytes of what stands in places. Assumes nothing.
+-- Laws of specs/Job and of places: pieces put one after the other, how many bytes a job takes, what the tests of counts tell,
+-- and the parts that stand in places. Assumes nothing.
 use Prim.Native.Nat.{ℕ, zero, suc, _+_, _*_, _/_, _%_, _≤_, _<_}
 use mathlib.Core.Path.{_≡_, refl, sym, _∙_, ap}
 use mathlib.Core.List.{List, [], _∷_, _++_, map, append-assoc, append-nil}
 use mathlib.Core.Bool.{true}
-use native.Mathlib.Nat.{mul-zero, mul-suc, mul-le-mul-left, mod-eq-of-lt}
+use native.Mathlib.Nat.{zero-add, mul-zero, mul-suc, mul-le-mul-left, mod-eq-of-lt}
 use native.Mathlib.Numerals.{add-one}
 use native.Mathlib.Omega.{arith}
-use borrow.Author.Tests.{leb-true}
-use lib.Dec.{leb}
-use lib.ListN.{length, getD, take, set, length-append, length-set}
-use lib.Seq.{length-take-le, take-suc, sets, sets-eq}
+use lib.ListN.{length, getD, take, drop, set, length-append, length-set, length-map, List·getD-append}
+use lib.Seq.{length-take-le, take-suc, take-append-seam, sets, sets-eq}
 use Rattle.records.specs.Bytes.{upFrom, tabulate, flat, bytePair, placed, field}
 use Rattle.records.specs.Gate.{Gate, gateOf}
-use Rattle.records.specs.Netlist.{Netlist}
 use Rattle.records.specs.Job.{Job, Candidate, gateBytes, candidateBytes, jobBytes}
-use Rattle.records.specs.Service.{SidePlaces, Places, gatesFrom, netlistFrom, candidatesFrom, jobFrom, sideHeld, held}
-use Rattle.records.specs.Inner.{sideBytes, sideWithin, SideWithin, Within, JobPut}
+use Rattle.records.specs.Refusal.{longestJob}
+use Rattle.records.specs.Service.{SidePlaces, Places, gateFrom, sideCountsOf, countsOf, gatesIn, netlistFrom, candidatesFrom, jobFrom, sideHeld, held}
+use Rattle.records.specs.Inner.{Within, gatesBytes, holds}
+use Rattle.records.specs.declared.gate.Gate.{Gate as GateStruct}
 use Rattle.records.specs.declared.job.SideCounts.{SideCounts}
 use Rattle.records.specs.declared.job.Counts.{Counts}
-use Rattle.records.proofs.Laws.Bytes.{row-at, length-upFrom, length-tabulate, tabulate-snoc, placed-nil, length-placed, placed-placed, set-placed}
-use Rattle.records.proofs.Laws.Counts.{sideWithin-facts, sideWithin-true, countsWithin-facts}
+use Rattle.records.proofs.Laws.Bytes.{length-upFrom, length-tabulate, tabulate-snoc, placed-nil, length-placed, placed-placed, set-placed}
+use Rattle.records.proofs.Laws.Counts.{holds-facts, holds-true}
 
 -- ---- flat
 
@@ -41,19 +40,21 @@ module _ {A : Type 0} (f : A → List ℕ) where
   length-flat k e (x ∷ xs) =
       length-append (f x) (flat f xs) ∙ omega (arith, e x, length-flat k e xs, mul-suc k (length xs))
 
-  flat-map : (g : ℕ → A) (is : List ℕ) → flat f (map g is) ≡ flat (λ i. f (g i)) is
+-- .. of what another list gives
+module _ {A B : Type 0} (f : A → List ℕ) (g : B → A) where
+  flat-map : (ys : List B) → flat f (map g ys) ≡ flat (λ y. f (g y)) ys
   unfolding flat
-  flat-map g [] = refl
-  flat-map g (i ∷ is) = ap (λ (l : List ℕ). f (g i) ++ l) (flat-map g is)
+  flat-map [] = refl
+  flat-map (y ∷ ys) = ap (λ (l : List ℕ). f (g y) ++ l) (flat-map ys)
 
--- .. of what a numbered list gives
+  pub length-flat-map : (k : ℕ) → ((y : B) → length (f (g y)) ≡ k) → (ys : List B) → length (flat f (map g ys)) ≡ k * length ys
+  length-flat-map k e ys = ap length (flat-map ys) ∙ length-flat (λ y. f (g y)) k e ys
+
 pub length-flat-tabulate : {A : Type 0} (f : A → List ℕ) (k : ℕ) (g : ℕ → A) → ((i : ℕ) → length (f (g i)) ≡ k)
     → (n : ℕ) → length (flat f (tabulate n g)) ≡ k * n
 unfolding tabulate
 length-flat-tabulate f k g e n =
-    ap length (flat-map f g (upFrom 0 n))
-    ∙ length-flat (λ i. f (g i)) k e (upFrom 0 n)
-    ∙ ap (λ (m : ℕ). k * m) (length-upFrom 0 n)
+    length-flat-map f g k e (upFrom 0 n) ∙ ap (λ (m : ℕ). k * m) (length-upFrom 0 n)
 
 pub tabulate-getD : (xs : List ℕ) (n : ℕ) → n ≤ length xs → tabulate n (λ i. getD xs i 0) ≡ take n xs
 unfolding tabulate upFrom
@@ -71,6 +72,23 @@ next-record size i = rw (add-one, mul-suc)
 
 pub record-within : (size i n : ℕ) → i < n → size * i + size ≤ size * n
 record-within size i n h = rw mul-suc at (mul-le-mul-left size h)
+
+-- ---- a list placed at the front
+
+module _ {A : Type 0} (d xs : List A) where
+  placed-front : placed d 0 xs ≡ xs ++ drop (length xs) d
+  unfolding placed
+  placed-front = rw zero-add
+
+  pub length-placed-front : length xs ≤ length (placed d 0 xs)
+  length-placed-front = rw placed-front (omega (arith, length-append xs (drop (length xs) d)))
+
+  pub take-placed-front : take (length xs) (placed d 0 xs) ≡ xs
+  take-placed-front = rw placed-front (take-append-seam xs (drop (length xs) d))
+
+  pub getD-placed-front : (i : ℕ) (a : A) → i < length xs → getD (placed d 0 xs) i a ≡ getD xs i a
+  getD-placed-front i a h =
+      ap (λ (l : List A). getD l i a) placed-front ∙ List·getD-append xs (drop (length xs) d) a i h
 
 -- ---- stores
 
@@ -124,15 +142,15 @@ field-placed d at t n xs p m q h e f =
 -- ---- loops that fill a list d₀; d is what stands there now
 
 -- the first n elements are those of a numbered list
-abbrev pub Filled : List ℕ → List ℕ → ℕ → (ℕ → ℕ) → Type 0
+abbrev pub Filled : {A : Type 0} → List A → List A → ℕ → (ℕ → A) → Type 0
 Filled d₀ d n g = (length d ≡ length d₀) × (d ≡ placed d₀ 0 (tabulate n g))
 
-module _ (d₀ : List ℕ) (g : ℕ → ℕ) where
+module _ {A : Type 0} (d₀ : List A) (g : ℕ → A) where
   pub filled-none : Filled d₀ d₀ 0 g
   unfolding tabulate upFrom
   filled-none = (refl, sym (placed-nil d₀ 0))
 
-  pub filled-next : (d : List ℕ) (i x : ℕ) → i < length d₀ → x ≡ g i → Filled d₀ d i g → Filled d₀ (set d i x) (i + 1) g
+  pub filled-next : (d : List A) (i : ℕ) (x : A) → i < length d₀ → x ≡ g i → Filled d₀ d i g → Filled d₀ (set d i x) (i + 1) g
   filled-next d i x h e w =
       let n : i ≡ 0 + length (tabulate i g) = omega (arith, length-tabulate i g) in
       let s : set (placed d₀ 0 (tabulate i g)) i (g i) ≡ placed d₀ 0 (tabulate (i + 1) g) =
@@ -184,11 +202,11 @@ length-candidateBytes c = refl
 abbrev pub FiveEach : List Gate → Type 0
 FiveEach gs = length (flat gateBytes gs) ≡ 5 * length gs
 
-pub five-each : (n : ℕ) (k a b : ℕ → ℕ) → FiveEach (tabulate n (λ i. gateOf (k i) (a i) (b i)))
-five-each n k a b =
-    let g : ℕ → Gate = λ i. gateOf (k i) (a i) (b i) in
-    length-flat-tabulate gateBytes 5 g (λ i. length-gateBytes (k i) (a i) (b i)) n
-    ∙ ap (λ (m : ℕ). 5 * m) (sym (length-tabulate n g))
+five-each : (gs : List GateStruct) → FiveEach (map gateFrom gs)
+unfolding gateFrom
+five-each gs =
+    length-flat-map gateBytes gateFrom 5 (λ g. length-gateBytes (g .kind) (g .first) (g .second)) gs
+    ∙ ap (λ (m : ℕ). 5 * m) (sym (length-map gs gateFrom))
 
 pub length-outputs : (xs : List ℕ) → length (flat bytePair xs) ≡ 2 * length xs
 length-outputs = length-flat bytePair 2 length-bytePair
@@ -196,168 +214,94 @@ length-outputs = length-flat bytePair 2 length-bytePair
 pub length-candidates : (cs : List Candidate) → length (flat candidateBytes cs) ≡ 4 * length cs
 length-candidates = length-flat candidateBytes 4 length-candidateBytes
 
-pub length-sideBytes : (t : ℕ) (l : Netlist) → FiveEach (l .gates)
-    → length (sideBytes t l) ≡ 6 + 5 * length (l .gates) + 2 * length (l .outputs)
-unfolding sideBytes
-length-sideBytes t l e = simp (length-append, length-field) (omega (arith, length-outputs (l .outputs)))
-
--- a job's bytes by its netlists'
-pub jobBytes-sides : (j : Job)
-    → jobBytes j
-    ≡ field 1 (j .inputs ∷ j .targets ∷ []) ++ sideBytes 2 (j .old) ++ sideBytes 4 (j .golden)
-    ++ field 6 (flat candidateBytes (j .candidates))
-unfolding jobBytes sideBytes
-jobBytes-sides j = simp append-assoc
+abbrev pub jobSize : Counts → ℕ
+jobSize c = 20 + 5 * c .old .gates + 2 * c .old .outputs + 5 * c .golden .gates + 2 * c .golden .outputs + 4 * c .candidates
 
 pub length-jobBytes : (j : Job) → FiveEach (j .old .gates) → FiveEach (j .golden .gates)
-    → length (jobBytes j)
-    ≡ 20 + 5 * length (j .old .gates) + 2 * length (j .old .outputs)
-    + 5 * length (j .golden .gates) + 2 * length (j .golden .outputs) + 4 * length (j .candidates)
+    → length (jobBytes j) ≡ jobSize (countsOf j)
+unfolding jobBytes countsOf sideCountsOf
 length-jobBytes j e e′ =
-    rw jobBytes-sides
-    (simp (length-append, length-field)
-    (omega (arith, length-sideBytes 2 (j .old) e, length-sideBytes 4 (j .golden) e′, length-candidates (j .candidates))))
+    simp (length-append, length-field)
+    (omega (
+      arith,
+      length-outputs (j .old .outputs),
+      length-outputs (j .golden .outputs),
+      length-candidates (j .candidates),
+    ))
 
--- ---- counts and places: what the putting functions ask, as inequalities
+-- ---- places that hold the counts: number 3 for write as inequalities
 
 pub record SideBounds (c : SideCounts) (p : SidePlaces) : Type 0 where
-  pub within : SideWithin c
-  pub kinds : c .gates ≤ length (p .kinds)
-  pub firsts : c .gates ≤ length (p .firsts)
-  pub seconds : c .gates ≤ length (p .seconds)
+  pub gates : c .gates ≤ length (p .gates)
   pub outputs : c .outputs ≤ length (p .outputs)
 
-pub side-bounds : (c : SideCounts) (p : SidePlaces) → sideWithin c ≡ true → sideHeld c p ≡ true → SideBounds c p
-unfolding sideHeld
-side-bounds c p w h =
-    let t =
-    row-at (leb (c .gates) (length (p .kinds)))
-    (leb (c .gates) (length (p .firsts)) ∷ leb (c .gates) (length (p .seconds)) ∷ leb (c .outputs) (length (p .outputs)) ∷ [])
-    h in
-    record {
-      within = sideWithin-facts c w;
-      kinds = leb-true _ _ (t 0);
-      firsts = leb-true _ _ (t 1);
-      seconds = leb-true _ _ (t 2);
-      outputs = leb-true _ _ (t 3);
-    }
-
 pub record JobBounds (c : Counts) (p : Places) : Type 0 where
-  pub within : Within c
-  pub sides : (sideHeld (c .old) (p .old) ≡ true) × (sideHeld (c .golden) (p .golden) ≡ true)
   pub old : SideBounds (c .old) (p .old)
   pub golden : SideBounds (c .golden) (p .golden)
   pub nets : c .candidates ≤ length (p .nets)
   pub weights : c .candidates ≤ length (p .weights)
 
-pub job-bounds : {n : ℕ} {c : Counts} {p : Places} → JobPut n c p → JobBounds c p
-unfolding held
-job-bounds {c} {p} j =
-    let w = countsWithin-facts c (j .within) in
-    let t =
-    row-at (sideHeld (c .old) (p .old))
-    (sideHeld (c .golden) (p .golden)
-    ∷ leb (c .candidates) (length (p .nets))
-    ∷ leb (c .candidates) (length (p .weights))
-    ∷ [])
-    (j .held) in
-    record {
-      within = w;
-      sides = (t 0, t 1);
-      old = side-bounds (c .old) (p .old) (sideWithin-true (c .old) (w .old)) (t 0);
-      golden = side-bounds (c .golden) (p .golden) (sideWithin-true (c .golden) (w .golden)) (t 1);
-      nets = leb-true _ _ (t 2);
-      weights = leb-true _ _ (t 3);
-    }
+module _ (c : Counts) (p : Places) where
+  -- the test by how many places there are
+  pub held-holds : held c p
+      ≡ holds c (length (p .old .gates)) (length (p .old .outputs)) (length (p .golden .gates)) (length (p .golden .outputs))
+      (length (p .nets)) (length (p .weights))
+  unfolding held sideHeld holds
+  held-holds = refl
 
--- ---- what stands in places: how many bytes it takes
+  pub held-bounds : held c p ≡ true → JobBounds c p
+  held-bounds h =
+      let t = holds-facts c _ _ _ _ _ _ (sym held-holds ∙ h) in
+      record {
+        old = record { gates = t .0; outputs = t .1 };
+        golden = record { gates = t .2; outputs = t .3 };
+        nets = t .4;
+        weights = t .5;
+      }
 
-module _ (c : SideCounts) (p : SidePlaces) where
-  five-from : FiveEach (netlistFrom c p .gates)
-  unfolding netlistFrom gatesFrom
-  five-from = five-each (c .gates) (λ i. getD (p .kinds) i 0) (λ i. getD (p .firsts) i 0) (λ i. getD (p .seconds) i 0)
+  pub held-true : JobBounds c p → held c p ≡ true
+  held-true b =
+      held-holds
+      ∙ holds-true c _ _ _ _ _ _ (b .old .gates, b .old .outputs, b .golden .gates, b .golden .outputs, b .nets, b .weights)
 
-  length-gatesFrom : length (netlistFrom c p .gates) ≡ c .gates
-  unfolding netlistFrom gatesFrom
-  length-gatesFrom = length-tabulate (c .gates) _
+-- ---- what stands in places: how many parts, how many bytes
 
-  module _ (h : c .outputs ≤ length (p .outputs)) where
-    length-outputsFrom : length (netlistFrom c p .outputs) ≡ c .outputs
-    unfolding netlistFrom
-    length-outputsFrom = length-take-le (c .outputs) (p .outputs) h
+module _ (k : ℕ) (gs : List GateStruct) where
+  five-in : FiveEach (gatesIn k gs)
+  unfolding gatesIn
+  five-in = five-each (take k gs)
 
-    pub length-sideFrom : (t : ℕ) → length (sideBytes t (netlistFrom c p)) ≡ 6 + 5 * c .gates + 2 * c .outputs
-    length-sideFrom t = length-sideBytes t (netlistFrom c p) five-from ∙ rw (length-gatesFrom, length-outputsFrom)
+  module _ (h : k ≤ length gs) where
+    pub length-gatesIn : length (gatesIn k gs) ≡ k
+    unfolding gatesIn
+    length-gatesIn = length-map (take k gs) gateFrom ∙ length-take-le k gs h
 
-length-candidatesFrom : (k : ℕ) (ns ws : List ℕ) → length (candidatesFrom k ns ws) ≡ k
+    pub length-gatesBytes : length (gatesBytes k gs) ≡ 5 * k
+    unfolding gatesBytes
+    length-gatesBytes = five-in ∙ rw length-gatesIn
+
+pub length-candidatesFrom : (k : ℕ) (ns ws : List ℕ) → length (candidatesFrom k ns ws) ≡ k
 unfolding candidatesFrom
 length-candidatesFrom k ns ws = length-tabulate k _
 
-pub length-jobFrom : {c : Counts} {p : Places} → JobBounds c p
-    → length (jobBytes (jobFrom c p))
-    ≡ 20 + 5 * c .old .gates + 2 * c .old .outputs + 5 * c .golden .gates + 2 * c .golden .outputs + 4 * c .candidates
-unfolding jobFrom
-length-jobFrom {c} {p} b =
-    length-jobBytes (jobFrom c p) (five-from (c .old) (p .old)) (five-from (c .golden) (p .golden))
-    ∙ rw (
-      length-gatesFrom (c .old) (p .old),
-      length-outputsFrom (c .old) (p .old) (b .old .outputs),
-      length-gatesFrom (c .golden) (p .golden),
-      length-outputsFrom (c .golden) (p .golden) (b .golden .outputs),
-      length-candidatesFrom (c .candidates) (p .nets) (p .weights),
-    )
+module _ {c : Counts} {p : Places} (b : JobBounds c p) where
+  -- places that hold the counts have parts of these counts
+  pub countsOf-jobFrom : countsOf (jobFrom c p) ≡ c
+  unfolding countsOf sideCountsOf jobFrom netlistFrom
+  countsOf-jobFrom =
+      rw (
+        length-gatesIn (c .old .gates) (p .old .gates) (b .old .gates),
+        length-take-le (c .old .outputs) (p .old .outputs) (b .old .outputs),
+        length-gatesIn (c .golden .gates) (p .golden .gates) (b .golden .gates),
+        length-take-le (c .golden .outputs) (p .golden .outputs) (b .golden .outputs),
+        length-candidatesFrom (c .candidates) (p .nets) (p .weights),
+      )
 
--- ---- .. and put step by step: the positions a, b, .. are those that the code has
+  pub length-jobFrom : length (jobBytes (jobFrom c p)) ≡ jobSize c
+  unfolding jobFrom netlistFrom
+  length-jobFrom =
+      length-jobBytes (jobFrom c p) (five-in (c .old .gates) (p .old .gates)) (five-in (c .golden .gates) (p .golden .gates))
+      ∙ ap jobSize countsOf-jobFrom
 
-pub side-placed : (d : List ℕ) {d₁ d₂ d₃ d₄ : List ℕ} (at t : ℕ) {a b e : ℕ} {c : SideCounts} {p : SidePlaces}
-    → SideBounds c p → at + 6 + 5 * c .gates + 2 * c .outputs ≤ length d
-    → a ≡ at + 3 → b ≡ a + 5 * c .gates → e ≡ b + 3
-    → d₁ ≡ placed d at (t ∷ bytePair (5 * c .gates)) → d₂ ≡ placed d₁ a (flat gateBytes (netlistFrom c p .gates))
-    → d₃ ≡ placed d₂ b ((t + 1) ∷ bytePair (2 * c .outputs)) → d₄ ≡ placed d₃ e (flat bytePair (netlistFrom c p .outputs))
-    → d₄ ≡ placed d at (sideBytes t (netlistFrom c p))
-unfolding sideBytes
-side-placed d {d₂} at t {a} {b} {e} {c} {p} o h pa pb pe e₁ e₂ e₃ e₄ =
-    let xs : List ℕ = flat gateBytes (netlistFrom c p .gates) in
-    let ys : List ℕ = flat bytePair (netlistFrom c p .outputs) in
-    let m : length xs ≡ 5 * c .gates = five-from c p ∙ rw length-gatesFrom in
-    let n : length ys ≡ 2 * c .outputs =
-    length-outputs (netlistFrom c p .outputs) ∙ rw (length-outputsFrom c p (o .outputs)) in
-    let m′ = length-field t xs in
-    let n′ = length-field (suc t) ys in
-    let f : d₂ ≡ placed d at (field t xs) = field-placed d at t (5 * c .gates) xs a (sym m) pa (omega arith) e₁ e₂ in
-    let k : length d₂ ≡ length d = ap length f ∙ length-placed d at (field t xs) (omega arith) in
-    placed-then d at (field t xs) (field (suc t) ys) b (omega arith) (omega arith) f
-    (field-placed d₂ b (suc t) (2 * c .outputs) ys e (sym n) pe (omega arith) (rw add-one at e₃) e₄)
-
-pub job-placed : (d : List ℕ) {d₁ d₂ d₃ d₄ d₅ d₆ : List ℕ} {a b e r : ℕ} {c : Counts} {p : Places}
-    → JobBounds c p → r + 4 * c .candidates ≤ length d
-    → a ≡ 3 → b ≡ 11 + 5 * c .old .gates + 2 * c .old .outputs
-    → e ≡ b + 6 + 5 * c .golden .gates + 2 * c .golden .outputs → r ≡ e + 3
-    → d₁ ≡ placed d 0 (1 ∷ bytePair 2) → d₂ ≡ placed d₁ a (c .inputs ∷ c .targets ∷ [])
-    → d₃ ≡ placed d₂ 5 (sideBytes 2 (netlistFrom (c .old) (p .old)))
-    → d₄ ≡ placed d₃ b (sideBytes 4 (netlistFrom (c .golden) (p .golden)))
-    → d₅ ≡ placed d₄ e (6 ∷ bytePair (4 * c .candidates))
-    → d₆ ≡ placed d₅ r (flat candidateBytes (candidatesFrom (c .candidates) (p .nets) (p .weights)))
-    → d₆ ≡ placed d 0 (jobBytes (jobFrom c p))
-unfolding jobFrom
-job-placed d {d₄} {a} {b} {e} {r} {c} {p} o h pa pb pe pr e₁ e₂ e₃ e₄ e₅ e₆ =
-    let f1 : List ℕ = field 1 (c .inputs ∷ c .targets ∷ []) in
-    let s2 : List ℕ = sideBytes 2 (netlistFrom (c .old) (p .old)) in
-    let s4 : List ℕ = sideBytes 4 (netlistFrom (c .golden) (p .golden)) in
-    let cs : List ℕ = flat candidateBytes (candidatesFrom (c .candidates) (p .nets) (p .weights)) in
-    let n1 : length f1 ≡ 5 = length-field 1 (c .inputs ∷ c .targets ∷ []) in
-    let n2 = length-sideFrom (c .old) (p .old) (o .old .outputs) 2 in
-    let n4 = length-sideFrom (c .golden) (p .golden) (o .golden .outputs) 4 in
-    let nc : length cs ≡ 4 * c .candidates = length-candidates _ ∙ rw length-candidatesFrom in
-    let n6 = length-field 6 cs in
-    let n12 = length-append f1 s2 in
-    let n14 = length-append (f1 ++ s2) s4 in
-    let w : d₄ ≡ placed d 0 (f1 ++ s2 ++ s4) =
-    placed-then d 0 (f1 ++ s2) s4 b (omega arith) (omega arith)
-    (placed-then d 0 f1 s2 5 (omega arith) (omega arith)
-    (field-placed d 0 1 2 (c .inputs ∷ c .targets ∷ []) a refl pa (omega arith) e₁ e₂) e₃)
-    e₄ in
-    let k : length d₄ ≡ length d = ap length w ∙ length-placed d 0 (f1 ++ s2 ++ s4) (omega arith) in
-    placed-then d 0 (f1 ++ s2 ++ s4) (field 6 cs) e (omega arith) (omega arith) w
-    (field-placed d₄ e 6 (4 * c .candidates) cs r (sym nc) pr (omega arith) e₅ e₆)
-    ∙ ap (placed d 0) (sym (jobBytes-sides (jobFrom c p)))
+  pub jobFrom-short : Within c → length (jobBytes (jobFrom c p)) ≤ longestJob
+  jobFrom-short w = omega (arith, length-jobFrom)

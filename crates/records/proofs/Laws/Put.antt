@@ -1,19 +1,24 @@
--- Laws of put_field: whether a field fits, what is put where it does, and a list placed in a part of another. Assumes nothing.
-use Prim.Native.Nat.{ℕ, _+_, _-_, _*_, _≤_, _<_}
+-- Laws of what is put: a list placed in a part of another, a field where it fits, and a job's fields around its gates' bytes.
+-- Assumes nothing.
+use Prim.Native.Nat.{ℕ, suc, _+_, _-_, _*_, _≤_, _<_}
 use mathlib.Core.Path.{_≡_, refl, sym, _∙_, ap}
 use mathlib.Core.List.{List, [], _∷_, _++_, append-assoc}
 use mathlib.Core.Bool.{true, false, cond}
-use native.Mathlib.Nat.{zero-add, one-mul}
+use native.Mathlib.Nat.{zero-add}
+use native.Mathlib.Numerals.{add-one}
 use native.Mathlib.Omega.{arith}
 use borrow.Author.Tests.{le-leb, lt-leb, lt-ltb, le-ltb}
 use lib.Dec.{leb}
-use lib.ListN.{length, getD, take, drop, length-drop, take-append-drop}
-use lib.Seq.{drop-drop, drop-append-le, length-take-le, take-length}
-use Rattle.records.specs.Bytes.{placed, headSize, field, bytePair}
-use Rattle.records.specs.Service.{fieldFits}
-use Rattle.records.specs.Inner.{byteColumn}
-use Rattle.records.proofs.Laws.Bytes.{and-both, and-false-left, and-false-right, tabulate-ext}
-use Rattle.records.proofs.Laws.Job.{tabulate-getD, field-placed, length-field}
+use lib.ListN.{length, take, drop, length-append, length-drop, take-append-drop}
+use lib.Seq.{drop-drop, drop-append-le, length-take-le}
+use Rattle.records.specs.Bytes.{flat, placed, headSize, field, bytePair}
+use Rattle.records.specs.Job.{candidateBytes, jobBytes}
+use Rattle.records.specs.Service.{Places, netlistFrom, candidatesFrom, jobFrom, fieldFits}
+use Rattle.records.specs.Inner.{Within, startsOf, gatesBytes, SidePut, SideDone, JobPut, JobDone, GatesPut}
+use Rattle.records.specs.declared.job.SideCounts.{SideCounts}
+use Rattle.records.specs.declared.job.Counts.{Counts}
+use Rattle.records.proofs.Laws.Bytes.{and-both, and-false-left, and-false-right, length-placed, drop-placed, drop-placed-behind, placed-same}
+use Rattle.records.proofs.Laws.Job.{JobBounds, placed-then, field-placed, take-placed-front, length-field, length-outputs, length-candidates, length-gatesBytes, length-candidatesFrom, length-jobFrom}
 
 -- ---- a part
 
@@ -31,14 +36,6 @@ part-placed d a k xs h l =
     ∙ ap (λ (r : List ℕ). xs ++ drop (length xs) r) (take-append-drop k m)
     ∙ ap (λ (r : List ℕ). xs ++ r) (drop-drop (length xs) a d) in
     ap (λ (r : List ℕ). take a d ++ r) e ∙ sym (append-assoc (take a d) xs (drop (a + length xs) d))
-
--- the bytes of a list as records of one byte
-pub column-all : (xs : List ℕ) → byteColumn xs 1 (length xs) ≡ xs
-unfolding byteColumn
-column-all xs =
-    tabulate-ext (length xs) (λ i. getD xs (1 * i) 0) (λ i. getD xs i 0) (λ i h. ap (λ (k : ℕ). getD xs k 0) (one-mul i))
-    ∙ tabulate-getD xs (length xs) (omega arith)
-    ∙ take-length xs
 
 -- ---- whether a field fits
 
@@ -67,12 +64,12 @@ module _ (d : List ℕ) (at : ℕ) (xs : List ℕ) where
   -- the head put, and the bytes at the start of what stands behind it
   pub field-put : (t a : ℕ) (d₁ : List ℕ) {p : List ℕ} → at + 3 + length xs ≤ length d → length xs < 65536
       → length d₁ ≡ length d → a ≡ at + 3 → d₁ ≡ placed d at (t ∷ bytePair (length xs))
-      → p ≡ placed (take (length d₁ - a) (drop a d₁)) 0 (byteColumn xs 1 (length xs))
+      → p ≡ placed (take (length d₁ - a) (drop a d₁)) 0 xs
       → FieldPut t (a + length xs) (take a d₁ ++ (p ++ drop (length d₁ - a) (drop a d₁)))
   field-put t a d₁ {p} h l n q e f =
       let k : ℕ = length d₁ - a in
       let g : take a d₁ ++ (p ++ drop k (drop a d₁)) ≡ placed d₁ a xs =
-      ap (λ (r : List ℕ). take a d₁ ++ (r ++ drop k (drop a d₁))) (f ∙ ap (placed (take k (drop a d₁)) 0) (column-all xs))
+      ap (λ (r : List ℕ). take a d₁ ++ (r ++ drop k (drop a d₁))) f
       ∙ part-placed d₁ a k xs (omega arith) (omega arith) in
       let b : fieldFits d at xs ≡ true = put-field-fits h l in
       (rw b (omega arith), rw b (field-placed d at t (length xs) xs a refl q h e g))
@@ -84,3 +81,116 @@ module _ (d : List ℕ) (at : ℕ) (xs : List ℕ) where
       let e : fieldFits d at xs ≡ true = put-field-fits h l in
       let f : r ≡ at + 3 + length xs = rw e at (w .0) in
       (omega (arith, length-field t xs), rw e at (w .1))
+
+-- ---- a job's fields around its gates' bytes, which stand in the buffer d already
+
+-- the steps of put_side; the positions a, b, r are those that the code has
+pub side-done : (d : List ℕ) {d₁ d₂ d₃ : List ℕ} (at t : ℕ) {a b r : ℕ} {c : SideCounts} (os : List ℕ)
+    → SidePut (length d) at t c (length os)
+    → a ≡ at + 3 → b ≡ a + 5 * c .gates + 3 → r ≡ b + 2 * c .outputs
+    → d₁ ≡ placed d at (t ∷ bytePair (5 * c .gates))
+    → d₂ ≡ placed d₁ (a + 5 * c .gates) ((t + 1) ∷ bytePair (2 * c .outputs))
+    → d₃ ≡ placed d₂ b (flat bytePair (take (c .outputs) os))
+    → SideDone d at t c os r d₃
+unfolding bytePair
+side-done d at t {a} {b} {c} os h pa pb pr e₁ e₂ e₃ =
+    let ys : List ℕ = flat bytePair (take (c .outputs) os) in
+    let m : 2 * c .outputs ≡ length ys = sym (length-outputs _ ∙ rw (length-take-le (c .outputs) os (h .held))) in
+    let k = ap length e₁ ∙ length-placed d at (t ∷ bytePair (5 * c .gates)) (omega arith) in
+    record {
+      end = omega arith;
+      bytes =
+          rw (← e₁, ← pa)
+          (field-placed _ (a + 5 * c .gates) (suc t) (2 * c .outputs) ys b m pb (omega arith) (rw add-one at e₂) e₃);
+    }
+
+pub job-bounds : {n : ℕ} {z : List ℕ} {c : Counts} (p : Places)
+    → JobPut n c (length (p .old .outputs)) (length (p .golden .outputs)) (length (p .nets)) (length (p .weights))
+    → GatesPut c (p .old .gates) (p .golden .gates) z → JobBounds c p
+job-bounds p j g =
+    record {
+      old = record { gates = g .held .0; outputs = j .old };
+      golden = record { gates = g .held .1; outputs = j .golden };
+      nets = j .nets;
+      weights = j .weights;
+    }
+
+length-sides : (t : ℕ) (fs gs ys : List ℕ)
+    → length (fs ++ field t gs ++ field (suc t) ys) ≡ length fs + 6 + length gs + length ys
+length-sides t fs gs ys = simp (length-append, length-field) (omega arith)
+
+module _ (d : List ℕ) where
+  -- a head and the field of the outputs around a netlist's gates, behind the fields fs: n is the gates' length
+  side-around : {d₀ d₁ : List ℕ} (fs : List ℕ) (at t n : ℕ) (gs ys : List ℕ)
+      → d₀ ≡ placed d 0 fs → at ≡ length fs → n ≡ length gs → at + 6 + n + length ys ≤ length d
+      → take n (drop (at + 3) d) ≡ gs
+      → d₁ ≡ placed (placed d₀ at (t ∷ bytePair n)) (at + 3 + n) (field (suc t) ys)
+      → d₁ ≡ placed d 0 (fs ++ field t gs ++ field (suc t) ys)
+  unfolding bytePair
+  side-around {d₀} fs at t n gs ys e q m h g f =
+      let a : List ℕ = placed d₀ at (t ∷ bytePair n) in
+      let k : length d₀ ≡ length d = ap length e ∙ length-placed d 0 fs (omega arith) in
+      let b : drop (at + 3) a ≡ drop (at + 3) d =
+      drop-placed d₀ at (t ∷ bytePair n) (omega arith)
+      ∙ ap (drop (at + 3)) e
+      ∙ drop-placed-behind d 0 fs (omega arith) (at + 3) (omega arith) in
+      let s : take (length gs) (drop (at + 3) a) ≡ gs =
+      ap (λ (i : ℕ). take i (drop (at + 3) a)) (sym m) ∙ ap (take n) b ∙ g in
+      let w : a ≡ placed d 0 (fs ++ field t gs) =
+      placed-then d 0 fs (field t gs) at (omega arith) (omega (arith, length-field t gs)) e
+      (field-placed d₀ at t n gs (at + 3) m refl (omega arith) refl (sym (placed-same a (at + 3) gs s))) in
+      let l = length-append fs (field t gs) in
+      placed-then d 0 (fs ++ field t gs) (field (suc t) ys) (at + 3 + n)
+      (omega (arith, length-field t gs)) (omega (arith, length-field (suc t) ys)) w f
+
+  -- the steps of put_rest; the positions a, b, e, r are those that the code has
+  pub job-done : {d₁ d₂ d₃ d₄ d₅ d₆ : List ℕ} {a b e r n : ℕ} {c : Counts} {p : Places}
+      → JobBounds c p → Within c → GatesPut c (p .old .gates) (p .golden .gates) d → 4188 ≤ length d
+      → a ≡ 3 → r ≡ e + 3 → n ≡ r + 4 * c .candidates
+      → d₁ ≡ placed d 0 (1 ∷ bytePair 2) → d₂ ≡ placed d₁ a (c .inputs ∷ c .targets ∷ [])
+      → SideDone d₂ 5 2 (c .old) (p .old .outputs) b d₃
+      → SideDone d₃ b 4 (c .golden) (p .golden .outputs) e d₄
+      → d₅ ≡ placed d₄ e (6 ∷ bytePair (4 * c .candidates))
+      → d₆ ≡ placed d₅ r (flat candidateBytes (candidatesFrom (c .candidates) (p .nets) (p .weights)))
+      → JobDone c p n d₆
+  unfolding jobBytes jobFrom netlistFrom gatesBytes startsOf
+  job-done {d₃} {d₄} {d₆} {a} {b} {e} {r} {n} {c} {p} o w g h pa pr pn e₁ e₂ e₃ e₄ e₅ e₆ =
+      let f : List ℕ = field 1 (c .inputs ∷ c .targets ∷ []) in
+      let gs : List ℕ = gatesBytes (c .old .gates) (p .old .gates) in
+      let hs : List ℕ = gatesBytes (c .golden .gates) (p .golden .gates) in
+      let xs : List ℕ = flat bytePair (take (c .old .outputs) (p .old .outputs)) in
+      let ys : List ℕ = flat bytePair (take (c .golden .outputs) (p .golden .outputs)) in
+      let cs : List ℕ = flat candidateBytes (candidatesFrom (c .candidates) (p .nets) (p .weights)) in
+      let nf : length f ≡ 5 = length-field 1 (c .inputs ∷ c .targets ∷ []) in
+      let ng : length gs ≡ 5 * c .old .gates = length-gatesBytes _ _ (o .old .gates) in
+      let nh : length hs ≡ 5 * c .golden .gates = length-gatesBytes _ _ (o .golden .gates) in
+      let nx : length xs ≡ 2 * c .old .outputs = length-outputs _ ∙ rw (length-take-le _ _ (o .old .outputs)) in
+      let ny : length ys ≡ 2 * c .golden .outputs = length-outputs _ ∙ rw (length-take-le _ _ (o .golden .outputs)) in
+      let nc : length cs ≡ 4 * c .candidates = length-candidates _ ∙ rw length-candidatesFrom in
+      let s : List ℕ = f ++ field 2 gs ++ field 3 xs in
+      let z : List ℕ = s ++ field 4 hs ++ field 5 ys in
+      let ns = length-sides 2 f gs xs in
+      let nz = length-sides 4 s hs ys in
+      let n6 = length-field 6 cs in
+      let lb = e₃ .end in
+      let le = e₄ .end in
+      let st : b + 3 ≡ startsOf c .golden = omega arith in
+      let w₃ : d₃ ≡ placed d 0 s =
+      side-around f 5 2 (5 * c .old .gates) gs xs
+      (field-placed d 0 1 2 (c .inputs ∷ c .targets ∷ []) a refl pa (omega arith) e₁ e₂)
+      (sym nf) (sym ng) (omega arith) (g .old) (e₃ .bytes) in
+      let w₄ : d₄ ≡ placed d 0 z =
+      side-around s b 4 (5 * c .golden .gates) hs ys w₃ (omega arith) (sym nh) (omega arith)
+      (ap (λ (k : ℕ). take (5 * c .golden .gates) (drop k d)) st ∙ g .golden) (e₄ .bytes) in
+      let k : length d₄ ≡ length d = ap length w₄ ∙ length-placed d 0 z (omega arith) in
+      let w₆ : d₆ ≡ placed d 0 (jobBytes (jobFrom c p)) =
+      placed-then d 0 z (field 6 cs) e (omega arith) (omega arith) w₄
+      (field-placed d₄ e 6 (4 * c .candidates) cs r (sym nc) pr (omega arith) e₅ e₆) in
+      let m : n ≡ length (jobBytes (jobFrom c p)) = omega (arith, length-jobFrom o) in
+      record {
+        len = m;
+        bytes =
+            ap (λ (i : ℕ). take i d₆) m
+            ∙ ap (take (length (jobBytes (jobFrom c p)))) w₆
+            ∙ take-placed-front d (jobBytes (jobFrom c p));
+      }

@@ -14,8 +14,9 @@ use Rattle.records.specs.Bytes.{upFrom, tabulate, flat, bytePair, word, 
 use Rattle.records.specs.Gate.{Gate, gateOf}
 use Rattle.records.specs.Job.{Candidate, Job, gateAt, gatesOf, netsOf, candidateAt, candidatesOf, netlistOf, jobWhole, jobOf, gateBytes, candidateBytes, jobBytes}
 use Rattle.records.specs.Refusal.{firstFailing, jobTests, partsRefusal, jobRefusal}
-use Rattle.records.specs.Service.{Places, gatesFrom, netlistFrom, jobFrom}
+use Rattle.records.specs.Service.{Places, gateFrom, structOf, slotOf, gatesIn, netlistFrom, jobFrom}
 use Rattle.records.specs.Claims.{Below}
+use Rattle.records.specs.declared.gate.Gate.{Gate as GateStruct}
 use Rattle.records.specs.declared.job.Counts.{Counts}
 use Rattle.records.proofs.Laws.Bytes.{and-left, and-right, row-at, tabulate-ext}
 use Rattle.records.proofs.Laws.Field.{word-drop, fits-whole, length-body}
@@ -32,9 +33,9 @@ abbrev pub All : {A : Type 0} → (A → Type 0) → List A → Type 0
 All P [] = Unit {0}
 All P (x ∷ xs) = P x × All P xs
 
-all-map : {A : Type 0} (P : A → Type 0) (f : ℕ → A) → ((i : ℕ) → P (f i)) → (is : List ℕ) → All P (map f is)
+all-map : {A B : Type 0} (P : A → Type 0) (f : B → A) → ((x : B) → P (f x)) → (xs : List B) → All P (map f xs)
 all-map P f h [] = tt
-all-map P f h (i ∷ is) = (h i, all-map P f h is)
+all-map P f h (x ∷ xs) = (h x, all-map P f h xs)
 
 pub all-tabulate : {A : Type 0} (P : A → Type 0) (f : ℕ → A) → ((i : ℕ) → P (f i)) → (n : ℕ) → All P (tabulate n f)
 unfolding tabulate
@@ -358,15 +359,30 @@ pub jobRefusal-jobBytes : (j : Job) → TwoEach j → jobRefusal (jobBytes j) �
 unfolding jobRefusal jobTests partsRefusal firstFailing
 jobRefusal-jobBytes j w = let e = read-write j w in rw (e .0, e .1)
 
+-- ---- gate structs
+
+pub structOf-gateFrom : (g : GateStruct) → structOf (gateFrom g) ≡ g
+unfolding structOf gateFrom gateOf slotOf
+structOf-gateFrom g = refl
+
+pub gateFrom-structOf : (g : Gate) → Two g → gateFrom (structOf g) ≡ g
+unfolding structOf gateFrom slotOf
+gateFrom-structOf g t = sym (two-slots g t)
+
+pub gates-structs : (gs : List Gate) → All Two gs → map gateFrom (map structOf gs) ≡ gs
+gates-structs [] w = refl
+gates-structs (g ∷ gs) w = rw (gateFrom-structOf g (w .0), gates-structs gs (w .1))
+
 -- ---- parts from places
 
+two-gatesIn : (k : ℕ) (gs : List GateStruct) → All Two (gatesIn k gs)
+unfolding gatesIn gateFrom gateOf
+two-gatesIn k gs = all-map Two gateFrom (λ g. refl) (take k gs)
+
 pub two-jobFrom : (c : Counts) (p : Places) → TwoEach (jobFrom c p)
-unfolding jobFrom netlistFrom gatesFrom gateOf
+unfolding jobFrom netlistFrom
 two-jobFrom c p =
-    record {
-      old = all-tabulate Two _ (λ i. refl) (c .old .gates);
-      golden = all-tabulate Two _ (λ i. refl) (c .golden .gates);
-    }
+    record { old = two-gatesIn (c .old .gates) (p .old .gates); golden = two-gatesIn (c .golden .gates) (p .golden .gates) }
 
 pub written-refusal : (c : Counts) (p : Places) → jobRefusal (jobBytes (jobFrom c p)) ≡ partsRefusal (jobFrom c p)
 written-refusal c p = jobRefusal-jobBytes (jobFrom c p) (two-jobFrom c p)

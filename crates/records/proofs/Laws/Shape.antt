@@ -1,5 +1,5 @@
 -- Laws of a whole job's bytes: its six fields, its counts, and where each field's bytes stand. Assumes nothing.
-use Prim.Native.Nat.{ℕ, zero, suc, _+_, _-_, _*_, _/_, _%_, _≤_, _<_}
+use Prim.Native.Nat.{ℕ, suc, _+_, _-_, _*_, _/_, _%_, _≤_, _<_}
 use mathlib.Core.Path.{_≡_, refl, sym, _∙_, ap}
 use mathlib.Core.Bool.{Bool, true, false, true≢false, cond, _&&_}
 use mathlib.Core.List.{List, [], _∷_, map}
@@ -19,7 +19,6 @@ use Rattle.records.specs.declared.field.Walk.{Walk}
 use Rattle.records.specs.declared.job.Shape.the-variants as Shape
 use Rattle.records.specs.declared.job.Checked.the-variants.{Accepted, Refused}
 use Rattle.records.specs.declared.job.Counts.{Counts}
-use Rattle.records.specs.declared.job.SideCounts.{SideCounts}
 use Rattle.records.specs.declared.job.Starts.{Starts}
 use Rattle.records.proofs.Laws.Bytes.{row-at, and-both, false-of, all-ext, length-tabulate}
 use Rattle.records.proofs.Laws.Counts.{LengthsGood, lengthsGood-true, passes, fails}

@@ -1,4 +1,4 @@
--- `records_c::records_read` meets its contract by that of `records::read`; a refusal returns before the row is set.
+-- `records_c::records_read` meets its contract by that of `records::read_columns`; a refusal returns before the row is set.
 -- Assumes nothing.
 use Prim.Native.Nat.{ℕ}
 use mathlib.Core.Path.{_≡_, ap}
@@ -19,8 +19,8 @@ left : (r q : ReadReply) (row : List ℕ) → r ≡ q → r .number ≡ 0 → ro
 unfolding rowAfter
 left r q row e n = rw (← e, n)
 
-read-requires : tie.Need-read-requires
-read-requires c κs = search needs
+read-columns-requires : tie.Need-read-columns-requires
+read-columns-requires c κs = search needs
 
 same-length : tie.Need-same-length
 same-length c = search needs
@@ -54,7 +54,7 @@ same-length-10 c = search needs
 
 returns : tie.Need-returns
 returns c =
-    let e = c .before .before .before .before .before .before .before .before .before .before .before .before .before .before .before .before .before .before .before .before .before .before .read .ensures in
+    let e = c .before .before .before .before .before .before .before .before .before .before .before .before .before .before .before .before .before .before .before .before .before .before .read-columns .ensures in
     (ap (λ (r : ReadReply). r .number) (e .0), (kept _ _ _ (e .0) (c .if1 .taken), e .1))
 
 same-length-11 : tie.Need-same-length-11
@@ -90,14 +90,14 @@ same-length-20 c = search needs
 returns-2 : tie.Need-returns-2
 unfolding rowOf
 returns-2 c =
-    let e = c .before .before .before .before .before .before .before .before .before .before .before .before .before .before .before .before .before .before .before .before .before .before .before .before .read .ensures in
+    let e = c .before .before .before .before .before .before .before .before .before .before .before .before .before .before .before .before .before .before .before .before .before .before .before .before .read-columns .ensures in
     (ap (λ (r : ReadReply). r .number) (e .0), (left _ _ _ (e .0) (c .before .before .if1 .left), e .1))
 
 pub records-read-spec : {M : Type 1} → statement M
 records-read-spec =
     tie.close
     (tie.spec
-    read-requires
+    read-columns-requires
     same-length
     same-length-2
     same-length-3

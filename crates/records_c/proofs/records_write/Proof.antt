@@ -1,4 +1,4 @@
--- `records_c::records_write` meets its contract: it passes on what `records::write` ensures of the counts in the row.
+-- `records_c::records_write` meets its contract: it passes on what `records::write_columns` ensures of the counts in the row.
 -- Assumes nothing.
 use mathlib.Core.Path.{ap}
 use Rattle.records.specs.declared.writing.WriteReply.{WriteReply}
@@ -28,8 +28,8 @@ element-copy-out-t34 c = search needs
 element-copy-out-t38 : tie.Need-element-copy-out-t38
 element-copy-out-t38 c = search needs
 
-write-requires : tie.Need-write-requires
-write-requires c κs = search needs
+write-columns-requires : tie.Need-write-columns-requires
+write-columns-requires c κs = search needs
 
 cast-number : tie.Need-cast-number
 cast-number c = search needs
@@ -40,7 +40,7 @@ same-length c = search needs
 returns : tie.Need-returns
 unfolding rowCounts
 returns c =
-    let e = c .before .before .before .write .ensures in
+    let e = c .before .before .before .write-columns .ensures in
     (ap (λ (r : WriteReply). r .len) (e .0), (ap (λ (r : WriteReply). r .number) (e .0), e .1))
 
 pub records-write-spec : {M : Type 1} → statement M
@@ -54,7 +54,7 @@ records-write-spec =
     element-copy-out-t31
     element-copy-out-t34
     element-copy-out-t38
-    write-requires
+    write-columns-requires
     cast-number
     same-length
     returns)

@@ -10,44 +10,44 @@ use Rattle.engine.proofs.Laws.Read.{read-job}
 use Rattle.engine.proofs.comparing.compare.Statement.{statement}
 use Rattle.engine.proofs.comparing.compare.Tie as tie
 
-slice-aggregate-read : tie.Need-slice-aggregate-read
-slice-aggregate-read c = search needs
+slice-aggregate-read-columns : tie.Need-slice-aggregate-read-columns
+slice-aggregate-read-columns c = search needs
 
-slice-aggregate-read-2 : tie.Need-slice-aggregate-read-2
-slice-aggregate-read-2 c = search needs
+slice-aggregate-read-columns-2 : tie.Need-slice-aggregate-read-columns-2
+slice-aggregate-read-columns-2 c = search needs
 
-slice-aggregate-read-3 : tie.Need-slice-aggregate-read-3
-slice-aggregate-read-3 c = search needs
+slice-aggregate-read-columns-3 : tie.Need-slice-aggregate-read-columns-3
+slice-aggregate-read-columns-3 c = search needs
 
-slice-aggregate-read-4 : tie.Need-slice-aggregate-read-4
-slice-aggregate-read-4 c = search needs
+slice-aggregate-read-columns-4 : tie.Need-slice-aggregate-read-columns-4
+slice-aggregate-read-columns-4 c = search needs
 
-slice-aggregate-read-5 : tie.Need-slice-aggregate-read-5
-slice-aggregate-read-5 c = search needs
+slice-aggregate-read-columns-5 : tie.Need-slice-aggregate-read-columns-5
+slice-aggregate-read-columns-5 c = search needs
 
-slice-aggregate-read-6 : tie.Need-slice-aggregate-read-6
-slice-aggregate-read-6 c = search needs
+slice-aggregate-read-columns-6 : tie.Need-slice-aggregate-read-columns-6
+slice-aggregate-read-columns-6 c = search needs
 
-slice-aggregate-read-7 : tie.Need-slice-aggregate-read-7
-slice-aggregate-read-7 c = search needs
+slice-aggregate-read-columns-7 : tie.Need-slice-aggregate-read-columns-7
+slice-aggregate-read-columns-7 c = search needs
 
-slice-aggregate-read-8 : tie.Need-slice-aggregate-read-8
-slice-aggregate-read-8 c = search needs
+slice-aggregate-read-columns-8 : tie.Need-slice-aggregate-read-columns-8
+slice-aggregate-read-columns-8 c = search needs
 
-slice-aggregate-read-9 : tie.Need-slice-aggregate-read-9
-slice-aggregate-read-9 c = search needs
+slice-aggregate-read-columns-9 : tie.Need-slice-aggregate-read-columns-9
+slice-aggregate-read-columns-9 c = search needs
 
-slice-aggregate-read-10 : tie.Need-slice-aggregate-read-10
-slice-aggregate-read-10 c = search needs
+slice-aggregate-read-columns-10 : tie.Need-slice-aggregate-read-columns-10
+slice-aggregate-read-columns-10 c = search needs
 
-read-requires : tie.Need-read-requires
-read-requires c κs = tt
+read-columns-requires : tie.Need-read-columns-requires
+read-columns-requires c κs = tt
 
 returns : tie.Need-returns
 returns c =
     let u = c .before .before .before .before .before .before .before .before .before .before .before .before in
     let a = u .before .before .before .before .before .before .before .before .before .before .before .before .before .args in
-    declined-job (now (a .job)) (u .read .ensures .0) (now (a .sheet)) (c .if1 .taken)
+    declined-job (now (a .job)) (u .read-columns .ensures .0) (now (a .sheet)) (c .if1 .taken)
 
 slice-aggregate-compare-sheet : tie.Need-slice-aggregate-compare-sheet
 slice-aggregate-compare-sheet c = search needs
@@ -84,7 +84,7 @@ compare-sheet-requires c κs =
     let v = c .before .before .before .before .before .before .before .before .before .before in
     let u = v .before .before .before .before .before .before .before .before .before .before .before .before in
     let a = u .before .before .before .before .before .before .before .before .before .before .before .before .before .args in
-    let e = u .read .ensures in
+    let e = u .read-columns .ensures in
     let z = accepted-job (now (a .job)) (e .0) (v .if1 .left) in
     let r = read-job lentPlaces (now (a .job)) (e .0) (e .1) z in
     (r .ready, r .weights)
@@ -94,7 +94,7 @@ returns-2 c =
     let v = c .before .before .before .before .before .before .before .before .before .before .before in
     let u = v .before .before .before .before .before .before .before .before .before .before .before .before in
     let a = u .before .before .before .before .before .before .before .before .before .before .before .before .before .args in
-    let e = u .read .ensures in
+    let e = u .read-columns .ensures in
     let y = v .if1 .left in
     let z = accepted-job (now (a .job)) (e .0) y in
     let r = read-job lentPlaces (now (a .job)) (e .0) (e .1) z in
@@ -106,17 +106,17 @@ pub compare-spec : {M : Type 1} → statement M
 compare-spec =
     tie.close
     (tie.spec
-    slice-aggregate-read
-    slice-aggregate-read-2
-    slice-aggregate-read-3
-    slice-aggregate-read-4
-    slice-aggregate-read-5
-    slice-aggregate-read-6
-    slice-aggregate-read-7
-    slice-aggregate-read-8
-    slice-aggregate-read-9
-    slice-aggregate-read-10
-    read-requires
+    slice-aggregate-read-columns
+    slice-aggregate-read-columns-2
+    slice-aggregate-read-columns-3
+    slice-aggregate-read-columns-4
+    slice-aggregate-read-columns-5
+    slice-aggregate-read-columns-6
+    slice-aggregate-read-columns-7
+    slice-aggregate-read-columns-8
+    slice-aggregate-read-columns-9
+    slice-aggregate-read-columns-10
+    read-columns-requires
     returns
     slice-aggregate-compare-sheet
     slice-aggregate-compare-sheet-2

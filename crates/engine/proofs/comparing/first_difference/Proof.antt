@@ -6,7 +6,7 @@ use mathlib.Core.Logic.{⊎-elim}
 use mathlib.Core.List.{[]}
 use native.Mathlib.Omega.{arith}
 use lib.ListN.{take}
-use Rattle.records.specs.Service.{sidePlaces}
+use Rattle.records.specs.Columns.{sideColumns}
 use Rattle.engine.specs.Walk.{circuits}
 use Rattle.engine.specs.Driven.{differing}
 use Rattle.engine.proofs.Laws.Compare.{Scanning, scanning-none, scanning-next, scanned-least, differs-least, equal-passed}
@@ -19,8 +19,8 @@ Inv-loop kinds firsts seconds outputs golden-kinds golden-firsts golden-seconds 
     b =
     Scanning
     (differing
-    (circuits counts (sidePlaces kinds firsts seconds outputs)
-    (sidePlaces golden-kinds golden-firsts golden-seconds golden-outputs) [])
+    (circuits counts (sideColumns kinds firsts seconds outputs)
+    (sideColumns golden-kinds golden-firsts golden-seconds golden-outputs) [])
     (take (support .len) (support .nets)) table)
     (2 ^ counts .inputs) size b
 

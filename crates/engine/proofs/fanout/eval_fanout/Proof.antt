@@ -8,7 +8,7 @@ use borrow.Author.Needs.{needs}
 use native.Mathlib.Omega.{arith}
 use denote.Ref.{now}
 use lib.ListN.{getD}
-use Rattle.records.specs.Service.{gatesFrom}
+use Rattle.records.specs.Columns.{gatesFrom}
 use Rattle.records.proofs.Laws.Gate.{slots-le}
 use Rattle.engine.proofs.Laws.EvalWords.{gates-here, evaluating-all}
 use Rattle.engine.proofs.Laws.Fanout.{Reevaluating, again-none, again-gate, again-kept}

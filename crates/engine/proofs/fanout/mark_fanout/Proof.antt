@@ -4,7 +4,7 @@ use Prim.Native.Nat.{_+_, _-_, _≤_}
 use native.Mathlib.Omega.{arith}
 use denote.Ref.{now}
 use lib.ListN.{getD}
-use Rattle.records.specs.Service.{gatesFrom}
+use Rattle.records.specs.Columns.{gatesFrom}
 use Rattle.records.proofs.Laws.Gate.{slots-le}
 use Rattle.engine.proofs.Laws.EvalWords.{gates-both}
 use Rattle.engine.proofs.Laws.Fanout.{Marking, marking-none, marking-next, marking-all}

@@ -13,15 +13,15 @@ use Rattle.engine.proofs.fitting.fit.Statement.{statement}
 use Rattle.engine.proofs.fitting.fit.Tie as tie
 
 -- the places of read, and what is known there
-abbrev start : tie.After-read → tie.Start
+abbrev start : tie.After-read-columns → tie.Start
 start t =
     t .before .before .before .before .before .before .before .before .before .before .before .before .before .before .before
 
-long : (t : tie.After-read) → longestFit ≤ length (now (start t .args .reply))
+long : (t : tie.After-read-columns) → longestFit ≤ length (now (start t .args .reply))
 long t = t .before .before .before .before .before .before .before .before .before .before .before .if1 .left
 
-number : (t : tie.After-read) → jobRefusal (now (start t .args .job)) ≡ t .read .result .number
-number t = read-number (now (start t .args .job)) (t .read .ensures .0)
+number : (t : tie.After-read-columns) → jobRefusal (now (start t .args .job)) ≡ t .read-columns .result .number
+number t = read-number (now (start t .args .job)) (t .read-columns .ensures .0)
 
 returns : tie.Need-returns
 returns c =
@@ -29,38 +29,38 @@ returns c =
     fit-gives (now (a .reply)) (now (a .job)) (now (a .sheet))
     (fit-short (now (a .reply)) (now (a .job)) (now (a .sheet)) (c .if1 .taken))
 
-slice-aggregate-read : tie.Need-slice-aggregate-read
-slice-aggregate-read c = search needs
+slice-aggregate-read-columns : tie.Need-slice-aggregate-read-columns
+slice-aggregate-read-columns c = search needs
 
-slice-aggregate-read-2 : tie.Need-slice-aggregate-read-2
-slice-aggregate-read-2 c = search needs
+slice-aggregate-read-columns-2 : tie.Need-slice-aggregate-read-columns-2
+slice-aggregate-read-columns-2 c = search needs
 
-slice-aggregate-read-3 : tie.Need-slice-aggregate-read-3
-slice-aggregate-read-3 c = search needs
+slice-aggregate-read-columns-3 : tie.Need-slice-aggregate-read-columns-3
+slice-aggregate-read-columns-3 c = search needs
 
-slice-aggregate-read-4 : tie.Need-slice-aggregate-read-4
-slice-aggregate-read-4 c = search needs
+slice-aggregate-read-columns-4 : tie.Need-slice-aggregate-read-columns-4
+slice-aggregate-read-columns-4 c = search needs
 
-slice-aggregate-read-5 : tie.Need-slice-aggregate-read-5
-slice-aggregate-read-5 c = search needs
+slice-aggregate-read-columns-5 : tie.Need-slice-aggregate-read-columns-5
+slice-aggregate-read-columns-5 c = search needs
 
-slice-aggregate-read-6 : tie.Need-slice-aggregate-read-6
-slice-aggregate-read-6 c = search needs
+slice-aggregate-read-columns-6 : tie.Need-slice-aggregate-read-columns-6
+slice-aggregate-read-columns-6 c = search needs
 
-slice-aggregate-read-7 : tie.Need-slice-aggregate-read-7
-slice-aggregate-read-7 c = search needs
+slice-aggregate-read-columns-7 : tie.Need-slice-aggregate-read-columns-7
+slice-aggregate-read-columns-7 c = search needs
 
-slice-aggregate-read-8 : tie.Need-slice-aggregate-read-8
-slice-aggregate-read-8 c = search needs
+slice-aggregate-read-columns-8 : tie.Need-slice-aggregate-read-columns-8
+slice-aggregate-read-columns-8 c = search needs
 
-slice-aggregate-read-9 : tie.Need-slice-aggregate-read-9
-slice-aggregate-read-9 c = search needs
+slice-aggregate-read-columns-9 : tie.Need-slice-aggregate-read-columns-9
+slice-aggregate-read-columns-9 c = search needs
 
-slice-aggregate-read-10 : tie.Need-slice-aggregate-read-10
-slice-aggregate-read-10 c = search needs
+slice-aggregate-read-columns-10 : tie.Need-slice-aggregate-read-columns-10
+slice-aggregate-read-columns-10 c = search needs
 
-read-requires : tie.Need-read-requires
-read-requires c κs = search needs
+read-columns-requires : tie.Need-read-columns-requires
+read-columns-requires c κs = search needs
 
 returns-2 : tie.Need-returns-2
 returns-2 c =
@@ -68,7 +68,7 @@ returns-2 c =
     c .before .before .before .before .before .before .before .before .before .before .before .before in
     let a = start t .args in
     fit-gives (now (a .reply)) (now (a .job)) (now (a .sheet))
-    (fit-refused (now (a .reply)) (now (a .job)) (now (a .sheet)) (long t) (t .read .result .number) (number t) (c .if2 .taken))
+    (fit-refused (now (a .reply)) (now (a .job)) (now (a .sheet)) (long t) (t .read-columns .result .number) (number t) (c .if2 .taken))
 
 slice-aggregate-fit-sheet : tie.Need-slice-aggregate-fit-sheet
 slice-aggregate-fit-sheet c = search needs
@@ -94,7 +94,7 @@ fit-sheet-requires c κs =
     let t =
     e .before .before .before .before .before .before .before .before .before .before .before .before in
     let job = now (start t .args .job) in
-    let q = read-job lentPlaces job (t .read .ensures .0) (t .read .ensures .1) (lent-refusal job ∙ number t ∙ e .if2 .left) in
+    let q = read-job lentPlaces job (t .read-columns .ensures .0) (t .read-columns .ensures .1) (lent-refusal job ∙ number t ∙ e .if2 .left) in
     (fit-ready q, long t)
 
 same-length : tie.Need-same-length
@@ -108,7 +108,7 @@ returns-3 c =
     let a = start t .args in
     let job = now (a .job) in
     let n = number t ∙ e .if2 .left in
-    let q = read-job lentPlaces job (t .read .ensures .0) (t .read .ensures .1) (lent-refusal job ∙ n) in
+    let q = read-job lentPlaces job (t .read-columns .ensures .0) (t .read-columns .ensures .1) (lent-refusal job ∙ n) in
     fit-gives (now (a .reply)) job (now (a .sheet))
     (fit-accepted (now (a .reply)) job (now (a .sheet)) (long t) n _ _ _ _ _ (q .job) (c .before .before .fit-sheet .ensures))
 
@@ -117,17 +117,17 @@ fit-spec =
     tie.close
     (tie.spec
     returns
-    slice-aggregate-read
-    slice-aggregate-read-2
-    slice-aggregate-read-3
-    slice-aggregate-read-4
-    slice-aggregate-read-5
-    slice-aggregate-read-6
-    slice-aggregate-read-7
-    slice-aggregate-read-8
-    slice-aggregate-read-9
-    slice-aggregate-read-10
-    read-requires
+    slice-aggregate-read-columns
+    slice-aggregate-read-columns-2
+    slice-aggregate-read-columns-3
+    slice-aggregate-read-columns-4
+    slice-aggregate-read-columns-5
+    slice-aggregate-read-columns-6
+    slice-aggregate-read-columns-7
+    slice-aggregate-read-columns-8
+    slice-aggregate-read-columns-9
+    slice-aggregate-read-columns-10
+    read-columns-requires
     returns-2
     slice-aggregate-fit-sheet
     slice-aggregate-fit-sheet-2

@@ -12,7 +12,7 @@ use denote.Ref.{now}
 use lib.ListN.{length, getD, drop, set, length-set}
 use Rattle.records.specs.Gate.{Gate, gateOf}
 use Rattle.records.specs.Refusal.{gateGood, gatesGood}
-use Rattle.records.specs.Service.{gatesFrom}
+use Rattle.records.specs.Columns.{gatesFrom}
 use Rattle.records.proofs.Laws.Bytes.{length-tabulate}
 use Rattle.records.proofs.Laws.Gate.{slots-le}
 use Rattle.engine.specs.Ternary.{ternaryTable, entry}

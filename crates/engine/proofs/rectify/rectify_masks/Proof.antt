@@ -3,7 +3,7 @@
 use Prim.Native.Nat.{_-_, _*_, _%_, _^_, _≤_}
 use mathlib.Core.Path.{_≡_}
 use native.Mathlib.Omega.{arith}
-use Rattle.records.specs.Service.{gatesFrom}
+use Rattle.records.specs.Columns.{gatesFrom}
 use Rattle.engine.proofs.Laws.Rectify.{Masking, vector-count, masking-none, masking-next, masking-all}
 use Rattle.engine.proofs.rectify.rectify_masks.Statement.{statement}
 use Rattle.engine.proofs.rectify.rectify_masks.Tie as tie

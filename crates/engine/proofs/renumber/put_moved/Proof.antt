@@ -7,7 +7,7 @@ use mathlib.Core.Logic.{⊎-elim}
 use native.Mathlib.Omega.{arith}
 use denote.Ref.{now}
 use lib.ListN.{getD}
-use Rattle.records.specs.Service.{gatesFrom}
+use Rattle.records.specs.Columns.{gatesFrom}
 use Rattle.records.proofs.Laws.Gate.{slots-le}
 use Rattle.engine.specs.Building.{GatesPut}
 use Rattle.engine.specs.Fitting.{marked, movedFrom}

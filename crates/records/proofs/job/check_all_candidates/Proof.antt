@@ -13,7 +13,7 @@ use Rattle.records.specs.Job.{gatesOf, candidatesOf}
 use Rattle.records.specs.Refusal.{gatesGood}
 use Rattle.records.specs.Inner.{checkOf, unmarkedAscending}
 use Rattle.records.proofs.Laws.Bytes.{and-left}
-use Rattle.records.proofs.Laws.Shape.{Stands, stands, part, netlists-checks, length-gatesOf, laid-old, candidates-check}
+use Rattle.records.proofs.Laws.Shape.{Stands, stands, part, netlists-checks, laid-old, candidates-check}
 use borrow.Author.Needs.{needs}
 use Rattle.records.proofs.job.check_all_candidates.Statement.{statement}
 use Rattle.records.proofs.job.check_all_candidates.Tie as tie

@@ -1,7 +1,7 @@
 -- `records::job::check_all_outputs` meets its contract: the parts handed on are the two output fields. Assumes nothing.
 use native.Mathlib.Omega.{arith}
 use mathlib.Core.Path.{_≡_, sym, _∙_, ap}
-use mathlib.Core.Bool.{Bool, true, false, _&&_}
+use mathlib.Core.Bool.{Bool, false, _&&_}
 use mathlib.Core.List.{List}
 use Prim.Native.Nat.{ℕ, _+_, _-_}
 use lib.Dec.{eqb, ltb}
@@ -9,9 +9,7 @@ use borrow.Author.Tests.{eq-eqb, ne-eqb}
 use denote.Ref.{now}
 use Rattle.records.specs.Bytes.{nth, all}
 use Rattle.records.specs.Job.{netsOf}
-use Rattle.records.specs.Refusal.{outputsGood}
-use Rattle.records.specs.Inner.{checkOf, Laid, Within, SideWithin}
-use Rattle.records.proofs.Laws.Bytes.{and-both}
+use Rattle.records.specs.Inner.{checkOf}
 use Rattle.records.proofs.Laws.Counts.{passed, failed-of, passes, fails}
 use Rattle.records.proofs.Laws.Shape.{Stands, stands, part, outputs-checks}
 use borrow.Author.Needs.{needs}

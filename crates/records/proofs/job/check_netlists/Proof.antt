@@ -1,17 +1,16 @@
 -- `records::job::check_netlists` meets its contract: the parts handed on are the two gate fields. Assumes nothing.
 use native.Mathlib.Omega.{arith}
 use mathlib.Core.Path.{_≡_, sym, _∙_, ap}
-use mathlib.Core.Bool.{Bool, true, false, _&&_}
+use mathlib.Core.Bool.{Bool, _&&_}
 use mathlib.Core.List.{List}
 use Prim.Native.Nat.{ℕ, _+_, _-_}
-use lib.ListN.{length}
 use denote.Ref.{now}
 use Rattle.records.specs.Bytes.{nth}
-use Rattle.records.specs.Job.{gatesOf, jobOf}
-use Rattle.records.specs.Refusal.{gatesGood, netlistsGood}
-use Rattle.records.specs.Inner.{checkOf, Laid, Within, SideWithin}
+use Rattle.records.specs.Job.{gatesOf}
+use Rattle.records.specs.Refusal.{gatesGood}
+use Rattle.records.specs.Inner.{checkOf}
 use Rattle.records.proofs.Laws.Bytes.{and-false-left}
-use Rattle.records.proofs.Laws.Counts.{passed, failed-of, passes, fails}
+use Rattle.records.proofs.Laws.Counts.{failed-of, passes, fails}
 use Rattle.records.proofs.Laws.Shape.{Stands, stands, part, netlists-checks}
 use borrow.Author.Needs.{needs}
 use Rattle.records.proofs.job.check_netlists.Statement.{statement}

@@ -1,6 +1,6 @@
 -- `records::job::shaped` meets its contract: the walk and the lengths say whether the job is whole. Assumes nothing.
 use native.Mathlib.Omega.{arith}
-use mathlib.Core.Path.{_≡_, sym, _∙_}
+use mathlib.Core.Path.{sym, _∙_}
 use denote.Ref.{now}
 use Rattle.records.specs.Inner.{shapeOf, lengthsGood}
 use Rattle.records.proofs.Laws.Counts.{lengthsGood-facts, passes}

@@ -1,5 +1,4 @@
 -- `records::job::starts_of` meets its contract: counts within their ranges keep every position small. Assumes nothing.
-use native.Mathlib.Omega.{arith}
 use mathlib.Core.Path.{refl}
 use Rattle.records.specs.Inner.{startsOf}
 use borrow.Author.Needs.{needs}

@@ -42,17 +42,17 @@ returns-4 c =
 put-head-requires : tie.Need-put-head-requires
 put-head-requires c κs = search needs
 
-sub-fill-bytes : tie.Need-sub-fill-bytes
-sub-fill-bytes c = search needs
+sub-copy : tie.Need-sub-copy
+sub-copy c = search needs
 
-part-fill-bytes-start : tie.Need-part-fill-bytes-start
-part-fill-bytes-start c = search needs
+part-copy-start : tie.Need-part-copy-start
+part-copy-start c = search needs
 
-part-fill-bytes-end : tie.Need-part-fill-bytes-end
-part-fill-bytes-end c = search needs
+part-copy-end : tie.Need-part-copy-end
+part-copy-end c = search needs
 
-fill-bytes-requires : tie.Need-fill-bytes-requires
-fill-bytes-requires c κs = search needs
+copy-requires : tie.Need-copy-requires
+copy-requires c κs = search needs
 
 add-result : tie.Need-add-result
 add-result c = search needs
@@ -65,7 +65,7 @@ returns-5 c =
     let h = c .before .before .before .before .before .before in
     let s = h .before .before .before .before .before .before .before .before in
     field-put (now (s .args .buf)) (s .args .at) (now (s .args .bytes)) (s .args .tag) (h .put-head .result) (h .put-head .last .0)
-    (omega arith) (omega arith) (omega arith) (h .put-head .ensures .0) (h .put-head .ensures .1) (c .before .before .fill-bytes .ensures)
+    (omega arith) (omega arith) (omega arith) (h .put-head .ensures .0) (h .put-head .ensures .1) (c .before .before .copy .ensures)
 
 pub put-field-spec : {M : Type 1} → statement M
 put-field-spec =
@@ -77,10 +77,10 @@ put-field-spec =
     returns-3
     returns-4
     put-head-requires
-    sub-fill-bytes
-    part-fill-bytes-start
-    part-fill-bytes-end
-    fill-bytes-requires
+    sub-copy
+    part-copy-start
+    part-copy-end
+    copy-requires
     add-result
     same-length
     returns-5)

@@ -1,13 +1,15 @@
--- `records::reading::refused` meets its contract by computation. Assumes nothing.
-use mathlib.Core.Path.{refl}
-use Rattle.records.specs.Service.{noCounts}
+-- `records::reading::refused` meets its contract: the counts are `no_counts`'s. Assumes nothing.
+use borrow.Author.Needs.{needs}
 use Rattle.records.specs.Inner.{refusedRead}
 use Rattle.records.proofs.reading.refused.Statement.{statement}
 use Rattle.records.proofs.reading.refused.Tie as tie
 
+no-counts-requires : tie.Need-no-counts-requires
+no-counts-requires c κs = search needs
+
 returns : tie.Need-returns
-unfolding refusedRead noCounts
-returns c = refl
+unfolding refusedRead
+returns c = rw (c .no-counts .ensures)
 
 pub refused-spec : {M : Type 1} → statement M
-refused-spec = tie.close (tie.spec returns)
+refused-spec = tie.close (tie.spec no-counts-requires returns)

@@ -1,0 +1,92 @@
+-- `records::columns::joined` meets its contract: after i turns the first i gates of the columns stand at the start.
+-- Assumes nothing.
+use Prim.Native.Nat.{ℕ, _-_, _≤_}
+use mathlib.Core.Path.{_≡_, refl}
+use mathlib.Core.List.{List}
+use native.Mathlib.Omega.{arith}
+use lib.ListN.{getD}
+use Rattle.records.specs.Inner.{noGate, noGates, structsFrom}
+use Rattle.records.specs.declared.gate.Gate.{Gate}
+use Rattle.records.proofs.Laws.Job.{Filled, filled-none, filled-next}
+use Rattle.records.proofs.Laws.Columns.{length-noGates}
+use Rattle.records.proofs.columns.joined.Statement.{statement}
+use Rattle.records.proofs.columns.joined.Tie as tie
+
+-- gate i of columns
+abbrev gate : List ℕ → List ℕ → List ℕ → ℕ → Gate
+gate kinds firsts seconds i = record { kind = getD kinds i 0; first = getD firsts i 0; second = getD seconds i 0 }
+
+abbrev Inv-loop : tie.InvT-loop
+Inv-loop kinds firsts seconds count gates₀ i₀ gates i = (i ≤ count) × Filled noGates gates i (gate kinds firsts seconds)
+
+abbrev μ-loop : tie.MeasureT-loop
+μ-loop kinds firsts seconds count gates₀ i₀ gates i = count - i
+
+loop-holds : tie.Need-loop-holds Inv-loop μ-loop
+unfolding noGates noGate
+loop-holds c =
+    let a = c .args in
+    (omega arith, filled-none noGates (gate (a .kinds .now) (a .firsts .now) (a .seconds .now)))
+
+shared-slice-read-t10 : tie.Need-shared-slice-read-t10 Inv-loop μ-loop
+shared-slice-read-t10 c = omega arith
+
+mul-t11 : tie.Need-mul-t11 Inv-loop μ-loop
+mul-t11 c = omega arith
+
+shared-slice-read-t13 : tie.Need-shared-slice-read-t13 Inv-loop μ-loop
+shared-slice-read-t13 c = omega arith
+
+mul-t14 : tie.Need-mul-t14 Inv-loop μ-loop
+mul-t14 c = omega arith
+
+shared-slice-read-t16 : tie.Need-shared-slice-read-t16 Inv-loop μ-loop
+shared-slice-read-t16 c = omega arith
+
+mul-gates : tie.Need-mul-gates Inv-loop μ-loop
+mul-gates c = omega arith
+
+array-set-from-gates : tie.Need-array-set-from-gates Inv-loop μ-loop
+array-set-from-gates c = omega arith
+
+add-i : tie.Need-add-i Inv-loop μ-loop
+add-i c = omega arith
+
+loop-less : tie.Need-loop-less Inv-loop μ-loop
+loop-less c = omega arith
+
+loop-again : tie.Need-loop-again Inv-loop μ-loop
+loop-again c =
+    let l = c .before .before .before .before .loop in
+    let a = c .before .before .before .before .before .args in (
+      omega arith,
+      filled-next noGates (gate (a .kinds .now) (a .firsts .now) (a .seconds .now)) (l .gates) (l .i) _
+          (omega (arith, length-noGates)) refl (l .inv .1),
+    )
+
+returns : tie.Need-returns Inv-loop μ-loop
+unfolding structsFrom
+returns c =
+    let a = c .before .before .args in
+    let l = c .before .loop in
+    let e : l .i ≡ a .count = omega arith in
+    rw e at (l .inv .1 .1)
+
+pub joined-spec : {M : Type 1} → statement M
+joined-spec =
+    tie.close
+    (tie.spec
+    Inv-loop
+    μ-loop
+    loop-holds
+    shared-slice-read-t10
+    mul-t11
+    shared-slice-read-t13
+    mul-t14
+    shared-slice-read-t16
+    mul-gates
+    array-set-from-gates
+    add-i
+    loop-less
+    loop-again
+    returns)

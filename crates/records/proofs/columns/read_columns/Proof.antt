@@ -1,0 +1,162 @@
+-- `records::columns::read_columns` meets its contract: past the checks of its columns it replies what read replies, and splits the
+-- gates that read leaves. Assumes nothing.
+use mathlib.Core.Path.{_≡_, sym, _∙_}
+use mathlib.Core.Bool.{true}
+use denote.Ref.{now}
+use Rattle.records.specs.Columns.{Columns, sideColumns, columns}
+use Rattle.records.proofs.Laws.Counts.{passes, fails}
+use Rattle.records.proofs.Laws.Columns.{sideHolds, small-old, small-golden, old-splits, golden-splits, read-columns-ends}
+use borrow.Author.Needs.{needs}
+use Rattle.records.proofs.columns.read_columns.Statement.{statement}
+use Rattle.records.proofs.columns.read_columns.Tie as tie
+
+-- the lent columns at entry
+abbrev lent : tie.Start → Columns
+lent c =
+    let a = c .args in
+    columns
+    (sideColumns (now (a .old-kinds)) (now (a .old-firsts)) (now (a .old-seconds)) (now (a .old-outputs)))
+    (sideColumns (now (a .golden-kinds)) (now (a .golden-firsts)) (now (a .golden-seconds)) (now (a .golden-outputs)))
+    (now (a .nets))
+    (now (a .weights))
+
+-- back from the first check to the start, and from the call of read_gates to the checks
+abbrev start : tie.After-check-columns → tie.Start
+start c = c .before .before .before .before .before .before .before .before .before .before .before .before
+
+abbrev first : tie.After-read-gates → tie.After-enum-told
+first c = c .before .before .before .before .before .before .before .before
+
+abbrev second : tie.After-read-gates → tie.After-enum-told3
+second c = c .before .before .before .before .before
+
+-- past the checks each netlist's columns hold the most gates
+old-holds : (c : tie.After-enum-told) → sideHolds (lent (start (c .before .before)) .old) 400 ≡ true
+old-holds c = passes _ (sym (c .before .before .check-columns .ensures) ∙ c .enum-told .given .1)
+
+golden-holds : (c : tie.After-enum-told3) → sideHolds (lent (start (c .before .before .before .before .before)) .golden) 400 ≡ true
+golden-holds c = passes _ (sym (c .before .before .check-columns2 .ensures) ∙ c .enum-told3 .given .1)
+
+check-columns-requires : tie.Need-check-columns-requires
+check-columns-requires c κs = search needs
+
+enum-told : tie.Need-enum-told
+enum-told c = search needs
+
+enum-told-2 : tie.Need-enum-told-2
+enum-told-2 c = search needs
+
+refused-requires : tie.Need-refused-requires
+refused-requires c κs = search needs
+
+returns : tie.Need-returns
+returns c =
+    let e = start (c .before .before .before) in
+    let f = fails _ (sym (c .before .before .before .check-columns .ensures) ∙ c .before .enum-told2 .given .1) in
+    let r = small-old (lent e) (now (e .args .job)) f in
+    (c .refused .ensures ∙ r .0, r .1)
+
+check-columns-requires-2 : tie.Need-check-columns-requires-2
+check-columns-requires-2 c κs = search needs
+
+enum-told-3 : tie.Need-enum-told-3
+enum-told-3 c = search needs
+
+enum-told-4 : tie.Need-enum-told-4
+enum-told-4 c = search needs
+
+refused-requires-2 : tie.Need-refused-requires-2
+refused-requires-2 c κs = search needs
+
+returns-2 : tie.Need-returns-2
+returns-2 c =
+    let e = start (c .before .before .before .before .before .before) in
+    let f = fails _ (sym (c .before .before .before .check-columns2 .ensures) ∙ c .before .enum-told4 .given .1) in
+    let r = small-golden (lent e) (now (e .args .job)) f in
+    (c .refused2 .ensures ∙ r .0, r .1)
+
+read-gates-requires : tie.Need-read-gates-requires
+read-gates-requires c κs = search needs
+
+split-requires : tie.Need-split-requires
+split-requires c κs =
+    let k = c .before .before .before .before .before .before .before .before .before .before .before .before .before .before .before .before in
+    let e = start (first k .before .before) in
+    let r = k .read-gates in
+    old-splits (lent e) (now (e .args .job)) (r .result) (r .ensures .0) (r .ensures .1) (old-holds (first k))
+
+split-requires-2 : tie.Need-split-requires-2
+split-requires-2 c κs =
+    let k = c .before .before .before .before .before .before .before .before .before .before .before .before .before .before .before .before .before .before .before .before .before .before .before .before .before .before .before in
+    let e = start (first k .before .before) in
+    let r = k .read-gates in
+    golden-splits (lent e) (now (e .args .job)) (r .result) (r .ensures .0) (r .ensures .1) (golden-holds (second k))
+
+same-length : tie.Need-same-length
+same-length c = search needs
+
+same-length-2 : tie.Need-same-length-2
+same-length-2 c = search needs
+
+same-length-3 : tie.Need-same-length-3
+same-length-3 c = search needs
+
+same-length-4 : tie.Need-same-length-4
+same-length-4 c = search needs
+
+same-length-5 : tie.Need-same-length-5
+same-length-5 c = search needs
+
+same-length-6 : tie.Need-same-length-6
+same-length-6 c = search needs
+
+same-length-7 : tie.Need-same-length-7
+same-length-7 c = search needs
+
+same-length-8 : tie.Need-same-length-8
+same-length-8 c = search needs
+
+same-length-9 : tie.Need-same-length-9
+same-length-9 c = search needs
+
+same-length-10 : tie.Need-same-length-10
+same-length-10 c = search needs
+
+returns-3 : tie.Need-returns-3
+returns-3 c =
+    let k = c .before .before .before .before .before .before .before .before .before .before .before .before .before .before .before .before .before .before .before .before .before .before .before .before .before .before .before .before .before .before .before .before .before .before in
+    let e = start (first k .before .before) in
+    let r = k .read-gates in
+    read-columns-ends (lent e) (now (e .args .job)) (r .result) (r .ensures .0) (r .ensures .1)
+    (old-holds (first k)) (golden-holds (second k))
+    (c .before .before .before .before .before .before .before .before .before .before .before .before .before .before .before .before .before .split .ensures)
+    (c .before .before .before .before .before .before .split2 .ensures)
+
+pub read-columns-spec : {M : Type 1} → statement M
+read-columns-spec =
+    tie.close
+    (tie.spec
+    check-columns-requires
+    enum-told
+    enum-told-2
+    refused-requires
+    returns
+    check-columns-requires-2
+    enum-told-3
+    enum-told-4
+    refused-requires-2
+    returns-2
+    read-gates-requires
+    split-requires
+    split-requires-2
+    same-length
+    same-length-2
+    same-length-3
+    same-length-4
+    same-length-5
+    same-length-6
+    same-length-7
+    same-length-8
+    same-length-9
+    same-length-10
+    returns-3)

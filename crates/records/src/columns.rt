@@ -1,0 +1,297 @@
+// Read and write for callers with plain parameters: a netlist's gates in three lists, the kinds, the first and the second operands.
+ghost use mathlib.Core.Path.{_≡_};
+ghost use lib.ListN.{length};
+ghost use Rattle.records.specs.Bytes.{placed};
+ghost use Rattle.records.specs.Service.{sidePlaces, places, readReply, readPlaces, writeReply, writtenBytes};
+ghost use Rattle.records.specs.Columns.{sideColumns, columns, columnsReply, columnsAfter, columnsWriteReply, columnsWritten};
+ghost use Rattle.records.specs.Inner.{checkOf, columnsHold, noGates, structsFrom, ColumnsHold, Split};
+use super::field::Check;
+use super::gate::Gate;
+use super::job::Counts;
+use super::job::check_counts;
+use super::reading::ReadReply;
+use super::reading::read;
+use super::reading::refused;
+use super::writing::WriteReply;
+use super::writing::write;
+
+// What read replies, and the gates of both netlists.
+pub struct GatesRead {
+    pub reply: ReadReply,
+    pub old: [Gate; 400],
+    pub golden: [Gate; 400],
+}
+
+// Read into gates of its own.
+fn read_gates(
+    job: &[u8],
+    old_outputs: &mut [u16],
+    golden_outputs: &mut [u16],
+    nets: &mut [u16],
+    weights: &mut [u16],
+) -> GatesRead
+    ensures reply { λ r. ⌜ r .reply ≡ readReply
+        (places
+        (sidePlaces noGates (now («old_outputs» .entry)))
+        (sidePlaces noGates (now («golden_outputs» .entry)))
+        (now (nets .entry)) (now (weights .entry)))
+        (now (job .entry)) ⌝ }
+    ensures lent { λ r. ⌜
+        places
+        (sidePlaces (r .old) (now («old_outputs» .exit)))
+        (sidePlaces (r .golden) (now («golden_outputs» .exit)))
+        (now (nets .exit)) (now (weights .exit))
+        ≡ readPlaces
+        (places
+        (sidePlaces noGates (now («old_outputs» .entry)))
+        (sidePlaces noGates (now («golden_outputs» .entry)))
+        (now (nets .entry)) (now (weights .entry)))
+        (now (job .entry)) ⌝ }
+{
+    let none = Gate {
+        kind: 0,
+        first: 0,
+        second: 0,
+    };
+    let mut old = [none; 400];
+    let mut golden = [none; 400];
+    let reply = read(
+        job,
+        &mut old,
+        old_outputs,
+        &mut golden,
+        golden_outputs,
+        nets,
+        weights,
+    );
+    GatesRead { reply, old, golden }
+}
+
+// Write from gates by value.
+fn write_gates(
+    counts: Counts,
+    old: [Gate; 400],
+    old_outputs: &[u16],
+    golden: [Gate; 400],
+    golden_outputs: &[u16],
+    nets: &[u16],
+    weights: &[u16],
+    buf: &mut [u8],
+) -> WriteReply
+    ensures reply { λ r. ⌜ r ≡ writeReply counts
+        (places
+        (sidePlaces old (now («old_outputs» .entry)))
+        (sidePlaces golden (now («golden_outputs» .entry)))
+        (now (nets .entry)) (now (weights .entry)))
+        (now (buf .entry)) ⌝ }
+    ensures lent { λ r. ⌜ now (buf .exit) ≡ writtenBytes counts
+        (places
+        (sidePlaces old (now («old_outputs» .entry)))
+        (sidePlaces golden (now («golden_outputs» .entry)))
+        (now (nets .entry)) (now (weights .entry)))
+        (now (buf .entry)) ⌝ }
+{
+    write(
+        counts,
+        &old,
+        old_outputs,
+        &golden,
+        golden_outputs,
+        nets,
+        weights,
+        buf,
+    )
+}
+
+// The first count gates into columns.
+fn split(
+    gates: [Gate; 400],
+    count: usize,
+    kinds: &mut [u8],
+    firsts: &mut [u16],
+    seconds: &mut [u16],
+)
+    requires { ⌜ ColumnsHold (length gates) count (length (now kinds)) (length (now firsts)) (length (now seconds)) ⌝ }
+    ensures { λ _. ⌜ Split gates count
+        (now (kinds .entry)) (now (firsts .entry)) (now (seconds .entry))
+        (now (kinds .exit)) (now (firsts .exit)) (now (seconds .exit)) ⌝ }
+{
+    let mut i = 0usize;
+    while i < count {
+        let gate = gates[i];
+        kinds[i] = gate.kind;
+        firsts[i] = gate.first;
+        seconds[i] = gate.second;
+        i += 1;
+    }
+}
+
+// The first count gates of columns.
+fn joined(kinds: &[u8], firsts: &[u16], seconds: &[u16], count: usize) -> [Gate; 400]
+    requires { ⌜ ColumnsHold 400 count (length (now kinds)) (length (now firsts)) (length (now seconds)) ⌝ }
+    ensures { λ r. ⌜ r ≡ placed noGates 0 (structsFrom count (now (kinds .entry)) (now (firsts .entry)) (now (seconds .entry))) ⌝ }
+{
+    let mut gates = [Gate {
+        kind: 0,
+        first: 0,
+        second: 0,
+    }; 400];
+    let mut i = 0usize;
+    while i < count {
+        gates[i] = Gate {
+            kind: kinds[i],
+            first: firsts[i],
+            second: seconds[i],
+        };
+        i += 1;
+    }
+    gates
+}
+
+// Whether so many places hold count gates.
+fn check_columns(count: usize, kinds: usize, firsts: usize, seconds: usize) -> Check
+    ensures { λ r. ⌜ r ≡ checkOf (columnsHold count kinds firsts seconds) ⌝ }
+{
+    if kinds < count {
+        return Check::Failed;
+    }
+    if firsts < count {
+        return Check::Failed;
+    }
+    if seconds < count {
+        return Check::Failed;
+    }
+    Check::Passed
+}
+
+// The service read, with a netlist's gates in columns. It takes read's time and one pass over the gates.
+pub fn read_columns(
+    job: &[u8],
+    old_kinds: &mut [u8],
+    old_firsts: &mut [u16],
+    old_seconds: &mut [u16],
+    old_outputs: &mut [u16],
+    golden_kinds: &mut [u8],
+    golden_firsts: &mut [u16],
+    golden_seconds: &mut [u16],
+    golden_outputs: &mut [u16],
+    nets: &mut [u16],
+    weights: &mut [u16],
+) -> ReadReply
+    ensures reply { λ r. ⌜ r ≡ columnsReply
+        (columns
+        (sideColumns (now («old_kinds» .entry)) (now («old_firsts» .entry)) (now («old_seconds» .entry)) (now («old_outputs» .entry)))
+        (sideColumns (now («golden_kinds» .entry)) (now («golden_firsts» .entry)) (now («golden_seconds» .entry)) (now («golden_outputs» .entry)))
+        (now (nets .entry)) (now (weights .entry)))
+        (now (job .entry)) ⌝ }
+    ensures lent { λ r. ⌜
+        columns
+        (sideColumns (now («old_kinds» .exit)) (now («old_firsts» .exit)) (now («old_seconds» .exit)) (now («old_outputs» .exit)))
+        (sideColumns (now («golden_kinds» .exit)) (now («golden_firsts» .exit)) (now («golden_seconds» .exit)) (now («golden_outputs» .exit)))
+        (now (nets .exit)) (now (weights .exit))
+        ≡ columnsAfter
+        (columns
+        (sideColumns (now («old_kinds» .entry)) (now («old_firsts» .entry)) (now («old_seconds» .entry)) (now («old_outputs» .entry)))
+        (sideColumns (now («golden_kinds» .entry)) (now («golden_firsts» .entry)) (now («golden_seconds» .entry)) (now («golden_outputs» .entry)))
+        (now (nets .entry)) (now (weights .entry)))
+        (now (job .entry)) ⌝ }
+{
+    let first = check_columns(400, old_kinds.len(), old_firsts.len(), old_seconds.len());
+    let Check::Passed = first else {
+        return refused(1);
+    };
+    let second = check_columns(
+        400,
+        golden_kinds.len(),
+        golden_firsts.len(),
+        golden_seconds.len(),
+    );
+    let Check::Passed = second else {
+        return refused(1);
+    };
+    let found = read_gates(job, old_outputs, golden_outputs, nets, weights);
+    let reply = found.reply;
+    let counts = reply.counts;
+    let old = counts.old;
+    let golden = counts.golden;
+    let gates = found.old;
+    split(gates, old.gates, old_kinds, old_firsts, old_seconds);
+    let gates = found.golden;
+    split(
+        gates,
+        golden.gates,
+        golden_kinds,
+        golden_firsts,
+        golden_seconds,
+    );
+    reply
+}
+
+// The service write, with a netlist's gates in columns. It takes one pass over the gates and write's time.
+pub fn write_columns(
+    counts: Counts,
+    old_kinds: &[u8],
+    old_firsts: &[u16],
+    old_seconds: &[u16],
+    old_outputs: &[u16],
+    golden_kinds: &[u8],
+    golden_firsts: &[u16],
+    golden_seconds: &[u16],
+    golden_outputs: &[u16],
+    nets: &[u16],
+    weights: &[u16],
+    buf: &mut [u8],
+) -> WriteReply
+    ensures reply { λ r. ⌜ r ≡ columnsWriteReply counts
+        (columns
+        (sideColumns (now («old_kinds» .entry)) (now («old_firsts» .entry)) (now («old_seconds» .entry)) (now («old_outputs» .entry)))
+        (sideColumns (now («golden_kinds» .entry)) (now («golden_firsts» .entry)) (now («golden_seconds» .entry)) (now («golden_outputs» .entry)))
+        (now (nets .entry)) (now (weights .entry)))
+        (now (buf .entry)) ⌝ }
+    ensures lent { λ r. ⌜ now (buf .exit) ≡ columnsWritten counts
+        (columns
+        (sideColumns (now («old_kinds» .entry)) (now («old_firsts» .entry)) (now («old_seconds» .entry)) (now («old_outputs» .entry)))
+        (sideColumns (now («golden_kinds» .entry)) (now («golden_firsts» .entry)) (now («golden_seconds» .entry)) (now («golden_outputs» .entry)))
+        (now (nets .entry)) (now (weights .entry)))
+        (now (buf .entry)) ⌝ }
+{
+    if buf.len() < 4188 {
+        return WriteReply { number: 1, len: 0 };
+    }
+    let first = check_counts(counts);
+    let Check::Passed = first else {
+        return WriteReply { number: 3, len: 0 };
+    };
+    let old = counts.old;
+    let second = check_columns(
+        old.gates,
+        old_kinds.len(),
+        old_firsts.len(),
+        old_seconds.len(),
+    );
+    let Check::Passed = second else {
+        return WriteReply { number: 3, len: 0 };
+    };
+    let golden = counts.golden;
+    let third = check_columns(
+        golden.gates,
+        golden_kinds.len(),
+        golden_firsts.len(),
+        golden_seconds.len(),
+    );
+    let Check::Passed = third else {
+        return WriteReply { number: 3, len: 0 };
+    };
+    let old_gates = joined(old_kinds, old_firsts, old_seconds, old.gates);
+    let golden_gates = joined(golden_kinds, golden_firsts, golden_seconds, golden.gates);
+    write_gates(
+        counts,
+        old_gates,
+        old_outputs,
+        golden_gates,
+        golden_outputs,
+        nets,
+        weights,
+        buf,
+    )
+}
