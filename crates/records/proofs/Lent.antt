@@ -1,7 +1,11 @@
 -- A local array that is lent to a callee as a slice and comes back, as steps of a walk: `Denote/Lend.antt`'s laws of elements in memory, for the one cell of the local (`Denote/ArrayMemory.antt`).
 -- v is the cell's machine value, κ the lifetime of the call, and what the array's type owns goes along with the cell.
---     lends, returned          the array xs becomes a `&κ mut [T]` and the lender's part;  with κ over and the last list zs, that part is the array zs again
---     shows, shown             the same of a `&κ [T]`: the array is xs again
+--     slice            the value of a slice that lies at b and o, under the ghost name γ
+--     Parts            what the lender of a `&κ [T]` keeps
+--     lends            the array xs becomes a `&κ mut [T]` and the lender's part
+--     returned         with κ over and the last list zs, the lender's part is the array zs again
+--     shows            the array xs becomes a `&κ [T]` and the lender's part
+--     shown            with κ over, the lender's part is the array xs again
 -- Assumes `Given`.
 use mathlib.Core.Path.{refl, sym, subst}
 use mathlib.Core.List.{List, [], _∷_}

@@ -1,13 +1,16 @@
 -- The two sides of a contract as entries of a walk's context, side by side: what a callee is handed and leaves, and what a function has at entry and at exit. So a walk that calls or ends has only to
 -- bring the entries into their order.
---     alls, parts      the tokens of n lifetimes;  what each of a list of parameters owns
+--     alls             the tokens of n lifetimes
+--     parts            what each of a list of parameters owns
 --     ends             what is said of the last value of each parameter that has one
+--     handed, left-by  what a callee is handed: `alls`, then `parts`; what it leaves: `alls`, then `ends`
 --     made             what parameters of plain data own is had for nothing
---     calls            the call rule (`Rules.antt`'s `calls-said`) for a callee whose clauses state facts: of the `requires`, that nothing gives it, and of the `ensures`, the fact φ of the result and the last values. The
---                      machine value u is the result's.        calls-giving     the same for a callee that says its result y, at y's machine value (`calls-for`)
---     starts           a walk from entry begins with such entries
---     passed, ending   a `Stay` for each parameter, by which a function has at exit what its contract says of last values, and no more;  and how its walk ends
+--     calls            `Rules.antt`'s `calls-said` for a callee whose clauses state facts: the `requires` is had for nothing, and of the `ensures` the walk learns the fact φ of the result and the last values
+--     calls-giving     `Rules.antt`'s `calls-for` for such a callee
+--     passed           a `Stay` for each parameter, by which a function has at exit what its contract says of last values, and no more
+--     Ends, ending     the postcondition of a walk of such a function; and how the walk ends
 --     meets            a function whose walk so ends meets its contract
+--     starts           a walk from entry begins with `alls`, then `parts`
 -- Assumes `Given`, and of a call that the table of calls is monotone under a frame.
 use Prim.Native.Nat.{ℕ, zero, suc}
 use mathlib.Core.List.{List, [], _∷_, _++_}
@@ -24,11 +27,11 @@ use sound.WpLaws.{FmC}
 use types.Kit.{Given, Item, ‵, raw, mean, ⋆, push, pop, ++⊢, ⊢++, Post, Goal, runs, lands, Seq, Step, step, cut, _$_, _∵_, !, qed, move, use0, use1, drop, join, suffices, done}
 use types.Run.{Opds}
 use denote.RattleType.{RattleType, Denots, Valss, owns, flat}
-use denote.Laws.{Is, Are, Ises, Spells, valss, Tellss, Makess, owns-make, shows}
+use denote.Laws.{Is, Are, Ises, Spells, valss, Tellss, Makess, owns-make}
 use denote.Lowered.{Lowered}
 use denote.Exit.{Exit, unchanged, leaves, Last, left}
 use denote.Signature.{Slot, Signature, typeAt, typesAt}
-use denote.Steps.{facts, heard}
+use denote.Steps.{heard}
 use denote.Triple.Clauses.{Clauses, Ended, Lasts, atExit, lasts, closing}
 use denote.Triple.End.{Kepts, Fins, lastsOf}
 use denote.Triple.Entry.{Args, Vals, Res, onEntry}
@@ -133,12 +136,11 @@ module _ {M : Type 1} {𝓤 : URA M} {H : Heap 𝓤} {A : Atoms 𝓤} {K : Type 
       → ((u : Val) (r : Result T (x .0 .0) .Denot) (ws : Lasts T (x .0 .0) (x .0 .3)) → φ r ws → Is (Result T (x .0 .0)) r (u ∷ []) → Seq K W (left-by 𝓤 H A T c x ws Γ) (lands C Λ E d u rest q))
       → Seq K W (handed 𝓤 H A T c x Γ) (runs C Λ E (seq (call f xs d) rest) q)
   calls t fm T c known x asks φ says os k =
-      turned W (handed 𝓤 H A T c x Γ) (raw (Callee 𝓤 H A T c .pre x) ∷ Γ) (asked 𝓤 H A T c x W Γ asks) $ calls-said t fm T c known x os (λ u r ws.
-      use1 W (raw (fact 𝓤 (φ r ws))) (says r ws) $ heard t (φ r ws) (λ e. move t (2 ∷ []) $
-      facts t (Result T (x .0 .0)) (Is (Result T (x .0 .0))) (shows 𝓤 H A (Result T (x .0 .0))) r (u ∷ []) (λ is. move t (1 ∷ []) $
+      turned W (handed 𝓤 H A T c x Γ) (raw (Callee 𝓤 H A T c .pre x) ∷ Γ) (asked 𝓤 H A T c x W Γ asks) $ calls-said t fm T c known x os (λ u r ws is.
+      use1 W (raw (fact 𝓤 (φ r ws))) (says r ws) $ heard t (φ r ws) (λ e. move t (2 ∷ []) $ drop t $ move t (1 ∷ []) $
       turned W (raw (toks 𝓤 A (T .signature .lifetimes) (x .0 .0) (x .0 .1)) ∷ ‵ (lasts T (x .0 .0) (x .0 .3) ws) ∷ Γ) (left-by 𝓤 H A T c x ws Γ)
       (both-in 𝓤 H A (alls (T .signature .lifetimes) (x .0 .0) (x .0 .1)) (ends (x .0 .0) (T .signature .params) (T .kept) (x .0 .3) ws) Γ (raw (toks 𝓤 A (T .signature .lifetimes) (x .0 .0) (x .0 .1))) (‵ (lasts T (x .0 .0) (x .0 .3) ws))
-      (alls-in 𝓤 H A (T .signature .lifetimes) (x .0 .0) (x .0 .1)) (ends-in 𝓤 H A (x .0 .0) (T .signature .params) (T .kept) (x .0 .3) ws)) $ k u r ws e is)))
+      (alls-in 𝓤 H A (T .signature .lifetimes) (x .0 .0) (x .0 .1)) (ends-in 𝓤 H A (x .0 .0) (T .signature .params) (T .kept) (x .0 .3) ws)) $ k u r ws e is))
 
   pub calls-giving : K → FmC 𝓤 H (W .laws) C → (T : Ended) (c : Clauses 𝓤 T) → Triple 𝓤 (C f) (Callee 𝓤 H A T c) → (x : Callee 𝓤 H A T c .Ghost) → ent 𝓤 (emp 𝓤) (c (x .0 .0) (x .0 .3) .requires (x .1))
       → (l : Lowered (Result T (x .0 .0))) (y : Result T (x .0 .0) .Denot) → Gives 𝓤 H A T c x y → Opds K W (raw (Callee 𝓤 H A T c .pre x) ∷ Γ) E xs (Callee 𝓤 H A T c .args x)

@@ -20,7 +20,7 @@ use contract.Monad.{Fun}
 use contract.Running.{givenOf, tables, tablesOf}
 use types.Kit.{Given, ‵, raw, _⊛_, _$_, _∵_, !, qed, by, move, keep, drop, use0, use1, use2, split, join, fsplit, fjoin, feqL, suffices, frame, done}
 use types.Tokens.{lft-new, lft-end}
-use types.Run.{look, init, stop, from, lit, addr, of-opd, and-then, no-more, assigns, land, returns, enter, alloc1, alloc0, params1, pass1, pass0, free0}
+use types.Run.{look, init, stop, from, lit, addr, of-opd, and-then, no-more, land, returns, enter, free0}
 use types.Part.{agg, rep}
 use sound.WpLaws.{FmC, fmOf, WpFn-mono}
 use denote.RattleType.{RattleType, owns, flat}
@@ -47,7 +47,9 @@ use Rattle.records.specs.declared.gate.Gate.{Gate}
 use Rattle.records.specs.declared.reading.ReadReply.{ReadReply}
 use Rattle.records.specs.declared.columns.GatesRead.{GatesRead}
 use Rattle.records.proofs.Lent.{slice, lends, returned}
-use Rattle.records.proofs.Rules.{calls-said, heard-both, says-both, no-requires, slice-typed, var, relends, freed}
+use Rattle.records.proofs.Locals.{arrives}
+use Rattle.records.proofs.Rules.{calls-said}
+use Rattle.records.proofs.Steps.{var, freed, heard-both, says-both, relends, lets, no-requires, slice-typed}
 use Rattle.records.proofs.gate.Gate as G
 use Rattle.records.proofs.gate.Gate.Laws as G′
 use Rattle.records.proofs.columns.GatesRead as T
@@ -159,18 +161,17 @@ module _ {M : Type 1} (𝓤 : URA M) (H : Heap 𝓤) (A : Atoms 𝓤) (W : Given
     walk are =
         let gates = array-lawful 𝓤 H A W G.the-row (LL.lawful G.the-type G′.the-laws 𝓤 H A W) 400 in
         qed W ((‵ (flft (κs .0) (qs .0)) ⊛ (‵ (flft (κs .1 .0) (qs .1 .0)) ⊛ raw more)) ∷ ‵ (owns (typesAt (read-gates.signature .params) κs) a vals) ∷ []) ∵ enter ! C Λ code.function (flat (typesAt (read-gates.signature .params) κs) vals) _ $
-        alloc1 ! (λ l₀. alloc1 ! (λ l₁. alloc1 ! (λ l₂. alloc1 ! (λ l₃. alloc1 ! (λ l₄. alloc1 ! (λ l₅. alloc1 ! (λ l₆. alloc1 ! (λ l₇. alloc1 ! (λ l₈. alloc1 ! (λ l₉. alloc1 ! (λ l₁₀. alloc1 ! (λ l₁₁. alloc1 ! (λ l₁₂. alloc1 ! (λ l₁₃. alloc1 ! (λ l₁₄. alloc1 ! (λ l₁₅. alloc1 ! (λ l₁₆. alloc1 ! (λ l₁₇. alloc1 ! (λ l₁₈. alloc1 ! (λ l₁₉. alloc1 ! (λ l₂₀. alloc1 ! (λ l₂₁. alloc1 ! (λ l₂₂. alloc1 ! (λ l₂₃. alloc0 ! $ params1 ! $
-        pass1 ! (init ! 44 refl (slice-typed (are .0 .0 .1 .0))) $ pass1 ! (init ! 42 refl (slice-typed (are .1 .0 .0 .1 .0))) $ pass1 ! (init ! 40 refl (slice-typed (are .1 .1 .0 .0 .1 .0))) $ pass1 ! (init ! 38 refl (slice-typed (are .1 .1 .1 .0 .0 .1 .0))) $ pass1 ! (init ! 36 refl (slice-typed (are .1 .1 .1 .1 .0 .0 .1 .0))) $ pass0 ! $
+        arrives ! (slice-typed (are .0 .0 .1 .0), (slice-typed (are .1 .0 .0 .1 .0), (slice-typed (are .1 .1 .0 .0 .1 .0), (slice-typed (are .1 .1 .1 .0 .0 .1 .0), (slice-typed (are .1 .1 .1 .1 .0 .0 .1 .0), tt))))) (λ bs. let l₇ = bs .1 .1 .1 .1 .1 .1 .1 .0 in let l₈ = bs .1 .1 .1 .1 .1 .1 .1 .1 .0 in
         -- [_23; …; _0; …; the tokens; what the parameters own]: the arrays are made, and the slices
-        assigns ! (agg ! (and-then ! (lit ! tt) (and-then ! (lit ! tt) (and-then ! (lit ! tt) (no-more !))))) (from ! (stop !)) (init ! 34 refl (LL.lawful G.the-type G′.the-laws 𝓤 H A W .typed noGate _ none-is .0)) $
+        lets ! 34 (agg ! (and-then ! (lit ! tt) (and-then ! (lit ! tt) (and-then ! (lit ! tt) (no-more !))))) refl (LL.lawful G.the-type G′.the-laws 𝓤 H A W .typed noGate _ none-is .0) $
         use0 W (‵ (Gates .own noGates (nones ∷ []))) none-owned $ facts ! Gates (Is Gates) (shows 𝓤 H A Gates) noGates (nones ∷ []) (λ none-is′.
-        assigns ! (rep ! 400 (var ! 34 refl)) (from ! (stop !)) (init ! 32 refl (gates .typed noGates _ none-is′ .0)) $
-        assigns ! (rep ! 400 (var ! 34 refl)) (from ! (stop !)) (init ! 30 refl (gates .typed noGates _ none-is′ .0)) $
-        assigns ! (addr ! (from ! (stop !))) (from ! (stop !)) (init ! 26 refl (tt, tt)) $
-        assigns ! (agg ! (and-then ! (var ! 26 refl) (and-then ! (lit ! tt) (no-more !)))) (from ! (stop !)) (init ! 24 refl (slice-typed (lit< tt))) $
+        lets ! 32 (rep ! 400 (var ! 34 refl)) refl (gates .typed noGates _ none-is′ .0) $
+        lets ! 30 (rep ! 400 (var ! 34 refl)) refl (gates .typed noGates _ none-is′ .0) $
+        lets ! 26 (addr ! (from ! (stop !))) refl (tt, tt) $
+        lets ! 24 (agg ! (and-then ! (var ! 26 refl) (and-then ! (lit ! tt) (no-more !)))) refl (slice-typed (lit< tt)) $
         relends ! 42 22 20 refl refl refl (tt, tt) refl refl refl (slice-typed (are .1 .0 .0 .1 .0)) $
-        assigns ! (addr ! (from ! (stop !))) (from ! (stop !)) (init ! 18 refl (tt, tt)) $
-        assigns ! (agg ! (and-then ! (var ! 18 refl) (and-then ! (lit ! tt) (no-more !)))) (from ! (stop !)) (init ! 16 refl (slice-typed (lit< tt))) $
+        lets ! 18 (addr ! (from ! (stop !))) refl (tt, tt) $
+        lets ! 16 (agg ! (and-then ! (var ! 18 refl) (and-then ! (lit ! tt) (no-more !)))) refl (slice-typed (lit< tt)) $
         relends ! 40 14 12 refl refl refl (tt, tt) refl refl refl (slice-typed (are .1 .1 .0 .0 .1 .0)) $
         relends ! 38 10 8 refl refl refl (tt, tt) refl refl refl (slice-typed (are .1 .1 .1 .0 .0 .1 .0)) $
         relends ! 36 6 4 refl refl refl (tt, tt) refl refl refl (slice-typed (are .1 .1 .1 .1 .0 .0 .1 .0)) $
@@ -181,24 +182,23 @@ module _ {M : Type 1} (𝓤 : URA M) (H : Heap 𝓤) (A : Atoms 𝓤) (W : Given
         -- [what the arguments own; old's lender's part; α; golden's; β; the locals but _7 and _8; the tokens]
         move ! (51 ∷ []) $ split ! $ move ! (1 ∷ []) $ split ! $ move ! (7 ∷ 1 ∷ []) $ join ! $ move ! (1 ∷ 0 ∷ []) $ join ! $ move ! (4 ∷ 0 ∷ []) $ join ! $ move ! (1 ∷ 0 ∷ []) $ join ! $
         use2 W (raw (Read 𝓤 H A mem run .pre (to-read (α ∷ []) (β ∷ []) l₇ l₈ γ δ))) (goes (α ∷ []) (β ∷ []) l₇ l₈ γ δ) $
-        calls-said ! fm read.ended (read.clauses 𝓤 H A mem run) known (to-read (α ∷ []) (β ∷ []) l₇ l₈ γ δ) (and-then ! (var ! 45 refl) (and-then ! (var ! 27 refl) (and-then ! (var ! 23 refl) (and-then ! (var ! 19 refl) (and-then ! (var ! 15 refl) (and-then ! (var ! 11 refl) (and-then ! (var ! 7 refl) (no-more !)))))))) (λ w r zs.
+        calls-said ! fm read.ended (read.clauses 𝓤 H A mem run) known (to-read (α ∷ []) (β ∷ []) l₇ l₈ γ δ) (and-then ! (var ! 45 refl) (and-then ! (var ! 27 refl) (and-then ! (var ! 23 refl) (and-then ! (var ! 19 refl) (and-then ! (var ! 15 refl) (and-then ! (var ! 11 refl) (and-then ! (var ! 7 refl) (no-more !)))))))) (λ w r zs is.
         heard-both ! (Replied r) (Filled (zs .1 .0) (zs .1 .1 .0) (zs .1 .1 .1 .0) (zs .1 .1 .1 .1 .0) (zs .1 .1 .1 .1 .1 .0) (zs .1 .1 .1 .1 .1 .1 .0)) (λ e f.
         fsplit ! $ drop ! $ fsplit ! $ fsplit ! $ move ! (1 ∷ []) $ drop ! $ move ! (1 ∷ []) $ fsplit ! $ fsplit ! $ move ! (1 ∷ []) $ feqL ! (λ l₁′. move ! (1 ∷ []) $ fsplit ! $ fsplit ! $ move ! (1 ∷ []) $ drop ! $
         move ! (1 ∷ []) $ fsplit ! $ fsplit ! $ move ! (1 ∷ []) $ feqL ! (λ l₂′. move ! (1 ∷ []) $ fsplit ! $ fsplit ! $ move ! (1 ∷ []) $ feqL ! (λ l₃′. move ! (1 ∷ []) $ fsplit ! $ fsplit ! $ move ! (1 ∷ []) $ feqL ! (λ l₄′.
         -- [the last lists of weights, …, nets, golden_outputs, golden, old_outputs, old; the tokens; what the result owns; the lenders' parts; the locals]: the arrays come back
         move ! (7 ∷ 8 ∷ []) $ use1 W (‵ (flft (κs .0) (qs .0)) ⊛ (‵ (flft (α ∷ []) fullShare) ⊛ (‵ (flft (κs .1 .0) (qs .1 .0)) ⊛ (‵ (flft (β ∷ []) fullShare) ⊛ raw more)))) (id⊢ 𝓤 _) $ split ! $ move ! (1 ∷ []) $ split ! $ lft-end ! tt $ move ! (0 ∷ 11 ∷ 10 ∷ []) $ returned ! tt G.the-row 400 l₇ 0 (α ∷ []) γ (zs .1 .0) (λ u. move ! (1 ∷ []) $ facts ! Gates (Is Gates) (shows 𝓤 H A Gates) (zs .1 .0) (u ∷ []) (λ old-is.
         move ! (1 ∷ []) $ split ! $ move ! (1 ∷ []) $ split ! $ lft-end ! tt $ move ! (0 ∷ 12 ∷ 10 ∷ []) $ returned ! tt G.the-row 400 l₈ 0 (β ∷ []) δ (zs .1 .1 .1 .0) (λ v. move ! (1 ∷ []) $ facts ! Gates (Is Gates) (shows 𝓤 H A Gates) (zs .1 .1 .1 .0) (v ∷ []) (λ golden-is.
-        move ! (5 ∷ []) $ facts ! R.the-row (Is R.the-row) (shows 𝓤 H A R.the-row) r (w ∷ []) (λ is. land ! (from ! (stop !)) (init ! 38 refl (LL.lawful R.the-type R′.the-laws 𝓤 H A W .typed r _ is .0)) $
+        move ! (5 ∷ []) $ drop ! $ land ! (from ! (stop !)) (init ! 38 refl (LL.lawful R.the-type R′.the-laws 𝓤 H A W .typed r _ is .0)) $
         -- [_8; …; _7; …; the last lists; the other locals]: the result is made
-        assigns ! (of-opd ! (var ! 3 refl)) (from ! (stop !)) (init ! 12 refl (gates .typed (zs .1 .0) _ old-is .0)) $
-        assigns ! (of-opd ! (var ! 0 refl)) (from ! (stop !)) (init ! 10 refl (gates .typed (zs .1 .1 .1 .0) _ golden-is .0)) $
-        assigns ! (agg ! (and-then ! (var ! 38 refl) (and-then ! (var ! 12 refl) (and-then ! (var ! 10 refl) (no-more !))))) (from ! (stop !))
-        (init ! 54 refl (LL.lawful T.the-type T′.the-laws 𝓤 H A W .typed (found r (zs .1 .0) (zs .1 .1 .1 .0)) _ (found-is r (zs .1 .0) (zs .1 .1 .1 .0) w u v is old-is golden-is) .0)) $
+        lets ! 12 (of-opd ! (var ! 3 refl)) refl (gates .typed (zs .1 .0) _ old-is .0) $
+        lets ! 10 (of-opd ! (var ! 0 refl)) refl (gates .typed (zs .1 .1 .1 .0) _ golden-is .0) $
+        lets ! 54 (agg ! (and-then ! (var ! 38 refl) (and-then ! (var ! 12 refl) (and-then ! (var ! 10 refl) (no-more !))))) refl (LL.lawful T.the-type T′.the-laws 𝓤 H A W .typed (found r (zs .1 .0) (zs .1 .1 .1 .0)) _ (found-is r (zs .1 .0) (zs .1 .1 .1 .0) w u v is old-is golden-is) .0) $
         returns ! (look ! 54 refl) $
         freed ! 54 refl refl $ freed ! 52 refl refl $ freed ! 50 refl refl $ freed ! 48 refl refl $ freed ! 46 refl refl $ freed ! 44 refl refl $ freed ! 42 refl refl $ move ! (3 ∷ 41 ∷ []) $ freed ! 0 refl refl $ move ! (0 ∷ 39 ∷ []) $ freed ! 0 refl refl $
         freed ! 36 refl refl $ freed ! 34 refl refl $ freed ! 32 refl refl $ freed ! 30 refl refl $ freed ! 28 refl refl $ freed ! 26 refl refl $ freed ! 24 refl refl $ freed ! 22 refl refl $ freed ! 20 refl refl $
         freed ! 18 refl refl $ freed ! 16 refl refl $ freed ! 14 refl refl $ freed ! 12 refl refl $ freed ! 10 refl refl $ freed ! 8 refl refl $ free0 ! $
-        keep ! (2 ∷ 1 ∷ 0 ∷ 7 ∷ 6 ∷ 5 ∷ 3 ∷ []) $ by ! (exits r (zs .1 .0) (zs .1 .1 .1 .0) (zs .1 .1 .0) (zs .1 .1 .1 .1 .0) (zs .1 .1 .1 .1 .1 .0) (zs .1 .1 .1 .1 .1 .1 .0) w u v is old-is golden-is e f l₁′ l₂′ l₃′ l₄′)))))))))))))))))))))))))))))))))))))))))
+        keep ! (2 ∷ 1 ∷ 0 ∷ 7 ∷ 6 ∷ 5 ∷ 3 ∷ []) $ by ! (exits r (zs .1 .0) (zs .1 .1 .1 .0) (zs .1 .1 .0) (zs .1 .1 .1 .1 .0) (zs .1 .1 .1 .1 .1 .0) (zs .1 .1 .1 .1 .1 .1 .0) w u v is old-is golden-is e f l₁′ l₂′ l₃′ l₄′)))))))))))))))))
 
 module _ {M : Type 1} (𝓤 : URA M) (H : Heap 𝓤) (A : Atoms 𝓤) (W : Given 𝓤 H A) (mem : Memory → SProp 𝓤) (run : Routine → Fun 𝓤) where
   read-gates-walks : (C : Calls 𝓤 H) (Λ : Loops 𝓤 H) → FmC 𝓤 H (W .laws) C → Triple 𝓤 (C #records·reading·read) (Read 𝓤 H A mem run) → Walks 𝓤 H A read-gates.ended stayed (WpFn 𝓤 H C Λ code.function) (read-gates.clauses 𝓤 H A mem run)

@@ -20,16 +20,16 @@ use contract.Monad.{Fun}
 use contract.Running.{givenOf, tables, tablesOf}
 use types.Kit.{Given, ‵, raw, _⊛_, _$_, _∵_, !, qed, by, move, keep, drop, use1, use2, split, join, fsplit, fjoin, feqL, suffices, frame, done}
 use types.Tokens.{lft-new, lft-end}
-use types.Run.{look, init, stop, from, lit, addr, of-opd, and-then, no-more, assigns, land, returns, enter, alloc1, alloc0, params1, pass1, pass0, free0}
+use types.Run.{look, init, stop, from, lit, addr, of-opd, and-then, no-more, land, returns, enter, free0}
 use types.Part.{agg}
 use sound.WpLaws.{FmC, fmOf, WpFn-mono}
 use denote.RattleType.{owns, flat}
-use denote.Laws.{Is, Are, Ises, Spells, Tellss, valss, shows as shown-by}
+use denote.Laws.{Are, Ises, Spells, Tellss, valss}
 use denote.Array.{array-vals, array-tells, array-lawful}
 use denote.Builtin.{u8, u16}
 use denote.Ref.{RefT}
 use denote.Slice.{sliceVal, finally, slice-vals, mut-slice-tells, shr-slice-tells}
-use denote.Steps.{peeks, nothing}
+use denote.Steps.{nothing}
 use denote.Struct.Laws as LL
 use denote.Triple.Entry.{Args, Vals, onEntry}
 use denote.Triple.Spec.{Meets, tripleOf}
@@ -43,7 +43,9 @@ use Rattle.records.specs.Service.{Places, places, sidePlaces, writeReply
 use Rattle.records.specs.declared.gate.Gate.{Gate}
 use Rattle.records.specs.declared.writing.WriteReply.{WriteReply}
 use Rattle.records.proofs.Lent.{slice, shows, shown}
-use Rattle.records.proofs.Rules.{calls-said, heard-both, says-both, no-requires, slice-typed, var, relends, freed}
+use Rattle.records.proofs.Locals.{arrives}
+use Rattle.records.proofs.Rules.{calls-said}
+use Rattle.records.proofs.Steps.{var, freed, heard-both, says-both, relends, lets, no-requires, slice-typed}
 use Rattle.records.proofs.gate.Gate as G
 use Rattle.records.proofs.gate.Gate.Laws as G′
 use Rattle.records.proofs.job.Counts as N
@@ -137,16 +139,14 @@ module _ {M : Type 1} (𝓤 : URA M) (H : Heap 𝓤) (A : Atoms 𝓤) (W : Given
     walk are =
         let gates = array-lawful 𝓤 H A W G.the-row (LL.lawful G.the-type G′.the-laws 𝓤 H A W) 400 in
         qed W ((‵ (flft (κs .0) (qs .0)) ⊛ raw more) ∷ ‵ (owns (typesAt (write-gates.signature .params) κs) a vals) ∷ []) ∵ enter ! C Λ code.function (flat (typesAt (write-gates.signature .params) κs) vals) _ $
-        alloc1 ! (λ l₀. alloc1 ! (λ l₁. alloc1 ! (λ l₂. alloc1 ! (λ l₃. alloc1 ! (λ l₄. alloc1 ! (λ l₅. alloc1 ! (λ l₆. alloc1 ! (λ l₇. alloc1 ! (λ l₈. alloc1 ! (λ l₉. alloc1 ! (λ l₁₀. alloc1 ! (λ l₁₁. alloc1 ! (λ l₁₂. alloc1 ! (λ l₁₃. alloc1 ! (λ l₁₄. alloc1 ! (λ l₁₅. alloc1 ! (λ l₁₆. alloc0 ! $ params1 ! $
-        pass1 ! (init ! 30 refl (LL.lawful N.the-type N′.the-laws 𝓤 H A W .typed (a .0) _ (are .0) .0)) $ pass1 ! (init ! 28 refl (gates .typed old _ (are .1 .0) .0)) $ pass1 ! (init ! 26 refl (slice-typed (are .1 .1 .0 .0 .1 .0))) $ pass1 ! (init ! 24 refl (gates .typed golden _ (are .1 .1 .1 .0) .0)) $
-        pass1 ! (init ! 22 refl (slice-typed (are .1 .1 .1 .1 .0 .0 .1 .0))) $ pass1 ! (init ! 20 refl (slice-typed (are .1 .1 .1 .1 .1 .0 .0 .1 .0))) $ pass1 ! (init ! 18 refl (slice-typed (are .1 .1 .1 .1 .1 .1 .0 .0 .1 .0))) $ pass1 ! (init ! 16 refl (slice-typed (are .1 .1 .1 .1 .1 .1 .1 .0 .0 .1 .0))) $ pass0 ! $
+        arrives ! (LL.lawful N.the-type N′.the-laws 𝓤 H A W .typed (a .0) _ (are .0) .0, (gates .typed old _ (are .1 .0) .0, (slice-typed (are .1 .1 .0 .0 .1 .0), (gates .typed golden _ (are .1 .1 .1 .0) .0, (slice-typed (are .1 .1 .1 .1 .0 .0 .1 .0), (slice-typed (are .1 .1 .1 .1 .1 .0 .0 .1 .0), (slice-typed (are .1 .1 .1 .1 .1 .1 .0 .0 .1 .0), (slice-typed (are .1 .1 .1 .1 .1 .1 .1 .0 .0 .1 .0), tt)))))))) (λ bs. let l₉ = bs .1 .1 .1 .1 .1 .1 .1 .1 .1 .0 in let l₁₀ = bs .1 .1 .1 .1 .1 .1 .1 .1 .1 .1 .0 in
         -- [_16; …; _0; …; the tokens; what the parameters own]: the arrays are copied to the locals that are lent, and the slices made
-        assigns ! (of-opd ! (var ! 28 refl)) (from ! (stop !)) (init ! 14 refl (gates .typed old _ (are .1 .0) .0)) $
-        assigns ! (of-opd ! (var ! 24 refl)) (from ! (stop !)) (init ! 12 refl (gates .typed golden _ (are .1 .1 .1 .0) .0)) $
-        assigns ! (addr ! (from ! (stop !))) (from ! (stop !)) (init ! 10 refl (tt, tt)) $
-        assigns ! (agg ! (and-then ! (var ! 10 refl) (and-then ! (lit ! tt) (no-more !)))) (from ! (stop !)) (init ! 8 refl (slice-typed (lit< tt))) $
-        assigns ! (addr ! (from ! (stop !))) (from ! (stop !)) (init ! 6 refl (tt, tt)) $
-        assigns ! (agg ! (and-then ! (var ! 6 refl) (and-then ! (lit ! tt) (no-more !)))) (from ! (stop !)) (init ! 4 refl (slice-typed (lit< tt))) $
+        lets ! 14 (of-opd ! (var ! 28 refl)) refl (gates .typed old _ (are .1 .0) .0) $
+        lets ! 12 (of-opd ! (var ! 24 refl)) refl (gates .typed golden _ (are .1 .1 .1 .0) .0) $
+        lets ! 10 (addr ! (from ! (stop !))) refl (tt, tt) $
+        lets ! 8 (agg ! (and-then ! (var ! 10 refl) (and-then ! (lit ! tt) (no-more !)))) refl (slice-typed (lit< tt)) $
+        lets ! 6 (addr ! (from ! (stop !))) refl (tt, tt) $
+        lets ! 4 (agg ! (and-then ! (var ! 6 refl) (and-then ! (lit ! tt) (no-more !)))) refl (slice-typed (lit< tt)) $
         relends ! 16 2 0 refl refl refl (tt, tt) refl refl refl (slice-typed (are .1 .1 .1 .1 .1 .1 .1 .0 .0 .1 .0)) $
         -- each array is lent
         move ! (35 ∷ []) $ fsplit ! $ move ! (1 ∷ []) $ fsplit ! $ move ! (1 ∷ []) $ fsplit ! $ move ! (1 ∷ []) $ fsplit ! $
@@ -157,18 +157,18 @@ module _ {M : Type 1} (𝓤 : URA M) (H : Heap 𝓤) (A : Atoms 𝓤) (W : Given
         use2 W (raw (Write 𝓤 H A mem run .pre (to-write (α ∷ []) (β ∷ []) l₉ l₁₀ γ δ))) (goes (α ∷ []) (β ∷ []) l₉ l₁₀ γ δ) $
         calls-said ! fm write.ended (write.clauses 𝓤 H A mem run) known (to-write (α ∷ []) (β ∷ []) l₉ l₁₀ γ δ)
         (and-then ! (var ! 31 refl) (and-then ! (var ! 11 refl) (and-then ! (var ! 27 refl) (and-then ! (var ! 7 refl) (and-then ! (var ! 23 refl)
-        (and-then ! (var ! 21 refl) (and-then ! (var ! 19 refl) (and-then ! (var ! 3 refl) (no-more !))))))))) (λ w r zs.
+        (and-then ! (var ! 21 refl) (and-then ! (var ! 19 refl) (and-then ! (var ! 3 refl) (no-more !))))))))) (λ w r zs is.
         heard-both ! (Replied r) (Written (zs .1 .1 .1 .1 .1 .1 .1 .0)) (λ e f.
         fsplit ! $ drop ! $ fsplit ! $ drop ! $ fsplit ! $ drop ! $ fsplit ! $ drop ! $ fsplit ! $ drop ! $ fsplit ! $ drop ! $ fsplit ! $ drop ! $ fsplit ! $ fsplit ! $ move ! (1 ∷ []) $ feqL ! (λ l.
         -- [buf's last bytes; …; the tokens; what the result owns; the lenders' parts; the locals]: the arrays come back
         move ! (2 ∷ 3 ∷ []) $ use1 W (‵ (flft (α ∷ []) fullShare) ⊛ (‵ (flft (κs .0) (qs .0)) ⊛ (‵ (flft (β ∷ []) fullShare) ⊛ raw more))) (id⊢ 𝓤 _) $ split ! $ lft-end ! tt $ move ! (0 ∷ 5 ∷ []) $ shown ! tt G.the-row 400 l₉ 0 (α ∷ []) old (λ _. move ! (1 ∷ []) $ drop ! $
         move ! (1 ∷ []) $ split ! $ move ! (1 ∷ []) $ split ! $ lft-end ! tt $ move ! (0 ∷ 7 ∷ []) $ shown ! tt G.the-row 400 l₁₀ 0 (β ∷ []) golden (λ _. move ! (1 ∷ []) $ drop ! $
         -- [_10; the tokens; _9; the result; …]
-        move ! (4 ∷ []) $ peeks ! R.the-row (Is R.the-row) (shown-by 𝓤 H A R.the-row) r (w ∷ []) (λ is. land ! (from ! (stop !)) (init ! 37 refl (LL.lawful R.the-type R′.the-laws 𝓤 H A W .typed r _ is .0)) $
+        move ! (4 ∷ []) $ land ! (from ! (stop !)) (init ! 37 refl (LL.lawful R.the-type R′.the-laws 𝓤 H A W .typed r _ is .0)) $
         returns ! (look ! 37 refl) $
         freed ! 37 refl refl $ freed ! 35 refl refl $ freed ! 33 refl refl $ freed ! 31 refl refl $ freed ! 29 refl refl $ freed ! 27 refl refl $ freed ! 25 refl refl $ freed ! 23 refl refl $ freed ! 21 refl refl $
         move ! (4 ∷ 20 ∷ []) $ freed ! 0 refl refl $ move ! (1 ∷ 18 ∷ []) $ freed ! 0 refl refl $ freed ! 15 refl refl $ freed ! 13 refl refl $ freed ! 11 refl refl $ freed ! 9 refl refl $ freed ! 7 refl refl $ freed ! 5 refl refl $ free0 ! $
-        keep ! (2 ∷ 1 ∷ 3 ∷ 0 ∷ []) $ by ! (exits r w (zs .1 .1 .1 .1 .1 .1 .1 .0) e f l))))))))))))))))))))))))))))
+        keep ! (2 ∷ 1 ∷ 3 ∷ 0 ∷ []) $ by ! (exits r w (zs .1 .1 .1 .1 .1 .1 .1 .0) e f l)))))))))))
 
 module _ {M : Type 1} (𝓤 : URA M) (H : Heap 𝓤) (A : Atoms 𝓤) (W : Given 𝓤 H A) (mem : Memory → SProp 𝓤) (run : Routine → Fun 𝓤) where
   write-gates-walks : (C : Calls 𝓤 H) (Λ : Loops 𝓤 H) → FmC 𝓤 H (W .laws) C → Triple 𝓤 (C #records·writing·write) (Write 𝓤 H A mem run) → Walks 𝓤 H A write-gates.ended stayed (WpFn 𝓤 H C Λ code.function) (write-gates.clauses 𝓤 H A mem run)

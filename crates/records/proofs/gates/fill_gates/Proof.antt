@@ -43,10 +43,9 @@ use denote.Signature.{typesAt}
 use Rattle.records.specs.Bytes.{placed}
 use Rattle.records.specs.Inner.{structAt, structsAt}
 use Rattle.records.specs.declared.gate.Gate.{Gate}
-use Rattle.records.proofs.Locals.{empty, holds, Homes, spots, locals, arrives, released, piece, lets}
-use Rattle.records.proofs.Rules.{slice-typed, tests, var}
+use Rattle.records.proofs.Locals.{empty, holds, Homes, spots, locals, arrives, released}
 use Rattle.records.proofs.Sides.{alls, parts, calls-giving, starts, Ends, ending, meets}
-use Rattle.records.proofs.Steps.{Upto, Nearer, nearer-wf, upto-next, copied, number}
+use Rattle.records.proofs.Steps.{piece, lets, slice-typed, tests, var, Upto, Nearer, nearer-wf, upto-next, copied, number}
 use Rattle.records.proofs.Laws.Gates.{structs-none, structs-next, length-structs}
 use Rattle.records.proofs.gate.Gate as G
 use Rattle.records.proofs.gate.Gate.Laws as G′

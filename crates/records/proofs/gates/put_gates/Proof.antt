@@ -21,8 +21,7 @@ use contract.Lifetimes.{Lfts, Shares}
 use contract.Monad.{Fun, factI}
 use contract.Running.{givenOf, tables, tablesOf}
 use types.Kit.{Given, Item, ‵, some, later, _⊛_, runs, anyQ, atRet, Sq, _$_, _∵_, !, qed, by, move, drop, use1, use2, use3, split, pick, rewrite, fsplit, feqL, feqI, await}
-use types.Run.{look, look-raw, store, init, forget, stop, hop, fld, from, load, lit, addr, unit-lit, of-opd, bin, and-then, no-more, assigns-last, land, first, blocks, returns, enter, exec, Below, again, loops}
-use types.Part.{agg, whole, sub, look-in}
+use types.Run.{look, look-raw, store, init, forget, stop, hop, from, load, lit, unit-lit, of-opd, bin, and-then, no-more, assigns-last, land, first, blocks, returns, enter, exec, Below, again, loops}
 use types.Share.{arr-parts}
 use types.Tokens.{lft-new, lft-end}
 use sound.WpLaws.{fmOf, WpFn-mono}
@@ -49,10 +48,9 @@ use Rattle.records.specs.Inner.{noGate, gatesBytes}
 use Rattle.records.specs.declared.gate.Gate.{Gate}
 use Rattle.records.proofs.Again.{LentAgain, lends-again, comes-back}
 use Rattle.records.proofs.Lent.{slice}
-use Rattle.records.proofs.Locals.{empty, holds, Homes, spots, locals, arrives, released, piece, lets}
-use Rattle.records.proofs.Rules.{slice-typed, tests, var}
+use Rattle.records.proofs.Locals.{locals, Homes, spots, arrives, released, empty, holds}
 use Rattle.records.proofs.Sides.{alls, parts, calls, starts, Ends, ending, meets}
-use Rattle.records.proofs.Steps.{Upto, Nearer, nearer-wf, upto-next}
+use Rattle.records.proofs.Steps.{Upto, Nearer, nearer-wf, upto-next, tests, var, relends, piece, lets, slice-typed}
 use Rattle.records.proofs.Laws.Gates.{bytes-none, bytes-next, length-bytes}
 use Rattle.records.proofs.gate.Gate as G
 use Rattle.records.proofs.gate.Gate.Laws as G′
@@ -188,8 +186,7 @@ module _ {M : Type 1} (𝓤 : URA M) (H : Heap 𝓤) (A : Atoms 𝓤) (W : Given
           lets ! 20 (bin ! (var ! 22 refl) (var ! 28 refl) tt) refl (tt, tt) $
           tests ! (var ! 20 refl)
           (λ less.
-          lets ! 16 (addr ! (from ! (fld ! refl (hop ! (look-in ! 24 (sub ! 0 refl (whole !))) (stop !))))) refl (tt, tt) $
-          lets ! 14 (agg ! (and-then ! (var ! 16 refl) (and-then ! (piece ! 24 refl refl refl) (no-more !)))) refl (slice-typed (room′ .0)) $
+          relends ! 24 16 14 refl refl refl (tt, tt) refl refl refl (slice-typed (room′ .0)) $
           lets ! 12 (bin ! (lit ! tt) (var ! 22 refl) (five i less)) refl (tt, five i less) $
           lets ! 10 (bin ! (var ! 26 refl) (var ! 12 refl) (from-at i less)) refl (tt, from-at i less) $
           lets ! 8 (bin ! (var ! 22 refl) (lit ! tt) (six i less)) refl (tt, six i less) $

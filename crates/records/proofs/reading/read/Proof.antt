@@ -40,10 +40,9 @@ use Rattle.records.specs.Inner.{structsAt, gateSpans, RestFilled}
 use Rattle.records.specs.declared.gate.Gate.{Gate}
 use Rattle.records.specs.declared.gates.GateSpans.{GateSpans}
 use Rattle.records.specs.declared.reading.ReadReply.{ReadReply}
-use Rattle.records.proofs.Locals.{holds, arrives, released, piece, lets}
-use Rattle.records.proofs.Rules.{slice-typed, var, relends}
+use Rattle.records.proofs.Locals.{holds, arrives, released}
 use Rattle.records.proofs.Sides.{alls, parts, calls, calls-giving, starts, Ends, ending, meets}
-use Rattle.records.proofs.Steps.{copied, number}
+use Rattle.records.proofs.Steps.{piece, lets, slice-typed, var, relends, copied, number}
 use Rattle.records.proofs.Laws.Reading.{checked, spans-fit, rest-fits, read-ends}
 use Rattle.records.proofs.gate.Gate as G
 use Rattle.records.proofs.gates.GateSpans as S

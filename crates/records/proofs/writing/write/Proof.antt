@@ -46,9 +46,9 @@ use Rattle.records.specs.declared.gate.Gate.{Gate}
 use Rattle.records.specs.declared.gates.GateSpans.{GateSpans}
 use Rattle.records.specs.declared.writing.WritePlan.{WritePlan}
 use Rattle.records.proofs.Lent.{slice, lends, returned}
-use Rattle.records.proofs.Locals.{holds, positions, arrives, released, piece, big, lets}
-use Rattle.records.proofs.Rules.{slice-typed, var, relends}
+use Rattle.records.proofs.Locals.{holds, positions, arrives, released}
 use Rattle.records.proofs.Sides.{alls, parts, made, calls, calls-giving, starts, Ends, ending, meets}
+use Rattle.records.proofs.Steps.{piece, big, lets, slice-typed, var, relends}
 use Rattle.records.proofs.Laws.Writing.{planned, spans-held, rest-held, gates-put, write-ends}
 use Rattle.records.proofs.gate.Gate as G
 use Rattle.records.proofs.gates.GateSpans as S

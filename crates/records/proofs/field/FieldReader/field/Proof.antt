@@ -19,8 +19,7 @@ use contract.Lifetimes.{Lfts}
 use contract.Monad.{Fun}
 use contract.Running.{givenOf, tables, tablesOf}
 use types.Kit.{Given, ‵, raw, _⊛_, given, ⋆, _$_, _∵_, !, qed, by, move, drop, use1, use2, split, join, learn, fsplit, fjoin, suffices, frame, done}
-use types.Part.{whole, sub, look-in}
-use types.Run.{look, init, forget, stop, fld, from, load, of-opd, and-then, no-more, assigns, land, returns, enter, alloc1, alloc0, params1, pass1, pass0, free1, free0}
+use types.Run.{look, init, stop, from, of-opd, and-then, no-more, land, returns, enter}
 use sound.WpLaws.{FmC, fmOf, WpFn-mono}
 use denote.RattleType.{RattleType, owns}
 use denote.Laws.{Is}
@@ -44,7 +43,9 @@ use denote.Exit.{yes}
 use Rattle.records.specs.Inner.{fieldAt}
 use Rattle.records.specs.declared.field.FieldReader.{FieldReader}
 use Rattle.records.specs.declared.field.Field.{Field}
-use Rattle.records.proofs.Rules.{calls-for, var}
+use Rattle.records.proofs.Locals.{holds, arrives, released}
+use Rattle.records.proofs.Rules.{calls-for}
+use Rattle.records.proofs.Steps.{var, piece, lets}
 use Rattle.records.proofs.field.FieldReader as T
 use Rattle.records.proofs.field.FieldReader.Laws as T′
 use Rattle.records.proofs.field.Field as S
@@ -130,15 +131,14 @@ module _ {M : Type 1} (𝓤 : URA M) (H : Heap 𝓤) (A : Atoms 𝓤) (W : Given
     walk : Holds (hasTy (T′.mir (named 0)) mach) × WT mach → ent 𝓤 (onEntry 𝓤 H A field.signature (κ, tt) (q, tt) (d, (t, tt)) at) (WpFn 𝓤 H C Λ code.function (mach ∷ vint w8 t ∷ []) Post)
     walk wt =
         qed W (raw (onEntry 𝓤 H A field.signature (κ, tt) (q, tt) (d, (t, tt)) at) ∷ []) ∵ enter ! C Λ code.function (mach ∷ vint w8 t ∷ []) _ $
-        alloc1 ! (λ l₀. alloc1 ! (λ l₁. alloc1 ! (λ l₂. alloc1 ! (λ l₃. alloc1 ! (λ l₄. alloc0 ! $ params1 ! $ pass1 ! (init ! 6 refl wt) $ pass1 ! (init ! 4 refl (tt, record { fits = ok })) $ pass0 ! $
-        assigns ! (of-opd ! (load ! (from ! (fld ! refl (stop !))) (look-in ! 6 (sub ! 0 refl (whole !))))) (from ! (stop !)) (init ! 2 refl (tt, wt .1 .0)) $
-        assigns ! (of-opd ! (load ! (from ! (fld ! refl (stop !))) (look-in ! 6 (sub ! 1 refl (whole !))))) (from ! (stop !)) (init ! 0 refl (tt, wt .1 .1 .0)) $
+        arrives ! (wt, ((tt, record { fits = ok }), tt)) (λ bs.
+        lets ! 2 (of-opd ! (piece ! 6 refl refl refl)) refl (tt, wt .1 .0) $
+        lets ! 0 (of-opd ! (piece ! 6 refl refl refl)) refl (tt, wt .1 .1 .0) $
         move ! (10 ∷ []) $ use1 W (raw (FieldAt 𝓤 H A mem run .pre to) ⊛ ‵ Own) (apart (wt .1 .1 .0 .fits)) $ split ! $
         calls-for ! fm field-at.ended (field-at.clauses 𝓤 H A mem run) known to S′.lowers found (λ r e. id⊢ 𝓤 _) (and-then ! (var ! 4 refl) (and-then ! (var ! 2 refl) (and-then ! (var ! 6 refl) (no-more !)))) (λ is.
         -- [the result; the token; what the struct owns; _4; …; _3; …; _2; …; _1; …; room for _0; …]
         land ! (from ! (stop !)) (init ! 11 refl (EL.lawful S.the-type S′.the-laws 𝓤 H A W tt .typed found _ is .0)) $
-        returns ! (look ! 11 refl) $ forget ! 3 refl $ forget ! 5 refl $ forget ! 7 refl $ forget ! 9 refl $ forget ! 11 refl $
-        move ! (11 ∷ 12 ∷ []) $ free1 ! $ move ! (9 ∷ 10 ∷ []) $ free1 ! $ move ! (7 ∷ 8 ∷ []) $ free1 ! $ move ! (5 ∷ 6 ∷ []) $ free1 ! $ move ! (3 ∷ 4 ∷ []) $ free1 ! $ free0 ! $ by ! exits))))))
+        returns ! (look ! 11 refl) $ released ! 3 (holds _ ∷ holds _ ∷ holds _ ∷ holds _ ∷ holds _ ∷ []) refl $ by ! exits))
 
 module _ {M : Type 1} (𝓤 : URA M) (H : Heap 𝓤) (A : Atoms 𝓤) (W : Given 𝓤 H A) (mem : Memory → SProp 𝓤) (run : Routine → Fun 𝓤) where
   field-walks : (C : Calls 𝓤 H) (Λ : Loops 𝓤 H) → FmC 𝓤 H (W .laws) C → Triple 𝓤 (C #records·field-at) (FieldAt 𝓤 H A mem run)
