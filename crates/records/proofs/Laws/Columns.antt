@@ -13,7 +13,7 @@ use Rattle.records.specs.Gate.{Gate}
 use Rattle.records.specs.Netlist.{Netlist}
 use Rattle.records.specs.Job.{jobOf}
 use Rattle.records.specs.Refusal.{firstFailing}
-use Rattle.records.specs.Service.{SidePlaces, Places, sidePlaces, places, gateFrom, structOf, sideCountsOf, countsOf, noCounts, sideRoomy, roomy, filledSide, filled, readNumber, readReply, readPlaces, gatesIn, netlistFrom, jobFrom, sideHeld, held, writeNumber, writeReply, writtenBytes}
+use Rattle.records.specs.Service.{SidePlaces, Places, sidePlaces, places, gateFrom, structOf, sideCountsOf, countsOf, noCounts, sideRoomy, roomy, filledSide, filled, readNumber, readReply, readPlaces, gatesIn, netlistFrom, jobFrom, sideHeld, held, writeReply, writtenBytes}
 use Rattle.records.specs.Columns.{SideColumns, Columns, sideColumns, columns, sideColumnsRoomy, columnsRoomy, sideColumnsFilled, columnsFilled, columnsNumber, columnsReply, columnsAfter, gatesFrom, columnsNetlist, columnsJob, sideColumnsHeld, columnsHeld, columnsWriteNumber, columnsWriteReply, columnsWritten}
 use Rattle.records.specs.Inner.{countsWithin, Within, noGate, noGates, refusedRead, columnsHold, ColumnsHold, Split, structsFrom}
 use Rattle.records.specs.declared.gate.Gate.{Gate as GateStruct}
@@ -26,6 +26,7 @@ use Rattle.records.proofs.Laws.Bytes.{row-at, and-left, false-of, lengt
 use Rattle.records.proofs.Laws.Counts.{columnsHold-facts, countsWithin-facts, countsWithin-countsOf}
 use Rattle.records.proofs.Laws.Job.{Filled, length-placed-front, take-placed-front}
 use Rattle.records.proofs.Laws.Accepted.{read-accepts, read-refuses, read-counts, read-places}
+use Rattle.records.proofs.Laws.ReadColumns.{columns-write}
 use Rattle.records.proofs.Laws.Reply.{write-counts}
 
 -- ---- gate structs and columns
@@ -297,15 +298,13 @@ module _ (c : Counts) (p : Columns) where
   job-written = rw (gates-joined (c .old) (p .old), gates-joined (c .golden) (p .golden))
 
   module _ (d : List ℕ) where
-    number-written : sideHolds (p .old) (c .old .gates) ≡ true → sideHolds (p .golden) (c .golden .gates) ≡ true
-        → writeNumber c writtenFrom d ≡ columnsWriteNumber c p d
-    unfolding writeNumber held columnsWriteNumber columnsHeld
-    number-written h g = rw (job-written, held-joined (c .old) (p .old) h, held-joined (c .golden) (p .golden) g)
-
+    -- columns and the gates joined from them hold one job: they are written alike
     written-columns : sideHolds (p .old) (c .old .gates) ≡ true → sideHolds (p .golden) (c .golden .gates) ≡ true
-        → (writeReply c writtenFrom d ≡ columnsWriteReply c p d) × (writtenBytes c writtenFrom d ≡ columnsWritten c p d)
-    unfolding writeReply writtenBytes columnsWriteReply columnsWritten
-    written-columns h g = let n = number-written h g in (rw (n, job-written), rw (n, job-written))
+        → (columnsWriteReply c p d ≡ writeReply c writtenFrom d) × (columnsWritten c p d ≡ writtenBytes c writtenFrom d)
+    unfolding held columnsHeld
+    written-columns h g =
+        columns-write c p writtenFrom d (sym job-written)
+        (sym (rw (held-joined (c .old) (p .old) h, held-joined (c .golden) (p .golden) g)))
 
     -- the reply and the buffer, once write is done with the joined gates
     pub write-columns-ends : sideHolds (p .old) (c .old .gates) ≡ true → sideHolds (p .golden) (c .golden .gates) ≡ true
@@ -315,7 +314,7 @@ module _ (c : Counts) (p : Columns) where
         (r ≡ writeReply c q d) × (d′ ≡ writtenBytes c q d)
         → (r ≡ columnsWriteReply c p d) × (d′ ≡ columnsWritten c p d)
     write-columns-ends h g gs hs x y e =
-        let w = written-columns h g in (e .0 ∙ rw (x, y) (w .0), e .1 ∙ rw (x, y) (w .1))
+        let w = written-columns h g in (e .0 ∙ rw (x, y) (sym (w .0)), e .1 ∙ rw (x, y) (sym (w .1)))
 
     put-other : (n : ℕ) → columnsWriteNumber c p d ≡ n → (n ≡ 0 → ⊥)
         → (record { number = n; len = 0 } ≡ columnsWriteReply c p d) × (d ≡ columnsWritten c p d)
@@ -349,4 +348,4 @@ module _ (c : Counts) (p : Columns) where
               let t = held-rows h in
               let w = written-columns (t .0) (t .1) in
               let v = write-counts c writtenFrom d l e in
-              (v .0 ∙ w .0, v .1 ∙ w .1)
+              (v .0 ∙ sym (w .0), v .1 ∙ sym (w .1))
