@@ -136,14 +136,14 @@ fn joined(kinds: &[u8], firsts: &[u16], seconds: &[u16], count: usize) -> [Gate;
         first: 0,
         second: 0,
     }; 400];
-    let mut i = 0usize;
-    while i < count {
-        gates[i] = Gate {
-            kind: kinds[i],
-            first: firsts[i],
-            second: seconds[i],
+    let mut k = 0usize;
+    while k < count {
+        gates[k] = Gate {
+            kind: kinds[k],
+            first: firsts[k],
+            second: seconds[k],
         };
-        i += 1;
+        k += 1;
     }
     gates
 }

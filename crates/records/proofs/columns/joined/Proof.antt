@@ -49,8 +49,8 @@ mul-gates c = omega arith
 array-set-from-gates : tie.Need-array-set-from-gates Inv-loop μ-loop
 array-set-from-gates c = omega arith
 
-add-i : tie.Need-add-i Inv-loop μ-loop
-add-i c = omega arith
+add-k : tie.Need-add-k Inv-loop μ-loop
+add-k c = omega arith
 
 loop-less : tie.Need-loop-less Inv-loop μ-loop
 loop-less c = omega arith
@@ -60,7 +60,7 @@ loop-again c =
     let l = c .before .before .before .before .loop in
     let a = c .before .before .before .before .before .args in (
       omega arith,
-      filled-next noGates (gate (a .kinds .now) (a .firsts .now) (a .seconds .now)) (l .gates) (l .i) _
+      filled-next noGates (gate (a .kinds .now) (a .firsts .now) (a .seconds .now)) (l .gates) (l .k) _
           (omega (arith, length-noGates)) refl (l .inv .1),
     )
 
@@ -69,7 +69,7 @@ unfolding structsFrom
 returns c =
     let a = c .before .before .args in
     let l = c .before .loop in
-    let e : l .i ≡ a .count = omega arith in
+    let e : l .k ≡ a .count = omega arith in
     rw e at (l .inv .1 .1)
 
 pub joined-spec : {M : Type 1} → statement M
@@ -86,7 +86,7 @@ joined-spec =
     shared-slice-read-t16
     mul-gates
     array-set-from-gates
-    add-i
+    add-k
     loop-less
     loop-again
     returns)
