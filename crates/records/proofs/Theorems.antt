@@ -1,5 +1,5 @@
 -- What specs/Claims.antt promises of the record library, each by one citation. Assumes nothing.
-use Rattle.records.specs.Claims.{First, ReadAccepts, WriteAccepts, SheetAccepts, ReadRefuses, WriteRefuses, SheetRefuses, ReadWrite, WriteRead, LongestJob, LongestJobMet, ColumnsRead, ColumnsRefuses, ColumnsGiven, ColumnsWrite}
+use Rattle.records.specs.Claims.{First, ReadAccepts, WriteAccepts, SheetAccepts, ReadRefuses, WriteRefuses, SheetRefuses, NumberGiven, PlacesGiven, ReadWrite, WriteRead, LongestJob, LongestJobMet, ColumnsRead, ColumnsAccepts, ColumnsRefuses, ColumnsGiven, ColumnsWithin, ColumnsWrite, ColumnsWriteAccepts, ColumnsWriteRefuses, ColumnsReadWrite, ColumnsWriteRead}
 use Rattle.records.proofs.Laws.Accepted as accepted
 use Rattle.records.proofs.Laws.ReadColumns as over-columns
 
@@ -24,6 +24,12 @@ write-refuses = accepted.write-refuses
 pub sheet-refuses : SheetRefuses
 sheet-refuses = accepted.sheet-refuses
 
+pub number-given : NumberGiven
+number-given = accepted.number-given
+
+pub places-given : PlacesGiven
+places-given = accepted.places-given
+
 pub read-write : ReadWrite
 read-write = accepted.reread
 
@@ -39,11 +45,29 @@ longest-job-met = accepted.longest-met
 pub columns-read : ColumnsRead
 columns-read = over-columns.columns-read
 
+pub columns-accepts : ColumnsAccepts
+columns-accepts = over-columns.columns-accepts
+
 pub columns-refuses : ColumnsRefuses
 columns-refuses = over-columns.columns-refuses
 
 pub columns-given : ColumnsGiven
 columns-given = over-columns.columns-given
 
+pub columns-within : ColumnsWithin
+columns-within = over-columns.columns-within
+
 pub columns-write : ColumnsWrite
 columns-write = over-columns.columns-write
+
+pub columns-write-accepts : ColumnsWriteAccepts
+columns-write-accepts = over-columns.columns-write-accepts
+
+pub columns-write-refuses : ColumnsWriteRefuses
+columns-write-refuses = over-columns.columns-write-refuses
+
+pub columns-read-write : ColumnsReadWrite
+columns-read-write = over-columns.columns-read-write
+
+pub columns-write-read : ColumnsWriteRead
+columns-write-read = over-columns.columns-write-read

@@ -1,14 +1,22 @@
--- What is promised of the record library beyond the contracts of its functions: the request's demands 1 and 2, and
--- document 01, "Bytes" and "Numbers given when a call is declined". proofs/Theorems.antt proves each. Assumes nothing.
+-- What is promised of the record library beyond the contracts of its functions: the request's demands 1 and 2, and document 01,
+-- "Bytes" and "Numbers given when a call is declined". proofs/Theorems.antt proves each.
+-- Assumes nothing.
 --
 --   Below n xs        every element of xs is below n
 --   PartsGood j       the parts j pass every test of numbers 3 to 6
 --   First             the first number that applies is given
 --   ReadAccepts, WriteAccepts, SheetAccepts     what passes the tests is accepted, and nothing else
 --   ReadRefuses, WriteRefuses, SheetRefuses     a refusal gives length 0 (read: counts of 0) and alters nothing lent
+--   NumberGiven       every reply has its call's number
+--   PlacesGiven                   the places of an accepted job hold it
 --   ReadWrite, WriteRead          the round trip
 --   LongestJob, LongestJobMet     no accepted job has more than 4,188 bytes, and one has as many
---   ColumnsRead, ColumnsRefuses, ColumnsGiven, ColumnsWrite      read_columns and write_columns give what read and write give
+--   ColumnsRead       read_columns replies what read does
+--   ColumnsAccepts, ColumnsRefuses              what read_columns accepts; a refusal alters no column
+--   ColumnsGiven, ColumnsWithin   the columns of an accepted job hold it
+--   ColumnsWrite      write_columns replies and writes what write does
+--   ColumnsWriteAccepts, ColumnsWriteRefuses    what write_columns accepts; a refusal alters no byte
+--   ColumnsReadWrite, ColumnsWriteRead          the round trip over columns
 use Prim.Native.Nat.{ℕ, _≤_, _<_}
 use mathlib.Core.Path.{_≡_}
 use mathlib.Core.Logic.{_↔_}
@@ -20,7 +28,7 @@ use Rattle.records.specs.Job.{Job, jobWhole, jobOf}
 use Rattle.records.specs.Refusal.{Test, firstFailing, countsGood, netlistsGood, outputsGood, candidatesGood, jobRefusal, longestJob}
 use Rattle.records.specs.Sheet.{patchOf, sheetWhole, patchGood}
 use Rattle.records.specs.Service.{Places, roomy, noCounts, readNumber, readReply, readPlaces, held, candidatesFrom, jobFrom, writeNumber, writeReply, writtenBytes, sheetRoomy, sheetNumber, sheetReply}
-use Rattle.records.specs.Columns.{Columns, columnsRoomy, columnsNumber, columnsReply, columnsAfter, columnsJob, columnsHeld, columnsWriteReply, columnsWritten}
+use Rattle.records.specs.Columns.{Columns, columnsRoomy, columnsNumber, columnsReply, columnsAfter, columnsJob, columnsHeld, columnsWriteNumber, columnsWriteReply, columnsWritten}
 use Rattle.records.specs.declared.job.Counts.{Counts}
 
 abbrev pub Below : ℕ → List ℕ → Type 0
@@ -77,7 +85,23 @@ SheetRefuses =
     → (sheetReply m k nets weights s .number ≡ sheetNumber m k nets weights s)
     × (sheetReply m k nets weights s .support .len ≡ 0)
 
+-- "Each with the number that document 01 names": a call's number stands in its reply, accepted or not.
+abbrev pub NumberGiven : Type 0
+NumberGiven =
+    ((p : Places) (s : List ℕ) → readReply p s .number ≡ readNumber p s)
+    × ((c : Counts) (p : Places) (d : List ℕ) → writeReply c p d .number ≡ writeNumber c p d)
+    × ((m k : ℕ) (nets weights s : List ℕ) → sheetReply m k nets weights s .number ≡ sheetNumber m k nets weights s)
+    × ((p : Columns) (s : List ℕ) → columnsReply p s .number ≡ columnsNumber p s)
+    × ((c : Counts) (p : Columns) (d : List ℕ) → columnsWriteReply c p d .number ≡ columnsWriteNumber c p d)
+
 -- ---- demand 2
+
+-- The places of an accepted job hold it, as many parts as its counts say.
+abbrev pub PlacesGiven : Type 0
+PlacesGiven =
+    (p : Places) (s : List ℕ) → readNumber p s ≡ 0
+    → let c = readReply p s .counts in
+    (held c (readPlaces p s) ≡ true) × (jobFrom c (readPlaces p s) ≡ jobOf s)
 
 -- "A job written from its parts reads back as those parts": the bytes that write leaves at the start of its buffer are read
 -- into any places with room, with the same counts and the same parts.
@@ -111,6 +135,11 @@ LongestJobMet = (s : List ℕ) × Below 256 s × (jobRefusal s ≡ 0) × (length
 abbrev pub ColumnsRead : Type 0
 ColumnsRead = (p : Columns) (q : Places) (s : List ℕ) → columnsRoomy p ≡ roomy q → columnsReply p s ≡ readReply q s
 
+abbrev pub ColumnsAccepts : Type 0
+ColumnsAccepts =
+    (p : Columns) (s : List ℕ)
+    → (columnsNumber p s ≡ 0) ↔ ((columnsRoomy p ≡ true) × (jobWhole s ≡ true) × PartsGood (jobOf s))
+
 -- A refusal alters no column.
 abbrev pub ColumnsRefuses : Type 0
 ColumnsRefuses =
@@ -122,8 +151,37 @@ abbrev pub ColumnsGiven : Type 0
 ColumnsGiven =
     (p : Columns) (s : List ℕ) → columnsNumber p s ≡ 0 → columnsJob (columnsReply p s .counts) (columnsAfter p s) ≡ jobOf s
 
+-- .. and the columns are as long as its counts say.
+abbrev pub ColumnsWithin : Type 0
+ColumnsWithin =
+    (p : Columns) (s : List ℕ) → columnsNumber p s ≡ 0 → columnsHeld (columnsReply p s .counts) (columnsAfter p s) ≡ true
+
 -- Columns and places that hold the same job are written alike.
 abbrev pub ColumnsWrite : Type 0
 ColumnsWrite =
     (c : Counts) (p : Columns) (q : Places) (d : List ℕ) → columnsJob c p ≡ jobFrom c q → columnsHeld c p ≡ held c q
     → (columnsWriteReply c p d ≡ writeReply c q d) × (columnsWritten c p d ≡ writtenBytes c q d)
+
+abbrev pub ColumnsWriteAccepts : Type 0
+ColumnsWriteAccepts =
+    (c : Counts) (p : Columns) (d : List ℕ)
+    → (columnsWriteNumber c p d ≡ 0) ↔ ((longestJob ≤ length d) × (columnsHeld c p ≡ true) × PartsGood (columnsJob c p))
+
+abbrev pub ColumnsWriteRefuses : Type 0
+ColumnsWriteRefuses =
+    (c : Counts) (p : Columns) (d : List ℕ) → (columnsWriteNumber c p d ≡ 0 → ⊥)
+    → (columnsWriteReply c p d .len ≡ 0) × (columnsWritten c p d ≡ d)
+
+-- The round trip.
+abbrev pub ColumnsReadWrite : Type 0
+ColumnsReadWrite =
+    (c : Counts) (p : Columns) (d : List ℕ) → columnsWriteNumber c p d ≡ 0 → (q : Columns) → columnsRoomy q ≡ true
+    → let s = take (columnsWriteReply c p d .len) (columnsWritten c p d) in
+    (columnsNumber q s ≡ 0) × (columnsReply q s .counts ≡ c) × (columnsJob c (columnsAfter q s) ≡ columnsJob c p)
+
+abbrev pub ColumnsWriteRead : Type 0
+ColumnsWriteRead =
+    (p : Columns) (s : List ℕ) → Below 256 s → columnsNumber p s ≡ 0 → (d : List ℕ) → longestJob ≤ length d
+    → let c = columnsReply p s .counts in
+    let q = columnsAfter p s in
+    (columnsWriteNumber c q d ≡ 0) × (columnsWriteReply c q d .len ≡ length s) × (columnsWritten c q d ≡ placed d 0 s)
