@@ -1,7 +1,9 @@
 -- What specs/Claims.antt promises of the record library, each by one citation. Assumes nothing.
-use Rattle.records.specs.Claims.{First, ReadAccepts, WriteAccepts, SheetAccepts, ReadRefuses, WriteRefuses, SheetRefuses, NumberGiven, PlacesGiven, ReadWrite, WriteRead, LongestJob, LongestJobMet, ColumnsRead, ColumnsAccepts, ColumnsRefuses, ColumnsGiven, ColumnsWithin, ColumnsWrite, ColumnsWriteAccepts, ColumnsWriteRefuses, ColumnsReadWrite, ColumnsWriteRead}
+use Rattle.records.specs.Claims.{First, ReadAccepts, WriteAccepts, SheetAccepts, ReadRefuses, WriteRefuses, SheetRefuses, NumberGiven, TruthTable, PlacesGiven, ReadWrite, WriteRead, LongestJob, LongestJobMet, SheetGiven, ColumnsRead, ColumnsAccepts, ColumnsRefuses, ColumnsGiven, ColumnsWithin, ColumnsWrite, ColumnsWriteAccepts, ColumnsWriteRefuses, ColumnsReadWrite, ColumnsWriteRead}
 use Rattle.records.proofs.Laws.Accepted as accepted
+use Rattle.records.proofs.Laws.Gate as gate
 use Rattle.records.proofs.Laws.ReadColumns as over-columns
+use Rattle.records.proofs.Laws.SheetReply as sheet-reply
 
 pub first : First
 first = accepted.first
@@ -27,6 +29,9 @@ sheet-refuses = accepted.sheet-refuses
 pub number-given : NumberGiven
 number-given = accepted.number-given
 
+pub truth-table : TruthTable
+truth-table = gate.truth-table
+
 pub places-given : PlacesGiven
 places-given = accepted.places-given
 
@@ -41,6 +46,9 @@ longest-job = accepted.longest
 
 pub longest-job-met : LongestJobMet
 longest-job-met = accepted.longest-met
+
+pub sheet-given : SheetGiven
+sheet-given = sheet-reply.sheet-given
 
 pub columns-read : ColumnsRead
 columns-read = over-columns.columns-read

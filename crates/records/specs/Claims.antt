@@ -1,5 +1,5 @@
 -- What is promised of the record library beyond the contracts of its functions: the request's demands 1 and 2, and document 01,
--- "Bytes" and "Numbers given when a call is declined". proofs/Theorems.antt proves each.
+-- "Nets and gates", "Bytes", "Fitting and comparing" and "Numbers given when a call is declined". proofs/Theorems.antt proves each.
 -- Assumes nothing.
 --
 --   Below n xs        every element of xs is below n
@@ -8,22 +8,27 @@
 --   ReadAccepts, WriteAccepts, SheetAccepts     what passes the tests is accepted, and nothing else
 --   ReadRefuses, WriteRefuses, SheetRefuses     a refusal gives length 0 (read: counts of 0) and alters nothing lent
 --   NumberGiven       every reply has its call's number
+--   assignments k                 all lists of k values of 0 and 1, counting up, the last value fastest
+--   TruthTable                    the values of all kinds on 0 and 1
 --   PlacesGiven                   the places of an accepted job hold it
 --   ReadWrite, WriteRead          the round trip
 --   LongestJob, LongestJobMet     no accepted job has more than 4,188 bytes, and one has as many
+--   SheetIn m k nets weights s, SheetGiven      an accepted sheet's support, table and cost are replied
 --   ColumnsRead       read_columns replies what read does
 --   ColumnsAccepts, ColumnsRefuses              what read_columns accepts; a refusal alters no column
 --   ColumnsGiven, ColumnsWithin   the columns of an accepted job hold it
 --   ColumnsWrite      write_columns replies and writes what write does
 --   ColumnsWriteAccepts, ColumnsWriteRefuses    what write_columns accepts; a refusal alters no byte
 --   ColumnsReadWrite, ColumnsWriteRead          the round trip over columns
-use Prim.Native.Nat.{ℕ, _≤_, _<_}
+use Prim.Native.Nat.{ℕ, zero, suc, _^_, _≤_, _<_}
 use mathlib.Core.Path.{_≡_}
 use mathlib.Core.Logic.{_↔_}
-use mathlib.Core.List.{List, _∷_, _++_}
+use mathlib.Core.List.{List, [], _∷_, _++_, map}
 use mathlib.Core.Bool.{true, false}
-use lib.ListN.{length, getD, take}
-use Rattle.records.specs.Bytes.{all, placed}
+use lib.ListN.{length, getD, take, drop}
+use Rattle.records.specs.Bytes.{tabulate, all, placed}
+use Rattle.records.specs.Gate.{gateOf, kindCount, arity}
+use Rattle.records.specs.Netlist.{valueOf}
 use Rattle.records.specs.Job.{Job, jobWhole, jobOf}
 use Rattle.records.specs.Refusal.{Test, firstFailing, countsGood, netlistsGood, outputsGood, candidatesGood, jobRefusal, longestJob}
 use Rattle.records.specs.Sheet.{patchOf, sheetWhole, patchGood}
@@ -96,6 +101,33 @@ NumberGiven =
 
 -- ---- demand 2
 
+unfoldable pub assignments : ℕ → List (List ℕ)
+assignments zero = [] ∷ []
+assignments (suc k) =
+    map (λ (vs : List ℕ). 0 ∷ vs) (assignments k) ++ map (λ (vs : List ℕ). 1 ∷ vs) (assignments k)
+
+-- "Gates behave as IEEE 1364 defines its primitives on 0 and 1": a row for each kind, the values of a gate over nets 0 and 1 where its
+-- operands count up from all 0 to all 1.
+abbrev pub TruthTable : Type 0
+TruthTable =
+    tabulate kindCount (λ k. map (λ (vs : List ℕ). valueOf vs (gateOf k 0 1)) (assignments (arity k)))
+    -- constant zero, constant one
+    ≡ (0 ∷ [])
+    ∷ (1 ∷ [])
+    -- buf, not
+    ∷ (0 ∷ 1 ∷ [])
+    ∷ (1 ∷ 0 ∷ [])
+    -- and, nand
+    ∷ (0 ∷ 0 ∷ 0 ∷ 1 ∷ [])
+    ∷ (1 ∷ 1 ∷ 1 ∷ 0 ∷ [])
+    -- or, nor
+    ∷ (0 ∷ 1 ∷ 1 ∷ 1 ∷ [])
+    ∷ (1 ∷ 0 ∷ 0 ∷ 0 ∷ [])
+    -- xor, xnor
+    ∷ (0 ∷ 1 ∷ 1 ∷ 0 ∷ [])
+    ∷ (1 ∷ 0 ∷ 0 ∷ 1 ∷ [])
+    ∷ []
+
 -- The places of an accepted job hold it, as many parts as its counts say.
 abbrev pub PlacesGiven : Type 0
 PlacesGiven =
@@ -128,6 +160,18 @@ LongestJob = (s : List ℕ) → jobRefusal s ≡ 0 → length s ≤ longestJob
 
 abbrev pub LongestJobMet : Type 0
 LongestJobMet = (s : List ℕ) × Below 256 s × (jobRefusal s ≡ 0) × (length s ≡ longestJob)
+
+-- ---- document 01, "Fitting and comparing": a patch sheet
+
+-- What read_sheet replies of an accepted sheet is what the sheet says: the support's nets, where in the bytes the table stands, one
+-- entry a reading, and the cost.
+pub record SheetIn (m k : ℕ) (nets weights s : List ℕ) : Type 0 where
+  pub support : take (sheetReply m k nets weights s .support .len) (sheetReply m k nets weights s .support .nets) ≡ patchOf s .support
+  pub table : take (2 ^ sheetReply m k nets weights s .support .len) (drop (sheetReply m k nets weights s .table) s) ≡ patchOf s .table
+  pub cost : sheetReply m k nets weights s .cost ≡ patchOf s .cost
+
+abbrev pub SheetGiven : Type 0
+SheetGiven = (m k : ℕ) (nets weights s : List ℕ) → sheetNumber m k nets weights s ≡ 0 → SheetIn m k nets weights s
 
 -- ---- the services over columns
 
