@@ -1,7 +1,8 @@
 -- What specs/Claims.antt promises of the record library, each by one citation. Assumes nothing.
-use Rattle.records.specs.Claims.{First, ReadAccepts, WriteAccepts, SheetAccepts, ReadRefuses, WriteRefuses, SheetRefuses, NumberGiven, TruthTable, PlacesGiven, ReadWrite, WriteRead, LongestJob, LongestJobMet, SheetGiven, ColumnsRead, ColumnsAccepts, ColumnsRefuses, ColumnsGiven, ColumnsWithin, ColumnsWrite, ColumnsWriteAccepts, ColumnsWriteRefuses, ColumnsReadWrite, ColumnsWriteRead}
+use Rattle.records.specs.Claims.{First, ReadAccepts, WriteAccepts, SheetAccepts, ReadRefuses, WriteRefuses, SheetRefuses, NumberGiven, ReadKeeps, WriteKeeps, ReadIndependent, WriteIndependent, SheetIndependent, TruthTable, PlacesGiven, ReadWrite, WriteRead, LongestJob, LongestJobMet, SheetGiven, ColumnsRead, ColumnsAccepts, ColumnsRefuses, ColumnsGiven, ColumnsWithin, ColumnsWrite, ColumnsWriteAccepts, ColumnsWriteRefuses, ColumnsReadWrite, ColumnsWriteRead, ColumnsKeeps, ColumnsWriteKeeps, ColumnsIndependent, ColumnsWriteIndependent}
 use Rattle.records.proofs.Laws.Accepted as accepted
 use Rattle.records.proofs.Laws.Gate as gate
+use Rattle.records.proofs.Laws.Independent as independent
 use Rattle.records.proofs.Laws.ReadColumns as over-columns
 use Rattle.records.proofs.Laws.SheetReply as sheet-reply
 
@@ -28,6 +29,21 @@ sheet-refuses = accepted.sheet-refuses
 
 pub number-given : NumberGiven
 number-given = accepted.number-given
+
+pub read-keeps : ReadKeeps
+read-keeps = independent.read-keeps
+
+pub write-keeps : WriteKeeps
+write-keeps = independent.write-keeps
+
+pub read-independent : ReadIndependent
+read-independent = independent.read-independent
+
+pub write-independent : WriteIndependent
+write-independent = independent.write-independent
+
+pub sheet-independent : SheetIndependent
+sheet-independent = independent.sheet-independent
 
 pub truth-table : TruthTable
 truth-table = gate.truth-table
@@ -79,3 +95,15 @@ columns-read-write = over-columns.columns-read-write
 
 pub columns-write-read : ColumnsWriteRead
 columns-write-read = over-columns.columns-write-read
+
+pub columns-keeps : ColumnsKeeps
+columns-keeps = independent.columns-keeps
+
+pub columns-write-keeps : ColumnsWriteKeeps
+columns-write-keeps = independent.columns-write-keeps
+
+pub columns-independent : ColumnsIndependent
+columns-independent = independent.columns-independent
+
+pub columns-write-independent : ColumnsWriteIndependent
+columns-write-independent = independent.columns-write-independent

@@ -8,6 +8,11 @@
 --   ReadAccepts, WriteAccepts, SheetAccepts     what passes the tests is accepted, and nothing else
 --   ReadRefuses, WriteRefuses, SheetRefuses     a refusal gives length 0 (read: counts of 0) and alters nothing lent
 --   NumberGiven       every reply has its call's number
+--   sideBehind, behind c p        what stands in the places p behind the counts c
+--   ReadKeeps, WriteKeeps         places and bytes behind a reply's counts or length are as they were
+--   SideAlike, Alike p q          the places p and q have the same lengths, whatever they hold
+--   sideUpTo, upTo c p            the places p as far as the counts c say
+--   ReadIndependent, WriteIndependent, SheetIndependent     what lent places held before, or hold behind the counts, plays no part
 --   assignments k                 all lists of k values of 0 and 1, counting up, the last value fastest
 --   TruthTable                    the values of all kinds on 0 and 1
 --   PlacesGiven                   the places of an accepted job hold it
@@ -20,6 +25,11 @@
 --   ColumnsWrite      write_columns replies and writes what write does
 --   ColumnsWriteAccepts, ColumnsWriteRefuses    what write_columns accepts; a refusal alters no byte
 --   ColumnsReadWrite, ColumnsWriteRead          the round trip over columns
+--   sideColumnsBehind, columnsBehind c p        what stands in the columns p behind the counts c
+--   ColumnsKeeps, ColumnsWriteKeeps             columns and bytes behind a reply's counts or length are as they were
+--   SideColumnsAlike, ColumnsAlike p q          the columns p and q have the same lengths, whatever they hold
+--   sideColumnsUpTo, columnsUpTo c p            the columns p as far as the counts c say
+--   ColumnsIndependent, ColumnsWriteIndependent             what columns held before, or hold behind the counts, plays no part
 use Prim.Native.Nat.{ℕ, zero, suc, _^_, _≤_, _<_}
 use mathlib.Core.Path.{_≡_}
 use mathlib.Core.Logic.{_↔_}
@@ -32,8 +42,9 @@ use Rattle.records.specs.Netlist.{valueOf}
 use Rattle.records.specs.Job.{Job, jobWhole, jobOf}
 use Rattle.records.specs.Refusal.{Test, firstFailing, countsGood, netlistsGood, outputsGood, candidatesGood, jobRefusal, longestJob}
 use Rattle.records.specs.Sheet.{patchOf, sheetWhole, patchGood}
-use Rattle.records.specs.Service.{Places, roomy, noCounts, readNumber, readReply, readPlaces, held, candidatesFrom, jobFrom, writeNumber, writeReply, writtenBytes, sheetRoomy, sheetNumber, sheetReply}
-use Rattle.records.specs.Columns.{Columns, columnsRoomy, columnsNumber, columnsReply, columnsAfter, columnsJob, columnsHeld, columnsWriteNumber, columnsWriteReply, columnsWritten}
+use Rattle.records.specs.Service.{SidePlaces, Places, roomy, noCounts, readNumber, readReply, readPlaces, held, candidatesFrom, jobFrom, writeNumber, writeReply, writtenBytes, sheetRoomy, sheetNumber, sheetReply}
+use Rattle.records.specs.Columns.{SideColumns, Columns, columnsRoomy, columnsNumber, columnsReply, columnsAfter, columnsJob, columnsHeld, columnsWriteNumber, columnsWriteReply, columnsWritten}
+use Rattle.records.specs.declared.job.SideCounts.{SideCounts}
 use Rattle.records.specs.declared.job.Counts.{Counts}
 
 abbrev pub Below : ℕ → List ℕ → Type 0
@@ -98,6 +109,74 @@ NumberGiven =
     × ((m k : ℕ) (nets weights s : List ℕ) → sheetReply m k nets weights s .number ≡ sheetNumber m k nets weights s)
     × ((p : Columns) (s : List ℕ) → columnsReply p s .number ≡ columnsNumber p s)
     × ((c : Counts) (p : Columns) (d : List ℕ) → columnsWriteReply c p d .number ≡ columnsWriteNumber c p d)
+
+unfoldable pub sideBehind : SideCounts → SidePlaces → SidePlaces
+sideBehind c p = record { gates = drop (c .gates) (p .gates); outputs = drop (c .outputs) (p .outputs) }
+
+unfoldable pub behind : Counts → Places → Places
+behind c p =
+    record {
+      old = sideBehind (c .old) (p .old);
+      golden = sideBehind (c .golden) (p .golden);
+      nets = drop (c .candidates) (p .nets);
+      weights = drop (c .candidates) (p .weights);
+    }
+
+-- Document 01: "An accepted call returns 0 and its reply fills the buffer's start; bytes or places behind its length are untouched."
+abbrev pub ReadKeeps : Type 0
+ReadKeeps = (p : Places) (s : List ℕ) → let c = readReply p s .counts in behind c (readPlaces p s) ≡ behind c p
+
+abbrev pub WriteKeeps : Type 0
+WriteKeeps =
+    (c : Counts) (p : Places) (d : List ℕ)
+    → let n = writeReply c p d .len in
+    (n ≤ length d) × (drop n (writtenBytes c p d) ≡ drop n d)
+
+-- Lent places of the same lengths.
+pub record SideAlike (p q : SidePlaces) : Type 0 where
+  pub gates : length (p .gates) ≡ length (q .gates)
+  pub outputs : length (p .outputs) ≡ length (q .outputs)
+
+pub record Alike (p q : Places) : Type 0 where
+  pub old : SideAlike (p .old) (q .old)
+  pub golden : SideAlike (p .golden) (q .golden)
+  pub nets : length (p .nets) ≡ length (q .nets)
+  pub weights : length (p .weights) ≡ length (q .weights)
+
+unfoldable pub sideUpTo : SideCounts → SidePlaces → SidePlaces
+sideUpTo c p = record { gates = take (c .gates) (p .gates); outputs = take (c .outputs) (p .outputs) }
+
+unfoldable pub upTo : Counts → Places → Places
+upTo c p =
+    record {
+      old = sideUpTo (c .old) (p .old);
+      golden = sideUpTo (c .golden) (p .golden);
+      nets = take (c .candidates) (p .nets);
+      weights = take (c .candidates) (p .weights);
+    }
+
+-- "No earlier job plays any part in its reply": lent places of the same lengths, whatever they held before, get the same reply,
+-- and the same parts as far as its counts say.
+abbrev pub ReadIndependent : Type 0
+ReadIndependent =
+    (p q : Places) (s : List ℕ) → Alike p q
+    → let c = readReply p s .counts in
+    (readReply p s ≡ readReply q s) × (upTo c (readPlaces p s) ≡ upTo c (readPlaces q s))
+
+-- The same for write, from places that hold the counts or not alike: neither what the buffer held before plays a part, nor what stands
+-- in the places behind the counts.
+abbrev pub WriteIndependent : Type 0
+WriteIndependent =
+    (c : Counts) (p q : Places) (d e : List ℕ) → held c p ≡ held c q → upTo c p ≡ upTo c q → length d ≡ length e
+    → let n = writeReply c p d .len in
+    (writeReply c p d ≡ writeReply c q e) × (take n (writtenBytes c p d) ≡ take n (writtenBytes c q e))
+
+-- The same for read_sheet, which alters nothing lent: what stands in the places behind the first k candidates plays no part.
+abbrev pub SheetIndependent : Type 0
+SheetIndependent =
+    (m k : ℕ) (nets weights nets′ weights′ s : List ℕ) → length nets ≡ length nets′ → length weights ≡ length weights′
+    → take k nets ≡ take k nets′ → take k weights ≡ take k weights′
+    → sheetReply m k nets weights s ≡ sheetReply m k nets′ weights′ s
 
 -- ---- demand 2
 
@@ -229,3 +308,77 @@ ColumnsWriteRead =
     → let c = columnsReply p s .counts in
     let q = columnsAfter p s in
     (columnsWriteNumber c q d ≡ 0) × (columnsWriteReply c q d .len ≡ length s) × (columnsWritten c q d ≡ placed d 0 s)
+
+unfoldable pub sideColumnsBehind : SideCounts → SideColumns → SideColumns
+sideColumnsBehind c p =
+    record {
+      kinds = drop (c .gates) (p .kinds);
+      firsts = drop (c .gates) (p .firsts);
+      seconds = drop (c .gates) (p .seconds);
+      outputs = drop (c .outputs) (p .outputs);
+    }
+
+unfoldable pub columnsBehind : Counts → Columns → Columns
+columnsBehind c p =
+    record {
+      old = sideColumnsBehind (c .old) (p .old);
+      golden = sideColumnsBehind (c .golden) (p .golden);
+      nets = drop (c .candidates) (p .nets);
+      weights = drop (c .candidates) (p .weights);
+    }
+
+-- Columns and bytes behind a reply are untouched.
+abbrev pub ColumnsKeeps : Type 0
+ColumnsKeeps =
+    (p : Columns) (s : List ℕ) → let c = columnsReply p s .counts in columnsBehind c (columnsAfter p s) ≡ columnsBehind c p
+
+abbrev pub ColumnsWriteKeeps : Type 0
+ColumnsWriteKeeps =
+    (c : Counts) (p : Columns) (d : List ℕ)
+    → let n = columnsWriteReply c p d .len in
+    (n ≤ length d) × (drop n (columnsWritten c p d) ≡ drop n d)
+
+-- Columns of the same lengths.
+pub record SideColumnsAlike (p q : SideColumns) : Type 0 where
+  pub kinds : length (p .kinds) ≡ length (q .kinds)
+  pub firsts : length (p .firsts) ≡ length (q .firsts)
+  pub seconds : length (p .seconds) ≡ length (q .seconds)
+  pub outputs : length (p .outputs) ≡ length (q .outputs)
+
+pub record ColumnsAlike (p q : Columns) : Type 0 where
+  pub old : SideColumnsAlike (p .old) (q .old)
+  pub golden : SideColumnsAlike (p .golden) (q .golden)
+  pub nets : length (p .nets) ≡ length (q .nets)
+  pub weights : length (p .weights) ≡ length (q .weights)
+
+unfoldable pub sideColumnsUpTo : SideCounts → SideColumns → SideColumns
+sideColumnsUpTo c p =
+    record {
+      kinds = take (c .gates) (p .kinds);
+      firsts = take (c .gates) (p .firsts);
+      seconds = take (c .gates) (p .seconds);
+      outputs = take (c .outputs) (p .outputs);
+    }
+
+unfoldable pub columnsUpTo : Counts → Columns → Columns
+columnsUpTo c p =
+    record {
+      old = sideColumnsUpTo (c .old) (p .old);
+      golden = sideColumnsUpTo (c .golden) (p .golden);
+      nets = take (c .candidates) (p .nets);
+      weights = take (c .candidates) (p .weights);
+    }
+
+-- No earlier job plays any part, and neither does what stands behind the counts.
+abbrev pub ColumnsIndependent : Type 0
+ColumnsIndependent =
+    (p q : Columns) (s : List ℕ) → ColumnsAlike p q
+    → let c = columnsReply p s .counts in
+    (columnsReply p s ≡ columnsReply q s) × (columnsUpTo c (columnsAfter p s) ≡ columnsUpTo c (columnsAfter q s))
+
+abbrev pub ColumnsWriteIndependent : Type 0
+ColumnsWriteIndependent =
+    (c : Counts) (p q : Columns) (d e : List ℕ) → columnsHeld c p ≡ columnsHeld c q → columnsUpTo c p ≡ columnsUpTo c q
+    → length d ≡ length e
+    → let n = columnsWriteReply c p d .len in
+    (columnsWriteReply c p d ≡ columnsWriteReply c q e) × (take n (columnsWritten c p d) ≡ take n (columnsWritten c q e))

@@ -8,7 +8,7 @@ use mathlib.Core.Bool.{Bool, true, false, cond}
 use native.Mathlib.Omega.{arith}
 use borrow.Author.Tests.{ltb-true, leb-true, le-leb, eqb-true, eq-eqb, ne-eqb}
 use lib.Dec.{T, leb, ltb, eqb, lit<}
-use lib.ListN.{length, getD, take, length-map, List·getD-map}
+use lib.ListN.{length, getD, take, drop, length-map, List·getD-map}
 use lib.Seq.{ext-getD}
 use Rattle.records.specs.Bytes.{upFrom, all, flat, tabulate, bytePair, placed, field, nth}
 use Rattle.records.specs.Gate.{Gate, gateOf, arity, operands, unused, disj}
@@ -26,7 +26,7 @@ use Rattle.records.proofs.Laws.Bytes.{and-left, and-right, length-tabul
 use Rattle.records.proofs.Laws.Counts.{countsWithin-facts, countsWithin-countsOf}
 use Rattle.records.proofs.Laws.Field.{whole-end, startOf-suc, startOf-position}
 use Rattle.records.proofs.Laws.Shape.{JobWhole, jobWhole-facts, length-gatesOf, length-netsOf, length-candidatesOf}
-use Rattle.records.proofs.Laws.Job.{length-placed-front, take-placed-front, getD-placed-front, SideBounds, held-bounds, held-true, countsOf-jobFrom}
+use Rattle.records.proofs.Laws.Job.{length-placed-front, take-placed-front, drop-placed-front, getD-placed-front, SideBounds, held-bounds, held-true, countsOf-jobFrom}
 use Rattle.records.proofs.Laws.RoundTrip.{All, all-tabulate, Two, TwoEach, gates-structs, two-jobFrom, read-write, write-read, jobRefusal-jobBytes}
 
 -- ---- tests in a row
@@ -166,6 +166,11 @@ longest s e =
     length-within s (jobWhole-facts s (u .0))
     (countsWithin-facts (countsOf (jobOf s)) (countsWithin-countsOf (jobOf s) ∙ c))
 
+-- good parts take no more bytes
+pub length-good : (j : Job) → TwoEach j → PartsGood j → length (jobBytes j) ≤ longestJob
+unfolding partsRefusal
+length-good j w g = longest (jobBytes j) (jobRefusal-jobBytes j w ∙ none-of-passes (partTests j) (parts-pass j g))
+
 -- every count at its range's end: gates are constant zeros, outputs net 0, candidates the first nets
 longestSide : Netlist
 longestSide = record { gates = tabulate 400 (λ i. gateOf 0 0 0); outputs = tabulate 32 (λ i. 0) }
@@ -216,6 +221,12 @@ module _ {A B : Type 0} (f : A → B) (ps : List B) (xs : List A) where
   pub column-room : length xs ≤ length (placed ps 0 (map f xs))
   column-room = rw (← length-map xs f) (length-placed-front ps (map f xs))
 
+  pub take-column : take (length xs) (placed ps 0 (map f xs)) ≡ map f xs
+  take-column = rw (← length-map xs f) (take-placed-front ps (map f xs))
+
+  pub drop-column : drop (length xs) (placed ps 0 (map f xs)) ≡ drop (length xs) ps
+  drop-column = rw (← length-map xs f) (drop-placed-front ps (map f xs))
+
   pub getD-column : (d : A) (b : B) → f d ≡ b → (i : ℕ) → i < length xs → getD (placed ps 0 (map f xs)) i b ≡ f (getD xs i d)
   getD-column d b z i h =
       getD-placed-front ps (map f xs) i b (omega (arith, length-map xs f))
@@ -231,8 +242,7 @@ tabulate-list d xs f h =
 gatesIn-placed : (ps : List GateStruct) (gs : List Gate) → All Two gs
     → gatesIn (length gs) (placed ps 0 (map structOf gs)) ≡ gs
 unfolding gatesIn
-gatesIn-placed ps gs w =
-    rw (← length-map gs structOf, take-placed-front ps (map structOf gs)) (gates-structs gs w)
+gatesIn-placed ps gs w = rw (take-column structOf ps gs) (gates-structs gs w)
 
 netlistFrom-filled : (p : SidePlaces) (l : Netlist) → All Two (l .gates)
     → netlistFrom (sideCountsOf l) (filledSide p l) ≡ l
