@@ -6,6 +6,7 @@ pub mod Counts
 pub mod Field
 pub mod Gate
 pub mod Gates
+pub mod Independent
 pub mod Job
 pub mod Netlist
 pub mod Put

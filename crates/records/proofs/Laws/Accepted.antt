@@ -1,14 +1,14 @@
--- Laws of what the services accept: tests in a row, the longest job, and read and write one after the other.
--- Assumes nothing.
+-- Laws of what the services accept: tests in a row, the longest job, and read and write one after the other, by laws over what can
+-- hold a job's parts. Assumes nothing.
 use Prim.Native.Nat.{ℕ, zero, suc, _+_, _≤_, _<_}
 use mathlib.Core.Path.{_≡_, refl, sym, _∙_, ap}
 use mathlib.Core.Logic.{_↔_}
 use mathlib.Core.List.{List, [], _∷_, map}
 use mathlib.Core.Bool.{Bool, true, false, cond}
 use native.Mathlib.Omega.{arith}
-use borrow.Author.Tests.{ltb-true, leb-true, le-leb, eq-eqb, ne-eqb}
-use lib.Dec.{T, ltb, lit<}
-use lib.ListN.{length, getD, length-map, List·getD-map}
+use borrow.Author.Tests.{ltb-true, leb-true, le-leb, eqb-true, eq-eqb, ne-eqb}
+use lib.Dec.{T, leb, ltb, eqb, lit<}
+use lib.ListN.{length, getD, take, drop, length-map, List·getD-map}
 use lib.Seq.{ext-getD}
 use Rattle.records.specs.Bytes.{upFrom, all, flat, tabulate, bytePair, placed, field, nth}
 use Rattle.records.specs.Gate.{Gate, gateOf, arity, operands, unused, disj}
@@ -16,16 +16,17 @@ use Rattle.records.specs.Netlist.{Netlist, netAt, extended, markOf, fano
 use Rattle.records.specs.Job.{Candidate, Job, gateAt, gatesOf, netlistOf, jobTags, jobWhole, jobOf, gateBytes, candidateBytes, jobBytes}
 use Rattle.records.specs.Refusal.{sideCountsGood, countsGood, gateGood, gatesGood, netlistsGood, oldNets, goldenNets, outputsGood, ascending, candidateGood, candidatesGood, longestJob, Test, firstFailing, partTests, jobTests, partsRefusal, jobRefusal}
 use Rattle.records.specs.Sheet.{sheetTests}
-use Rattle.records.specs.Service.{SidePlaces, Places, structOf, sideCountsOf, countsOf, roomy, filledSide, filled, gatesIn, netlistFrom, candidatesFrom, jobFrom, held, readNumber, readReply, readPlaces, writeNumber, writeReply, writtenBytes, sheetNumber, sheetReply}
+use Rattle.records.specs.Service.{SidePlaces, Places, structOf, sideCountsOf, countsOf, noCounts, roomy, filledSide, filled, gatesIn, netlistFrom, candidatesFrom, jobFrom, held, readNumber, readReply, readPlaces, writeNumber, writeReply, writtenBytes, sheetNumber, sheetReply}
+use Rattle.records.specs.Columns.{columnsReply, columnsWriteReply}
 use Rattle.records.specs.Inner.{startOf, Within}
-use Rattle.records.specs.Claims.{Below, PartsGood, First, ReadAccepts, WriteAccepts, SheetAccepts, ReadRefuses, WriteRefuses, SheetRefuses, ReadWrite, WriteRead, LongestJob, LongestJobMet}
+use Rattle.records.specs.Claims.{Below, PartsGood, First, ReadAccepts, WriteAccepts, SheetAccepts, ReadRefuses, WriteRefuses, SheetRefuses, NumberGiven, PlacesGiven, ReadWrite, WriteRead, LongestJob, LongestJobMet}
 use Rattle.records.specs.declared.gate.Gate.{Gate as GateStruct}
 use Rattle.records.specs.declared.job.Counts.{Counts}
 use Rattle.records.proofs.Laws.Bytes.{and-left, and-right, length-tabulate, getD-tabulate}
 use Rattle.records.proofs.Laws.Counts.{countsWithin-facts, countsWithin-countsOf}
 use Rattle.records.proofs.Laws.Field.{whole-end, startOf-suc, startOf-position}
 use Rattle.records.proofs.Laws.Shape.{JobWhole, jobWhole-facts, length-gatesOf, length-netsOf, length-candidatesOf}
-use Rattle.records.proofs.Laws.Job.{length-placed-front, take-placed-front, getD-placed-front, SideBounds, held-bounds, held-true, countsOf-jobFrom}
+use Rattle.records.proofs.Laws.Job.{length-placed-front, take-placed-front, drop-placed-front, getD-placed-front, SideBounds, held-bounds, held-true, countsOf-jobFrom}
 use Rattle.records.proofs.Laws.RoundTrip.{All, all-tabulate, Two, TwoEach, gates-structs, two-jobFrom, read-write, write-read, jobRefusal-jobBytes}
 
 -- ---- tests in a row
@@ -85,14 +86,22 @@ pub read-accepts : ReadAccepts
 unfolding readNumber
 read-accepts p s = job-accepts (roomy p) s
 
+-- a job's parts, given the buffer's length and whether the counts are held
+pub parts-accept : (n : ℕ) (b : Bool) (j : Job)
+    → (firstFailing
+    (record { number = 1; passes = leb longestJob n } ∷ record { number = 3; passes = b } ∷ partTests j)
+    ≡ 0)
+    ↔ ((longestJob ≤ n) × (b ≡ true) × PartsGood j)
+parts-accept n b j = (
+  λ e.
+      let u = passes-of-none _ (omega arith, (omega arith, parts-tests j)) e in
+      (leb-true _ _ (u .0), u .1 .0, parts-good j (u .1 .1)),
+  λ h. none-of-passes _ (le-leb _ _ (h .0), (h .1, parts-pass j (h .2))),
+)
+
 pub write-accepts : WriteAccepts
 unfolding writeNumber
-write-accepts c p d = (
-  λ e.
-      let u = passes-of-none _ (omega arith, (omega arith, parts-tests (jobFrom c p))) e in
-      (leb-true _ _ (u .0), u .1 .0, parts-good (jobFrom c p) (u .1 .1)),
-  λ h. none-of-passes _ (le-leb _ _ (h .0), (h .1, parts-pass (jobFrom c p) (h .2))),
-)
+write-accepts c p d = parts-accept (length d) (held c p) (jobFrom c p)
 
 pub sheet-accepts : SheetAccepts
 unfolding sheetNumber sheetTests
@@ -114,6 +123,19 @@ write-refuses c p d h = let e = ne-eqb (writeNumber c p d) 0 h in (rw e, rw e)
 pub sheet-refuses : SheetRefuses
 unfolding sheetReply
 sheet-refuses m k nets weights s h = let e = ne-eqb (sheetNumber m k nets weights s) 0 h in (rw e, rw e)
+
+sheet-number : (m k : ℕ) (nets weights s : List ℕ) → sheetReply m k nets weights s .number ≡ sheetNumber m k nets weights s
+unfolding sheetReply
+sheet-number m k nets weights s = pick (eqb (sheetNumber m k nets weights s) 0) refl
+  where
+    pick : (b : Bool) → eqb (sheetNumber m k nets weights s) 0 ≡ b
+        → sheetReply m k nets weights s .number ≡ sheetNumber m k nets weights s
+    pick true e = rw e (sym (eqb-true (sheetNumber m k nets weights s) 0 e))
+    pick false e = rw e
+
+pub number-given : NumberGiven
+unfolding readReply writeReply columnsReply columnsWriteReply
+number-given = (λ p s. refl, λ c p d. refl, sheet-number, λ p s. refl, λ c p d. refl)
 
 -- ---- the longest job
 
@@ -143,6 +165,11 @@ longest s e =
     let c = parts-good (jobOf s) (u .1) .counts in
     length-within s (jobWhole-facts s (u .0))
     (countsWithin-facts (countsOf (jobOf s)) (countsWithin-countsOf (jobOf s) ∙ c))
+
+-- good parts take no more bytes
+pub length-good : (j : Job) → TwoEach j → PartsGood j → length (jobBytes j) ≤ longestJob
+unfolding partsRefusal
+length-good j w g = longest (jobBytes j) (jobRefusal-jobBytes j w ∙ none-of-passes (partTests j) (parts-pass j g))
 
 -- every count at its range's end: gates are constant zeros, outputs net 0, candidates the first nets
 longestSide : Netlist
@@ -194,6 +221,12 @@ module _ {A B : Type 0} (f : A → B) (ps : List B) (xs : List A) where
   pub column-room : length xs ≤ length (placed ps 0 (map f xs))
   column-room = rw (← length-map xs f) (length-placed-front ps (map f xs))
 
+  pub take-column : take (length xs) (placed ps 0 (map f xs)) ≡ map f xs
+  take-column = rw (← length-map xs f) (take-placed-front ps (map f xs))
+
+  pub drop-column : drop (length xs) (placed ps 0 (map f xs)) ≡ drop (length xs) ps
+  drop-column = rw (← length-map xs f) (drop-placed-front ps (map f xs))
+
   pub getD-column : (d : A) (b : B) → f d ≡ b → (i : ℕ) → i < length xs → getD (placed ps 0 (map f xs)) i b ≡ f (getD xs i d)
   getD-column d b z i h =
       getD-placed-front ps (map f xs) i b (omega (arith, length-map xs f))
@@ -209,8 +242,7 @@ tabulate-list d xs f h =
 gatesIn-placed : (ps : List GateStruct) (gs : List Gate) → All Two gs
     → gatesIn (length gs) (placed ps 0 (map structOf gs)) ≡ gs
 unfolding gatesIn
-gatesIn-placed ps gs w =
-    rw (← length-map gs structOf, take-placed-front ps (map structOf gs)) (gates-structs gs w)
+gatesIn-placed ps gs w = rw (take-column structOf ps gs) (gates-structs gs w)
 
 netlistFrom-filled : (p : SidePlaces) (l : Netlist) → All Two (l .gates)
     → netlistFrom (sideCountsOf l) (filledSide p l) ≡ l
@@ -258,11 +290,86 @@ held-filled p j =
       weights = column-room (λ (c : Candidate). c .weight) (p .weights) (j .candidates);
     })
 
--- ---- read, then write; write, then read
+-- ---- what can hold a job's parts: places, columns
 
 pub two-jobOf : (s : List ℕ) → TwoEach (jobOf s)
 unfolding jobOf netlistOf gatesOf gateAt gateOf
 two-jobOf s = record { old = all-tabulate Two _ (λ i. refl) _; golden = all-tabulate Two _ (λ i. refl) _ }
+
+-- whether there is room for any job, a job put there, whether counts are held, and the job that is held with them
+pub record Holder (P : Type 0) : Type 0 where
+  pub room : P → Bool
+  pub put : P → Job → P
+  pub holds : Counts → P → Bool
+  pub job : Counts → P → Job
+  pub two : (c : Counts) (p : P) → TwoEach (job c p)
+  pub countsOf-job : (c : Counts) (p : P) → holds c p ≡ true → countsOf (job c p) ≡ c
+  pub holds-put : (p : P) (j : Job) → holds (countsOf j) (put p j) ≡ true
+  pub job-put : (p : P) (j : Job) → TwoEach j → job (countsOf j) (put p j) ≡ j
+
+module _ {P : Type 0} (k : Holder P) where
+  -- the number and the counts that reading replies, and what is held afterwards
+  abbrev pub readNumberIn : P → List ℕ → ℕ
+  readNumberIn p s = firstFailing (record { number = 1; passes = k .room p } ∷ jobTests s)
+
+  abbrev pub countsIn : P → List ℕ → Counts
+  countsIn p s = cond (eqb (readNumberIn p s) 0) (countsOf (jobOf s)) noCounts
+
+  abbrev pub readIn : P → List ℕ → P
+  readIn p s = cond (eqb (readNumberIn p s) 0) (k .put p (jobOf s)) p
+
+  -- the number and the length that writing replies, and the buffer afterwards
+  abbrev pub writeNumberIn : Counts → P → List ℕ → ℕ
+  writeNumberIn c p d =
+      firstFailing
+      (record { number = 1; passes = leb longestJob (length d) }
+      ∷ record { number = 3; passes = k .holds c p }
+      ∷ partTests (k .job c p))
+
+  abbrev pub lengthIn : Counts → P → List ℕ → ℕ
+  lengthIn c p d = cond (eqb (writeNumberIn c p d) 0) (length (jobBytes (k .job c p))) 0
+
+  abbrev pub writtenIn : Counts → P → List ℕ → List ℕ
+  writtenIn c p d = cond (eqb (writeNumberIn c p d) 0) (placed d 0 (jobBytes (k .job c p))) d
+
+  -- what is read is held
+  pub held-in : (p : P) (s : List ℕ) → readNumberIn p s ≡ 0 → k .holds (countsIn p s) (readIn p s) ≡ true
+  held-in p s e = rw (eq-eqb (readNumberIn p s) 0 e) (k .holds-put p (jobOf s))
+
+  pub given-in : (p : P) (s : List ℕ) → readNumberIn p s ≡ 0 → k .job (countsIn p s) (readIn p s) ≡ jobOf s
+  given-in p s e = rw (eq-eqb (readNumberIn p s) 0 e) (k .job-put p (jobOf s) (two-jobOf s))
+
+  -- read, then write
+  pub write-read-in : (p : P) (s : List ℕ) → Below 256 s → readNumberIn p s ≡ 0 → (d : List ℕ) → longestJob ≤ length d
+      → let c = countsIn p s in
+      let q = readIn p s in
+      (writeNumberIn c q d ≡ 0) × (lengthIn c q d ≡ length s) × (writtenIn c q d ≡ placed d 0 s)
+  write-read-in p s b e d h =
+      let u = job-accepts (k .room p) s .0 e in
+      let c = countsOf (jobOf s) in
+      let q = k .put p (jobOf s) in
+      let f : k .job c q ≡ jobOf s = k .job-put p (jobOf s) (two-jobOf s) in
+      let r : jobBytes (k .job c q) ≡ s = ap jobBytes f ∙ write-read s b (u .1) in
+      let n : writeNumberIn c q d ≡ 0 =
+      parts-accept (length d) (k .holds c q) (k .job c q) .1 (h, k .holds-put p (jobOf s), rw f (u .2)) in
+      rw (eq-eqb (readNumberIn p s) 0 e)
+      (n, rw (eq-eqb (writeNumberIn c q d) 0 n) (ap length r), rw (eq-eqb (writeNumberIn c q d) 0 n) (ap (placed d 0) r))
+
+  -- write, then read
+  pub read-write-in : (c : Counts) (p : P) (d : List ℕ) → writeNumberIn c p d ≡ 0 → (q : P) → k .room q ≡ true
+      → let s = take (lengthIn c p d) (writtenIn c p d) in
+      (readNumberIn q s ≡ 0) × (countsIn q s ≡ c) × (k .job c (readIn q s) ≡ k .job c p)
+  read-write-in c p d e q h =
+      let u = parts-accept (length d) (k .holds c p) (k .job c p) .0 e in
+      let s = jobBytes (k .job c p) in
+      let w = read-write (k .job c p) (k .two c p) in
+      let n : readNumberIn q s ≡ 0 = job-accepts (k .room q) s .1 (h, w .0, rw (w .1) (u .2)) in
+      let m : countsIn q s ≡ c = rw (eq-eqb (readNumberIn q s) 0 n) (ap countsOf (w .1) ∙ k .countsOf-job c p (u .1)) in
+      let f : k .job c (readIn q s) ≡ k .job c p =
+      ap (λ (x : Counts). k .job x (readIn q s)) (sym m) ∙ given-in q s n ∙ w .1 in
+      rw (eq-eqb (writeNumberIn c p d) 0 e, take-placed-front d s) (n, m, f)
+
+-- ---- read and write
 
 module _ (p : Places) (s : List ℕ) (e : readNumber p s ≡ 0) where
   pub read-counts : readReply p s .counts ≡ countsOf (jobOf s)
@@ -273,37 +380,27 @@ module _ (p : Places) (s : List ℕ) (e : readNumber p s ≡ 0) where
   unfolding readPlaces
   read-places = rw (eq-eqb (readNumber p s) 0 e)
 
-module _ (c : Counts) (p : Places) (d : List ℕ) (e : writeNumber c p d ≡ 0) where
-  write-len : writeReply c p d .len ≡ length (jobBytes (jobFrom c p))
-  unfolding writeReply
-  write-len = rw (eq-eqb (writeNumber c p d) 0 e)
+abbrev pub inPlaces : Holder Places
+inPlaces =
+    record {
+      room = roomy;
+      put = filled;
+      holds = held;
+      job = jobFrom;
+      two = two-jobFrom;
+      countsOf-job = λ c p h. countsOf-jobFrom (held-bounds c p h);
+      holds-put = held-filled;
+      job-put = jobFrom-filled;
+    }
 
-  write-bytes : writtenBytes c p d ≡ placed d 0 (jobBytes (jobFrom c p))
-  unfolding writtenBytes
-  write-bytes = rw (eq-eqb (writeNumber c p d) 0 e)
+pub places-given : PlacesGiven
+unfolding readReply readPlaces readNumber
+places-given p s e = (held-in inPlaces p s e, given-in inPlaces p s e)
 
 pub rewritten : WriteRead
-rewritten p s b e d h =
-    let u = read-accepts p s .0 e in
-    let j = jobOf s in
-    let c = countsOf j in
-    let q = filled p j in
-    let f : jobFrom c q ≡ j = jobFrom-filled p j (two-jobOf s) in
-    let r : jobBytes (jobFrom c q) ≡ s = ap jobBytes f ∙ write-read s b (u .1) in
-    let n : writeNumber c q d ≡ 0 = write-accepts c q d .1 (h, held-filled p j, rw f (u .2)) in
-    rw (read-counts p s e, read-places p s e)
-    (n, write-len c q d n ∙ ap length r, write-bytes c q d n ∙ ap (placed d 0) r)
+unfolding readReply readPlaces readNumber writeReply writtenBytes writeNumber
+rewritten = write-read-in inPlaces
 
 pub reread : ReadWrite
-reread c p d e q h =
-    let u = write-accepts c p d .0 e in
-    let j = jobFrom c p in
-    let s = jobBytes j in
-    let w = read-write j (two-jobFrom c p) in
-    let n : readNumber q s ≡ 0 = read-accepts q s .1 (h, w .0, rw (w .1) (u .2)) in
-    let k : countsOf j ≡ c = countsOf-jobFrom (held-bounds c p (u .1)) in
-    let f : jobFrom c (filled q j) ≡ j =
-    ap (λ (x : Counts). jobFrom x (filled q j)) (sym k) ∙ jobFrom-filled q j (two-jobFrom c p) in
-    let m : writeReply c p d .len ≡ length s = write-len c p d e in
-    let b : writtenBytes c p d ≡ placed d 0 s = write-bytes c p d e in
-    rw (m, b, take-placed-front d s) (n, read-counts q s n ∙ ap countsOf (w .1) ∙ k, rw (read-places q s n, w .1) f)
+unfolding readReply readPlaces readNumber writeReply writtenBytes writeNumber
+reread = read-write-in inPlaces

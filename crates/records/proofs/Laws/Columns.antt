@@ -26,7 +26,7 @@ use Rattle.records.proofs.Laws.Bytes.{row-at, and-left, false-of, lengt
 use Rattle.records.proofs.Laws.Counts.{columnsHold-facts, countsWithin-facts, countsWithin-countsOf}
 use Rattle.records.proofs.Laws.Job.{Filled, length-placed-front, take-placed-front}
 use Rattle.records.proofs.Laws.Accepted.{read-accepts, read-refuses, read-counts, read-places}
-use Rattle.records.proofs.Laws.ReadColumns.{columns-write}
+use Rattle.records.proofs.Laws.ReadColumns.{sides-held, columns-write}
 use Rattle.records.proofs.Laws.Reply.{write-counts}
 
 -- ---- gate structs and columns
@@ -280,17 +280,10 @@ module _ (c : Counts) (p : Columns) where
 
   held-rows : columnsHeld c p ≡ true
       → (sideHolds (p .old) (c .old .gates) ≡ true) × (sideHolds (p .golden) (c .golden .gates) ≡ true)
-  unfolding columnsHeld
   held-rows h =
-      let t =
-      row-at (sideColumnsHeld (c .old) (p .old))
-      (sideColumnsHeld (c .golden) (p .golden)
-      ∷ leb (c .candidates) (length (p .nets))
-      ∷ leb (c .candidates) (length (p .weights))
-      ∷ [])
-      h in (
-        and-left _ (leb (c .old .outputs) (length (p .old .outputs))) (sym (side-held (c .old) (p .old)) ∙ t 0),
-        and-left _ (leb (c .golden .outputs) (length (p .golden .outputs))) (sym (side-held (c .golden) (p .golden)) ∙ t 1),
+      let t = sides-held c p h in (
+        and-left _ (leb (c .old .outputs) (length (p .old .outputs))) (sym (side-held (c .old) (p .old)) ∙ t .0),
+        and-left _ (leb (c .golden .outputs) (length (p .golden .outputs))) (sym (side-held (c .golden) (p .golden)) ∙ t .1),
       )
 
   job-written : jobFrom c writtenFrom ≡ columnsJob c p

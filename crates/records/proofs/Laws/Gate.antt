@@ -1,4 +1,4 @@
--- Laws of specs/Gate and of a good gate: arities by kind, and the test of a gate by its arity. Assumes nothing.
+-- Laws of specs/Gate and of a good gate: arities by kind, the test of a gate by its arity, and values. Assumes nothing.
 use Prim.Native.Nat.{ℕ, zero, suc, _+_, _*_, _-_, _%_, _≤_, _<_}
 use mathlib.Core.Path.{_≡_, refl, sym, _∙_, ap}
 use mathlib.Core.Logic.{_⊎_, inl, inr, ⊎-elim}
@@ -9,9 +9,11 @@ use borrow.Author.Tests.{lt-ltb, le-ltb, ltb-true, leb-true, eqb-true}
 use lib.ListN.{getD, take, drop, replicate, length-replicate, getD-replicate, List·getD-append, List·getD-eq-default}
 use lib.Seq.{getD-drop}
 use lib.Dec.{leb, ltb, eqb, eqb·zero-suc, eqb·suc-zero, lit≤}
-use Rattle.records.specs.Bytes.{all}
-use Rattle.records.specs.Gate.{Gate, gateOf, arity, operands, unused, conj, disj, parity, gateValue}
+use Rattle.records.specs.Bytes.{upFrom, tabulate, all}
+use Rattle.records.specs.Gate.{Gate, gateOf, arity, operands, unused, conj, disj, parity, inverted, gateValue}
+use Rattle.records.specs.Netlist.{netAt, valueOf}
 use Rattle.records.specs.Refusal.{gateGood}
+use Rattle.records.specs.Claims.{assignments, TruthTable}
 use Rattle.records.proofs.Laws.Bytes.{and-left, and-right, all-cons}
 
 -- ---- tables
@@ -159,3 +161,7 @@ zero-or-above (suc n) k t = ⊎-elim inl (λ l. inr (omega (arith, t .1))) (zero
 pub gateValue-other : (k : ℕ) (vs : List ℕ) → NoneOf 9 k → gateValue k vs ≡ 0
 unfolding gateValue
 gateValue-other k vs t = ⊎-elim (λ e. rw e) (λ l. let h : 10 ≤ k = l in rw List·getD-eq-default) (zero-or-above 9 k t)
+
+pub truth-table : TruthTable
+unfolding tabulate upFrom assignments valueOf netAt operands gateOf arity gateValue conj disj parity inverted
+truth-table = refl

@@ -8,7 +8,7 @@ use native.Mathlib.Nat.{zero-add, mul-zero, mul-suc, mul-le-mul-left, mod-eq-of-
 use native.Mathlib.Numerals.{add-one}
 use native.Mathlib.Omega.{arith}
 use lib.ListN.{length, getD, take, drop, set, length-append, length-set, length-map, List·getD-append}
-use lib.Seq.{length-take-le, take-suc, take-append-seam, sets, sets-eq}
+use lib.Seq.{length-take-le, take-suc, take-append-seam, drop-append-seam, sets, sets-eq}
 use Rattle.records.specs.Bytes.{upFrom, tabulate, flat, bytePair, placed, field}
 use Rattle.records.specs.Gate.{Gate, gateOf}
 use Rattle.records.specs.Job.{Job, Candidate, gateBytes, candidateBytes, jobBytes}
@@ -85,6 +85,9 @@ module _ {A : Type 0} (d xs : List A) where
 
   pub take-placed-front : take (length xs) (placed d 0 xs) ≡ xs
   take-placed-front = rw placed-front (take-append-seam xs (drop (length xs) d))
+
+  pub drop-placed-front : drop (length xs) (placed d 0 xs) ≡ drop (length xs) d
+  drop-placed-front = rw placed-front (drop-append-seam xs (drop (length xs) d))
 
   pub getD-placed-front : (i : ℕ) (a : A) → i < length xs → getD (placed d 0 xs) i a ≡ getD xs i a
   getD-placed-front i a h =
