@@ -78,6 +78,9 @@ pub decide-refuses : DecideRefuses
 unfolding decideReply decidedBytes
 decide-refuses d s h = let e = ne-eqb (decideNumber d s) 0 h in (rw e refl, rw e refl)
 
+pub longest : LongestSheet
+longest = longest-sheet
+
 -- ---- what is behind the reply
 
 -- where the bytes xs are placed at a buffer's start, or nothing is, the buffer is kept from there on
@@ -85,9 +88,6 @@ pub kept-behind : (b : Bool) (d xs : List ℕ) → (b ≡ true → length xs ≤
     → let n = cond b (length xs) 0 in (n ≤ length d) × (drop n (cond b (placed d 0 xs) d) ≡ drop n d)
 kept-behind true d xs h = (h refl, drop-placed-behind d 0 xs (omega (arith, h refl)) (length xs) (omega arith))
 kept-behind false d xs h = (omega arith, refl)
-
-pub longest : LongestSheet
-longest = longest-sheet
 
 -- ---- an accepted job
 
@@ -169,19 +169,19 @@ apart a b h p q = h (ap tag (sym p ∙ q))
 
 module _ (j : Job) where
   patch-fields : (u : Ruling) (c : ℕ) → verdictFields (verdictFrom j u) ≡ 18 ∷ c ∷ [] → (is : List ℕ) × (u ≡ patch is) × (c ≡ cost j is)
-  unfolding verdictFields verdictFrom tag value
+  unfolding verdictFields verdictFrom value
   patch-fields (patch is) c e = (is, refl, sym (ap value e))
   patch-fields (unfixable x) c e = absurd (apart 20 18 (λ z. omega arith) refl e)
   patch-fields (blind r) c e = absurd (apart 21 18 (λ z. omega arith) refl e)
 
   unfixable-fields : (u : Ruling) (x : ℕ) → verdictFields (verdictFrom j u) ≡ 20 ∷ x ∷ [] → u ≡ unfixable x
-  unfolding verdictFields verdictFrom tag value
+  unfolding verdictFields verdictFrom value
   unfixable-fields (patch is) x e = absurd (apart 18 20 (λ z. omega arith) refl e)
   unfixable-fields (unfixable y) x e = ap unfixable (ap value e)
   unfixable-fields (blind r) x e = absurd (apart 21 20 (λ z. omega arith) refl e)
 
   blind-fields : (u : Ruling) (r : ℕ) → verdictFields (verdictFrom j u) ≡ 21 ∷ r ∷ [] → u ≡ blind r
-  unfolding verdictFields verdictFrom tag value
+  unfolding verdictFields verdictFrom value
   blind-fields (patch is) x e = absurd (apart 18 21 (λ z. omega arith) refl e)
   blind-fields (unfixable y) x e = absurd (apart 20 21 (λ z. omega arith) refl e)
   blind-fields (blind r) x e = ap blind (ap value e)

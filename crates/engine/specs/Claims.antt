@@ -1,7 +1,8 @@
 -- What is promised of the engine beyond the contracts of its functions: the request's demands 1 to 3, of the definitions and of
--- what decide, compare and fit reply. What is claimed of the definitions is proved in proofs/Theorems.antt, of a reply's number, of
--- decide and of compare in proofs/Replies.antt, of fit in proofs/FitReplies.antt, of decide, then compare or fit, in
--- proofs/InARow.antt, and that the longest replies are attained in proofs/Attained.antt. Assumes nothing.
+-- what decide, compare and fit reply. What is claimed of the definitions is proved in proofs/Theorems.antt (of the fitted netlist in
+-- proofs/Laws/Fitted.antt), of a reply's number, of decide and of compare in proofs/Replies.antt, of fit in proofs/FitReplies.antt,
+-- of decide, then compare or fit, in proofs/InARow.antt, and that the longest replies are attained in proofs/Attained.antt. Assumes
+-- nothing.
 --
 --   In x xs                 x is an element of xs
 --   Rectifiable             an input is fixable exactly when some vector makes the old outputs the golden ones
