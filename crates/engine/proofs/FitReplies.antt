@@ -121,7 +121,7 @@ module _ (j : Job) (is t : List ℕ) where
   nth-gates h =
       ap gatesOf (nth-fitted 1 (omega arith)) ∙ read-flat gateFormat (omega arith) (fitted j is t .gates) (two-fitted j h is t)
 
-  length-fittedBytes : All Two (j .old .gates)
+  pub length-fittedBytes : All Two (j .old .gates)
       → length (fittedBytes j is t) ≡ 11 + 5 * length (fitted j is t .gates) + 2 * length (fitted j is t .outputs)
   unfolding fittedBytes
   length-fittedBytes h =
@@ -132,7 +132,7 @@ module _ (j : Job) (is t : List ℕ) where
         length-flat bytePair 2 length-bytePair (fitted j is t .outputs),
       ) (omega arith)
 
-  length-outputs : length (fitted j is t .outputs) ≡ length (j .old .outputs)
+  pub length-outputs : length (fitted j is t .outputs) ≡ length (j .old .outputs)
   unfolding fitted
   length-outputs = length-map (j .old .outputs) _
 
@@ -203,7 +203,7 @@ module _ (d s p : List ℕ) (e : fitNumber d s p ≡ 0) where
   accepted : eqb (fitNumber d s p) 0 ≡ true
   accepted = eq-eqb (fitNumber d s p) 0 e
 
-  reply-of : fitReply d s p ≡ record { number = 0; len = length bytes }
+  pub reply-of : fitReply d s p ≡ record { number = 0; len = length bytes }
   unfolding fitReply
   reply-of = rw (accepted, e) refl
 

@@ -4,3 +4,4 @@ pub mod Laws
 pub mod Theorems
 pub mod Replies
 pub mod FitReplies
+pub mod Attained

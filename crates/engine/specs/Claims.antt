@@ -26,7 +26,7 @@ use Rattle.records.specs.Netlist.{netAt, values}
 use Rattle.records.specs.Job.{Job, jobWhole, jobOf, gatesOf, netsOf}
 use Rattle.records.specs.Refusal.{maxGates, gatesGood, candidatesGood}
 use Rattle.records.specs.Sheet.{Patch, patchOf, sheetWhole, patchGood}
-use Rattle.records.specs.Claims.{PartsGood}
+use Rattle.records.specs.Claims.{Below, PartsGood}
 use Rattle.engine.specs.Eval.{bits, numberOf, oldValues, oldOutputs, goldenOutputs}
 use Rattle.engine.specs.Rectify.{rectifies, rectifiable, vectorLoop}
 use Rattle.engine.specs.Support.{reading, drivenBy, Carries, shared, tableOf, candidateNets, subsets, cost}
@@ -147,6 +147,10 @@ DecideIndependent =
 abbrev pub LongestSheet : Type 0
 LongestSheet = (j : Job) → PartsGood j → length (sheetOf j) ≤ longestSheet
 
+abbrev pub LongestSheetMet : Type 0
+LongestSheetMet =
+    (d s : List ℕ) × Below 256 s × (decideNumber d s ≡ 0) × (decideReply d s .len ≡ longestSheet)
+
 -- Demand 3: "A patch is given exactly when the old circuit driven by some table over priced nets has the golden outputs on every
 -- input."
 abbrev pub GivesPatch : Type 0
@@ -253,6 +257,10 @@ abbrev pub LongestFit : Type 0
 LongestFit =
     (s : List ℕ) → PartsGood (jobOf s) → (is t : List ℕ) → fits (jobOf s) is t ≡ true
     → length (fittedBytes (jobOf s) is t) ≤ longestFit
+
+abbrev pub LongestFitMet : Type 0
+LongestFitMet =
+    (d s p : List ℕ) × Below 256 s × Below 256 p × (fitNumber d s p ≡ 0) × (fitReply d s p .len ≡ longestFit)
 
 -- Demand 3: "Any netlist we fit, whoever wrote the sheet, has on every input the outputs of the old circuit driven by the sheet's
 -- table." The netlist is the one that the bytes in the reply buffer hold, over the job's inputs and no targets; it is well formed.
