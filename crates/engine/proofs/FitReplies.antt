@@ -6,19 +6,19 @@ use mathlib.Core.List.{List, [], _∷_, _++_, map, append-assoc, append-nil}
 use mathlib.Core.Bool.{Bool, true, false, cond}
 use native.Mathlib.Nat.{zero-add}
 use native.Mathlib.Omega.{arith}
-use borrow.Author.Tests.{leb-true, le-leb, eq-eqb, ne-eqb}
+use borrow.Author.Tests.{leb-true, le-leb, eqb-true, eq-eqb, ne-eqb}
 use lib.Dec.{leb, eqb}
 use lib.ListN.{length, getD, take, drop, length-append, length-map, take-append-drop}
-use Rattle.records.specs.Bytes.{flat, bytePair, placed, field, nth}
+use Rattle.records.specs.Bytes.{upFrom, flat, bytePair, placed, field, whole, nth}
 use Rattle.records.specs.Gate.{Gate, gateOf, arity, operands, unused}
 use Rattle.records.specs.Netlist.{Netlist, netAt}
-use Rattle.records.specs.Job.{Job, jobWhole, jobOf, gatesOf, netsOf, gateBytes}
+use Rattle.records.specs.Job.{Job, jobWhole, jobOf, gatesOf, netsOf, netlistOf, gateBytes}
 use Rattle.records.specs.Refusal.{Test, maxGates, firstFailing, jobTests, partTests}
 use Rattle.records.specs.Sheet.{Patch, patchOf, sheetTests}
 use Rattle.records.specs.Claims.{PartsGood}
 use Rattle.records.proofs.Laws.Bytes.{take-placed}
 use Rattle.records.proofs.Laws.Job.{length-field, length-flat, length-bytePair}
-use Rattle.records.proofs.Laws.RoundTrip.{All, Two, TwoEach, gateFormat, read-flat, length-records, joined, nth-joined, netsOf-flat}
+use Rattle.records.proofs.Laws.RoundTrip.{All, Two, TwoEach, gateFormat, read-flat, length-records, joined, whole-joined, nth-joined, netsOf-flat}
 use Rattle.records.proofs.Laws.Accepted.{passes-of-none, none-of-passes, two-jobOf}
 use Rattle.records.proofs.Laws.Counts.{countsWithin-facts, countsWithin-countsOf}
 use Rattle.records.specs.Service.{countsOf, sideCountsOf}
@@ -26,11 +26,11 @@ use Rattle.engine.specs.Compare.{pairTests}
 use Rattle.engine.specs.Tree.{column, tree}
 use Rattle.engine.specs.Fit.{Trees, treesFrom, trees, gateIndices, newNets, moved, movedGates, fitted, fittedBytes, fits, longestFit}
 use Rattle.engine.specs.Reply.{compareNumber, fitTests, fitNumber, fitReply, fittedBuffer}
-use Rattle.engine.specs.Claims.{FitAccepts, FitRefuses, FitIndependent, LongestFit, FittedIn, FittedGiven, VectorsIgnored}
+use Rattle.engine.specs.Claims.{FitAccepts, FitRefuses, FitKeeps, FitIndependent, LongestFit, FittedIn, FittedGiven, FitIgnoresVectors}
 use Rattle.engine.specs.declared.fitting.FitReply.{FitReply}
 use Rattle.engine.proofs.Laws.FitTree.{TreeCase, zeros, ones, halves, choice, choosing, tree-case}
 use Rattle.engine.proofs.Laws.Fitted.{sheet-entries, fitted-driven, fitted-netlist}
-use Rattle.engine.proofs.Replies.{zero-or-not, compare-accepts}
+use Rattle.engine.proofs.Replies.{zero-or-not, kept-behind, compare-accepts}
 
 -- ---- every gate of a fitted netlist has two slots
 
@@ -104,6 +104,11 @@ module _ (j : Job) (is t : List ℕ) where
   unfolding fittedBytes joined bodies
   fitted-joined = simp (append-assoc, append-nil)
 
+  -- three whole fields and nothing after
+  whole-fitted : whole (1 ∷ 2 ∷ 3 ∷ []) (fittedBytes j is t) ≡ true
+  unfolding bodies upFrom
+  whole-fitted = rw fitted-joined (whole-joined 1 bodies)
+
   nth-fitted : (k : ℕ) → k < 3 → nth k (fittedBytes j is t) ≡ getD bodies k []
   unfolding bodies
   nth-fitted k h = ap (nth k) fitted-joined ∙ nth-joined 1 bodies k h
@@ -120,6 +125,10 @@ module _ (j : Job) (is t : List ℕ) where
   unfolding bodies gatesOf
   nth-gates h =
       ap gatesOf (nth-fitted 1 (omega arith)) ∙ read-flat gateFormat (omega arith) (fitted j is t .gates) (two-fitted j h is t)
+
+  netlist-read : All Two (j .old .gates) → netlistOf (nth 1 (fittedBytes j is t)) (nth 2 (fittedBytes j is t)) ≡ fitted j is t
+  unfolding netlistOf
+  netlist-read h = rw (nth-gates h, nth-outputs)
 
   pub length-fittedBytes : All Two (j .old .gates)
       → length (fittedBytes j is t) ≡ 11 + 5 * length (fitted j is t .gates) + 2 * length (fitted j is t .outputs)
@@ -218,7 +227,18 @@ module _ (d s p : List ℕ) (e : fitNumber d s p ≡ 0) where
       ∙ ap (take (0 + length bytes)) q
       ∙ take-placed d 0 bytes (omega (arith, u .0, longest-fit s g (sheet .support) (sheet .table) (u .2)))
 
+pub fit-keeps : FitKeeps
+unfolding fitReply fittedBuffer
+fit-keeps d s p =
+    let patch = patchOf p in
+    let xs = fittedBytes (jobOf s) (patch .support) (patch .table) in
+    kept-behind (eqb (fitNumber d s p) 0) d xs (λ t.
+    let u = fit-accepts d s p .0 (eqb-true (fitNumber d s p) 0 t) in
+    let g = compare-accepts s p .0 (u .1) .1 in
+    omega (arith, u .0, longest-fit s g (patch .support) (patch .table) (u .2)))
+
 pub fitted-given : FittedGiven
+unfolding fittedBytes
 fitted-given d s p e =
     let j = jobOf s in
     let is = patchOf p .support in
@@ -231,6 +251,9 @@ fitted-given d s p e =
     let outputs = nth-outputs j is t in
     subst (FittedIn j (patchOf p)) (sym (bytes-of d s p e))
     (record {
+      fields = whole-fitted j is t;
+      bytes = rw (gates, outputs) refl;
+      netlist = netlist-read j is t (two-jobOf s .old);
       counts = nth-counts j is t;
       gates = rw gates (good .0);
       few = rw gates (gates-few j is t (u .2));
@@ -261,6 +284,6 @@ fit-independent d e s p h =
     ))
     (zero-or-not (fitNumber d s p))
 
-pub vectors-ignored : VectorsIgnored
+pub fit-ignores-vectors : FitIgnoresVectors
 unfolding fitReply fittedBuffer
-vectors-ignored d s p q e f g h = (rw (e, f, g, h) refl, rw (e, f, g, h) refl)
+fit-ignores-vectors d s p q e f g h = (rw (e, f, g, h) refl, rw (e, f, g, h) refl)

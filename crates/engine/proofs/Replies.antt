@@ -7,36 +7,40 @@ use mathlib.Core.Bool.{Bool, true, false, cond, not}
 use mathlib.Core.Option.{Option, none, some}
 use native.Mathlib.Nat.{zero-add}
 use native.Mathlib.Omega.{arith}
-use borrow.Author.Tests.{leb-true, le-leb, eq-eqb, ne-eqb, not-false}
+use borrow.Author.Tests.{leb-true, le-leb, eqb-true, eq-eqb, ne-eqb, not-false}
 use lib.Dec.{leb, eqb}
-use lib.ListN.{length, getD, take}
+use lib.ListN.{length, getD, take, drop}
 use Rattle.records.specs.Bytes.{flat, bytePair, word, placed, field, nth}
 use Rattle.records.specs.Job.{Job, jobWhole, jobOf, netsOf}
 use Rattle.records.specs.Refusal.{Test, firstFailing, jobTests, partTests, jobRefusal}
 use Rattle.records.specs.Sheet.{Patch, quad, patchOf, sheetTests}
 use Rattle.records.specs.Claims.{PartsGood}
-use Rattle.records.proofs.Laws.Bytes.{take-placed}
+use Rattle.records.proofs.Laws.Bytes.{false-of, take-placed, drop-placed-behind}
 use Rattle.records.proofs.Laws.Accepted.{passes-of-none, none-of-passes}
 use Rattle.records.proofs.Laws.ReadColumns.{columns-accepts}
 use Rattle.records.proofs.Laws.RoundTrip.{joined, nth-joined, netsOf-flat}
 use Rattle.engine.specs.Rectify.{rectifies, vectorLoop}
 use Rattle.engine.specs.Choice.{first}
 use Rattle.engine.specs.Eval.{allInputs, oldOutputs, goldenOutputs}
-use Rattle.engine.specs.Support.{drivenBy, tableOf, candidateNets, cost}
+use Rattle.engine.specs.Support.{drivenBy, sound, tableOf, candidateNets, cost}
 use Rattle.engine.specs.Compare.{difference, pairTests}
-use Rattle.engine.specs.Verdict.{Ruling, patch, unfixable, blind, ruling, fourBytes, rulingFields, sheetOf, longestSheet, decideNumber, decidedBytes}
-use Rattle.engine.specs.Reply.{verdictFrom, verdictOf, verdictFields, declinedReply, decideReply, comparisonOf, comparisonFields, compareNumber, compareReply}
+use Rattle.engine.specs.Verdict.{Ruling, patch, unfixable, blind, blindReading, ruling, fourBytes, rulingFields, sheetOf, longestSheet, decideNumber, decidedBytes}
+use Rattle.engine.specs.Reply.{verdictFrom, verdictOf, verdictFields, declinedReply, decideReply, comparisonOf, compareNumber, compareReply}
 use Rattle.engine.specs.Inner.{patchBytes}
-use Rattle.engine.specs.Claims.{PatchIn, DecideAccepts, DecideRefuses, DecideIndependent, LongestSheet, GivesPatch, PatchGiven, GivesUnfixable, GivesBlind, VectorsGiven, CompareAccepts, ComparesEqual, ComparesDiffers}
+use Rattle.engine.specs.Claims.{DecideAccepts, DecideRefuses, DecideKeeps, DecideIndependent, LongestSheet, OneVerdict, GivesPatch, PatchIn, PatchGiven, GivesUnfixable, GivesBlind, GivesBlindExactly, VectorsGiven, CompareAccepts, CompareRefuses, ComparesEqual, ComparesDiffers, CompareIgnoresVectors}
 use Rattle.engine.specs.declared.comparing.Comparison.{Comparison}
+use Rattle.engine.specs.declared.comparing.Comparison.the-variants as Comparison
+use Rattle.engine.specs.declared.comparing.CompareReply.{CompareReply}
 use Rattle.engine.specs.declared.deciding.DecideReply.{DecideReply}
 use Rattle.engine.proofs.Laws.Decide.{lentPlaces, lent-roomy, lent-refusal, number-long, number-short}
 use Rattle.engine.proofs.Laws.Sheet.{patchBytes-ruling, sheet-ruling}
 use Rattle.engine.proofs.Laws.Choice.{true-or-false, not-both, first-least, first-none-below}
 use Rattle.engine.proofs.Laws.WalkList.{first-of-least, first-of-none}
-use Rattle.engine.proofs.Laws.Support.{rectifies-iff-outputs, length-tableOf}
+use Rattle.engine.proofs.Laws.Support.{rectifies-iff-outputs, length-tableOf, tableOf-below, sound-iff-subset-carries}
+use Rattle.engine.proofs.Laws.Loop.{stuck-none-iff}
+use Rattle.engine.proofs.Laws.Verdict.{ruling-blind, blind-reading}
 use Rattle.engine.proofs.Laws.Text.{longest-sheet}
-use Rattle.engine.proofs.Theorems.{patch-exactly, patch-table, least-cost, unfixable-exactly, blind-exactly}
+use Rattle.engine.proofs.Theorems.{patch-exactly, patch-sound, patch-table, least-cost, unfixable-exactly, blind-exactly}
 
 -- ---- what decide accepts
 
@@ -60,6 +64,18 @@ decide-accepts d s = (
 pub decide-refuses : DecideRefuses
 unfolding decideReply decidedBytes
 decide-refuses d s h = let e = ne-eqb (decideNumber d s) 0 h in (rw e refl, rw e refl)
+
+-- ---- what is behind the reply
+
+pub cond-of : {A B : Type 0} (f : A → B) (b : Bool) (x y : A) → f (cond b x y) ≡ cond b (f x) (f y)
+cond-of f true x y = refl
+cond-of f false x y = refl
+
+-- where the bytes xs are placed at a buffer's start, or nothing is, the buffer is kept from there on
+pub kept-behind : (b : Bool) (d xs : List ℕ) → (b ≡ true → length xs ≤ length d)
+    → let n = cond b (length xs) 0 in (n ≤ length d) × (drop n (cond b (placed d 0 xs) d) ≡ drop n d)
+kept-behind true d xs h = (h refl, drop-placed-behind d 0 xs (omega (arith, h refl)) (length xs) (omega arith))
+kept-behind false d xs h = (omega arith, refl)
 
 pub longest : LongestSheet
 longest = longest-sheet
@@ -89,6 +105,16 @@ module _ (d s : List ℕ) (e : decideNumber d s ≡ 0) where
       ap (λ (k : ℕ). take k (decidedBytes d s)) (ap (λ (r : DecideReply). r .len) reply-of ∙ sym (zero-add (length xs)))
       ∙ ap (take (0 + length xs)) p
       ∙ take-placed d 0 xs (omega (arith, longest-sheet (jobOf s) good, long-of-accepted d s e))
+
+pub decide-keeps : DecideKeeps
+unfolding decideReply decidedBytes declinedReply
+decide-keeps d s =
+    let b = eqb (decideNumber d s) 0 in
+    let xs = sheetOf (jobOf s) in
+    rw (cond-of (λ (r : DecideReply). r .len) b _ _)
+    (kept-behind b d xs (λ t.
+    let e = eqb-true (decideNumber d s) 0 t in
+    omega (arith, longest-sheet (jobOf s) (good d s e), long-of-accepted d s e)))
 
 pub vectors-given : VectorsGiven
 unfolding sheetOf
@@ -127,24 +153,36 @@ tag xs = getD xs 0 0
 value : List ℕ → ℕ
 value xs = getD xs 1 0
 
+-- one verdict has one tag
+apart : (a b : ℕ) {x y : ℕ} {fields : List ℕ} → (a ≡ b → ⊥) → fields ≡ a ∷ x ∷ [] → fields ≡ b ∷ y ∷ [] → ⊥
+unfolding tag
+apart a b h p q = h (ap tag (sym p ∙ q))
+
 module _ (j : Job) where
   patch-fields : (u : Ruling) (c : ℕ) → verdictFields (verdictFrom j u) ≡ 18 ∷ c ∷ [] → (is : List ℕ) × (u ≡ patch is) × (c ≡ cost j is)
   unfolding verdictFields verdictFrom tag value
   patch-fields (patch is) c e = (is, refl, sym (ap value e))
-  patch-fields (unfixable x) c e = let z : _≡_ {A = ℕ} 20 18 = ap tag e in let f : ⊥ = omega arith in absurd f
-  patch-fields (blind r) c e = let z : _≡_ {A = ℕ} 21 18 = ap tag e in let f : ⊥ = omega arith in absurd f
+  patch-fields (unfixable x) c e = absurd (apart 20 18 (λ z. omega arith) refl e)
+  patch-fields (blind r) c e = absurd (apart 21 18 (λ z. omega arith) refl e)
 
   unfixable-fields : (u : Ruling) (x : ℕ) → verdictFields (verdictFrom j u) ≡ 20 ∷ x ∷ [] → u ≡ unfixable x
   unfolding verdictFields verdictFrom tag value
-  unfixable-fields (patch is) x e = let z : _≡_ {A = ℕ} 18 20 = ap tag e in let f : ⊥ = omega arith in absurd f
+  unfixable-fields (patch is) x e = absurd (apart 18 20 (λ z. omega arith) refl e)
   unfixable-fields (unfixable y) x e = ap unfixable (ap value e)
-  unfixable-fields (blind r) x e = let z : _≡_ {A = ℕ} 21 20 = ap tag e in let f : ⊥ = omega arith in absurd f
+  unfixable-fields (blind r) x e = absurd (apart 21 20 (λ z. omega arith) refl e)
 
   blind-fields : (u : Ruling) (r : ℕ) → verdictFields (verdictFrom j u) ≡ 21 ∷ r ∷ [] → u ≡ blind r
   unfolding verdictFields verdictFrom tag value
-  blind-fields (patch is) x e = let z : _≡_ {A = ℕ} 18 21 = ap tag e in let f : ⊥ = omega arith in absurd f
-  blind-fields (unfixable y) x e = let z : _≡_ {A = ℕ} 20 21 = ap tag e in let f : ⊥ = omega arith in absurd f
+  blind-fields (patch is) x e = absurd (apart 18 21 (λ z. omega arith) refl e)
+  blind-fields (unfixable y) x e = absurd (apart 20 21 (λ z. omega arith) refl e)
   blind-fields (blind r) x e = ap blind (ap value e)
+
+  one-of : (u : Ruling) {fields : List ℕ} → fields ≡ verdictFields (verdictFrom j u)
+      → ((c : ℕ) × (fields ≡ 18 ∷ c ∷ [])) ⊎ (((x : ℕ) × (fields ≡ 20 ∷ x ∷ [])) ⊎ ((r : ℕ) × (fields ≡ 21 ∷ r ∷ [])))
+  unfolding verdictFields verdictFrom
+  one-of (patch is) e = inl (cost j is, e)
+  one-of (unfixable x) e = inr (inl (x, e))
+  one-of (blind r) e = inr (inr (r, e))
 
   fields-of : (u : Ruling) → ruling j ≡ u → verdictFields (verdictOf j) ≡ verdictFields (verdictFrom j u)
   unfolding verdictOf
@@ -160,6 +198,14 @@ module _ (d s : List ℕ) (e : decideNumber d s ≡ 0) where
 
   telling : (u : Ruling) → ruling (jobOf s) ≡ u → verdictFields (decideReply d s .verdict) ≡ verdictFields (verdictFrom (jobOf s) u)
   telling u q = told ∙ ap (λ (v : Ruling). verdictFields (verdictFrom (jobOf s) v)) q
+
+pub one-verdict : OneVerdict
+one-verdict d s e = (
+  one-of (jobOf s) (ruling (jobOf s)) (told d s e),
+  λ p u. apart 18 20 (λ z. omega arith) (p .1) (u .1),
+  λ p b. apart 18 21 (λ z. omega arith) (p .1) (b .1),
+  λ u b. apart 20 21 (λ z. omega arith) (u .1) (b .1),
+)
 
 pub gives-patch : GivesPatch
 unfolding verdictFields verdictFrom
@@ -189,17 +235,30 @@ gives-blind d s r e =
       λ h. telling d s e (blind r) (blind-exactly j r .1 h),
     )
 
+pub gives-blind-exactly : GivesBlindExactly
+unfolding verdictFields verdictFrom
+gives-blind-exactly d s e =
+    let j = jobOf s in
+    let carries = sound-iff-subset-carries j (candidateNets j) in (
+      λ p.
+          let b = blind-reading j (p .0) (blind-fields j (ruling j) (p .0) (sym (told d s e) ∙ p .1)) in
+          (stuck-none-iff j .0 (b .0), λ is m c. not-both (carries .1 (is, m, c)) (b .1)),
+      λ h.
+          let u = false-of (sound j (candidateNets j)) (λ t. let c = carries .0 t in h .1 (c .0) (c .1) (c .2)) in
+          (blindReading j, telling d s e (blind (blindReading j)) (ruling-blind j (stuck-none-iff j .1 (h .0)) u)),
+    )
+
 -- ---- the patch in the buffer
 
 quad-fourBytes : (x : ℕ) → quad (fourBytes x) ≡ x
 unfolding quad fourBytes word bytePair
 quad-fourBytes x = omega arith
 
-patch-joined : (is t vs : List ℕ) (c : ℕ) → patchBytes is t c vs ≡ joined 16 (flat bytePair is ∷ t ∷ fourBytes c ∷ vs ∷ [])
+pub patch-joined : (is t vs : List ℕ) (c : ℕ) → patchBytes is t c vs ≡ joined 16 (flat bytePair is ∷ t ∷ fourBytes c ∷ vs ∷ [])
 unfolding patchBytes joined
 patch-joined is t vs c = simp (append-assoc, append-nil)
 
-patch-read : (is t vs : List ℕ) (c : ℕ)
+pub patch-read : (is t vs : List ℕ) (c : ℕ)
     → patchOf (patchBytes is t c vs) ≡ record { support = is; table = t; cost = c; vectors = vs }
 unfolding patchOf
 patch-read is t vs c =
@@ -208,23 +267,43 @@ patch-read is t vs c =
     λ k h. ap (nth k) (patch-joined is t vs c) ∙ nth-joined 16 b k h in
     rw (n 0 (omega arith), n 1 (omega arith), n 2 (omega arith), n 3 (omega arith), netsOf-flat is, quad-fourBytes c)
 
+-- the sheet of a patch over the nets is
+abbrev pub patchSheet : Job → List ℕ → List ℕ
+patchSheet j is = patchBytes is (tableOf j is) (cost j is) (vectorLoop j .vectors)
+
+module _ (d s : List ℕ) (c : ℕ) (e : decideNumber d s ≡ 0) (q : verdictFields (decideReply d s .verdict) ≡ 18 ∷ c ∷ []) where
+  -- the support, which the verdict says, and its sheet in the buffer
+  pub decided-patch : (is : List ℕ)
+      × (ruling (jobOf s) ≡ patch is)
+      × (c ≡ cost (jobOf s) is)
+      × (take (decideReply d s .len) (decidedBytes d s) ≡ patchSheet (jobOf s) is)
+  decided-patch =
+      let j = jobOf s in
+      let f = patch-fields j (ruling j) c (sym (told d s e) ∙ q) in
+      let vs = vectorLoop j .vectors in (
+        f .0,
+        f .1,
+        f .2,
+        sheet-of d s e ∙ sym (patchBytes-ruling j vs (f .0) refl refl ∙ sheet-ruling j (f .1) refl),
+      )
+
 pub patch-given : PatchGiven
 patch-given d s c e q =
     let j = jobOf s in
-    let f = patch-fields j (ruling j) c (sym (told d s e) ∙ q) in
+    let f = decided-patch d s c e q in
     let is = f .0 in
-    let vs = vectorLoop j .vectors in
-    let b : take (decideReply d s .len) (decidedBytes d s) ≡ patchBytes is (tableOf j is) (cost j is) vs =
-    sheet-of d s e ∙ sym (patchBytes-ruling j vs is refl refl ∙ sheet-ruling j (f .1) refl) in
-    let p = patch-table j is (f .1) in
-    subst (PatchIn j c) (sym (ap patchOf b ∙ patch-read is (tableOf j is) vs (cost j is)))
+    let r = f .1 in
+    let a = f .2 in
+    let p = patch-table j is r in
+    subst (PatchIn j c) (sym (ap patchOf (f .3) ∙ patch-read is (tableOf j is) (vectorLoop j .vectors) (cost j is)))
     (record {
       nets = p .0;
       entries = length-tableOf j is;
+      below = tableOf-below j is (patch-sound j is r .0);
       equal = p .1;
-      given = sym (f .2);
-      sum = f .2;
-      least = λ ks m k. subst (λ (x : ℕ). x ≤ cost j ks) (sym (f .2)) (least-cost j is (f .1) ks m k);
+      given = sym a;
+      sum = a;
+      least = λ ks m k. subst (λ (x : ℕ). x ≤ cost j ks) (sym a) (least-cost j is r ks m k);
       vectors = refl;
     })
 
@@ -248,15 +327,25 @@ compare-accepts s p = (
       none-of-passes _ (h .0, (g .counts, (g .gates, (g .outputs, (g .candidates, (h .2, (h .3, tt))))))),
 )
 
+pub compare-refuses : CompareRefuses
+unfolding compareReply
+compare-refuses s p h = rw (ne-eqb (compareNumber s p) 0 h) refl
+
 equal-injective : (o : Option ℕ) → comparisonOf o ≡ comparisonOf none → o ≡ none
 unfolding comparisonOf
 equal-injective none e = refl
 equal-injective (some x) e = let z : _≡_ {A = ℕ} 0 1 = cc in let f : ⊥ = omega arith in absurd f
 
+-- the input that a comparison gives, 0 where it gives none
+inputOf : Comparison → ℕ
+inputOf Comparison.Equal = 0
+inputOf (Comparison.Differs d) = d .input
+inputOf Comparison.Declined = 0
+
 differs-injective : (o : Option ℕ) (x : ℕ) → comparisonOf o ≡ comparisonOf (some x) → o ≡ some x
-unfolding comparisonOf comparisonFields tag
+unfolding comparisonOf inputOf
 differs-injective none x e = let z : _≡_ {A = ℕ} 0 1 = cc in let f : ⊥ = omega arith in absurd f
-differs-injective (some y) x e = ap some (ap (λ (c : Comparison). tag (comparisonFields c)) e)
+differs-injective (some y) x e = ap some (ap inputOf e)
 
 module _ (j : Job) (is t : List ℕ) where
   -- the driven old outputs at x are the golden ones
@@ -296,10 +385,15 @@ module _ (j : Job) (is t : List ℕ) where
         (record { below = h .0; holds = unequal-at x (h .1); smaller = λ y l. at-equal y (h .2 y l) }),
   )
 
+pub compared : (s p : List ℕ) → compareNumber s p ≡ 0
+    → compareReply s p
+    ≡ record { number = 0; result = comparisonOf (difference (jobOf s) (patchOf p .support) (patchOf p .table)) }
+unfolding compareReply
+compared s p e = rw (eq-eqb (compareNumber s p) 0 e) refl
+
 result-of : (s p : List ℕ) → compareNumber s p ≡ 0
     → compareReply s p .result ≡ comparisonOf (difference (jobOf s) (patchOf p .support) (patchOf p .table))
-unfolding compareReply
-result-of s p e = rw (eq-eqb (compareNumber s p) 0 e) refl
+result-of s p e = ap (λ (r : CompareReply). r .result) (compared s p e)
 
 pub compares-equal : ComparesEqual
 compares-equal s p e =
@@ -312,3 +406,6 @@ compares-differs s p x e =
     let d = difference-some (jobOf s) (patchOf p .support) (patchOf p .table) x in
     let r = result-of s p e in
     (λ q. d .0 (differs-injective _ x (sym r ∙ q)), λ h. r ∙ ap comparisonOf (d .1 h))
+
+pub compare-ignores-vectors : CompareIgnoresVectors
+compare-ignores-vectors s p q e f g h = compared s p e ∙ rw (g, h) (sym (compared s q f))

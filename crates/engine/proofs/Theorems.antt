@@ -1,22 +1,43 @@
 -- What specs/Claims.antt promises of the engine's definitions. Assumes nothing.
 use Prim.Native.Nat.{ℕ, _^_, _<_}
 use mathlib.Core.Path.{_≡_, refl, sym, _∙_, ap, subst}
-use mathlib.Core.Logic.{_↔_, ⊎-elim}
+use mathlib.Core.Logic.{_↔_, inl, inr, ⊎-elim}
 use mathlib.Core.List.{List}
 use mathlib.Core.Bool.{true, false, true≢false}
 use mathlib.Core.Option.{none, some}
 use Rattle.records.specs.Job.{Job}
-use Rattle.engine.specs.Rectify.{rectifiable, vectorLoop}
+use Rattle.engine.specs.Choice.{any}
+use Rattle.engine.specs.Rectify.{rectifies, rectifiable, vectorLoop}
 use Rattle.engine.specs.Support.{Carries, sound, candidateNets, subsets, chosen, tableOf}
 use Rattle.engine.specs.Verdict.{patch, unfixable, blind, blindReading, ruling}
-use Rattle.engine.specs.Claims.{In, Rectifiable, EveryTable, Readings, PatchExactly, PatchTable, LeastCost, UnfixableExactly, BlindExactly}
+use Rattle.engine.specs.Claims.{In, Rectifiable, TernaryKnown, TernaryUnknown, LoopEnds, EveryTable, Readings, PatchExactly, PatchTable, LeastCost, UnfixableExactly, BlindExactly}
+use Rattle.engine.proofs.Laws.Choice.{any-iff-member, none-or-some}
+use Rattle.engine.proofs.Laws.Ternary.{entry-table, ternaryValue-known-iff, ternaryValue-unknown-iff}
 use Rattle.engine.proofs.Laws.Support.{golden-iff, golden-iff-readings, golden-of-sound, carries-of-sound, sound-of-carries, sound-iff-subset-carries, reading-vector, rectifiable-of-carries}
 use Rattle.engine.proofs.Laws.Best.{chosen-sound, chosen-least}
-use Rattle.engine.proofs.Laws.Loop.{rectifiable-iff, stuck-iff, stuck-none-iff}
+use Rattle.engine.proofs.Laws.Loop.{rectifiable-iff, listed-of-none, listed-of-some, stuck-iff, stuck-none-iff}
 use Rattle.engine.proofs.Laws.Verdict.{LeastBlind, ruling-unfixable, ruling-patch, ruling-blind, unfixable-stuck, patch-chosen, blind-reading, blind-least, blind-unique, unsound-of-blind}
 
 pub rectifiable-exactly : Rectifiable
 rectifiable-exactly = rectifiable-iff
+
+pub ternary-known : TernaryKnown
+ternary-known k x y v h l t = rw (entry-table k x y h l) (ternaryValue-known-iff k x y h l v t)
+
+pub ternary-unknown : TernaryUnknown
+ternary-unknown k x y h l = rw (entry-table k x y h l) (ternaryValue-unknown-iff k x y h l)
+
+pub loop-ends : LoopEnds
+loop-ends j =
+    let vs = vectorLoop j .vectors in
+    let listed : (x : ℕ) → (v : ℕ) × In v vs × (rectifies j x v ≡ true) → any (rectifies j x) vs ≡ true =
+    λ x. any-iff-member (rectifies j x) vs .1 in
+    ⊎-elim
+    (λ e. inl (e, λ x h. listed x (listed-of-none j e x h)))
+    (λ s.
+    let r = stuck-iff j (s .0) .0 (s .1) in
+    inr (s .0, s .1, r .0, r .1, λ y h. listed y (listed-of-some j (s .0) (s .1) y h)))
+    (none-or-some (vectorLoop j .stuck))
 
 pub every-table : EveryTable
 every-table j is t = (
@@ -38,11 +59,14 @@ patch-exactly j = (
       (chosen j, ruling-patch j r s),
 )
 
+-- a patch's nets are a sound set of candidates
+pub patch-sound : (j : Job) (is : List ℕ) → ruling j ≡ patch is → (sound j is ≡ true) × In is (subsets (candidateNets j))
+patch-sound j is e = let c = patch-chosen j is e in rw (c .2) (chosen-sound j (c .1))
+
 pub patch-table : PatchTable
 patch-table j is e =
-    let c = patch-chosen j is e in
-    let s = chosen-sound j (c .1) in
-    rw (c .2) (s .1, golden-iff j (chosen j) (tableOf j (chosen j)) .0 (golden-of-sound j (chosen j) (s .0)))
+    let s = patch-sound j is e in
+    (s .1, golden-iff j is (tableOf j is) .0 (golden-of-sound j is (s .0)))
 
 pub least-cost : LeastCost
 least-cost j is e ks m c =

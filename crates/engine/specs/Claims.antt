@@ -1,37 +1,53 @@
 -- What is promised of the engine beyond the contracts of its functions: the request's demands 1 to 3, of the definitions and of
--- what decide, compare and fit reply. proofs/Theorems.antt, Replies.antt and FitReplies.antt prove each. Assumes nothing.
+-- what decide, compare and fit reply. What is claimed of the definitions is proved in proofs/Theorems.antt, of decide and compare
+-- in proofs/Replies.antt, of fit in proofs/FitReplies.antt, of decide, then compare or fit, in proofs/InARow.antt, and that the
+-- longest replies are attained in proofs/Attained.antt. Assumes nothing.
 --
 --   In x xs                 x is an element of xs
 --   Rectifiable             an input is fixable exactly when some vector makes the old outputs the golden ones
+--   TernaryKnown, TernaryUnknown            when an entry of a three by three table is known, and when not
+--   LoopEnds                where the vector loop ends
 --   EveryTable              when a table does, for every table over any nets
 --   Readings                a reading does not depend on the vector, so it is the one that the driven circuit has
 --   PatchExactly, PatchTable, LeastCost     a patch is given exactly when there is a table; it is one; none costs less
 --   UnfixableExactly, BlindExactly          the two other verdicts
 --   FittedOutputs, FittedGood               the outputs of the netlist that fit gives, for any accepted sheet, and that it is one
---   DecideAccepts, DecideRefuses, DecideIndependent, LongestSheet     what decide accepts; a refusal alters nothing; what the
---                           buffer held before plays no part; no sheet has more than 1,076 bytes
---   GivesPatch, PatchGiven, GivesUnfixable, GivesBlind, VectorsGiven  the same of what decide replies and writes
---   CompareAccepts, ComparesEqual, ComparesDiffers                    what compare accepts and replies
---   FitAccepts, FitRefuses, FitIndependent, LongestFit, FittedGiven, VectorsIgnored    what fit accepts, replies and writes
+--   NumberGiven             the number in a reply is document 01's
+--   DecideAccepts, DecideRefuses, DecideKeeps, DecideIndependent      what decide accepts; a refusal alters nothing, a reply nothing
+--                           behind its length; what the buffer held before plays no part
+--   LongestSheet, LongestSheetMet           no sheet has more than 1,076 bytes, and one has as many
+--   OneVerdict              an accepted job gets one of the three verdicts, and only one
+--   GivesPatch, PatchIn, PatchGiven         when decide replies a patch, and what the patch in the buffer is
+--   GivesUnfixable, GivesBlind, GivesBlindExactly           when it replies the two other verdicts
+--   VectorsGiven            the bytes in the buffer, of which the last field is the vector list
+--   CompareAccepts, CompareRefuses, ComparesEqual, ComparesDiffers, CompareIgnoresVectors     what compare accepts and replies
+--   FitAccepts, FitRefuses, FitKeeps, FitIndependent        as for decide
+--   LongestFit, LongestFitMet               no result has more than 2,075 bytes, and one has as many
+--   FittedIn, FittedGiven, FitIgnoresVectors                what the netlist in the buffer is, and what plays no part in it
+--   DecidedEqual, DecidedFits, DecidedFitted                decide, then compare or fit
 use Prim.Native.Nat.{ℕ, _+_, _^_, _≤_, _<_}
 use mathlib.Core.Path.{_≡_}
-use mathlib.Core.Logic.{_↔_}
+use mathlib.Core.Logic.{_↔_, _⊎_}
 use mathlib.Core.List.{List, [], _∷_, _++_, List·Memᴰ, map}
 use mathlib.Core.Bool.{true, false}
 use mathlib.Core.Option.{none, some}
 use lib.Dec.{ltb}
-use lib.ListN.{length, getD, take}
-use Rattle.records.specs.Bytes.{all, field, nth}
+use lib.ListN.{length, getD, take, drop}
+use Rattle.records.specs.Bytes.{all, flat, bytePair, field, whole, nth}
+use Rattle.records.specs.Gate.{gateValue}
 use Rattle.records.specs.Netlist.{netAt, values}
-use Rattle.records.specs.Job.{Job, jobWhole, jobOf, gatesOf, netsOf}
+use Rattle.records.specs.Job.{Job, jobWhole, jobOf, gatesOf, netsOf, netlistOf, gateBytes}
 use Rattle.records.specs.Refusal.{maxGates, gatesGood, candidatesGood}
 use Rattle.records.specs.Sheet.{Patch, patchOf, sheetWhole, patchGood}
 use Rattle.records.specs.Claims.{Below, PartsGood}
+use Rattle.engine.specs.Choice.{any}
 use Rattle.engine.specs.Eval.{bits, numberOf, oldValues, oldOutputs, goldenOutputs}
+use Rattle.engine.specs.Ternary.{unknown, ternaryTable, entry, Completes, Possible}
 use Rattle.engine.specs.Rectify.{rectifies, rectifiable, vectorLoop}
 use Rattle.engine.specs.Support.{reading, drivenBy, Carries, shared, tableOf, candidateNets, subsets, cost}
 use Rattle.engine.specs.Verdict.{Ruling, patch, unfixable, blind, ruling, rulingFields, sheetOf, longestSheet, decideNumber, decidedBytes}
 use Rattle.engine.specs.Reply.{verdictFields, declinedReply, decideReply, comparisonOf, compareNumber, compareReply, fitNumber, fitReply, fittedBuffer}
+use Rattle.engine.specs.declared.comparing.Comparison.the-variants as Comparison
 use Rattle.engine.specs.Fit.{fitted, fittedBytes, fits, longestFit}
 
 abbrev pub In : {A : Type 0} → A → List A → Type 0
@@ -44,6 +60,35 @@ abbrev pub Rectifiable : Type 0
 Rectifiable =
     (j : Job) (x : ℕ)
     → (rectifiable j x ≡ true) ↔ ((v : ℕ) × (v < 2 ^ j .targets) × (oldOutputs j x v ≡ goldenOutputs j x))
+
+-- Document 01, the three by three tables: "Its entry is known exactly when every completion of the operands, each taken on its own,
+-- gives the same value." Values are 0, 1 and 2 for not yet known. It is known, and v, exactly when every completion gives v; and it
+-- is not yet known exactly when some two completions give different values.
+abbrev pub TernaryKnown : Type 0
+TernaryKnown =
+    (k x y v : ℕ) → x ≤ unknown → y ≤ unknown → v < unknown
+    → (entry (ternaryTable k) x y ≡ v)
+    ↔ ((a b : ℕ) → Completes a x → Completes b y → gateValue k (a ∷ b ∷ []) ≡ v)
+
+abbrev pub TernaryUnknown : Type 0
+TernaryUnknown =
+    (k x y : ℕ) → x ≤ unknown → y ≤ unknown
+    → (entry (ternaryTable k) x y ≡ unknown)
+    ↔ ((v : ℕ) × (w : ℕ) × Possible k x y v × Possible k x y w × (v ≡ w → ⊥))
+
+-- Document 01: "repeat until there is no such input, or no such vector. In the second case that input is unfixable." The loop ends
+-- only where every input is rectified by some listed vector, or at the smallest input that no listed vector rectifies, and no
+-- vector at all rectifies that one.
+abbrev pub LoopEnds : Type 0
+LoopEnds =
+    (j : Job)
+    → let vs = vectorLoop j .vectors in
+    ((vectorLoop j .stuck ≡ none) × ((x : ℕ) → x < 2 ^ j .inputs → any (rectifies j x) vs ≡ true))
+    ⊎ ((x : ℕ)
+    × (vectorLoop j .stuck ≡ some x)
+    × (x < 2 ^ j .inputs)
+    × (rectifiable j x ≡ false)
+    × ((y : ℕ) → y < x → any (rectifies j y) vs ≡ true))
 
 -- ---- demand 3
 
@@ -121,6 +166,15 @@ FittedGood =
     × (all (λ o. ltb o (j .inputs + length (l .gates))) (l .outputs) ≡ true)
     × (length (l .outputs) ≡ length (j .old .outputs))
 
+-- ---- the number in a reply
+
+-- Demand 1: "each with the number that document 01 names": a reply's number is the number of the first test that fails, or 0.
+abbrev pub NumberGiven : Type 0
+NumberGiven =
+    ((d s : List ℕ) → decideReply d s .number ≡ decideNumber d s)
+    × ((s p : List ℕ) → compareReply s p .number ≡ compareNumber s p)
+    × ((d s p : List ℕ) → fitReply d s p .number ≡ fitNumber d s p)
+
 -- ---- what decide replies
 
 -- Demand 1: "Everything else is accepted": a buffer for the longest sheet and bytes that are a whole job with good parts.
@@ -134,6 +188,11 @@ abbrev pub DecideRefuses : Type 0
 DecideRefuses =
     (d s : List ℕ) → (decideNumber d s ≡ 0 → ⊥)
     → (decideReply d s ≡ declinedReply (decideNumber d s)) × (decidedBytes d s ≡ d)
+
+-- Document 01: "its reply fills the buffer's start; bytes or places behind its length are untouched".
+abbrev pub DecideKeeps : Type 0
+DecideKeeps =
+    (d s : List ℕ) → let n = decideReply d s .len in (n ≤ length d) × (drop n (decidedBytes d s) ≡ drop n d)
 
 -- Demand 1: "no earlier job plays any part in its reply": two buffers of one length, whatever they held, get one reply, and the
 -- same bytes as far as its length says.
@@ -151,6 +210,20 @@ abbrev pub LongestSheetMet : Type 0
 LongestSheetMet =
     (d s : List ℕ) × Below 256 s × (decideNumber d s ≡ 0) × (decideReply d s .len ≡ longestSheet)
 
+-- Document 01: "A verdict is a patch, an unfixable input or a blind reading." An accepted job gets one of them, and, as their tags
+-- differ, only one.
+abbrev pub OneVerdict : Type 0
+OneVerdict =
+    (d s : List ℕ) → decideNumber d s ≡ 0
+    → let fields = verdictFields (decideReply d s .verdict) in
+    let isPatch = (c : ℕ) × (fields ≡ 18 ∷ c ∷ []) in
+    let isUnfixable = (x : ℕ) × (fields ≡ 20 ∷ x ∷ []) in
+    let isBlind = (r : ℕ) × (fields ≡ 21 ∷ r ∷ []) in
+    (isPatch ⊎ (isUnfixable ⊎ isBlind))
+    × (isPatch → isUnfixable → ⊥)
+    × (isPatch → isBlind → ⊥)
+    × (isUnfixable → isBlind → ⊥)
+
 -- Demand 3: "A patch is given exactly when the old circuit driven by some table over priced nets has the golden outputs on every
 -- input."
 abbrev pub GivesPatch : Type 0
@@ -160,10 +233,12 @@ GivesPatch =
     ↔ ((is : List ℕ) × In is (subsets (candidateNets (jobOf s))) × Carries (jobOf s) is)
 
 -- Demand 3: "The table given is then such a one, the cost given is its nets' prices added up, and no set of priced nets that
--- carries such a table costs less." The table given is the one in the reply buffer.
+-- carries such a table costs less." The table given is the one in the reply buffer. Document 01: it "holds an entry below 2^m for
+-- each of the 2^k readings".
 pub record PatchIn (j : Job) (c : ℕ) (p : Patch) : Type 0 where
   pub nets : In (p .support) (subsets (candidateNets j))
   pub entries : length (p .table) ≡ 2 ^ length (p .support)
+  pub below : (r : ℕ) → r < length (p .table) → getD (p .table) r 0 < 2 ^ j .targets
   pub equal : (x : ℕ) → x < 2 ^ j .inputs → oldOutputs j x (drivenBy j (p .support) (p .table) x) ≡ goldenOutputs j x
   pub given : p .cost ≡ c
   pub sum : c ≡ cost j (p .support)
@@ -193,6 +268,14 @@ GivesBlind =
     × (shared (jobOf s) (candidateNets (jobOf s)) r ≡ none)
     × ((q : ℕ) → q < r → shared (jobOf s) (candidateNets (jobOf s)) q ≡ none → ⊥))
 
+-- .. and blind is said exactly there: every input is fixable, and no set of priced nets carries a table.
+abbrev pub GivesBlindExactly : Type 0
+GivesBlindExactly =
+    (d s : List ℕ) → decideNumber d s ≡ 0
+    → ((r : ℕ) × (verdictFields (decideReply d s .verdict) ≡ 21 ∷ r ∷ []))
+    ↔ (((x : ℕ) → x < 2 ^ jobOf s .inputs → rectifiable (jobOf s) x ≡ true)
+    × ((is : List ℕ) → In is (subsets (candidateNets (jobOf s))) → Carries (jobOf s) is → ⊥))
+
 -- Demand 2: "its loop, smallest choices first, gives the listed settings": the last field of every sheet is the loop's list.
 abbrev pub VectorsGiven : Type 0
 VectorsGiven =
@@ -212,6 +295,12 @@ CompareAccepts =
     × (sheetWhole (jobOf s .targets) p ≡ true)
     × (patchGood (jobOf s .targets) (jobOf s .candidates) (patchOf p) ≡ true))
 
+-- Demand 1: "each with the number that document 01 names", and no result.
+abbrev pub CompareRefuses : Type 0
+CompareRefuses =
+    (s p : List ℕ) → (compareNumber s p ≡ 0 → ⊥)
+    → compareReply s p ≡ record { number = compareNumber s p; result = Comparison.Declined }
+
 -- Document 01: "Compare says equal, or gives the smallest input at which the driven old outputs differ from the golden ones."
 abbrev pub ComparesEqual : Type 0
 ComparesEqual =
@@ -229,6 +318,14 @@ ComparesDiffers =
     × ((y : ℕ) → y < x
     → oldOutputs (jobOf s) y (drivenBy (jobOf s) (patchOf p .support) (patchOf p .table) y) ≡ goldenOutputs (jobOf s) y))
 
+-- Document 01: "Field 19 is checked for length (1 to 2^m) and for entries below 2^m, and has no other effect", here for
+-- compare.
+abbrev pub CompareIgnoresVectors : Type 0
+CompareIgnoresVectors =
+    (s p q : List ℕ) → compareNumber s p ≡ 0 → compareNumber s q ≡ 0
+    → patchOf p .support ≡ patchOf q .support → patchOf p .table ≡ patchOf q .table
+    → compareReply s p ≡ compareReply s q
+
 -- ---- what fit replies
 
 -- Demand 1, for fit: a buffer for the longest result, a whole job with good parts, a whole patch sheet that is good for it, and at
@@ -244,6 +341,11 @@ abbrev pub FitRefuses : Type 0
 FitRefuses =
     (d s p : List ℕ) → (fitNumber d s p ≡ 0 → ⊥)
     → (fitReply d s p ≡ record { number = fitNumber d s p; len = 0 }) × (fittedBuffer d s p ≡ d)
+
+-- Document 01: "its reply fills the buffer's start; bytes or places behind its length are untouched".
+abbrev pub FitKeeps : Type 0
+FitKeeps =
+    (d s p : List ℕ) → let n = fitReply d s p .len in (n ≤ length d) × (drop n (fittedBuffer d s p) ≡ drop n d)
 
 -- Demand 1: "no earlier job plays any part in its reply".
 abbrev pub FitIndependent : Type 0
@@ -264,7 +366,15 @@ LongestFitMet =
 
 -- Demand 3: "Any netlist we fit, whoever wrote the sheet, has on every input the outputs of the old circuit driven by the sheet's
 -- table." The netlist is the one that the bytes in the reply buffer hold, over the job's inputs and no targets; it is well formed.
+-- Document 01: "Fit writes fields 1 (n and 0), 2 and 3 of the patched netlist": the bytes are three whole fields, those of the
+-- patched netlist, and nothing after.
 pub record FittedIn (j : Job) (p : Patch) (b : List ℕ) : Type 0 where
+  pub fields : whole (1 ∷ 2 ∷ 3 ∷ []) b ≡ true
+  pub bytes : b
+      ≡ field 1 (j .inputs ∷ 0 ∷ [])
+      ++ field 2 (flat gateBytes (gatesOf (nth 1 b)))
+      ++ field 3 (flat bytePair (netsOf (nth 2 b)))
+  pub netlist : netlistOf (nth 1 b) (nth 2 b) ≡ fitted j (p .support) (p .table)
   pub counts : nth 0 b ≡ j .inputs ∷ 0 ∷ []
   pub gates : gatesGood (j .inputs) (gatesOf (nth 1 b)) ≡ true
   pub few : length (gatesOf (nth 1 b)) ≤ maxGates
@@ -278,9 +388,36 @@ FittedGiven =
     (d s p : List ℕ) → fitNumber d s p ≡ 0
     → FittedIn (jobOf s) (patchOf p) (take (fitReply d s p .len) (fittedBuffer d s p))
 
--- Document 01: "Field 19 is checked for length (1 to 2^m) and for entries below 2^m, and has no other effect."
-abbrev pub VectorsIgnored : Type 0
-VectorsIgnored =
+-- Document 01: "Field 19 is checked for length (1 to 2^m) and for entries below 2^m, and has no other effect", here for fit.
+abbrev pub FitIgnoresVectors : Type 0
+FitIgnoresVectors =
     (d s p q : List ℕ) → fitNumber d s p ≡ 0 → fitNumber d s q ≡ 0
     → patchOf p .support ≡ patchOf q .support → patchOf p .table ≡ patchOf q .table
     → (fitReply d s p ≡ fitReply d s q) × (fittedBuffer d s p ≡ fittedBuffer d s q)
+
+-- ---- decide, then compare or fit
+
+-- What a user does with a decided patch. The sheet that decide leaves in its buffer d is accepted by compare, which says equal.
+abbrev pub DecidedEqual : Type 0
+DecidedEqual =
+    (d s : List ℕ) (c : ℕ) → decideNumber d s ≡ 0 → verdictFields (decideReply d s .verdict) ≡ 18 ∷ c ∷ []
+    → compareReply s (take (decideReply d s .len) (decidedBytes d s)) ≡ record { number = 0; result = comparisonOf none }
+
+-- Fit, with a buffer e for the longest result, accepts it, or gives 9 where the patched netlist has over 400 gates.
+abbrev pub DecidedFits : Type 0
+DecidedFits =
+    (d e s : List ℕ) (c : ℕ) → decideNumber d s ≡ 0 → verdictFields (decideReply d s .verdict) ≡ 18 ∷ c ∷ []
+    → longestFit ≤ length e
+    → let p = take (decideReply d s .len) (decidedBytes d s) in
+    (fitNumber e s p ≡ 0)
+    ⊎ ((fitNumber e s p ≡ 9) × (fits (jobOf s) (patchOf p .support) (patchOf p .table) ≡ false))
+
+-- Where it accepts it, the netlist that the bytes in its buffer hold has the golden outputs on every input.
+abbrev pub DecidedFitted : Type 0
+DecidedFitted =
+    (d e s : List ℕ) (c : ℕ) → decideNumber d s ≡ 0 → verdictFields (decideReply d s .verdict) ≡ 18 ∷ c ∷ []
+    → let p = take (decideReply d s .len) (decidedBytes d s) in
+    fitNumber e s p ≡ 0
+    → let b = take (fitReply e s p .len) (fittedBuffer e s p) in
+    (x : ℕ) → x < 2 ^ jobOf s .inputs
+    → map (netAt (values (bits (jobOf s .inputs) x) (gatesOf (nth 1 b)))) (netsOf (nth 2 b)) ≡ goldenOutputs (jobOf s) x

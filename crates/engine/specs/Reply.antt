@@ -7,7 +7,6 @@
 --   declinedReply n        what decide replies when it declines with number n
 --   decideReply d s        what decide replies to job bytes s and a reply buffer d
 --   comparisonOf o         the result of a comparison, by the smallest differing input if there is one
---   comparisonFields c     its values: none where equal, else that input
 --   compareNumber s p      the number for job bytes s and sheet bytes p
 --   compareReply s p       what compare replies
 --   fitTests d s p         the tests of a reply buffer d, a job's bytes s and a sheet's bytes p, numbers 1 to 9
@@ -64,11 +63,6 @@ decideReply d s =
 unfoldable pub comparisonOf : Option ℕ → Comparison
 comparisonOf none = Comparison.Equal
 comparisonOf (some x) = Comparison.Differs (record { input = x })
-
-unfoldable pub comparisonFields : Comparison → List ℕ
-comparisonFields Comparison.Equal = []
-comparisonFields (Comparison.Differs d) = d .input ∷ []
-comparisonFields Comparison.Declined = []
 
 unfoldable pub compareNumber : List ℕ → List ℕ → ℕ
 compareNumber s p = firstFailing (pairTests s p)

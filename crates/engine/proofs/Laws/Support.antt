@@ -164,6 +164,10 @@ module _ (j : Job) (is : List ℕ) where
       let o = shared j is r in
       rw (getD-tableOf r h) (shared-least j is r (orZero o) (found-some o (sound-iff-found .0 s r h)))
 
+  -- .. so its entries are below 2 ^ m
+  pub tableOf-below : sound j is ≡ true → (r : ℕ) → r < length (tableOf j is) → getD (tableOf j is) r 0 < 2 ^ j .targets
+  tableOf-below s r h = tableOf-least s r (omega (arith, length-tableOf)) .below
+
   pub golden-of-sound : sound j is ≡ true → equalsGolden j is (tableOf j is) ≡ true
   golden-of-sound s =
       golden-iff-readings j is (tableOf j is) .1
@@ -174,7 +178,7 @@ module _ (j : Job) (is : List ℕ) where
       record {
         table = tableOf j is;
         entries = length-tableOf;
-        below = λ r h. tableOf-least s r (omega (arith, length-tableOf)) .below;
+        below = tableOf-below s;
         equal = golden-of-sound s;
       }
 
