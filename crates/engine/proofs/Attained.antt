@@ -1,4 +1,6 @@
--- The longest replies are attained: a result of fit with 2,075 bytes. Assumes nothing.
+-- The longest replies are attained: a result of fit with 2,075 bytes, and a sheet of decide with 1,076. The job of the sheet needs no
+-- enumeration: a vector rectifies an input exactly when its bits are the golden outputs there, each input alone changes them, so that
+-- no support can do without one, and each vector is the golden outputs of some input, so that the loop lists all. Assumes nothing.
 use Prim.Native.Nat.{ℕ, zero, suc, _+_, _*_, _^_, _≤_, _<_}
 use mathlib.Core.Path.{_≡_, refl, sym, _∙_, ap}
 use mathlib.Core.Logic.{⊎-elim}
@@ -21,7 +23,7 @@ use Rattle.records.proofs.Laws.Bytes.{and-left, and-right, length-tabulate}
 use Rattle.records.proofs.Laws.RoundTrip.{Two, TwoEach, all-tabulate, jobWhole-jobBytes, jobOf-jobBytes}
 use Rattle.engine.specs.Choice.{any, keep, same}
 use Rattle.engine.specs.Eval.{bit, bits, numberOf, oldValues, oldOutputs, goldenOutputs}
-use Rattle.engine.specs.Rectify.{vectorLoop}
+use Rattle.engine.specs.Rectify.{rectifies, vectorLoop}
 use Rattle.engine.specs.Support.{reading, drivenBy, sound, tableOf, candidateNets, cost}
 use Rattle.engine.specs.Verdict.{patch, ruling, fourBytes, sheetOf, longestSheet, decideNumber}
 use Rattle.engine.specs.Inner.{patchBytes}
@@ -43,11 +45,32 @@ use Rattle.engine.proofs.Theorems.{patch-exactly, patch-table}
 use Rattle.engine.proofs.Replies.{decide-accepts, longest, compare-accepts, reply-of as decide-reply}
 use Rattle.engine.proofs.FitReplies.{length-fittedBytes, length-outputs, fit-accepts, reply-of as fit-reply}
 
+-- ---- lists and bits
+
 below-of-all : (n : ℕ) → 0 < n → (xs : List ℕ) → all (λ x. ltb x n) xs ≡ true → Below n xs
 unfolding all
 below-of-all n h [] p i = h
 below-of-all n h (x ∷ xs) p zero = ltb-true x n (and-left (ltb x n) _ p)
 below-of-all n h (x ∷ xs) p (suc i) = below-of-all n h xs (and-right (ltb x n) _ p) i
+
+-- where every number below n is listed, the list has at least n elements
+length-covering : (n : ℕ) (xs : List ℕ) → ((x : ℕ) → x < n → Mem x xs) → n ≤ length xs
+length-covering zero xs h = omega arith
+length-covering (suc n) xs h =
+    let q : ℕ → Bool = λ x. ltb x n in
+    let r = length-covering n (keep q xs) (λ x l. mem-keep q xs x .1 (h x (omega arith), lt-ltb x n l)) in
+    let s = keep-lt (λ x. true) q (λ x e. absurd (true≢false e)) (h n (omega arith)) refl (le-ltb n n (omega arith)) in
+    omega (arith, length-keep-le (λ x. true) xs)
+
+fixed-below : (f : ℕ → ℕ) (n : ℕ) → all (λ x. eqb (f x) x) (upFrom 0 n) ≡ true → (x : ℕ) → x < n → f x ≡ x
+fixed-below f n e x h = eqb-true (f x) x (all-iff-below (λ y. eqb (f y) y) n .0 e x h)
+
+golden-bits : (j : Job) (x : ℕ) → Bits (goldenOutputs j x)
+unfolding goldenOutputs
+golden-bits j x =
+    let bs = bits (j .inputs) x in
+    bits-map (netAt (values bs (j .golden .gates))) (netAt-lt (values-bits bs (bits-bits (j .inputs) x) (j .golden .gates)))
+    (j .golden .outputs)
 
 -- ---- the longest result
 
@@ -74,7 +97,8 @@ unfolding fullJob fullSide tabulate upFrom all
 good-full = record { counts = refl; gates = refl; outputs = refl; candidates = refl }
 
 bytes-full : (all (λ x. ltb x 256) (jobBytes fullJob) ≡ true) × (all (λ x. ltb x 256) fullSheet ≡ true)
-unfolding all jobBytes field flat bytePair gateBytes candidateBytes gateOf fullJob fullSide tabulate upFrom fullSheet patchBytes fourBytes
+unfolding all jobBytes field flat bytePair gateBytes candidateBytes gateOf fullJob fullSide tabulate upFrom
+    fullSheet patchBytes fourBytes
 bytes-full = (refl, refl)
 
 sheet-full : (sheetWhole (fullJob .targets) fullSheet ≡ true)
@@ -124,16 +148,7 @@ longest-fit-met =
 
 -- ---- the longest sheet
 
--- where every number below n is listed, the list has at least n elements
-length-covering : (n : ℕ) (xs : List ℕ) → ((x : ℕ) → x < n → Mem x xs) → n ≤ length xs
-length-covering zero xs h = omega arith
-length-covering (suc n) xs h =
-    let q : ℕ → Bool = λ x. ltb x n in
-    let r = length-covering n (keep q xs) (λ x l. mem-keep q xs x .1 (h x (omega arith), lt-ltb x n l)) in
-    let s = keep-lt (λ x. true) q (λ x e. absurd (true≢false e)) (h n (omega arith)) refl (le-ltb n n (omega arith)) in
-    omega (arith, length-keep-le (λ x. true) xs)
-
--- the old outputs are the four targets; the golden ones are three inputs and the parity of the seven others
+-- the old outputs are the four targets; the golden ones are inputs 0 to 2 and the parity of inputs 3 to 9
 wideJob : Job
 wideJob =
     record {
@@ -176,13 +191,7 @@ outputs-wide : (x v : ℕ) → oldOutputs wideJob x v ≡ bits 4 v
 unfolding oldOutputs oldValues values extended netAt bits tabulate upFrom wideJob
 outputs-wide x v = refl
 
-golden-bits : (j : Job) (x : ℕ) → Bits (goldenOutputs j x)
-unfolding goldenOutputs
-golden-bits j x =
-    let vs = values (bits (j .inputs) x) (j .golden .gates) in
-    bits-map (netAt vs) (netAt-lt (values-bits (bits (j .inputs) x) (bits-bits (j .inputs) x) (j .golden .gates))) (j .golden .outputs)
-
--- .. so the vector made of the golden outputs rectifies an input
+-- .. so the one made of the golden outputs rectifies an input
 wanted : ℕ → ℕ
 wanted x = numberOf (goldenOutputs wideJob x)
 
@@ -193,6 +202,17 @@ wanted-lt x = numberOf-lt (golden-bits wideJob x)
 outputs-wanted : (x y : ℕ) → oldOutputs wideJob x (wanted y) ≡ goldenOutputs wideJob y
 unfolding wanted goldenOutputs wideJob
 outputs-wanted x y = outputs-wide x (wanted y) ∙ bits-numberOf (golden-bits wideJob y)
+
+-- .. and no other does
+numberOf-four : all (λ v. eqb (numberOf (bits 4 v)) v) (upFrom 0 16) ≡ true
+unfolding all numberOf bits bit tabulate upFrom
+numberOf-four = refl
+
+wanted-only : (x v : ℕ) → v < 16 → rectifies wideJob x v ≡ true → wanted x ≡ v
+unfolding wanted
+wanted-only x v h r =
+    ap numberOf (sym (rectifies-iff-outputs wideJob x v .0 r) ∙ outputs-wide x v)
+    ∙ fixed-below (λ u. numberOf (bits 4 u)) 16 numberOf-four v h
 
 -- a reading of all candidates is an input with the same golden outputs
 golden-reading : (x : ℕ) → goldenOutputs wideJob (reading wideJob (candidateNets wideJob) x) ≡ goldenOutputs wideJob x
@@ -221,8 +241,8 @@ alone : ℕ → ℕ → Bool
 alone i k = eqb i k || eqb (netAt (oldValues wideJob (2 ^ i) 0) k) (netAt (oldValues wideJob 0 0) k)
 
 inputs-apart : (all apart (upFrom 0 10) ≡ true) × (all (λ i. all (alone i) (upFrom 0 10)) (upFrom 0 10) ≡ true)
-unfolding apart alone all same goldenOutputs oldValues values extended valueOf gateValue gateOf operands arity conj disj parity inverted
-    netAt bits bit tabulate upFrom wideJob
+unfolding apart alone all same goldenOutputs oldValues values extended valueOf gateValue gateOf operands arity
+    conj disj parity inverted netAt bits bit tabulate upFrom wideJob
 inputs-apart = (refl, refl)
 
 golden-apart : (i : ℕ) → i < 10 → goldenOutputs wideJob (2 ^ i) ≡ goldenOutputs wideJob 0 → ⊥
@@ -274,23 +294,18 @@ module _ (is : List ℕ) (e : ruling wideJob ≡ patch is) where
 
 -- ---- sixteen vectors
 
--- vector v is the one that the golden outputs at input v ask for
-vectors-wanted : (all (λ v. eqb (wanted v) v) (upFrom 0 16) ≡ true) × (all (λ v. eqb (numberOf (bits 4 v)) v) (upFrom 0 16) ≡ true)
+-- each is wanted by the input of the same number
+wanted-self : all (λ v. eqb (wanted v) v) (upFrom 0 16) ≡ true
 unfolding wanted numberOf all goldenOutputs values extended valueOf gateValue gateOf operands arity conj disj parity inverted
     netAt bits bit tabulate upFrom wideJob
-vectors-wanted = (refl, refl)
+wanted-self = refl
 
 mem-vectors : vectorLoop wideJob .stuck ≡ none → (v : ℕ) → v < 16 → Mem v (vectorLoop wideJob .vectors)
-unfolding wanted wideJob
+unfolding wideJob
 mem-vectors e v h =
     let r = listed-of-none wideJob e v (omega arith) in
-    let u = r .0 in
-    let b = vectors-below wideJob u (r .1) in
-    let p : wanted v ≡ v = eqb-true (wanted v) v (all-iff-below (λ x. eqb (wanted x) x) 16 .0 (vectors-wanted .0) v h) in
-    let q : numberOf (bits 4 u) ≡ u =
-    eqb-true (numberOf (bits 4 u)) u (all-iff-below (λ x. eqb (numberOf (bits 4 x)) x) 16 .0 (vectors-wanted .1) u b) in
-    let o : bits 4 u ≡ goldenOutputs wideJob v = sym (outputs-wide v u) ∙ rectifies-iff-outputs wideJob v u .0 (r .2) in
-    mem-cast (sym p ∙ sym (ap numberOf o) ∙ q) (r .1)
+    let w = wanted-only v (r .0) (vectors-below wideJob (r .0) (r .1)) (r .2) in
+    mem-cast (sym (fixed-below wanted 16 wanted-self v h) ∙ w) (r .1)
 
 length-wide : length (sheetOf wideJob) ≡ longestSheet
 length-wide =
@@ -303,7 +318,8 @@ length-wide =
     let n : 10 ≤ length is = length-covering 10 is (mem-support is e) in
     let v : 16 ≤ length vs = length-covering 16 vs (mem-vectors (patch-chosen wideJob is e .0)) in
     let l : length (sheetOf wideJob) ≡ 16 + 2 * length is + length t + length vs =
-    ap length (sym (patchBytes-ruling wideJob vs is refl refl ∙ sheet-ruling wideJob e refl)) ∙ length-patchBytes vs is t (cost wideJob is) in
+    ap length (sym (patchBytes-ruling wideJob vs is refl refl ∙ sheet-ruling wideJob e refl))
+    ∙ length-patchBytes vs is t (cost wideJob is) in
     omega (arith, length-tableOf wideJob is, pow-mono n, longest wideJob good-wide)
 
 pub longest-sheet-met : LongestSheetMet
@@ -312,7 +328,8 @@ longest-sheet-met =
     let s = jobBytes wideJob in
     let e = jobOf-jobBytes wideJob two-wide in
     let n : decideNumber d s ≡ 0 =
-    decide-accepts d s .1 (omega (arith, length-replicate {A = ℕ} 1076 0), jobWhole-jobBytes wideJob two-wide, rw e good-wide) in (
+    decide-accepts d s .1
+    (omega (arith, length-replicate {A = ℕ} 1076 0), jobWhole-jobBytes wideJob two-wide, rw e good-wide) in (
       d,
       s,
       below-of-all 256 (omega arith) s bytes-wide,
