@@ -1,34 +1,34 @@
 -- What specs/Claims.antt promises of what fit replies. Assumes nothing.
 use Prim.Native.Nat.{ℕ, zero, suc, _+_, _*_, _^_, _≤_, _<_}
 use mathlib.Core.Path.{_≡_, refl, sym, _∙_, ap, subst}
-use mathlib.Core.Logic.{_↔_, _⊎_, inl, inr, ⊎-elim}
+use mathlib.Core.Logic.{⊎-elim}
 use mathlib.Core.List.{List, [], _∷_, _++_, map, append-assoc, append-nil}
-use mathlib.Core.Bool.{Bool, true, false, cond}
+use mathlib.Core.Bool.{true}
 use native.Mathlib.Nat.{zero-add}
 use native.Mathlib.Omega.{arith}
 use borrow.Author.Tests.{leb-true, le-leb, eqb-true, eq-eqb, ne-eqb}
-use lib.Dec.{leb, eqb}
+use lib.Dec.{eqb}
 use lib.ListN.{length, getD, take, drop, length-append, length-map, take-append-drop}
-use Rattle.records.specs.Bytes.{upFrom, flat, bytePair, placed, field, whole, nth}
+use Rattle.records.specs.Bytes.{upFrom, flat, bytePair, placed, whole, nth}
 use Rattle.records.specs.Gate.{Gate, gateOf, arity, operands, unused}
-use Rattle.records.specs.Netlist.{Netlist, netAt}
-use Rattle.records.specs.Job.{Job, jobWhole, jobOf, gatesOf, netsOf, netlistOf, gateBytes}
-use Rattle.records.specs.Refusal.{Test, maxGates, firstFailing, jobTests, partTests}
+use Rattle.records.specs.Netlist.{netAt}
+use Rattle.records.specs.Job.{Job, jobOf, gatesOf, netsOf, netlistOf, gateBytes}
+use Rattle.records.specs.Refusal.{firstFailing, jobTests, partTests}
 use Rattle.records.specs.Sheet.{Patch, patchOf, sheetTests}
 use Rattle.records.specs.Claims.{PartsGood}
 use Rattle.records.proofs.Laws.Bytes.{take-placed}
 use Rattle.records.proofs.Laws.Job.{length-field, length-flat, length-bytePair}
-use Rattle.records.proofs.Laws.RoundTrip.{All, Two, TwoEach, gateFormat, read-flat, length-records, joined, whole-joined, nth-joined, netsOf-flat}
+use Rattle.records.proofs.Laws.RoundTrip.{All, Two, gateFormat, read-flat, length-records, joined, whole-joined, nth-joined, netsOf-flat}
 use Rattle.records.proofs.Laws.Accepted.{passes-of-none, none-of-passes, two-jobOf}
 use Rattle.records.proofs.Laws.Counts.{countsWithin-facts, countsWithin-countsOf}
 use Rattle.records.specs.Service.{countsOf, sideCountsOf}
 use Rattle.engine.specs.Compare.{pairTests}
 use Rattle.engine.specs.Tree.{column, tree}
-use Rattle.engine.specs.Fit.{Trees, treesFrom, trees, gateIndices, newNets, moved, movedGates, fitted, fittedBytes, fits, longestFit}
+use Rattle.engine.specs.Fit.{treesFrom, trees, gateIndices, newNets, moved, movedGates, fitted, fittedBytes, fits, longestFit}
 use Rattle.engine.specs.Reply.{compareNumber, fitTests, fitNumber, fitReply, fittedBuffer}
 use Rattle.engine.specs.Claims.{FitAccepts, FitRefuses, FitKeeps, FitIndependent, LongestFit, FittedIn, FittedGiven, FitIgnoresVectors}
 use Rattle.engine.specs.declared.fitting.FitReply.{FitReply}
-use Rattle.engine.proofs.Laws.FitTree.{TreeCase, zeros, ones, halves, choice, choosing, tree-case}
+use Rattle.engine.proofs.Laws.FitTree.{TreeCase, zeros, ones, halves, choice, tree-case}
 use Rattle.engine.proofs.Laws.Fitted.{sheet-entries, fitted-driven, fitted-netlist}
 use Rattle.engine.proofs.Replies.{zero-or-not, kept-behind, compare-accepts}
 

@@ -4,4 +4,5 @@ pub mod Laws
 pub mod Theorems
 pub mod Replies
 pub mod FitReplies
+pub mod InARow
 pub mod Attained

@@ -1,46 +1,59 @@
--- What specs/Claims.antt promises of what decide and compare reply. Assumes nothing.
-use Prim.Native.Nat.{ℕ, zero, suc, _+_, _*_, _/_, _%_, _^_, _≤_, _<_}
+-- What specs/Claims.antt promises of the number in each reply, and of what decide and compare reply. Assumes nothing.
+use Prim.Native.Nat.{ℕ, zero, suc, _+_, _^_, _≤_, _<_}
 use mathlib.Core.Path.{_≡_, refl, sym, _∙_, ap, subst}
 use mathlib.Core.Logic.{_↔_, _⊎_, inl, inr, ⊎-elim}
-use mathlib.Core.List.{List, [], _∷_, _++_, map, append-assoc, append-nil}
+use mathlib.Core.List.{List, [], _∷_, append-assoc, append-nil}
 use mathlib.Core.Bool.{Bool, true, false, cond, not}
 use mathlib.Core.Option.{Option, none, some}
 use native.Mathlib.Nat.{zero-add}
 use native.Mathlib.Omega.{arith}
-use borrow.Author.Tests.{leb-true, le-leb, eqb-true, eq-eqb, ne-eqb, not-false}
+use borrow.Author.Tests.{leb-true, eqb-true, eq-eqb, ne-eqb, not-false}
 use lib.Dec.{leb, eqb}
 use lib.ListN.{length, getD, take, drop}
-use Rattle.records.specs.Bytes.{flat, bytePair, word, placed, field, nth}
-use Rattle.records.specs.Job.{Job, jobWhole, jobOf, netsOf}
-use Rattle.records.specs.Refusal.{Test, firstFailing, jobTests, partTests, jobRefusal}
-use Rattle.records.specs.Sheet.{Patch, quad, patchOf, sheetTests}
+use Rattle.records.specs.Bytes.{upFrom, flat, bytePair, word, placed, whole, nth}
+use Rattle.records.specs.Job.{Job, jobOf}
+use Rattle.records.specs.Refusal.{firstFailing, jobTests, partTests}
+use Rattle.records.specs.Sheet.{quad, sheetTags, patchOf, sheetTests}
 use Rattle.records.specs.Claims.{PartsGood}
 use Rattle.records.proofs.Laws.Bytes.{false-of, take-placed, drop-placed-behind}
 use Rattle.records.proofs.Laws.Accepted.{passes-of-none, none-of-passes}
 use Rattle.records.proofs.Laws.ReadColumns.{columns-accepts}
-use Rattle.records.proofs.Laws.RoundTrip.{joined, nth-joined, netsOf-flat}
+use Rattle.records.proofs.Laws.RoundTrip.{joined, whole-joined, nth-joined, netsOf-flat}
 use Rattle.engine.specs.Rectify.{rectifies, vectorLoop}
-use Rattle.engine.specs.Choice.{first}
 use Rattle.engine.specs.Eval.{allInputs, oldOutputs, goldenOutputs}
 use Rattle.engine.specs.Support.{drivenBy, sound, tableOf, candidateNets, cost}
 use Rattle.engine.specs.Compare.{difference, pairTests}
-use Rattle.engine.specs.Verdict.{Ruling, patch, unfixable, blind, blindReading, ruling, fourBytes, rulingFields, sheetOf, longestSheet, decideNumber, decidedBytes}
-use Rattle.engine.specs.Reply.{verdictFrom, verdictOf, verdictFields, declinedReply, decideReply, comparisonOf, compareNumber, compareReply}
+use Rattle.engine.specs.Verdict.{Ruling, patch, unfixable, blind, blindReading, ruling, fourBytes, sheetOf, longestSheet, decideNumber, decidedBytes}
+use Rattle.engine.specs.Reply.{verdictFrom, verdictOf, verdictFields, declinedReply, decideReply, comparisonOf, compareNumber, compareReply, fitReply}
 use Rattle.engine.specs.Inner.{patchBytes}
-use Rattle.engine.specs.Claims.{DecideAccepts, DecideRefuses, DecideKeeps, DecideIndependent, LongestSheet, OneVerdict, GivesPatch, PatchIn, PatchGiven, GivesUnfixable, GivesBlind, GivesBlindExactly, VectorsGiven, CompareAccepts, CompareRefuses, ComparesEqual, ComparesDiffers, CompareIgnoresVectors}
+use Rattle.engine.specs.Claims.{NumberGiven, DecideAccepts, DecideRefuses, DecideKeeps, DecideIndependent, LongestSheet, OneVerdict, GivesPatch, PatchIn, PatchGiven, GivesUnfixable, GivesBlind, GivesBlindExactly, VectorsGiven, CompareAccepts, CompareRefuses, ComparesEqual, ComparesDiffers, CompareIgnoresVectors}
 use Rattle.engine.specs.declared.comparing.Comparison.{Comparison}
 use Rattle.engine.specs.declared.comparing.Comparison.the-variants as Comparison
 use Rattle.engine.specs.declared.comparing.CompareReply.{CompareReply}
 use Rattle.engine.specs.declared.deciding.DecideReply.{DecideReply}
-use Rattle.engine.proofs.Laws.Decide.{lentPlaces, lent-roomy, lent-refusal, number-long, number-short}
+use Rattle.engine.proofs.Laws.Decide.{lentPlaces, lent-roomy, lent-refusal, number-long}
 use Rattle.engine.proofs.Laws.Sheet.{patchBytes-ruling, sheet-ruling}
-use Rattle.engine.proofs.Laws.Choice.{true-or-false, not-both, first-least, first-none-below}
+use Rattle.engine.proofs.Laws.Choice.{cond-of, cond-zero, true-or-false, not-both, first-least, first-none-below}
 use Rattle.engine.proofs.Laws.WalkList.{first-of-least, first-of-none}
 use Rattle.engine.proofs.Laws.Support.{rectifies-iff-outputs, length-tableOf, tableOf-below, sound-iff-subset-carries}
 use Rattle.engine.proofs.Laws.Loop.{stuck-none-iff}
 use Rattle.engine.proofs.Laws.Verdict.{ruling-blind, blind-reading}
 use Rattle.engine.proofs.Laws.Text.{longest-sheet}
 use Rattle.engine.proofs.Theorems.{patch-exactly, patch-sound, patch-table, least-cost, unfixable-exactly, blind-exactly}
+
+-- ---- the number in a reply
+
+pub number-given : NumberGiven
+unfolding decideReply declinedReply compareReply fitReply
+number-given = (
+  λ d s.
+      let n = decideNumber d s in
+      cond-of (λ (r : DecideReply). r .number) (eqb n 0) _ _ ∙ cond-zero n,
+  λ s p.
+      let n = compareNumber s p in
+      cond-of (λ (r : CompareReply). r .number) (eqb n 0) _ _ ∙ cond-zero n,
+  λ d s p. refl,
+)
 
 -- ---- what decide accepts
 
@@ -66,10 +79,6 @@ unfolding decideReply decidedBytes
 decide-refuses d s h = let e = ne-eqb (decideNumber d s) 0 h in (rw e refl, rw e refl)
 
 -- ---- what is behind the reply
-
-pub cond-of : {A B : Type 0} (f : A → B) (b : Bool) (x y : A) → f (cond b x y) ≡ cond b (f x) (f y)
-cond-of f true x y = refl
-cond-of f false x y = refl
 
 -- where the bytes xs are placed at a buffer's start, or nothing is, the buffer is kept from there on
 pub kept-behind : (b : Bool) (d xs : List ℕ) → (b ≡ true → length xs ≤ length d)
@@ -184,10 +193,6 @@ module _ (j : Job) where
   one-of (unfixable x) e = inr (inl (x, e))
   one-of (blind r) e = inr (inr (r, e))
 
-  fields-of : (u : Ruling) → ruling j ≡ u → verdictFields (verdictOf j) ≡ verdictFields (verdictFrom j u)
-  unfolding verdictOf
-  fields-of u e = ap (λ (v : Ruling). verdictFields (verdictFrom j v)) e
-
   ruling-fields : verdictFields (verdictOf j) ≡ verdictFields (verdictFrom j (ruling j))
   unfolding verdictOf
   ruling-fields = refl
@@ -254,18 +259,26 @@ quad-fourBytes : (x : ℕ) → quad (fourBytes x) ≡ x
 unfolding quad fourBytes word bytePair
 quad-fourBytes x = omega arith
 
-pub patch-joined : (is t vs : List ℕ) (c : ℕ) → patchBytes is t c vs ≡ joined 16 (flat bytePair is ∷ t ∷ fourBytes c ∷ vs ∷ [])
-unfolding patchBytes joined
-patch-joined is t vs c = simp (append-assoc, append-nil)
+module _ (is t : List ℕ) (c : ℕ) (vs : List ℕ) where
+  abbrev patchBodies : List (List ℕ)
+  patchBodies = flat bytePair is ∷ t ∷ fourBytes c ∷ vs ∷ []
 
-pub patch-read : (is t vs : List ℕ) (c : ℕ)
-    → patchOf (patchBytes is t c vs) ≡ record { support = is; table = t; cost = c; vectors = vs }
-unfolding patchOf
-patch-read is t vs c =
-    let b = flat bytePair is ∷ t ∷ fourBytes c ∷ vs ∷ [] in
-    let n : (k : ℕ) → k < 4 → nth k (patchBytes is t c vs) ≡ getD b k [] =
-    λ k h. ap (nth k) (patch-joined is t vs c) ∙ nth-joined 16 b k h in
-    rw (n 0 (omega arith), n 1 (omega arith), n 2 (omega arith), n 3 (omega arith), netsOf-flat is, quad-fourBytes c)
+  patch-joined : patchBytes is t c vs ≡ joined 16 patchBodies
+  unfolding patchBytes joined
+  patch-joined = simp (append-assoc, append-nil)
+
+  pub patch-whole : whole sheetTags (patchBytes is t c vs) ≡ true
+  unfolding upFrom
+  patch-whole = rw patch-joined (whole-joined 16 patchBodies)
+
+  pub patch-nth : (k : ℕ) → k < 4 → nth k (patchBytes is t c vs) ≡ getD patchBodies k []
+  patch-nth k h = ap (nth k) patch-joined ∙ nth-joined 16 patchBodies k h
+
+  pub patch-read : patchOf (patchBytes is t c vs) ≡ record { support = is; table = t; cost = c; vectors = vs }
+  unfolding patchOf
+  patch-read =
+      let n = patch-nth in
+      rw (n 0 (omega arith), n 1 (omega arith), n 2 (omega arith), n 3 (omega arith), netsOf-flat is, quad-fourBytes c)
 
 -- the sheet of a patch over the nets is
 abbrev pub patchSheet : Job → List ℕ → List ℕ
@@ -295,7 +308,7 @@ patch-given d s c e q =
     let r = f .1 in
     let a = f .2 in
     let p = patch-table j is r in
-    subst (PatchIn j c) (sym (ap patchOf (f .3) ∙ patch-read is (tableOf j is) (vectorLoop j .vectors) (cost j is)))
+    subst (PatchIn j c) (sym (ap patchOf (f .3) ∙ patch-read is (tableOf j is) (cost j is) (vectorLoop j .vectors)))
     (record {
       nets = p .0;
       entries = length-tableOf j is;
@@ -366,7 +379,7 @@ module _ (j : Job) (is t : List ℕ) where
   unequal-at : (x : ℕ) → (Equal x → ⊥) → differing x ≡ true
   unequal-at x h = ⊎-elim (λ e. e) (λ e. absurd (h (equal-at x e))) (true-or-false (differing x))
 
-  difference-none : (difference j is t ≡ none) ↔ ((x : ℕ) → x < 2 ^ j .inputs → Equal x)
+  pub difference-none : (difference j is t ≡ none) ↔ ((x : ℕ) → x < 2 ^ j .inputs → Equal x)
   unfolding difference allInputs differing
   difference-none = (
     λ e x l. equal-at x (first-none-below differing (2 ^ j .inputs) e x l),

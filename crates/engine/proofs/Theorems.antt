@@ -1,15 +1,14 @@
 -- What specs/Claims.antt promises of the engine's definitions. Assumes nothing.
-use Prim.Native.Nat.{ℕ, _^_, _<_}
-use mathlib.Core.Path.{_≡_, refl, sym, _∙_, ap, subst}
-use mathlib.Core.Logic.{_↔_, inl, inr, ⊎-elim}
+use Prim.Native.Nat.{ℕ}
+use mathlib.Core.Path.{_≡_, _∙_, ap}
+use mathlib.Core.Logic.{inl, inr, ⊎-elim}
 use mathlib.Core.List.{List}
-use mathlib.Core.Bool.{true, false, true≢false}
-use mathlib.Core.Option.{none, some}
+use mathlib.Core.Bool.{true}
 use Rattle.records.specs.Job.{Job}
 use Rattle.engine.specs.Choice.{any}
-use Rattle.engine.specs.Rectify.{rectifies, rectifiable, vectorLoop}
-use Rattle.engine.specs.Support.{Carries, sound, candidateNets, subsets, chosen, tableOf}
-use Rattle.engine.specs.Verdict.{patch, unfixable, blind, blindReading, ruling}
+use Rattle.engine.specs.Rectify.{rectifies, vectorLoop}
+use Rattle.engine.specs.Support.{sound, candidateNets, subsets, chosen, tableOf}
+use Rattle.engine.specs.Verdict.{patch, blind, blindReading, ruling}
 use Rattle.engine.specs.Claims.{In, Rectifiable, TernaryKnown, TernaryUnknown, LoopEnds, EveryTable, Readings, PatchExactly, PatchTable, LeastCost, UnfixableExactly, BlindExactly}
 use Rattle.engine.proofs.Laws.Choice.{any-iff-member, none-or-some}
 use Rattle.engine.proofs.Laws.Ternary.{entry-table, ternaryValue-known-iff, ternaryValue-unknown-iff}

@@ -1,7 +1,7 @@
 -- What is promised of the engine beyond the contracts of its functions: the request's demands 1 to 3, of the definitions and of
--- what decide, compare and fit reply. What is claimed of the definitions is proved in proofs/Theorems.antt, of decide and compare
--- in proofs/Replies.antt, of fit in proofs/FitReplies.antt, of decide, then compare or fit, in proofs/InARow.antt, and that the
--- longest replies are attained in proofs/Attained.antt. Assumes nothing.
+-- what decide, compare and fit reply. What is claimed of the definitions is proved in proofs/Theorems.antt, of a reply's number, of
+-- decide and of compare in proofs/Replies.antt, of fit in proofs/FitReplies.antt, of decide, then compare or fit, in
+-- proofs/InARow.antt, and that the longest replies are attained in proofs/Attained.antt. Assumes nothing.
 --
 --   In x xs                 x is an element of xs
 --   Rectifiable             an input is fixable exactly when some vector makes the old outputs the golden ones
@@ -45,7 +45,7 @@ use Rattle.engine.specs.Eval.{bits, numberOf, oldValues, oldOutputs, gol
 use Rattle.engine.specs.Ternary.{unknown, ternaryTable, entry, Completes, Possible}
 use Rattle.engine.specs.Rectify.{rectifies, rectifiable, vectorLoop}
 use Rattle.engine.specs.Support.{reading, drivenBy, Carries, shared, tableOf, candidateNets, subsets, cost}
-use Rattle.engine.specs.Verdict.{Ruling, patch, unfixable, blind, ruling, rulingFields, sheetOf, longestSheet, decideNumber, decidedBytes}
+use Rattle.engine.specs.Verdict.{patch, unfixable, blind, ruling, rulingFields, sheetOf, longestSheet, decideNumber, decidedBytes}
 use Rattle.engine.specs.Reply.{verdictFields, declinedReply, decideReply, comparisonOf, compareNumber, compareReply, fitNumber, fitReply, fittedBuffer}
 use Rattle.engine.specs.declared.comparing.Comparison.the-variants as Comparison
 use Rattle.engine.specs.Fit.{fitted, fittedBytes, fits, longestFit}

@@ -13,7 +13,7 @@
 --   fitNumber, fitReply, fittedBuffer d s p     the number, what fit replies, and the reply buffer afterwards
 use Prim.Native.Nat.{ℕ}
 use mathlib.Core.List.{List, [], _∷_, _++_}
-use mathlib.Core.Bool.{Bool, cond}
+use mathlib.Core.Bool.{cond}
 use mathlib.Core.Option.{Option, none, some}
 use lib.ListN.{length}
 use lib.Dec.{leb, eqb}

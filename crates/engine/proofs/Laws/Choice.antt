@@ -7,7 +7,7 @@ use mathlib.Core.Bool.{Bool, true, false, cond, _&&_, _||_, true≢false, false�
 use mathlib.Core.Option.{Option, none, some, Option·some-injective as some-injective, Option·none-ne-some as none-ne-some, Option·some-ne-none as some-ne-none}
 use native.Mathlib.Nat.{eq-or-lt-of-le}
 use native.Mathlib.Omega.{arith}
-use borrow.Author.Tests.{eqb-true, eq-eqb}
+use borrow.Author.Tests.{eqb-true, eq-eqb, ne-eqb}
 use lib.Dec.{eqb}
 use lib.ListN.{length}
 use Rattle.records.specs.Bytes.{upFrom, all}
@@ -37,6 +37,15 @@ or-right false b e = e
 pub or-cases : (a b : Bool) → (a || b) ≡ true → (a ≡ true) ⊎ (b ≡ true)
 or-cases true b e = inl refl
 or-cases false b e = inr e
+
+-- a function of one of two, and a number by whether it is 0
+pub cond-of : {A B : Type 0} (f : A → B) (b : Bool) (x y : A) → f (cond b x y) ≡ cond b (f x) (f y)
+cond-of f true x y = refl
+cond-of f false x y = refl
+
+pub cond-zero : (n : ℕ) → cond (eqb n 0) 0 n ≡ n
+cond-zero zero = refl
+cond-zero (suc n) = rw (ne-eqb (suc n) 0 (λ e. omega arith))
 
 -- ---- all, any
 

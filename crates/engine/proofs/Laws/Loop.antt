@@ -93,12 +93,14 @@ module _ (j : Job) (k : ℕ) (vs : List ℕ) where
 pub record Listing (j : Job) (vs : List ℕ) : Type 0 where
   pub below : (v : ℕ) → Mem v vs → v < 2 ^ j .targets
   pub distinct : Distinct vs
+  pub nonempty : 1 ≤ length vs
 
 pub listing-start : (j : Job) → Listing j (0 ∷ [])
 listing-start j =
     record {
       below = λ v m. omega (arith, eq-of-singleton m, pow-pos (j .targets));
       distinct = (not-nil, tt);
+      nonempty = omega arith;
     }
 
 -- the vector that a round appends is new
@@ -119,6 +121,7 @@ listing-round j vs x v h e f =
     record {
       below = λ w m. ⊎-elim (h .below w) (λ s. omega (arith, eq-of-singleton s, b .below)) (append-cases vs m);
       distinct = distinct-snoc vs v (h .distinct) (round-new j vs x v e f);
+      nonempty = omega (arith, length-append vs (v ∷ []));
     }
 
 pub listing-length : (j : Job) (vs : List ℕ) → Listing j vs → length vs ≤ 2 ^ j .targets
@@ -172,6 +175,9 @@ vectors-distinct j = loop-finished j .listing .distinct
 
 pub vectors-below : (j : Job) (v : ℕ) → Mem v (vectorLoop j .vectors) → v < 2 ^ j .targets
 vectors-below j = loop-finished j .listing .below
+
+pub vectors-nonempty : (j : Job) → 1 ≤ length (vectorLoop j .vectors)
+vectors-nonempty j = loop-finished j .listing .nonempty
 
 pub length-vectors-le : (j : Job) → length (vectorLoop j .vectors) ≤ 2 ^ j .targets
 length-vectors-le j = listing-length j (vectorLoop j .vectors) (loop-finished j .listing)

@@ -1,11 +1,10 @@
 -- What read_sheet replies: its number, and of an accepted sheet the support and where its table stands. Assumes nothing.
 use Prim.Native.Nat.{ℕ, _+_, _-_, _^_, _≤_}
-use mathlib.Core.Path.{_≡_, refl, sym, _∙_, ap, subst}
-use mathlib.Core.Logic.{⊎-elim}
+use mathlib.Core.Path.{_≡_, sym, _∙_, ap, subst}
 use mathlib.Core.List.{List, [], _∷_}
-use mathlib.Core.Bool.{true, false, cond}
+use mathlib.Core.Bool.{true}
 use native.Mathlib.Omega.{arith}
-use borrow.Author.Tests.{eqb-true, eq-eqb}
+use borrow.Author.Tests.{eq-eqb}
 use lib.Dec.{eqb, ltb}
 use lib.ListN.{length, take, drop, replicate, length-append}
 use lib.Seq.{take-append-seam}
@@ -22,7 +21,7 @@ use Rattle.records.proofs.Laws.Field.{startOf-suc, startOf-le, nth-slice}
 use Rattle.records.proofs.Laws.Shape.{length-netsOf}
 use Rattle.records.proofs.Laws.Sheet.{support-length}
 use Rattle.records.proofs.Laws.SheetShape.{SheetWhole, sheetWhole-facts}
-use Rattle.engine.proofs.Laws.Choice.{true-or-false}
+use Rattle.engine.proofs.Laws.Choice.{cond-of, cond-zero}
 
 -- an accepted sheet's reply: its support is of candidates, and the table stands among the sheet's bytes
 pub record ReadSheet (cs : List Candidate) (p : List ℕ) (r : SheetReply) : Type 0 where
@@ -66,16 +65,11 @@ good-support m cs q h =
     (t 0, t 1)
 
 module _ (m k : ℕ) (nets weights p : List ℕ) where
-  cond-number : (n : ℕ) (x y : SheetReply) → x .number ≡ 0 → y .number ≡ n → cond (eqb n 0) x y .number ≡ n
-  cond-number n x y a b =
-      ⊎-elim
-      (λ (t : eqb n 0 ≡ true). rw t (a ∙ sym (eqb-true n 0 t)))
-      (λ (t : eqb n 0 ≡ false). rw t b)
-      (true-or-false (eqb n 0))
-
   pub sheet-number : sheetReply m k nets weights p .number ≡ sheetNumber m k nets weights p
   unfolding sheetReply
-  sheet-number = cond-number (sheetNumber m k nets weights p) _ _ refl refl
+  sheet-number =
+      let n = sheetNumber m k nets weights p in
+      cond-of (λ (r : SheetReply). r .number) (eqb n 0) _ _ ∙ cond-zero n
 
   sheet-accepted : sheetNumber m k nets weights p ≡ 0
       → ReadSheet (candidatesFrom k nets weights) p (sheetReply m k nets weights p)

@@ -1,14 +1,14 @@
 -- Laws of specs/Support: what a golden table holds, what a shared vector is, that the nets that carry a table are the sound
 -- ones, and that the vector has no say on a reading of candidates. Assumes nothing.
-use Prim.Native.Nat.{ℕ, _^_, _<_}
+use Prim.Native.Nat.{ℕ, suc, _^_, _≤_, _<_}
 use mathlib.Core.Path.{_≡_, refl, sym, _∙_, ap, subst}
-use mathlib.Core.Logic.{_↔_, ⊎-elim}
-use mathlib.Core.List.{List, [], _∷_, map, List·Memᴰ as Mem, List·Memᴰ·head as here, List·Memᴰ·tail as there, List·Memᴰ·cases-cons as cases-cons, List·Memᴰ·append-cases as append-cases, List·Memᴰ·eq-of-singleton as eq-of-singleton, Memᴰ·append-left as mem-append-left, Memᴰ·map as mem-map, Memᴰ·of-map as mem-of-map}
+use mathlib.Core.Logic.{_↔_, _⊎_, inl, inr, ⊎-elim}
+use mathlib.Core.List.{List, [], _∷_, map, List·Memᴰ as Mem, List·Memᴰ·head as here, List·Memᴰ·tail as there, List·Memᴰ·not-nil as not-nil, List·Memᴰ·cases-cons as cases-cons, List·Memᴰ·append-cases as append-cases, List·Memᴰ·eq-of-singleton as eq-of-singleton, Memᴰ·append-left as mem-append-left, Memᴰ·map as mem-map, Memᴰ·of-map as mem-of-map}
 use mathlib.Core.Bool.{Bool, true, false, _&&_, false≢true}
 use mathlib.Core.Option.{none, some}
 use native.Mathlib.Omega.{arith}
-use borrow.Author.Tests.{eqb-true, eq-eqb}
-use lib.Dec.{ltb, eqb}
+use borrow.Author.Tests.{leb-true, le-leb, eqb-true, eq-eqb}
+use lib.Dec.{leb, ltb, eqb}
 use lib.Pow.{pow-pos}
 use lib.ListN.{length, getD, length-map}
 use Rattle.records.specs.Bytes.{upFrom, all}
@@ -16,14 +16,15 @@ use Rattle.records.specs.Netlist.{netAt, fanout}
 use Rattle.records.specs.Job.{Job, Candidate}
 use Rattle.records.specs.Refusal.{oldNets, ascending, candidateGood, candidatesGood}
 use Rattle.records.specs.Sheet.{isCandidate}
-use Rattle.records.proofs.Laws.Bytes.{and-right, all-cons, length-tabulate, getD-tabulate}
+use Rattle.records.proofs.Laws.Bytes.{and-left, and-right, and-both, all-cons, length-tabulate, getD-tabulate}
+use Rattle.records.proofs.Laws.Refusal.{ascendingFrom, ascending-from}
 use Rattle.engine.specs.Choice.{found, orZero}
 use Rattle.engine.specs.Eval.{numberOf, allInputs, allVectors, oldValues, oldOutputs, goldenOutputs}
 use Rattle.engine.specs.Rectify.{rectifies, rectifiable}
 use Rattle.engine.specs.Support.{reading, giving, drivenBy, equalsGolden, Carries, shared, sound, tableOf, subsets, candidateNets}
 use Rattle.engine.specs.Sets.{RectifiesAll}
 use Rattle.engine.proofs.Laws.Eval.{bits-map, netAt-lt, oldValues-bits, numberOf-lt, numberOf-agree, oldValues-agree}
-use Rattle.engine.proofs.Laws.Choice.{any-of-member, all-iff-below, all-true, all-of-members, all-false, mem-keep, mem-below, first-least, first-none-below, found-some, found-none, found-first, same-iff-equal, map-agree, not-both, true-or-false, or-cases}
+use Rattle.engine.proofs.Laws.Choice.{any-of-member, all-iff-below, all-true, all-of-members, all-false, mem-keep, mem-below, first-least, first-none-below, found-some, found-none, found-first, same-iff-equal, map-agree, not-both, true-or-false, or-left, or-right, or-cases}
 
 module _ (j : Job) where
   pub rectifies-iff-outputs : (x v : ℕ) → (rectifies j x v ≡ true) ↔ (oldOutputs j x v ≡ goldenOutputs j x)
@@ -209,19 +210,52 @@ sound-mono j is ks s e =
 
 -- ---- subsets
 
+-- a set of the nets of k ∷ ks has k before a set of those of ks, or is such a set
+subset-cases : (k : ℕ) (ks is : List ℕ) → Mem is (subsets (k ∷ ks))
+    → ((ls : List ℕ) × Mem ls (subsets ks) × (k ∷ ls ≡ is)) ⊎ Mem is (subsets ks)
+unfolding subsets
+subset-cases k ks is m =
+    let before : List ℕ → List ℕ = λ ls. k ∷ ls in
+    ⊎-elim
+    (λ (a : Mem is (map before (subsets ks))). inl (mem-of-map before (subsets ks) a))
+    inr
+    (append-cases (map before (subsets ks)) m)
+
 pub subsets-among : (ks is : List ℕ) → Mem is (subsets ks) → (i : ℕ) → Mem i is → Mem i ks
 unfolding subsets
 subsets-among [] is m i n = subst (Mem i) (eq-of-singleton m) n
 subsets-among (k ∷ ks) is m i n =
     ⊎-elim
-    (λ (a : Mem is (map (λ (ls : List ℕ). k ∷ ls) (subsets ks))).
-    let r = mem-of-map (λ (ls : List ℕ). k ∷ ls) (subsets ks) a in
+    (λ r.
     ⊎-elim
     (λ (q : i ≡ k). here q)
     (λ (b : Mem i (r .0)). there (subsets-among ks (r .0) (r .1) i b))
     (cases-cons (subst (Mem i) (sym (r .2)) n)))
-    (λ (a : Mem is (subsets ks)). there (subsets-among ks is a i n))
-    (append-cases (map (λ (ls : List ℕ). k ∷ ls) (subsets ks)) m)
+    (λ a. there (subsets-among ks is a i n))
+    (subset-cases k ks is m)
+
+from-lower : (lo hi : ℕ) → lo ≤ hi → (xs : List ℕ) → ascendingFrom hi xs ≡ true → ascendingFrom lo xs ≡ true
+unfolding ascendingFrom
+from-lower lo hi h [] a = refl
+from-lower lo hi h (x ∷ xs) a =
+    let l = leb-true hi x (and-left (leb hi x) (ascendingFrom (suc x) xs) a) in
+    and-both (leb lo x) (ascendingFrom (suc x) xs) (le-leb lo x (omega arith)) (and-right (leb hi x) _ a)
+
+subset-from : (lo : ℕ) (ks is : List ℕ) → ascendingFrom lo ks ≡ true → Mem is (subsets ks) → ascendingFrom lo is ≡ true
+unfolding subsets ascendingFrom
+subset-from lo [] is a m = rw (eq-of-singleton m)
+subset-from lo (k ∷ ks) is a m =
+    let b = and-left (leb lo k) (ascendingFrom (suc k) ks) a in
+    let c = and-right (leb lo k) (ascendingFrom (suc k) ks) a in
+    let l = leb-true lo k b in
+    ⊎-elim
+    (λ r. rw (← r .2) (and-both (leb lo k) (ascendingFrom (suc k) (r .0)) b (subset-from (suc k) ks (r .0) c (r .1))))
+    (λ n. from-lower lo (suc k) (omega arith) is (subset-from (suc k) ks is c n))
+    (subset-cases k ks is m)
+
+-- a set of ascending nets ascends
+pub subset-ascending : (ks is : List ℕ) → ascending ks ≡ true → Mem is (subsets ks) → ascending is ≡ true
+subset-ascending ks is a m = ascending-from is ∙ subset-from 0 ks is (sym (ascending-from ks) ∙ a) m
 
 pub subsets-self : (ks : List ℕ) → Mem ks (subsets ks)
 unfolding subsets
@@ -269,6 +303,16 @@ module _ (j : Job) (h : candidatesGood j ≡ true) where
       ap numberOf
       (map-agree (netAt (oldValues j x v)) (netAt (oldValues j x 0)) is
       (λ i m. candidate-value x v i (subsets-among (candidateNets j) is s i m)))
+
+pub isCandidate-of-mem : (cs : List Candidate) (i : ℕ) → Mem i (map (λ (c : Candidate). c .net) cs) → isCandidate cs i ≡ true
+unfolding isCandidate
+isCandidate-of-mem [] i m = absurd (not-nil m)
+isCandidate-of-mem (c ∷ cs) i m =
+    ⊎-elim
+    (λ (e : i ≡ c .net). or-left (eqb (c .net) i) (isCandidate cs i) (eq-eqb (c .net) i (sym e)))
+    (λ (n : Mem i (map (λ (d : Candidate). d .net) cs)).
+    or-right (eqb (c .net) i) (isCandidate cs i) (isCandidate-of-mem cs i n))
+    (cases-cons m)
 
 -- a test of all candidates' nets
 pub all-nets : (p : ℕ → Bool) (cs : List Candidate)
