@@ -130,7 +130,7 @@ module _ (j : Job) (is t : List ℕ) where
   unfolding netlistOf
   netlist-read h = rw (nth-gates h, nth-outputs)
 
-  length-fittedBytes : All Two (j .old .gates)
+  pub length-fittedBytes : All Two (j .old .gates)
       → length (fittedBytes j is t) ≡ 11 + 5 * length (fitted j is t .gates) + 2 * length (fitted j is t .outputs)
   unfolding fittedBytes
   length-fittedBytes h =
@@ -141,7 +141,7 @@ module _ (j : Job) (is t : List ℕ) where
         length-flat bytePair 2 length-bytePair (fitted j is t .outputs),
       ) (omega arith)
 
-  length-outputs : length (fitted j is t .outputs) ≡ length (j .old .outputs)
+  pub length-outputs : length (fitted j is t .outputs) ≡ length (j .old .outputs)
   unfolding fitted
   length-outputs = length-map (j .old .outputs) _
 
@@ -212,7 +212,7 @@ module _ (d s p : List ℕ) (e : fitNumber d s p ≡ 0) where
   accepted : eqb (fitNumber d s p) 0 ≡ true
   accepted = eq-eqb (fitNumber d s p) 0 e
 
-  reply-of : fitReply d s p ≡ record { number = 0; len = length bytes }
+  pub reply-of : fitReply d s p ≡ record { number = 0; len = length bytes }
   unfolding fitReply
   reply-of = rw (accepted, e) refl
 

@@ -5,3 +5,4 @@ pub mod Theorems
 pub mod Replies
 pub mod FitReplies
 pub mod InARow
+pub mod Attained

@@ -98,7 +98,7 @@ module _ (d s : List ℕ) (e : decideNumber d s ≡ 0) where
   good : PartsGood (jobOf s)
   good = decide-accepts d s .0 e .2
 
-  reply-of : decideReply d s ≡ record { number = 0; len = length (sheetOf (jobOf s)); verdict = verdictOf (jobOf s) }
+  pub reply-of : decideReply d s ≡ record { number = 0; len = length (sheetOf (jobOf s)); verdict = verdictOf (jobOf s) }
   unfolding decideReply
   reply-of = rw accepted refl
 
