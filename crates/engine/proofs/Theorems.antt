@@ -14,7 +14,7 @@ use Rattle.engine.proofs.Laws.Choice.{any-iff-member, none-or-some}
 use Rattle.engine.proofs.Laws.Ternary.{entry-table, ternaryValue-known-iff, ternaryValue-unknown-iff}
 use Rattle.engine.proofs.Laws.Support.{golden-iff, golden-iff-readings, golden-of-sound, carries-of-sound, sound-of-carries, sound-iff-subset-carries, reading-vector, rectifiable-of-carries}
 use Rattle.engine.proofs.Laws.Best.{chosen-sound, chosen-least}
-use Rattle.engine.proofs.Laws.Loop.{rectifiable-iff, listed-of-none, listed-of-some, stuck-iff, stuck-none-iff}
+use Rattle.engine.proofs.Laws.Loop.{rectifiable-iff, listed-of-none, listed-of-some, unlisted-of-some, stuck-iff, stuck-none-iff}
 use Rattle.engine.proofs.Laws.Verdict.{LeastBlind, ruling-unfixable, ruling-patch, ruling-blind, unfixable-stuck, patch-chosen, blind-reading, blind-least, blind-unique, unsound-of-blind}
 
 pub rectifiable-exactly : Rectifiable
@@ -35,7 +35,7 @@ loop-ends j =
     (λ e. inl (e, λ x h. listed x (listed-of-none j e x h)))
     (λ s.
     let r = stuck-iff j (s .0) .0 (s .1) in
-    inr (s .0, s .1, r .0, r .1, λ y h. listed y (listed-of-some j (s .0) (s .1) y h)))
+    inr (s .0, s .1, r .0, unlisted-of-some j (s .0) (s .1), r .1, λ y h. listed y (listed-of-some j (s .0) (s .1) y h)))
     (none-or-some (vectorLoop j .stuck))
 
 pub every-table : EveryTable

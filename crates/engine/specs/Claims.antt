@@ -88,6 +88,7 @@ LoopEnds =
     ⊎ ((x : ℕ)
     × (vectorLoop j .stuck ≡ some x)
     × (x < 2 ^ j .inputs)
+    × (any (rectifies j x) vs ≡ false)
     × (rectifiable j x ≡ false)
     × ((y : ℕ) → y < x → any (rectifies j y) vs ≡ true))
 

@@ -11,7 +11,7 @@ use native.Mathlib.Omega.{arith}
 use lib.Dec.{ltb, eqb}
 use lib.Pow.{pow-pos}
 use lib.ListN.{length, length-append}
-use borrow.Author.Tests.{ltb-true, ltb-false, eqb-true, eq-eqb, not-true, not-false}
+use borrow.Author.Tests.{ltb-true, ltb-false, eqb-true, eq-eqb, not-true, not-true, not-false}
 use Rattle.records.specs.Bytes.{upFrom}
 use Rattle.records.specs.Job.{Job}
 use Rattle.records.proofs.Laws.Bytes.{false-of, length-upFrom}
@@ -205,6 +205,11 @@ module _ (j : Job) where
   pub listed-of-some : (x : ℕ) → vectorLoop j .stuck ≡ some x → (y : ℕ) → y < x
       → (v : ℕ) × Mem v (vectorLoop j .vectors) × (rectifies j y v ≡ true)
   listed-of-some x e y l = rectifier y (stuck-least x e .smaller y l)
+
+  -- .. and x has none
+  pub unlisted-of-some : (x : ℕ) → vectorLoop j .stuck ≡ some x → any (rectifies j x) (vectorLoop j .vectors) ≡ false
+  unfolding unrectified
+  unlisted-of-some x e = not-true (any (rectifies j x) (vectorLoop j .vectors)) (stuck-least x e .holds)
 
   rectifiable-of-listed : (x : ℕ) → (v : ℕ) × Mem v (vectorLoop j .vectors) × (rectifies j x v ≡ true)
       → rectifiable j x ≡ true
