@@ -11,7 +11,7 @@ use native.Mathlib.Omega.{arith}
 use lib.Dec.{ltb, eqb}
 use lib.Pow.{pow-pos}
 use lib.ListN.{length, length-append}
-use borrow.Author.Tests.{ltb-true, ltb-false, eqb-true, eq-eqb, not-true, not-true, not-false}
+use borrow.Author.Tests.{ltb-true, ltb-false, eqb-true, eq-eqb, not-true, not-false}
 use Rattle.records.specs.Bytes.{upFrom}
 use Rattle.records.specs.Job.{Job}
 use Rattle.records.proofs.Laws.Bytes.{false-of, length-upFrom}
