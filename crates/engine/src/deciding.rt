@@ -195,8 +195,10 @@ fn decide_job(
 
 // The service decide: the verdict on a job's bytes, and its sheet at the start of the reply buffer. Refused are a buffer below
 // 1,076 bytes (1) and what is no whole job (2 to 6). It costs, for each block of 64 inputs, one gate evaluation a gate of both
-// netlists and one for each vector and each gate that a target leads to, less what partial evaluation skips; then at most
-// 2 ^ 20 steps for the choice among 1,024 supports.
+// netlists, one for each vector and each gate that a target leads to, and 64 steps to note the inputs. Partial evaluation is tried on
+// fewer than 2 ^ (n - 8) ranges of the n inputs: one gate evaluation a gate on 0, 1 and not yet known for each, which may spare
+// all its blocks. The choice among the 2 ^ k sets of k candidates, at most 1,024, takes up to 2 ^ k times 1,024 and twice 2 ^ k
+// steps: 3 * 2 ^ 20 for ten candidates, whatever the gates are.
 pub fn decide(job: &[u8], reply: &mut [u8]) -> DecideReply
     ensures reply { λ r. ⌜ r ≡ decideReply (now (reply .entry)) (now (job .entry)) ⌝ }
     ensures lent { λ _. ⌜ now (reply .exit) ≡ decidedBytes (now (reply .entry)) (now (job .entry)) ⌝ }

@@ -1,5 +1,8 @@
 // The record library's read_columns and write_columns for a C program: tools/bench measures them there. The seven counts of a job go in
-// a row: inputs, targets, old gates and outputs, golden gates and outputs, candidates.
+// a row: inputs, targets, old gates and outputs, golden gates and outputs, candidates. A slice is a pointer and a length, two
+// arguments. What the caller owes, since nothing checks a C call: each pointer, also that of an empty slice, is aligned and not null, as
+// many elements as the length says can be read there (and written, where the slice is `&mut`), `counts` points to seven numbers and
+// `number` to one, and what is lent `&mut` overlaps nothing else that is lent.
 ghost use mathlib.Core.Path.{_≡_};
 ghost use Rattle.records.specs.Columns.{sideColumns, columns, columnsReply, columnsAfter, columnsWriteReply, columnsWritten};
 ghost use Rattle.records_c.specs.Row.{rowAfter, rowCounts};
@@ -74,7 +77,7 @@ pub extern "C" fn records_read(
 }
 
 // records::write_columns of as many parts as counts says: the length of the job is returned, 0 on refusal, and the reply's number is left
-// in number, 0 where the parts are accepted.
+// in number, 0 where the parts are accepted. So a refusal alters number, which stands for the reply, and no byte of buf.
 #[no_mangle]
 pub extern "C" fn records_write(
     counts: &[usize; 7],
