@@ -8,7 +8,7 @@ use mathlib.Core.List.{List, [], _∷_, map, List·Memᴰ as Mem, Memᴰ·cast a
 use mathlib.Core.Bool.{Bool, true, false, not, _||_, true≢false}
 use mathlib.Core.Option.{none}
 use native.Mathlib.Omega.{arith}
-use borrow.Author.Tests.{ltb-true, lt-ltb, le-ltb, eqb-true, not-true}
+use borrow.Author.Tests.{lt-ltb, le-ltb, eqb-true, not-true}
 use lib.Dec.{ltb, eqb}
 use lib.Pow.{pow-lt, pow-mono}
 use lib.ListN.{length, getD, replicate, length-replicate}
@@ -18,8 +18,9 @@ use Rattle.records.specs.Netlist.{Netlist, netAt, extended, valueOf, values, ma
 use Rattle.records.specs.Job.{Job, netsOf, gateBytes, candidateBytes, jobBytes}
 use Rattle.records.specs.Refusal.{sideCountsGood, countsGood, gateGood, gatesGood, netlistsGood, oldNets, goldenNets, outputsGood, ascending, candidateGood, candidatesGood}
 use Rattle.records.specs.Sheet.{quad, patchOf, sheetWhole, costOf, isCandidate, patchGood}
-use Rattle.records.specs.Claims.{Below, PartsGood}
-use Rattle.records.proofs.Laws.Bytes.{and-left, and-right, length-tabulate}
+use Rattle.records.specs.Claims.{PartsGood}
+use Rattle.records.proofs.Laws.Bytes.{length-tabulate}
+use Rattle.records.proofs.Laws.Accepted.{below-of-all}
 use Rattle.records.proofs.Laws.RoundTrip.{Two, TwoEach, all-tabulate, jobWhole-jobBytes, jobOf-jobBytes}
 use Rattle.engine.specs.Choice.{any, keep, same}
 use Rattle.engine.specs.Eval.{bit, bits, numberOf, oldValues, oldOutputs, goldenOutputs}
@@ -46,12 +47,6 @@ use Rattle.engine.proofs.Replies.{decide-accepts, longest, compare-acce
 use Rattle.engine.proofs.FitReplies.{length-fittedBytes, length-outputs, fit-accepts, reply-of as fit-reply}
 
 -- ---- lists and bits
-
-below-of-all : (n : ℕ) → 0 < n → (xs : List ℕ) → all (λ x. ltb x n) xs ≡ true → Below n xs
-unfolding all
-below-of-all n h [] p i = h
-below-of-all n h (x ∷ xs) p zero = ltb-true x n (and-left (ltb x n) _ p)
-below-of-all n h (x ∷ xs) p (suc i) = below-of-all n h xs (and-right (ltb x n) _ p) i
 
 -- where every number below n is listed, the list has at least n elements
 length-covering : (n : ℕ) (xs : List ℕ) → ((x : ℕ) → x < n → Mem x xs) → n ≤ length xs

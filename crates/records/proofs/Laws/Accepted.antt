@@ -199,7 +199,7 @@ bytes-longest : (all (λ x. ltb x 256) (jobBytes longestParts) ≡ true) × (len
 unfolding all jobBytes field flat bytePair gateBytes candidateBytes gateOf longestParts longestSide tabulate upFrom
 bytes-longest = (refl, refl)
 
-below-of-all : (n : ℕ) → 0 < n → (xs : List ℕ) → all (λ x. ltb x n) xs ≡ true → Below n xs
+pub below-of-all : (n : ℕ) → 0 < n → (xs : List ℕ) → all (λ x. ltb x n) xs ≡ true → Below n xs
 unfolding all
 below-of-all n h [] p i = h
 below-of-all n h (x ∷ xs) p zero = ltb-true x n (and-left (ltb x n) _ p)
