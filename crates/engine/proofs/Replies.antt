@@ -35,7 +35,7 @@ use Rattle.engine.proofs.Laws.Sheet.{patchBytes-ruling, sheet-ruling}
 use Rattle.engine.proofs.Laws.Choice.{true-or-false, not-both, first-least, first-none-below}
 use Rattle.engine.proofs.Laws.WalkList.{first-of-least, first-of-none}
 use Rattle.engine.proofs.Laws.Support.{rectifies-iff-outputs, length-tableOf}
-use Rattle.engine.proofs.Laws.Text.{longest-sheet}
+use Rattle.engine.proofs.Laws.Verdict.{longest-sheet}
 use Rattle.engine.proofs.Theorems.{patch-exactly, patch-table, least-cost, unfixable-exactly, blind-exactly}
 
 -- ---- what decide accepts
@@ -101,6 +101,35 @@ number-of-length d e s h = rw h refl
 pub zero-or-not : (n : ℕ) → (n ≡ 0) ⊎ (n ≡ 0 → ⊥)
 zero-or-not zero = inl refl
 zero-or-not (suc n) = inr (λ e. let f : ⊥ = omega arith in f)
+
+-- ---- what a reply says
+
+module _ (d s : List ℕ) {r : DecideReply} (e : r ≡ decideReply d s) where
+  pub reply-number : r .number ≡ decideNumber d s
+  unfolding declinedReply
+  reply-number =
+      ap (λ (x : DecideReply). x .number) e
+      ∙ ⊎-elim
+      (λ (z : decideNumber d s ≡ 0). ap (λ (x : DecideReply). x .number) (reply-of d s z) ∙ sym z)
+      (λ (z : decideNumber d s ≡ 0 → ⊥). ap (λ (x : DecideReply). x .number) (decide-refuses d s z .0))
+      (zero-or-not (decideNumber d s))
+
+  module _ (z : r .number ≡ 0) where
+    pub number-zero : decideNumber d s ≡ 0
+    number-zero = sym reply-number ∙ z
+
+    pub sheet-short : r .len ≤ longestSheet
+    sheet-short =
+        omega (
+          arith,
+          ap (λ (x : DecideReply). x .len) (e ∙ reply-of d s number-zero),
+          longest-sheet (jobOf s) (good d s number-zero),
+        )
+
+    pub sheet-bytes : {b : List ℕ} → b ≡ decidedBytes d s → take (r .len) b ≡ sheetOf (jobOf s)
+    sheet-bytes w = rw (e, w) (sheet-of d s number-zero)
+
+-- ---- what the buffer held before
 
 nothing-of : (d s : List ℕ) → (decideNumber d s ≡ 0 → ⊥) → take (decideReply d s .len) (decidedBytes d s) ≡ []
 unfolding declinedReply

@@ -1,6 +1,6 @@
 -- Laws of specs/Support: what a golden table holds, what a shared vector is, that the nets that carry a table are the sound
 -- ones, and that the vector has no say on a reading of candidates. Assumes nothing.
-use Prim.Native.Nat.{ℕ, _^_, _<_}
+use Prim.Native.Nat.{ℕ, _^_, _≤_, _<_}
 use mathlib.Core.Path.{_≡_, refl, sym, _∙_, ap, subst}
 use mathlib.Core.Logic.{_↔_, ⊎-elim}
 use mathlib.Core.List.{List, [], _∷_, map, List·Memᴰ as Mem, List·Memᴰ·head as here, List·Memᴰ·tail as there, List·Memᴰ·cases-cons as cases-cons, List·Memᴰ·append-cases as append-cases, List·Memᴰ·eq-of-singleton as eq-of-singleton, Memᴰ·append-left as mem-append-left, Memᴰ·map as mem-map, Memᴰ·of-map as mem-of-map}
@@ -217,6 +217,17 @@ subsets-among (k ∷ ks) is m i n =
     (λ (b : Mem i (r .0)). there (subsets-among ks (r .0) (r .1) i b))
     (cases-cons (subst (Mem i) (sym (r .2)) n)))
     (λ (a : Mem is (subsets ks)). there (subsets-among ks is a i n))
+    (append-cases (map (λ (ls : List ℕ). k ∷ ls) (subsets ks)) m)
+
+pub length-subset-le : (ks is : List ℕ) → Mem is (subsets ks) → length is ≤ length ks
+unfolding subsets
+length-subset-le [] is m = rw (eq-of-singleton m) (omega arith)
+length-subset-le (k ∷ ks) is m =
+    ⊎-elim
+    (λ (a : Mem is (map (λ (ls : List ℕ). k ∷ ls) (subsets ks))).
+    let r = mem-of-map (λ (ls : List ℕ). k ∷ ls) (subsets ks) a in
+    omega (arith, ap length (r .2), length-subset-le ks (r .0) (r .1)))
+    (λ (a : Mem is (subsets ks)). omega (arith, length-subset-le ks is a))
     (append-cases (map (λ (ls : List ℕ). k ∷ ls) (subsets ks)) m)
 
 pub subsets-self : (ks : List ℕ) → Mem ks (subsets ks)
