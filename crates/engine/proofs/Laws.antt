@@ -21,7 +21,6 @@ pub mod Masks
 pub mod Outputs
 pub mod Partial
 pub mod Picked
-pub mod Printed
 pub mod Read
 pub mod Ready
 pub mod Rectify
@@ -34,7 +33,6 @@ pub mod Stream
 pub mod Support
 pub mod Survey
 pub mod Ternary
-pub mod Text
 pub mod Tree
 pub mod VectorSets
 pub mod Verdict

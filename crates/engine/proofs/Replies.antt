@@ -37,8 +37,7 @@ use Rattle.engine.proofs.Laws.Choice.{cond-of, cond-zero, true-or-false
 use Rattle.engine.proofs.Laws.WalkList.{first-of-least, first-of-none}
 use Rattle.engine.proofs.Laws.Support.{rectifies-iff-outputs, length-tableOf, tableOf-below, sound-iff-subset-carries}
 use Rattle.engine.proofs.Laws.Loop.{stuck-none-iff}
-use Rattle.engine.proofs.Laws.Verdict.{ruling-blind, blind-reading}
-use Rattle.engine.proofs.Laws.Text.{longest-sheet}
+use Rattle.engine.proofs.Laws.Verdict.{longest-sheet, ruling-blind, blind-reading}
 use Rattle.engine.proofs.Theorems.{patch-exactly, patch-sound, patch-table, least-cost, unfixable-exactly, blind-exactly}
 
 -- ---- the number in a reply
@@ -136,6 +135,29 @@ number-of-length d e s h = rw h refl
 pub zero-or-not : (n : ℕ) → (n ≡ 0) ⊎ (n ≡ 0 → ⊥)
 zero-or-not zero = inl refl
 zero-or-not (suc n) = inr (λ e. let f : ⊥ = omega arith in f)
+
+-- ---- what a reply says
+
+module _ (d s : List ℕ) {r : DecideReply} (e : r ≡ decideReply d s) where
+  pub reply-number : r .number ≡ decideNumber d s
+  reply-number = ap (λ (x : DecideReply). x .number) e ∙ number-given .0 d s
+
+  module _ (z : r .number ≡ 0) where
+    pub number-zero : decideNumber d s ≡ 0
+    number-zero = sym reply-number ∙ z
+
+    pub sheet-short : r .len ≤ longestSheet
+    sheet-short =
+        omega (
+          arith,
+          ap (λ (x : DecideReply). x .len) (e ∙ reply-of d s number-zero),
+          longest-sheet (jobOf s) (good d s number-zero),
+        )
+
+    pub sheet-bytes : {b : List ℕ} → b ≡ decidedBytes d s → take (r .len) b ≡ sheetOf (jobOf s)
+    sheet-bytes w = rw (e, w) (sheet-of d s number-zero)
+
+-- ---- what the buffer held before
 
 nothing-of : (d s : List ℕ) → (decideNumber d s ≡ 0 → ⊥) → take (decideReply d s .len) (decidedBytes d s) ≡ []
 unfolding declinedReply

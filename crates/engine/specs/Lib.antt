@@ -11,7 +11,6 @@ pub mod Fit
 pub mod Reply
 pub mod Claims
 pub mod Cases
-pub mod Text
 pub mod Inner
 pub mod Walk
 pub mod Sets

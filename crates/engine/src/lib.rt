@@ -1,6 +1,7 @@
-// The engine: the verdict on a job (decide), the old circuit driven by a sheet's table against the golden one (compare), and the
-// three by three tables of the gates for the search. Values of all nets are in 64 scenarios at once, a word a net. Every service
-// answers with a number of document 01, 0 where it accepts, and leaves every lent byte as it was where it does not.
+// The engine: the verdict on a job (decide), the old circuit with a sheet's table built in (fit) or driven by it, against the golden
+// one (compare), and the three by three tables of the gates for the search. Values of all nets are in 64 scenarios at once, a word a
+// net. Every service answers with a number of document 01, 0 where it accepts, and leaves every lent byte as it was where it does
+// not.
 mod block;
 mod choose;
 mod comparing;
@@ -17,7 +18,6 @@ mod sheet;
 mod survey;
 mod table;
 mod ternary;
-mod text;
 mod tree;
 mod visit;
 mod word;
@@ -36,4 +36,3 @@ pub use fitting::FitReply;
 pub use fitting::fit;
 pub use ternary::ternary_entry;
 pub use ternary::ternary_table;
-pub use text::rectify_text;

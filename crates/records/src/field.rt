@@ -34,7 +34,8 @@ pub struct FieldReader<'a> {
     pub at: usize,
 }
 
-pub(super) fn wide(x: u8) -> usize
+// A byte as a number.
+pub fn wide(x: u8) -> usize
     ensures { λ r. ⌜ r ≡ x ⌝ }
 {
     x as usize

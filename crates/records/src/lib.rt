@@ -1,6 +1,7 @@
 // The record library: a job's bytes read into lent places, parts written as a job's bytes, with gates as structs or in columns, a
-// patch sheet read against a job's candidates, the gates' values, and a field put into a buffer. Each service that reads or writes
-// answers with a number of document 01, 0 where it accepts, and leaves every lent place as it was where it does not.
+// patch sheet read against a job's candidates, the gates' values, a field put into a buffer, and a byte as a number. Each service
+// that reads or writes answers with a number of document 01, 0 where it accepts, and leaves every lent place as it was where it
+// does not.
 mod candidate;
 mod columns;
 mod field;
@@ -16,6 +17,7 @@ mod writing;
 
 pub use columns::read_columns;
 pub use columns::write_columns;
+pub use field::wide;
 pub use gate::Gate;
 pub use gate::value;
 pub use job::Counts;

@@ -257,6 +257,15 @@ subset-from lo (k ∷ ks) is a m =
 pub subset-ascending : (ks is : List ℕ) → ascending ks ≡ true → Mem is (subsets ks) → ascending is ≡ true
 subset-ascending ks is a m = ascending-from is ∙ subset-from 0 ks is (sym (ascending-from ks) ∙ a) m
 
+pub length-subset-le : (ks is : List ℕ) → Mem is (subsets ks) → length is ≤ length ks
+unfolding subsets
+length-subset-le [] is m = rw (eq-of-singleton m) (omega arith)
+length-subset-le (k ∷ ks) is m =
+    ⊎-elim
+    (λ r. omega (arith, ap length (r .2), length-subset-le ks (r .0) (r .1)))
+    (λ a. omega (arith, length-subset-le ks is a))
+    (subset-cases k ks is m)
+
 pub subsets-self : (ks : List ℕ) → Mem ks (subsets ks)
 unfolding subsets
 subsets-self [] = here refl

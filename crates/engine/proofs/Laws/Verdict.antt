@@ -1,21 +1,28 @@
--- Laws of the verdict: which case is given, and the least blind reading. Assumes nothing.
-use Prim.Native.Nat.{ℕ, _^_, _<_}
-use mathlib.Core.Path.{_≡_, refl, sym, _∙_, ap}
+-- Laws of the verdict: which case is given, the least blind reading, and how long a sheet is. Assumes nothing.
+use Prim.Native.Nat.{ℕ, _^_, _≤_, _<_}
+use mathlib.Core.Path.{_≡_, refl, sym, _∙_, ap, subst}
 use mathlib.Core.Logic.{⊎-elim}
-use mathlib.Core.List.{List}
+use mathlib.Core.List.{List, _++_}
 use mathlib.Core.Bool.{Bool, true, false, true≢false, not}
 use mathlib.Core.Option.{Option, none, some}
 use native.Mathlib.Omega.{arith}
 use borrow.Author.Tests.{not-true}
-use lib.ListN.{length}
-use Rattle.records.specs.Bytes.{upFrom}
-use Rattle.records.specs.Job.{Job}
+use lib.ListN.{length, length-map}
+use lib.Pow.{pow-mono}
+use Rattle.records.specs.Bytes.{upFrom, field}
+use Rattle.records.specs.Job.{Candidate, Job}
+use Rattle.records.specs.Service.{countsOf}
+use Rattle.records.specs.Claims.{PartsGood}
+use Rattle.records.proofs.Laws.Counts.{countsWithin-facts, countsWithin-countsOf}
 use Rattle.engine.specs.Choice.{first, found, orZero}
 use Rattle.engine.specs.Rectify.{vectorLoop}
-use Rattle.engine.specs.Support.{shared, sound, candidateNets, chosen}
-use Rattle.engine.specs.Verdict.{Ruling, patch, unfixable, blind, blindReading, ruling}
+use Rattle.engine.specs.Support.{shared, sound, candidateNets, chosen, cost, tableOf}
+use Rattle.engine.specs.Verdict.{Ruling, patch, unfixable, blind, blindReading, ruling, rulingFields, sheetOf, longestSheet}
 use Rattle.engine.proofs.Laws.Choice.{Least, first-least, first-none-below, found-none, not-both, true-or-false}
-use Rattle.engine.proofs.Laws.Support.{sound-iff-found}
+use Rattle.engine.proofs.Laws.Support.{sound-iff-found, length-tableOf, length-subset-le}
+use Rattle.engine.proofs.Laws.Best.{chosen-sound}
+use Rattle.engine.proofs.Laws.Loop.{length-vectors-le}
+use Rattle.engine.proofs.Laws.Sheet.{patchBytes-ruling, unfixableBytes-ruling, blindBytes-ruling, patchBytes-le, unfixableBytes-le, blindBytes-le}
 
 -- ---- the three cases
 
@@ -120,3 +127,47 @@ module _ (j : Job) where
       (λ s. absurd (true≢false (sym (sound-iff-found j (candidateNets j) .0 s r (l .below)) ∙ ap found (l .none-shared))))
       (λ s. s)
       (true-or-false (sound j (candidateNets j)))
+
+-- ---- the sheet of an accepted job
+
+module _ (j : Job) (g : PartsGood j) where
+  targets-le : j .targets ≤ 4
+  unfolding countsOf
+  targets-le = countsWithin-facts (countsOf j) (countsWithin-countsOf j ∙ g .counts) .targets
+
+  candidates-le : length (candidateNets j) ≤ 10
+  unfolding countsOf candidateNets
+  candidates-le =
+      omega (
+        arith,
+        length-map (j .candidates) (λ (c : Candidate). c .net),
+        countsWithin-facts (countsOf j) (countsWithin-countsOf j ∙ g .counts) .candidates,
+      )
+
+  pub vectors-le : length (vectorLoop j .vectors) ≤ 16
+  vectors-le = omega (arith, length-vectors-le j, pow-mono targets-le)
+
+  pub support-le : (is : List ℕ) → ruling j ≡ patch is → length is ≤ 10
+  support-le is e =
+      let c = patch-chosen j is e in
+      rw (c .2) (omega (arith, candidates-le, length-subset-le (candidateNets j) (chosen j) (chosen-sound j (c .1) .1)))
+
+  pub table-le : (is : List ℕ) → ruling j ≡ patch is → length (tableOf j is) ≤ 1024
+  table-le is e = omega (arith, length-tableOf j is, pow-mono {j = 10} (support-le is e))
+
+  ruling-le : (v : Ruling) → ruling j ≡ v → length (rulingFields j v ++ field 19 (vectorLoop j .vectors)) ≤ longestSheet
+  ruling-le (patch is) e =
+      let vs = vectorLoop j .vectors in
+      subst (λ (xs : List ℕ). length xs ≤ longestSheet) (patchBytes-ruling j vs is refl refl)
+      (patchBytes-le vs is (tableOf j is) (cost j is) (support-le is e) (table-le is e) vectors-le)
+  ruling-le (unfixable x) e =
+      let vs = vectorLoop j .vectors in
+      subst (λ (xs : List ℕ). length xs ≤ longestSheet) (unfixableBytes-ruling j vs x) (unfixableBytes-le vs x vectors-le)
+  ruling-le (blind r) e =
+      let vs = vectorLoop j .vectors in
+      subst (λ (xs : List ℕ). length xs ≤ longestSheet) (blindBytes-ruling j vs r) (blindBytes-le vs r vectors-le)
+
+  -- it has at most 1,076 bytes
+  pub longest-sheet : length (sheetOf j) ≤ longestSheet
+  unfolding sheetOf
+  longest-sheet = ruling-le (ruling j) refl

@@ -1,0 +1,152 @@
+-- `report::text::patch_text` meets its contract: the parts of the sheet are its fields' bytes.
+-- Assumes nothing.
+use mathlib.Core.Path.{_≡_, ap}
+use native.Mathlib.Omega.{arith}
+use lib.ListN.{length}
+use Rattle.records.specs.Bytes.{nth}
+use Rattle.records.specs.Sheet.{quad}
+use Rattle.records.specs.Claims.{Below}
+use Rattle.report.proofs.Laws.Sheet.{PatchSpans, patch-first, patch-length, patch-second, patch-spans}
+use Rattle.report.proofs.Laws.Text.{patch-same, patch-room}
+use borrow.Author.Needs.{needs}
+use Rattle.report.proofs.text.patch_text.Statement.{statement}
+use Rattle.report.proofs.text.patch_text.Tie as tie
+
+spans : (c : tie.After-field-end2)
+    → PatchSpans (c .before .before .before .before .args .sheet .now) (c .before .field-end .result) (c .field-end2 .result)
+spans c =
+    let s = c .before .before .before .before in
+    patch-spans (s .args .sheet .now) (s .pre .0) (c .before .field-end .result) (c .before .field-end .ensures)
+    (c .field-end2 .result)
+    (c .field-end2 .ensures)
+
+-- the cost that the code reads
+paid : (c : tie.After-quad-at)
+    → c .quad-at .result ≡ quad (nth 2 (c .before .before .before .before .before .before .args .sheet .now))
+paid c = let f = c .before .before in rw (spans f .cost) at (c .quad-at .ensures)
+
+field-end-requires : tie.Need-field-end-requires
+field-end-requires c κs =
+    let s = c .before .before in
+    let a = s .args .sheet .now in
+    (omega arith, omega (arith, patch-first a (s .pre .0), patch-length a (s .pre .0)))
+
+add-table : tie.Need-add-table
+add-table c =
+    let s = c .before .before .before in
+    let a = s .args .sheet .now in
+    omega (arith, c .field-end .ensures, patch-first a (s .pre .0), patch-length a (s .pre .0))
+
+field-end-requires-2 : tie.Need-field-end-requires-2
+field-end-requires-2 c κs =
+    let s = c .before .before .before in
+    let a = s .args .sheet .now in
+    let p = s .pre .0 in
+    let e = c .field-end .ensures in
+    (omega arith, omega (arith, patch-first a p, patch-second a p (c .field-end .result) e, patch-length a p))
+
+add-cost : tie.Need-add-cost
+add-cost c = let p = spans c in omega arith
+
+add-vectors : tie.Need-add-vectors
+add-vectors c = let p = spans c in omega arith
+
+sub-quad-at : tie.Need-sub-quad-at
+sub-quad-at c = search needs
+
+sub-quad-at-2 : tie.Need-sub-quad-at-2
+sub-quad-at-2 c = search needs
+
+part-quad-at-start : tie.Need-part-quad-at-start
+part-quad-at-start c = search needs
+
+part-quad-at-end : tie.Need-part-quad-at-end
+part-quad-at-end c = let p = spans c in omega arith
+
+quad-at-requires : tie.Need-quad-at-requires
+quad-at-requires c κs = search needs
+
+sub-patch-lines : tie.Need-sub-patch-lines
+sub-patch-lines c = search needs
+
+sub-patch-lines-2 : tie.Need-sub-patch-lines-2
+sub-patch-lines-2 c = search needs
+
+part-patch-lines-start : tie.Need-part-patch-lines-start
+part-patch-lines-start c = search needs
+
+part-patch-lines-end : tie.Need-part-patch-lines-end
+part-patch-lines-end c = let p = spans (c .before .before .before) in omega arith
+
+sub-patch-lines-3 : tie.Need-sub-patch-lines-3
+sub-patch-lines-3 c = search needs
+
+sub-patch-lines-4 : tie.Need-sub-patch-lines-4
+sub-patch-lines-4 c = search needs
+
+part-patch-lines-start-2 : tie.Need-part-patch-lines-start-2
+part-patch-lines-start-2 c = search needs
+
+part-patch-lines-end-2 : tie.Need-part-patch-lines-end-2
+part-patch-lines-end-2 c = let p = spans (c .before .before .before .before) in omega arith
+
+sub-patch-lines-5 : tie.Need-sub-patch-lines-5
+sub-patch-lines-5 c = let p = spans (c .before .before .before .before .before) in omega arith
+
+part-patch-lines-start-3 : tie.Need-part-patch-lines-start-3
+part-patch-lines-start-3 c = let p = spans (c .before .before .before .before .before) in omega arith
+
+part-patch-lines-end-3 : tie.Need-part-patch-lines-end-3
+part-patch-lines-end-3 c = search needs
+
+patch-lines-requires : tie.Need-patch-lines-requires
+patch-lines-requires c κs =
+    let q = c .before .before .before .before in
+    let f = q .before .before in
+    let s = f .before .before .before .before in
+    let a = s .args .sheet .now in
+    let p = spans f in
+    let bytes : Below 256 a = λ i. f .before .before .before .shared-slice-known .given i .fits in
+    let e = patch-same a (paid q) (p .nets) (p .table) (p .vectors) in
+    omega (arith, ap length e, patch-room a (s .pre .0) bytes)
+
+same-length : tie.Need-same-length
+same-length c = search needs
+
+returns : tie.Need-returns
+returns c =
+    let w = c .before .before in
+    let q = w .before .before .before .before .before in
+    let f = q .before .before in
+    let p = spans f in
+    let a = f .before .before .before .before .args .sheet .now in
+    rw (patch-same a (paid q) (p .nets) (p .table) (p .vectors)) at (w .patch-lines .ensures)
+
+pub patch-text-spec : {M : Type 1} → statement M
+patch-text-spec =
+    tie.close
+    (tie.spec
+    field-end-requires
+    add-table
+    field-end-requires-2
+    add-cost
+    add-vectors
+    sub-quad-at
+    sub-quad-at-2
+    part-quad-at-start
+    part-quad-at-end
+    quad-at-requires
+    sub-patch-lines
+    sub-patch-lines-2
+    part-patch-lines-start
+    part-patch-lines-end
+    sub-patch-lines-3
+    sub-patch-lines-4
+    part-patch-lines-start-2
+    part-patch-lines-end-2
+    sub-patch-lines-5
+    part-patch-lines-start-3
+    part-patch-lines-end-3
+    patch-lines-requires
+    same-length
+    returns)

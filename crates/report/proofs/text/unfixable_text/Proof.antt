@@ -1,0 +1,82 @@
+-- `report::text::unfixable_text` meets its contract: the parts of the sheet are its fields' bytes.
+-- Assumes nothing.
+use mathlib.Core.Path.{_≡_}
+use native.Mathlib.Omega.{arith}
+use Rattle.records.specs.Bytes.{nth}
+use Rattle.records.specs.Sheet.{quad}
+use Rattle.records.specs.Claims.{Below}
+use Rattle.report.specs.Text.{unfixableWord}
+use Rattle.report.proofs.Laws.Sheet.{value-length, value-part, value-vectors, value-bytes}
+use Rattle.report.proofs.Laws.Text.{value-room, quad-lt}
+use borrow.Author.Needs.{needs}
+use Rattle.report.proofs.text.unfixable_text.Statement.{statement}
+use Rattle.report.proofs.text.unfixable_text.Tie as tie
+
+slice-aggregate-value-lines : tie.Need-slice-aggregate-value-lines
+slice-aggregate-value-lines c = search needs
+
+sub-quad-at : tie.Need-sub-quad-at
+sub-quad-at c = search needs
+
+part-quad-at-start : tie.Need-part-quad-at-start
+part-quad-at-start c = search needs
+
+part-quad-at-end : tie.Need-part-quad-at-end
+part-quad-at-end c =
+    let s = c .before .before .before .before in
+    omega (arith, value-length 20 4 (s .args .sheet .now) (s .pre .0))
+
+quad-at-requires : tie.Need-quad-at-requires
+quad-at-requires c κs = search needs
+
+sub-value-lines : tie.Need-sub-value-lines
+sub-value-lines c =
+    let s = c .before .before .before .before .before .before in
+    omega (arith, value-length 20 4 (s .args .sheet .now) (s .pre .0))
+
+part-value-lines-start : tie.Need-part-value-lines-start
+part-value-lines-start c =
+    let s = c .before .before .before .before .before .before in
+    omega (arith, value-length 20 4 (s .args .sheet .now) (s .pre .0))
+
+part-value-lines-end : tie.Need-part-value-lines-end
+part-value-lines-end c = search needs
+
+value-lines-requires : tie.Need-value-lines-requires
+value-lines-requires c κs =
+    let t = c .before .before .before .before .before .before in
+    let a = t .before .args .sheet .now in
+    let v = t .before .pre .0 in
+    let bytes : Below 256 a = λ i. t .shared-slice-known .given i .fits in
+    let e : c .before .quad-at .result ≡ quad (nth 0 a) = rw (value-part 20 4 a v) at (c .before .quad-at .ensures) in
+    let l = quad-lt (nth 0 a) (value-bytes 20 4 a v bytes) in
+    omega (arith, value-room 20 4 a v bytes unfixableWord (omega arith) l e (value-vectors 20 4 a v 10 (omega arith)))
+
+same-length : tie.Need-same-length
+same-length c = search needs
+
+returns : tie.Need-returns
+returns c =
+    let w = c .before .before in
+    let s = w .before .before .before .before .before .before .before .before in
+    let a = s .args .sheet .now in
+    let v = s .pre .0 in
+    let q = w .before .before in
+    let e : q .quad-at .result ≡ quad (nth 0 a) = rw (value-part 20 4 a v) at (q .quad-at .ensures) in
+    rw (e, value-vectors 20 4 a v 10 (omega arith)) at (w .value-lines .ensures)
+
+pub unfixable-text-spec : {M : Type 1} → statement M
+unfixable-text-spec =
+    tie.close
+    (tie.spec
+    slice-aggregate-value-lines
+    sub-quad-at
+    part-quad-at-start
+    part-quad-at-end
+    quad-at-requires
+    sub-value-lines
+    part-value-lines-start
+    part-value-lines-end
+    value-lines-requires
+    same-length
+    returns)

@@ -1,0 +1,3 @@
+-- The definitions of the report.
+pub mod Text
+pub mod Inner
