@@ -4,20 +4,16 @@ use mathlib.Core.Path.{_≡_, refl, sym, _∙_, ap, subst}
 use mathlib.Core.List.{List}
 use native.Mathlib.Omega.{arith}
 use borrow.Author.Tests.{lt-ltb, le-ltb}
-use lib.ListN.{length, take, replicate}
+use lib.ListN.{length, take}
 use Rattle.records.specs.Job.{jobOf}
-use Rattle.engine.specs.Verdict.{longestSheet, decidedBytes}
+use Rattle.engine.specs.Verdict.{decidedBytes}
 use Rattle.engine.specs.Reply.{decideReply}
 use Rattle.engine.specs.declared.deciding.DecideReply.{DecideReply}
 use Rattle.engine.proofs.Replies.{decide-accepts, reply-number, number-zero, sheet-bytes}
 use Rattle.report.specs.Text.{sheetText, refusedText, inputLimit, rectifyText, longestText, printedLength, printedBytes}
 use Rattle.report.specs.Inner.{WholeSheet, Texted}
 use Rattle.report.proofs.Laws.Sheet.{whole-sheet}
-use Rattle.report.proofs.Laws.Text.{rectify-long, rectify-accepted, rectify-refused}
-
--- the buffer that rectify_text lends to decide
-abbrev pub blank : List ℕ
-blank = replicate longestSheet 0
+use Rattle.report.proofs.Laws.Text.{blank, rectify-long, rectify-accepted, rectify-refused}
 
 module _ (d s : List ℕ) where
   -- the length and the buffer are those of the definition, and the length is within the buffer

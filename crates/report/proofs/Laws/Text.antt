@@ -41,7 +41,7 @@ word-quad-lt s b = omega (arith, word-lt s 0 (b 0) (b 1))
 
 -- ---- texts
 
-pub texted : {d d′ xs : List ℕ} {r : ℕ} → length xs ≤ length d → Printed d 0 xs r d′ → Texted d xs r d′
+texted : {d d′ xs : List ℕ} {r : ℕ} → length xs ≤ length d → Printed d 0 xs r d′ → Texted d xs r d′
 texted h a = let e = a .end in record { room = h; len = omega arith; text = a .text }
 
 pub refused-texted : {d d′ : List ℕ} {x n r : ℕ} → n < 256 → longestText ≤ length d → x ≡ n
@@ -149,19 +149,19 @@ module _ (s : List ℕ) where
 
 -- ---- what is printed for job bytes
 
--- decide's number for the bytes s and a buffer for the longest sheet
-abbrev pub decided : List ℕ → ℕ
-decided s = decideNumber (replicate longestSheet 0) s
+-- the buffer that rectify_text lends to decide
+abbrev pub blank : List ℕ
+blank = replicate longestSheet 0
 
 module _ (s : List ℕ) where
   pub rectify-long : inputLimit < length s → rectifyText s ≡ refusedText 2
   unfolding rectifyText
   rectify-long h = rw (lt-ltb inputLimit (length s) h)
 
-  pub rectify-accepted : length s ≤ inputLimit → decided s ≡ 0 → rectifyText s ≡ sheetText (sheetOf (jobOf s))
+  pub rectify-accepted : length s ≤ inputLimit → decideNumber blank s ≡ 0 → rectifyText s ≡ sheetText (sheetOf (jobOf s))
   unfolding rectifyText
   rectify-accepted h e = rw (le-ltb inputLimit (length s) h, e)
 
-  pub rectify-refused : length s ≤ inputLimit → (decided s ≡ 0 → ⊥) → rectifyText s ≡ refusedText (decided s)
+  pub rectify-refused : length s ≤ inputLimit → (decideNumber blank s ≡ 0 → ⊥) → rectifyText s ≡ refusedText (decideNumber blank s)
   unfolding rectifyText
-  rectify-refused h n = rw (le-ltb inputLimit (length s) h, ne-eqb (decided s) 0 n)
+  rectify-refused h n = rw (le-ltb inputLimit (length s) h, ne-eqb (decideNumber blank s) 0 n)

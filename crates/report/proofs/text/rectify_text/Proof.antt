@@ -1,11 +1,12 @@
 -- `report::text::rectify_text` meets its contract: the text of what decide says. Assumes nothing.
 use native.Mathlib.Omega.{arith}
 use borrow.Author.Needs.{needs}
-use mathlib.Core.Path.{_∙_, sym}
+use mathlib.Core.Path.{sym}
 use denote.Ref.{now}
 use lib.Seq.{length-take-le}
 use Rattle.engine.proofs.Replies.{sheet-short}
-use Rattle.report.proofs.Laws.Printed.{blank, printed-short, printed-long, printed-refused, printed-accepted, sheet-whole}
+use Rattle.report.proofs.Laws.Text.{blank}
+use Rattle.report.proofs.Laws.Printed.{printed-short, printed-long, printed-refused, printed-accepted, sheet-whole}
 use Rattle.report.proofs.text.rectify_text.Statement.{statement}
 use Rattle.report.proofs.text.rectify_text.Tie as tie
 
