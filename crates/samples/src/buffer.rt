@@ -1,8 +1,10 @@
 // A buffer that holds a pattern before a call, so that a byte that should be untouched shows in its hash if it is not.
-ghost use Prim.Native.Nat.{ℕ, _<_, _%_};
+ghost use Prim.Native.Nat.{ℕ, _<_, _%_, min};
 ghost use mathlib.Core.Path.{_≡_};
-ghost use lib.ListN.{length, getD};
+ghost use lib.ListN.{length, getD, take};
+ghost use Rattle.io.specs.Counts.{Counts};
 ghost use Rattle.samples.specs.Sample.{mixed as Sample·mixed, hashed, patterned as Sample·patterned};
+use super::number::least;
 use super::number::wide;
 use super::number::wide_word;
 
@@ -25,6 +27,14 @@ pub fn new_buffer() -> [u8; 4200]
         i += 1;
     }
     a
+}
+
+// How many bytes of the buffer are lent where n are asked for: at most all. It takes the buffer so that the contract can speak of it.
+pub fn lent(n: usize, buf: [u8; 4200]) -> usize
+    ensures { λ r. ⌜ r ≡ min n 4200 ⌝ }
+    ensures { λ r. ⌜ Counts r buf ⌝ }
+{
+    least(n, 4200)
 }
 
 // The hash h with one more value.
@@ -56,4 +66,12 @@ pub fn hash_words(from: usize, a: &[u16]) -> usize
         i += 1;
     }
     h
+}
+
+// The hash of the buffer's first n bytes, at most all.
+pub fn hash_front(buf: [u8; 4200], n: usize) -> usize
+    ensures { λ r. ⌜ r ≡ hashed 0 (take (min n 4200) buf) ⌝ }
+{
+    let k = lent(n, buf);
+    hash_bytes(0, &buf[..k])
 }

@@ -5,7 +5,9 @@ mod call;
 mod number;
 
 pub use buffer::hash_bytes;
+pub use buffer::hash_front;
 pub use buffer::hash_words;
+pub use buffer::lent;
 pub use buffer::new_buffer;
 pub use buffer::patterned;
 pub use call::Call;

@@ -40,9 +40,10 @@ loop-less c = search needs
 loop-again : tie.Need-loop-again Inv-loop μ-loop
 loop-again c =
     let a = c .before .before .before .before .before .before .args in
-    let l = c .before .before .before .before .loop in
-    (omega arith,
-     cc (hashed-cons (l .h) (a .a .now) (l .i) (omega arith)))
+    let l = c .before .before .before .before .loop in (
+      omega arith,
+      cc (hashed-cons (l .h) (a .a .now) (l .i) (omega arith)),
+    )
 
 returns : tie.Need-returns Inv-loop μ-loop
 returns c =

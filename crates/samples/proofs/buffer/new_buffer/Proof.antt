@@ -38,10 +38,13 @@ loop-again : tie.Need-loop-again Inv-loop μ-loop
 loop-again c =
     let l = c .before .before .loop in
     let e : length (l .a) ≡ 4200 = l .inv .0 in
-    let x = c .patterned .result % 256 in
-    (omega (arith, length-set (l .a) (l .i) x), omega arith, below-more _ (l .i)
-    (λ k m. getD-set-other (l .a) (l .i) k x 0 (λ e. omega arith) ∙ l .inv .2 k m)
-    (getD-set-same (l .a) (l .i) x 0 (omega arith) ∙ ap (λ (y : ℕ). y % 256) (c .patterned .ensures)))
+    let x = c .patterned .result % 256 in (
+      omega (arith, length-set (l .a) (l .i) x),
+      omega arith,
+      below-more _ (l .i)
+          (λ k m. getD-set-other (l .a) (l .i) k x 0 (λ e. omega arith) ∙ l .inv .2 k m)
+          (getD-set-same (l .a) (l .i) x 0 (omega arith) ∙ ap (λ (y : ℕ). y % 256) (c .patterned .ensures)),
+    )
 
 returns : tie.Need-returns Inv-loop μ-loop
 returns c = (omega arith, λ k m. c .before .loop .inv .2 k (omega arith))
