@@ -1,9 +1,8 @@
 // Makes the calls of the record library that its standard input asks for, and prints one line for each. The form of
 // the calls and the lines stands in tools/reference/calls.py, which also says what each line must be. Input that is no
 // whole call ends the run.
-mod again;
-mod number;
-mod places;
+mod lending;
+mod lists;
 mod reading;
 mod sheet;
 mod stream;
@@ -15,26 +14,21 @@ fn answered(service: u8, s: &[u8]) -> bool {
         1 => reading::read_call(s),
         2 => writing::write_call(s),
         3 => sheet::sheet_call(s),
-        4 => again::again_call(s),
-        5 => again::after_call(s),
+        4 => writing::again_call(s),
+        5 => reading::after_call(s),
         _ => false,
     }
 }
 
 // The next call of the input; whether there was one.
 fn next_call() -> bool {
-    let mut head = [0u8; 3];
-    if io::read_full(0, &mut head) != 3 {
-        return false;
-    }
-    let service = head[0];
-    let len = 256 * number::wide(head[1]) + number::wide(head[2]);
     let mut body = io::large_buffer();
-    let call = &mut body[0..len];
-    if io::read_full(0, call) != len {
+    let call = samples::read_call(&mut body);
+    if !call.whole {
         return false;
     }
-    answered(service, call)
+    let n = call.len;
+    answered(call.service, &body[..n])
 }
 
 fn main() {

@@ -1,34 +1,21 @@
 // The numbers and lists of a call; what the call is too short for counts as 0.
-ghost use Prim.Native.Nat.{_≤_, _<_};
-ghost use lib.ListN.{length};
-use super::number::least;
-use super::number::wide;
+ghost use Rattle.io.specs.Counts.{Counts};
+use super::lists::Lists;
+use samples::least;
+use samples::word_at;
 
 // A list of bytes: its values at the start of the places, how many they are, and where the list ends.
 pub struct Bytes {
     pub places: [u8; 420],
     pub len: usize,
-    pub at: usize,
+    pub end: usize,
 }
 
 // A list of two-byte numbers.
 pub struct Words {
     pub places: [u16; 420],
     pub len: usize,
-    pub at: usize,
-}
-
-// The two-byte number at a position; 0 where there is none.
-pub(super) fn word_at(s: &[u8], at: usize) -> usize
-    ensures { λ r. ⌜ r < 65536 ⌝ }
-{
-    if s.len() < 2 {
-        return 0;
-    }
-    if s.len() - 2 < at {
-        return 0;
-    }
-    256 * wide(s[at]) + wide(s[at + 1])
+    pub end: usize,
 }
 
 // A count: 65,535 stands for the largest of its type.
@@ -43,9 +30,7 @@ fn byte_at(s: &[u8], at: usize) -> u8 {
 }
 
 // The list of bytes at a position, as far as there are places.
-pub(super) fn bytes_at(s: &[u8], from: usize) -> Bytes
-    ensures { λ r. ⌜ r .len ≤ length (r .places) ⌝ }
-{
+fn bytes_at(s: &[u8], from: usize) -> Bytes {
     let mut places = [0u8; 420];
     let at = least(from, 65536);
     let len = least(word_at(s, at), 420);
@@ -57,13 +42,13 @@ pub(super) fn bytes_at(s: &[u8], from: usize) -> Bytes
     Bytes {
         places,
         len,
-        at: at + 2 + len,
+        end: at + 2 + len,
     }
 }
 
 // The list of two-byte numbers at a position, as far as there are places.
 pub(super) fn words_at(s: &[u8], from: usize) -> Words
-    ensures { λ r. ⌜ r .len ≤ length (r .places) ⌝ }
+    ensures { λ r. ⌜ Counts (r .len) (r .places) ⌝ }
 {
     let mut places = [0u16; 420];
     let at = least(from, 65536);
@@ -76,6 +61,55 @@ pub(super) fn words_at(s: &[u8], from: usize) -> Words
     Words {
         places,
         len,
-        at: at + 2 + 2 * len,
+        end: at + 2 + 2 * len,
+    }
+}
+
+// The ten lists from a position on.
+pub(super) fn lists_at(s: &[u8], from: usize) -> Lists {
+    let a = bytes_at(s, from);
+    let b = words_at(s, a.end);
+    let c = words_at(s, b.end);
+    let d = words_at(s, c.end);
+    let e = bytes_at(s, d.end);
+    let f = words_at(s, e.end);
+    let g = words_at(s, f.end);
+    let h = words_at(s, g.end);
+    let i = words_at(s, h.end);
+    let j = words_at(s, i.end);
+    let old_kinds = a.places;
+    let old_firsts = b.places;
+    let old_seconds = c.places;
+    let old_outputs = d.places;
+    let golden_kinds = e.places;
+    let golden_firsts = f.places;
+    let golden_seconds = g.places;
+    let golden_outputs = h.places;
+    let nets = i.places;
+    let weights = j.places;
+    let lens = [
+        a.len,
+        b.len,
+        c.len,
+        d.len,
+        e.len,
+        f.len,
+        g.len,
+        h.len,
+        i.len,
+        j.len,
+    ];
+    Lists {
+        old_kinds,
+        old_firsts,
+        old_seconds,
+        old_outputs,
+        golden_kinds,
+        golden_firsts,
+        golden_seconds,
+        golden_outputs,
+        nets,
+        weights,
+        lens,
     }
 }

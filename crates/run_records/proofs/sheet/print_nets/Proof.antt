@@ -1,12 +1,11 @@
--- `run_records::sheet::print_nets` is safe and ends. The measure is what is left of the ten nets.
--- Assumes nothing.
+-- `run_records::sheet::print_nets` is safe and ends. The measure is what is left of the nets. Assumes nothing.
+use Prim.Native.Nat.{_-_}
 use borrow.Author.Needs.{needs}
-use Prim.Native.Nat.{_≤_, _-_}
 use Rattle.run_records.proofs.sheet.print_nets.Statement.{statement}
 use Rattle.run_records.proofs.sheet.print_nets.Tie as tie
 
 abbrev Inv-loop : tie.InvT-loop
-Inv-loop nets i₀ i = i ≤ 10
+Inv-loop nets i₀ i = Unit {0}
 
 abbrev μ-loop : tie.MeasureT-loop
 μ-loop nets i₀ i = 10 - i

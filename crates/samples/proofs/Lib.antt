@@ -1,0 +1,2 @@
+-- The laws of the hash.
+pub mod Laws
