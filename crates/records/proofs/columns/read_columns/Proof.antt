@@ -92,35 +92,45 @@ split-requires-2 c κs =
     let r = k .read-gates in
     golden-splits (lent e) (now (e .args .job)) (r .result) (r .ensures .0) (r .ensures .1) (golden-holds (second k))
 
+-- back from the end to the calls
+abbrev at-split2 : tie.After-slice-known20 → tie.After-split2
+at-split2 c = c .before .before .before .before .before .before
+
+abbrev at-split : tie.After-slice-known20 → tie.After-split
+at-split c = at-split2 c .before .before .before .before .before .before .before .before .before .before .before
+
+abbrev at-read : tie.After-slice-known20 → tie.After-read-gates
+at-read c = at-split c .before .before .before .before .before .before .before .before .before .before .before .before .before .before .before .before .before
+
 same-length : tie.Need-same-length
-same-length c = search needs
+same-length c = at-split c .split .kept .1 .1 .0
 
 same-length-2 : tie.Need-same-length-2
-same-length-2 c = search needs
+same-length-2 c = at-split c .split .kept .1 .1 .1 .0
 
 same-length-3 : tie.Need-same-length-3
-same-length-3 c = search needs
+same-length-3 c = at-split c .split .kept .1 .1 .1 .1 .0
 
 same-length-4 : tie.Need-same-length-4
-same-length-4 c = search needs
+same-length-4 c = at-read c .read-gates .kept .1 .0
 
 same-length-5 : tie.Need-same-length-5
-same-length-5 c = search needs
+same-length-5 c = at-split2 c .split2 .kept .1 .1 .0
 
 same-length-6 : tie.Need-same-length-6
-same-length-6 c = search needs
+same-length-6 c = at-split2 c .split2 .kept .1 .1 .1 .0
 
 same-length-7 : tie.Need-same-length-7
-same-length-7 c = search needs
+same-length-7 c = at-split2 c .split2 .kept .1 .1 .1 .1 .0
 
 same-length-8 : tie.Need-same-length-8
-same-length-8 c = search needs
+same-length-8 c = at-read c .read-gates .kept .1 .1 .0
 
 same-length-9 : tie.Need-same-length-9
-same-length-9 c = search needs
+same-length-9 c = at-read c .read-gates .kept .1 .1 .1 .0
 
 same-length-10 : tie.Need-same-length-10
-same-length-10 c = search needs
+same-length-10 c = at-read c .read-gates .kept .1 .1 .1 .1 .0
 
 returns-3 : tie.Need-returns-3
 returns-3 c =
