@@ -100,27 +100,40 @@ fill-words-requires-4 c κs =
     let t = fourth (c .before .before) in
     weights-fit _ _ (start (t .before .before) .pre) (t .before .before .if1 .left) _ (at t .candidates .is)
 
+-- back from the end to each of the four calls
+abbrev filled4 : tie.After-slice-known8 → tie.After-fill-words4
+filled4 c = c .before .before
+
+abbrev filled3 : tie.After-slice-known8 → tie.After-fill-words3
+filled3 c = filled4 c .before .before .before .before .before
+
+abbrev filled2 : tie.After-slice-known8 → tie.After-fill-words2
+filled2 c = filled3 c .before .before .before .before .before
+
+abbrev filled1 : tie.After-slice-known8 → tie.After-fill-words
+filled1 c = filled2 c .before .before .before .before .before
+
 same-length : tie.Need-same-length
-same-length c = search needs
+same-length c = filled1 c .fill-words .kept .1 .1 .1 .1 .0
 
 same-length-2 : tie.Need-same-length-2
-same-length-2 c = search needs
+same-length-2 c = filled2 c .fill-words2 .kept .1 .1 .1 .1 .0
 
 same-length-3 : tie.Need-same-length-3
-same-length-3 c = search needs
+same-length-3 c = filled3 c .fill-words3 .kept .1 .1 .1 .1 .0
 
 same-length-4 : tie.Need-same-length-4
-same-length-4 c = search needs
+same-length-4 c = filled4 c .fill-words4 .kept .1 .1 .1 .1 .0
 
 returns-2 : tie.Need-returns-2
 returns-2 c =
     let t = fourth (c .before .before .before .before .before) in
     rest-filled _ _ _ _ _ _ (t .before .before .if1 .left) (laid (t .before .before)) _ _ _ _
     (at t .outputs .is) (at t .goldens .is) (at t .candidates .is) (at t .candidates .is)
-    (c .before .before .before .before .before .before .before .before .before .before .before .before .before .before .before .before .before .fill-words .ensures)
-    (c .before .before .before .before .before .before .before .before .before .before .before .before .fill-words2 .ensures)
-    (c .before .before .before .before .before .before .before .fill-words3 .ensures)
-    (c .before .before .fill-words4 .ensures)
+    (filled1 c .fill-words .ensures)
+    (filled2 c .fill-words2 .ensures)
+    (filled3 c .fill-words3 .ensures)
+    (filled4 c .fill-words4 .ensures)
 
 pub fill-rest-spec : {M : Type 1} → statement M
 fill-rest-spec =

@@ -61,7 +61,7 @@ copy-requires c κs =
     le-trans (le-of-eq (length-take-le _ _ (short w .0))) (le-trans (short w .1) (start e .pre .size (e .if1 .left)))
 
 same-length : tie.Need-same-length
-same-length c = search needs
+same-length c = put (c .before .before .before) .put-rest .kept .0
 
 returns-2 : tie.Need-returns-2
 returns-2 c gs hs g =
@@ -73,10 +73,10 @@ returns-2 c gs hs g =
     (put k .put-rest .ensures .1 gs hs (g n)) (k .check-job .ensures) _ (c .before .answer .given .1)
 
 same-length-2 : tie.Need-same-length-2
-same-length-2 c = search needs
+same-length-2 c = put (c .before .before .before .before .before .before .before) .put-rest .kept .0
 
 same-length-3 : tie.Need-same-length-3
-same-length-3 c = search needs
+same-length-3 c = c .before .before .copy .kept .1 .0
 
 returns-3 : tie.Need-returns-3
 returns-3 c gs hs g =
