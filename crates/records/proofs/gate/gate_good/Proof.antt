@@ -1,6 +1,5 @@
 -- `records::gate::gate_good` meets its contract: each arm of the match is the gate's test at that arity.
 -- Assumes nothing.
-use borrow.Author.Needs.{needs}
 use borrow.Author.Tests.{lt-ltb, le-ltb, eq-eqb, ne-eqb}
 use mathlib.Core.Path.{_≡_, sym}
 use mathlib.Core.Bool.{_&&_}
@@ -16,7 +15,7 @@ returns : tie.Need-returns
 returns c = let x = c .before .args in sym (gateGood-high (x .net) (x .kind) (x .a) (x .b) (c .if1 .taken))
 
 operand-count-requires : tie.Need-operand-count-requires
-operand-count-requires c κs = search needs
+operand-count-requires c κs = tt
 
 -- ---- the three arms
 

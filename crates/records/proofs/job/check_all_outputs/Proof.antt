@@ -44,13 +44,13 @@ add-check-outputs-2 : tie.Need-add-check-outputs-2
 add-check-outputs-2 c = search needs
 
 check-outputs-requires : tie.Need-check-outputs-requires
-check-outputs-requires c κs = search needs
+check-outputs-requires c κs = tt
 
 enum-told : tie.Need-enum-told
-enum-told c = search needs
+enum-told c = c .match .keys1
 
 enum-told-2 : tie.Need-enum-told-2
-enum-told-2 c = search needs
+enum-told-2 c = c .match .keys2
 
 -- the first check is of the old outputs
 first : (c : tie.After-check-outputs)
@@ -86,13 +86,13 @@ add-check-outputs-3 : tie.Need-add-check-outputs-3
 add-check-outputs-3 c = search needs
 
 check-outputs-requires-2 : tie.Need-check-outputs-requires-2
-check-outputs-requires-2 c κs = search needs
+check-outputs-requires-2 c κs = tt
 
 enum-told-3 : tie.Need-enum-told-3
-enum-told-3 c = search needs
+enum-told-3 c = c .match2 .keys1
 
 enum-told-4 : tie.Need-enum-told-4
-enum-told-4 c = search needs
+enum-told-4 c = c .match2 .keys2
 
 -- the second is of the golden ones
 second : (c : tie.After-check-outputs2)

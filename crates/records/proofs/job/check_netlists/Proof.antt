@@ -44,10 +44,10 @@ check-gates-requires : tie.Need-check-gates-requires
 check-gates-requires c κs = search needs
 
 enum-told : tie.Need-enum-told
-enum-told c = search needs
+enum-told c = c .match .keys1
 
 enum-told-2 : tie.Need-enum-told-2
-enum-told-2 c = search needs
+enum-told-2 c = c .match .keys2
 
 -- the first check is of the old gates
 first : (c : tie.After-check-gates)

@@ -14,7 +14,7 @@ use Rattle.records.proofs.netlist.gate_mark.Statement.{statement}
 use Rattle.records.proofs.netlist.gate_mark.Tie as tie
 
 operand-count-requires : tie.Need-operand-count-requires
-operand-count-requires c κs = search needs
+operand-count-requires c κs = tt
 
 element-copy-out-result : tie.Need-element-copy-out-result
 element-copy-out-result c = search needs

@@ -2,7 +2,6 @@
 -- copied where it is accepted. Assumes nothing.
 use Prim.Native.Nat.{_≤_}
 use mathlib.Core.Path.{refl, sym}
-use borrow.Author.Needs.{needs}
 use native.Mathlib.Nat.{le-trans, le-of-eq}
 use native.Mathlib.Omega.{arith}
 use lib.ListN.{length}
@@ -40,13 +39,13 @@ slice-aggregate-check-job : tie.Need-slice-aggregate-check-job
 slice-aggregate-check-job c = sym (length-take-le _ _ (short (c .before .before .before) .0))
 
 check-job-requires : tie.Need-check-job-requires
-check-job-requires c κs = search needs
+check-job-requires c κs = tt
 
 enum-known-answer : tie.Need-enum-known-answer
-enum-known-answer c = search needs
+enum-known-answer c = c .match .keys1
 
 enum-told : tie.Need-enum-told
-enum-told c = search needs
+enum-told c = c .match .keys2
 
 slice-reshare-prefix-copy : tie.Need-slice-reshare-prefix-copy
 slice-reshare-prefix-copy c = short (put (c .before .before)) .0
