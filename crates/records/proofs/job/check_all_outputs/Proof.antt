@@ -1,9 +1,8 @@
 -- `records::job::check_all_outputs` meets its contract: the parts handed on are the two output fields. Assumes nothing.
-use native.Mathlib.Omega.{arith}
 use mathlib.Core.Path.{_≡_, sym, _∙_, ap}
 use mathlib.Core.Bool.{Bool, false, _&&_}
 use mathlib.Core.List.{List}
-use Prim.Native.Nat.{ℕ, _+_, _-_}
+use Prim.Native.Nat.{ℕ, _+_}
 use lib.Dec.{eqb, ltb}
 use borrow.Author.Tests.{eq-eqb, ne-eqb}
 use denote.Ref.{now}
@@ -11,7 +10,7 @@ use Rattle.records.specs.Bytes.{nth, all}
 use Rattle.records.specs.Job.{netsOf}
 use Rattle.records.specs.Inner.{checkOf}
 use Rattle.records.proofs.Laws.Counts.{passed, failed-of, passes, fails}
-use Rattle.records.proofs.Laws.Shape.{Stands, stands, part, outputs-checks}
+use Rattle.records.proofs.Laws.Shape.{Parts, parts, outputs-checks}
 use borrow.Author.Needs.{needs}
 use Rattle.records.proofs.job.check_all_outputs.Statement.{statement}
 use Rattle.records.proofs.job.check_all_outputs.Tie as tie
@@ -20,22 +19,22 @@ starts-of-requires : tie.Need-starts-of-requires
 starts-of-requires c κs = search needs
 
 -- where the fields stand, once the starts are known
-at : (c : tie.After-starts-of) → Stands (now (c .before .before .args .job)) (c .starts-of .result)
+at : (c : tie.After-starts-of) → Parts (now (c .before .before .args .job)) (c .starts-of .result)
 at c =
     let a = c .before .before .args in
-    stands (now (a .job)) (a .c) (c .before .before .pre) (c .starts-of .result) (c .starts-of .ensures)
+    parts (now (a .job)) (a .c) (c .before .before .pre) (c .starts-of .result) (c .starts-of .ensures)
 
 sub-b : tie.Need-sub-b
-sub-b c = let t = at (c .before .before .before) in omega arith
+sub-b c = at (c .before .before .before) .outputs-head
 
 sub-check-outputs : tie.Need-sub-check-outputs
-sub-check-outputs c = let t = at (c .before .before .before) in omega arith
+sub-check-outputs c = at (c .before .before .before) .outputs .ordered
 
 part-check-outputs-start : tie.Need-part-check-outputs-start
-part-check-outputs-start c = let t = at (c .before .before .before) in omega arith
+part-check-outputs-start c = at (c .before .before .before) .outputs .ordered
 
 part-check-outputs-end : tie.Need-part-check-outputs-end
-part-check-outputs-end c = let t = at (c .before .before .before) in omega arith
+part-check-outputs-end c = at (c .before .before .before) .outputs .within
 
 add-check-outputs : tie.Need-add-check-outputs
 add-check-outputs c = search needs
@@ -59,10 +58,7 @@ first : (c : tie.After-check-outputs)
 first c =
     let a = c .before .before .before .before .before .before .before .before .before .args in
     let v = c .before .before .before .before .before .before .before in
-    let t = at v in
-    let p =
-    part (now (a .job)) (a .c) (c .before .before .before .before .before .before .before .before .before .pre) 2 (v .starts-of .result .outputs) (v .starts-of .result .golden - 3) (omega arith) (t .outputs) (omega arith) in
-    c .check-outputs .ensures ∙ ap (λ (l : List ℕ). checkOf (all (λ i. ltb i (a .c .inputs + a .c .targets + a .c .old .gates)) (netsOf l))) p
+    c .check-outputs .ensures ∙ ap (λ (l : List ℕ). checkOf (all (λ i. ltb i (a .c .inputs + a .c .targets + a .c .old .gates)) (netsOf l))) (at v .outputs .is)
 
 returns : tie.Need-returns
 returns c =
@@ -71,16 +67,16 @@ returns c =
     failed-of _ (outputs-checks (now (a .job)) (a .c) (c .before .before .before .before .before .before .before .before .before .before .before .pre) ∙ ap (λ (x : Bool). x && all (λ i. ltb i (a .c .inputs + a .c .golden .gates)) (netsOf (nth 4 (now (a .job)))) && eqb (a .c .old .outputs) (a .c .golden .outputs)) e)
 
 sub-e : tie.Need-sub-e
-sub-e c = let t = at (c .before .before .before .before .before .before .before .before .before .before) in omega arith
+sub-e c = at (c .before .before .before .before .before .before .before .before .before .before) .goldens-head
 
 sub-check-outputs-2 : tie.Need-sub-check-outputs-2
-sub-check-outputs-2 c = let t = at (c .before .before .before .before .before .before .before .before .before .before) in omega arith
+sub-check-outputs-2 c = at (c .before .before .before .before .before .before .before .before .before .before) .goldens .ordered
 
 part-check-outputs-start-2 : tie.Need-part-check-outputs-start-2
-part-check-outputs-start-2 c = let t = at (c .before .before .before .before .before .before .before .before .before .before) in omega arith
+part-check-outputs-start-2 c = at (c .before .before .before .before .before .before .before .before .before .before) .goldens .ordered
 
 part-check-outputs-end-2 : tie.Need-part-check-outputs-end-2
-part-check-outputs-end-2 c = let t = at (c .before .before .before .before .before .before .before .before .before .before) in omega arith
+part-check-outputs-end-2 c = at (c .before .before .before .before .before .before .before .before .before .before) .goldens .within
 
 add-check-outputs-3 : tie.Need-add-check-outputs-3
 add-check-outputs-3 c = search needs
@@ -101,10 +97,7 @@ second : (c : tie.After-check-outputs2)
 second c =
     let a = c .before .before .before .before .before .before .before .before .before .before .before .before .before .before .before .before .args in
     let v = c .before .before .before .before .before .before .before .before .before .before .before .before .before .before in
-    let t = at v in
-    let p =
-    part (now (a .job)) (a .c) (c .before .before .before .before .before .before .before .before .before .before .before .before .before .before .before .before .pre) 4 (v .starts-of .result .goldens) (v .starts-of .result .candidates - 3) (omega arith) (t .goldens) (omega arith) in
-    c .check-outputs2 .ensures ∙ ap (λ (l : List ℕ). checkOf (all (λ i. ltb i (a .c .inputs + a .c .golden .gates)) (netsOf l))) p
+    c .check-outputs2 .ensures ∙ ap (λ (l : List ℕ). checkOf (all (λ i. ltb i (a .c .inputs + a .c .golden .gates)) (netsOf l))) (at v .goldens .is)
 
 returns-2 : tie.Need-returns-2
 returns-2 c =
