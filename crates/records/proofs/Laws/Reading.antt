@@ -89,7 +89,7 @@ module _ (s : List ℕ) (c : Counts) (l : Laid s c) (k : GateSpans) (g : k ≡ g
 -- ---- the words of field n
 
 module _ {s : List ℕ} {n at to : ℕ} (p : IsPart s n at to) where
-  nets-in : (count : ℕ) → count ≡ length (nth n s) / 2 → wordColumn s 2 at count ≡ netsOf (nth n s)
+  pub nets-in : (count : ℕ) → count ≡ length (nth n s) / 2 → wordColumn s 2 at count ≡ netsOf (nth n s)
   unfolding wordColumn netsOf
   nets-in count e =
       rw e
@@ -114,7 +114,7 @@ module _ {s : List ℕ} {n at to : ℕ} (p : IsPart s n at to) where
       (λ i h. word-in p (4 * i + 2) (4 * i + (at + 2)) (omega arith) (omega arith)))
       ∙ sym (map-tabulate (length (nth n s) / 4) (candidateAt (nth n s)) (λ (c : Candidate). c .weight))
 
-  part-room : at + length (nth n s) ≤ length s
+  pub part-room : at + length (nth n s) ≤ length s
   part-room = omega (arith, p, length-take (to - at) (drop at s), length-drop at s, ap length (p .is))
 
 -- ---- the outputs and candidates of an accepted job, a being where its fields start: what fill_words asks
