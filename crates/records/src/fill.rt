@@ -18,9 +18,9 @@ pub(super) fn copy(src: &[u8], buf: &mut [u8])
     }
 }
 
-// The two-byte number at offset in each of count records of size bytes.
+// The two-byte numbers that stand from offset on, size bytes apart, count of them.
 pub(super) fn fill_words(s: &[u8], size: usize, offset: usize, count: usize, places: &mut [u16])
-    requires { ⌜ (offset + 2 ≤ size) × (size * count ≤ length (now s)) × (count ≤ length (now places)) ⌝ }
+    requires { ⌜ (size ≤ 4) × (offset + size * count + 2 ≤ length (now s) + size) × (count ≤ length (now places)) ⌝ }
     ensures { λ _. ⌜ now (places .exit) ≡ placed (now (places .entry)) 0 (wordColumn (now (s .entry)) size offset count) ⌝ }
 {
     let mut i = 0usize;

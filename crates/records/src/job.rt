@@ -202,15 +202,16 @@ fn check_all_outputs(job: &[u8], c: Counts) -> Check
     let at = starts_of(c);
     let old = c.old;
     let golden = c.golden;
-    let a = at.outputs;
-    let b = at.golden - 3;
-    let first = check_outputs(&job[a..b], c.inputs + c.targets + old.gates);
+    let first = check_outputs(
+        job,
+        at.outputs,
+        old.outputs,
+        c.inputs + c.targets + old.gates,
+    );
     let Check::Passed = first else {
         return Check::Failed;
     };
-    let d = at.goldens;
-    let e = at.candidates - 3;
-    let second = check_outputs(&job[d..e], c.inputs + golden.gates);
+    let second = check_outputs(job, at.goldens, golden.outputs, c.inputs + golden.gates);
     let Check::Passed = second else {
         return Check::Failed;
     };

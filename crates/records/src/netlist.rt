@@ -1,15 +1,15 @@
 // Netlists in a job's bytes: the checks of gates and outputs, and the targets' fanout.
 ghost use mathlib.Core.Path.{_≡_};
 ghost use mathlib.Core.Bool.{true};
-ghost use Prim.Native.Nat.{_+_, _/_, _≤_, _<_};
+ghost use Prim.Native.Nat.{_+_, _*_, _/_, _≤_, _<_};
 ghost use lib.ListN.{length, take};
 ghost use lib.Dec.{ltb};
 ghost use Rattle.records.specs.Bytes.{all};
 ghost use Rattle.records.specs.Gate.{gateOf};
 ghost use Rattle.records.specs.Netlist.{markOf, fanout};
-ghost use Rattle.records.specs.Job.{gatesOf, netsOf};
+ghost use Rattle.records.specs.Job.{gatesOf};
 ghost use Rattle.records.specs.Refusal.{gatesGood};
-ghost use Rattle.records.specs.Inner.{checkOf, leafMarks};
+ghost use Rattle.records.specs.Inner.{checkOf, leafMarks, wordColumn};
 use super::field::Check;
 use super::field::word_at;
 use super::gate::gate_good;
@@ -35,14 +35,14 @@ pub(super) fn check_gates(s: &[u8], base: usize) -> Check
     Check::Passed
 }
 
-// Whether each net of the output field's bytes is below nets.
-pub(super) fn check_outputs(s: &[u8], nets: usize) -> Check
-    ensures { λ r. ⌜ r ≡ checkOf (all (λ i. ltb i nets) (netsOf (now (s .entry)))) ⌝ }
+// Whether each output, of which count stand from a position on, is below nets.
+pub(super) fn check_outputs(s: &[u8], at: usize, count: usize, nets: usize) -> Check
+    requires { ⌜ at + 2 * count ≤ length (now s) ⌝ }
+    ensures { λ r. ⌜ r ≡ checkOf (all (λ i. ltb i nets) (wordColumn (now (s .entry)) 2 at count)) ⌝ }
 {
-    let count = s.len() / 2;
     let mut i = 0usize;
     while i < count {
-        let net = word_at(s, 2 * i);
+        let net = word_at(s, 2 * i + at);
         if nets <= net {
             return Check::Failed;
         }

@@ -105,19 +105,13 @@ fn fill_rest(
     }
     let counts = reply.counts;
     let at = starts_of(counts);
-    let a = at.outputs;
-    let b = at.golden - 3;
-    let c = at.goldens;
-    let d = at.candidates - 3;
-    let e = at.candidates;
-    let f = at.end;
     let old = counts.old;
     let golden = counts.golden;
     let priced = counts.candidates;
-    fill_words(&job[a..b], 2, 0, old.outputs, old_outputs);
-    fill_words(&job[c..d], 2, 0, golden.outputs, golden_outputs);
-    fill_words(&job[e..f], 4, 0, priced, nets);
-    fill_words(&job[e..f], 4, 2, priced, weights);
+    fill_words(job, 2, at.outputs, old.outputs, old_outputs);
+    fill_words(job, 2, at.goldens, golden.outputs, golden_outputs);
+    fill_words(job, 4, at.candidates, priced, nets);
+    fill_words(job, 4, at.candidates + 2, priced, weights);
 }
 
 // The service read. Refused are too few places (1), then what is no whole job (2), counts (3), gates (4), outputs (5)

@@ -4,11 +4,10 @@ use Prim.Native.Nat.{ℕ, _+_, _-_, _*_, _/_, _≤_, _<_}
 use mathlib.Core.Path.{_≡_, refl, sym, _∙_, ap}
 use mathlib.Core.List.{List, map}
 use mathlib.Core.Bool.{Bool, true, false}
-use native.Mathlib.Nat.{add-zero}
 use native.Mathlib.Omega.{arith}
 use borrow.Author.Tests.{eqb-true, ne-eqb}
 use lib.Dec.{eqb}
-use lib.ListN.{length, getD, drop, length-take}
+use lib.ListN.{length, getD, drop, length-take, length-drop}
 use lib.Seq.{getD-take, getD-drop}
 use Rattle.records.specs.Bytes.{word, placed, nth}
 use Rattle.records.specs.Gate.{gateOf}
@@ -18,11 +17,12 @@ use Rattle.records.specs.Inner.{Laid, startsOf, wordColumn, structAt, st
 use Rattle.records.specs.declared.gate.Gate.{Gate as GateStruct}
 use Rattle.records.specs.declared.gates.GateSpans.{GateSpans}
 use Rattle.records.specs.declared.job.Counts.{Counts}
+use Rattle.records.specs.declared.job.Starts.{Starts}
 use Rattle.records.specs.declared.reading.ReadReply.{ReadReply}
 use Rattle.records.proofs.Laws.Bytes.{tabulate-ext, map-tabulate}
 use Rattle.records.proofs.Laws.Counts.{spans-within, spans-none, room-facts}
 use Rattle.records.proofs.Laws.Gates.{structs-none}
-use Rattle.records.proofs.Laws.Shape.{laid-counts, stands, IsPart, parts}
+use Rattle.records.proofs.Laws.Shape.{laid-counts, stands, IsPart, Parts, parts}
 use Rattle.records.proofs.Laws.Reply.{roomy-room, readReply-replyIn, reply-laid}
 
 -- ---- the gates of field n
@@ -86,27 +86,40 @@ module _ (s : List ℕ) (c : Counts) (l : Laid s c) (k : GateSpans) (g : k ≡ g
         structs-in (t .golden) (c .golden .gates) (ap (λ (x : Counts). x .golden .gates) n),
       )
 
--- ---- words
+-- ---- the words of field n
 
-module _ (s : List ℕ) where
-  nets-column : wordColumn s 2 0 (length s / 2) ≡ netsOf s
+module _ {s : List ℕ} {n at to : ℕ} (p : IsPart s n at to) where
+  pub nets-in : (count : ℕ) → count ≡ length (nth n s) / 2 → wordColumn s 2 at count ≡ netsOf (nth n s)
   unfolding wordColumn netsOf
-  nets-column =
-      tabulate-ext (length s / 2) (λ i. word s (2 * i + 0)) (λ i. word s (2 * i)) (λ i l. ap (word s) (add-zero (2 * i)))
+  nets-in count e =
+      rw e
+      (tabulate-ext (length (nth n s) / 2) (λ i. word s (2 * i + at)) (λ i. word (nth n s) (2 * i))
+      (λ i h. word-in p (2 * i) (2 * i + at) (omega arith) (omega arith)))
 
-  candidate-nets-column : wordColumn s 4 0 (length s / 4) ≡ map (λ (c : Candidate). c .net) (candidatesOf s)
+  candidate-nets-in : (count : ℕ) → count ≡ length (nth n s) / 4
+      → wordColumn s 4 at count ≡ map (λ (c : Candidate). c .net) (candidatesOf (nth n s))
   unfolding wordColumn candidatesOf candidateAt
-  candidate-nets-column =
-      tabulate-ext (length s / 4) (λ i. word s (4 * i + 0)) (λ i. word s (4 * i)) (λ i l. ap (word s) (add-zero (4 * i)))
-      ∙ sym (map-tabulate (length s / 4) (candidateAt s) (λ (c : Candidate). c .net))
+  candidate-nets-in count e =
+      rw e
+      (tabulate-ext (length (nth n s) / 4) (λ i. word s (4 * i + at)) (λ i. word (nth n s) (4 * i))
+      (λ i h. word-in p (4 * i) (4 * i + at) (omega arith) (omega arith)))
+      ∙ sym (map-tabulate (length (nth n s) / 4) (candidateAt (nth n s)) (λ (c : Candidate). c .net))
 
-  weights-column : wordColumn s 4 2 (length s / 4) ≡ map (λ (c : Candidate). c .weight) (candidatesOf s)
+  weights-in : (count : ℕ) → count ≡ length (nth n s) / 4
+      → wordColumn s 4 (at + 2) count ≡ map (λ (c : Candidate). c .weight) (candidatesOf (nth n s))
   unfolding wordColumn candidatesOf candidateAt
-  weights-column = sym (map-tabulate (length s / 4) (candidateAt s) (λ (c : Candidate). c .weight))
+  weights-in count e =
+      rw e
+      (tabulate-ext (length (nth n s) / 4) (λ i. word s (4 * i + (at + 2))) (λ i. word (nth n s) (4 * i + 2))
+      (λ i h. word-in p (4 * i + 2) (4 * i + (at + 2)) (omega arith) (omega arith)))
+      ∙ sym (map-tabulate (length (nth n s) / 4) (candidateAt (nth n s)) (λ (c : Candidate). c .weight))
 
--- ---- the outputs and candidates of an accepted job, xs being a field's bytes: what fill_words asks
+  pub part-room : at + length (nth n s) ≤ length s
+  part-room = omega (arith, p, length-take (to - at) (drop at s), length-drop at s, ap length (p .is))
 
-module _ (r : ReadReply) (s : List ℕ) {b d e f : ℕ} (h : RestFits r s b d e f) (z : r .number ≡ 0) (xs : List ℕ) where
+-- ---- the outputs and candidates of an accepted job, a being where its fields start: what fill_words asks
+
+module _ (r : ReadReply) (s : List ℕ) {b d e f : ℕ} (h : RestFits r s b d e f) (z : r .number ≡ 0) (a : Starts) (t : Parts s a) where
   counted : r .counts
       ≡ record {
         inputs = getD s 3 0;
@@ -117,47 +130,46 @@ module _ (r : ReadReply) (s : List ℕ) {b d e f : ℕ} (h : RestFits r s b d e 
       }
   counted = laid-counts s (r .counts) (h .laid z)
 
-  pub outputs-fit : xs ≡ nth 2 s → (0 + 2 ≤ 2) × (2 * r .counts .old .outputs ≤ length xs) × (r .counts .old .outputs ≤ b)
-  outputs-fit x =
+  pub outputs-fit : (2 ≤ 4) × (a .outputs + 2 * r .counts .old .outputs + 2 ≤ length s + 2) × (r .counts .old .outputs ≤ b)
+  outputs-fit =
       let n = ap (λ (y : Counts). y .old .outputs) counted in
       let w = h .laid z .within .old .outputs in
-      (omega arith, omega (arith, ap length x), omega (arith, h .old z))
+      (omega arith, omega (arith, part-room (t .outputs)), omega (arith, h .old z))
 
-  pub goldens-fit : xs ≡ nth 4 s → (0 + 2 ≤ 2) × (2 * r .counts .golden .outputs ≤ length xs) × (r .counts .golden .outputs ≤ d)
-  goldens-fit x =
+  pub goldens-fit : (2 ≤ 4) × (a .goldens + 2 * r .counts .golden .outputs + 2 ≤ length s + 2) × (r .counts .golden .outputs ≤ d)
+  goldens-fit =
       let n = ap (λ (y : Counts). y .golden .outputs) counted in
       let w = h .laid z .within .golden .outputs in
-      (omega arith, omega (arith, ap length x), omega (arith, h .golden z))
+      (omega arith, omega (arith, part-room (t .goldens)), omega (arith, h .golden z))
 
-  pub nets-fit : xs ≡ nth 5 s → (0 + 2 ≤ 4) × (4 * r .counts .candidates ≤ length xs) × (r .counts .candidates ≤ e)
-  nets-fit x =
+  pub nets-fit : (4 ≤ 4) × (a .candidates + 4 * r .counts .candidates + 2 ≤ length s + 4) × (r .counts .candidates ≤ e)
+  nets-fit =
       let n = ap (λ (y : Counts). y .candidates) counted in
       let w = h .laid z .within .candidates in
-      (omega arith, omega (arith, ap length x), omega (arith, h .nets z))
+      (omega arith, omega (arith, part-room (t .candidates)), omega (arith, h .nets z))
 
-  pub weights-fit : xs ≡ nth 5 s → (2 + 2 ≤ 4) × (4 * r .counts .candidates ≤ length xs) × (r .counts .candidates ≤ f)
-  weights-fit x =
+  pub weights-fit : (4 ≤ 4) × (a .candidates + 2 + 4 * r .counts .candidates + 2 ≤ length s + 4) × (r .counts .candidates ≤ f)
+  weights-fit =
       let n = ap (λ (y : Counts). y .candidates) counted in
       let w = h .laid z .within .candidates in
-      (omega arith, omega (arith, ap length x), omega (arith, h .weights z))
+      (omega arith, omega (arith, part-room (t .candidates)), omega (arith, h .weights z))
 
 -- .. and what it leaves
 module _ (r : ReadReply) (s b d e f : List ℕ) where
-  pub rest-filled : r .number ≡ 0 → Laid s (r .counts) → {b′ d′ e′ f′ : List ℕ} (xs ys us vs : List ℕ)
-      → xs ≡ nth 2 s → ys ≡ nth 4 s → us ≡ nth 5 s → vs ≡ nth 5 s
-      → b′ ≡ placed b 0 (wordColumn xs 2 0 (r .counts .old .outputs))
-      → d′ ≡ placed d 0 (wordColumn ys 2 0 (r .counts .golden .outputs))
-      → e′ ≡ placed e 0 (wordColumn us 4 0 (r .counts .candidates))
-      → f′ ≡ placed f 0 (wordColumn vs 4 2 (r .counts .candidates))
+  pub rest-filled : r .number ≡ 0 → Laid s (r .counts) → (a : Starts) → Parts s a → {b′ d′ e′ f′ : List ℕ}
+      → b′ ≡ placed b 0 (wordColumn s 2 (a .outputs) (r .counts .old .outputs))
+      → d′ ≡ placed d 0 (wordColumn s 2 (a .goldens) (r .counts .golden .outputs))
+      → e′ ≡ placed e 0 (wordColumn s 4 (a .candidates) (r .counts .candidates))
+      → f′ ≡ placed f 0 (wordColumn s 4 (a .candidates + 2) (r .counts .candidates))
       → RestFilled r (jobOf s) b d e f b′ d′ e′ f′
   unfolding placedIf jobOf netlistOf
-  rest-filled z l xs ys us vs x y u v p q t w =
+  rest-filled z l a t p q u w =
       let n = laid-counts s (r .counts) l in
       record {
-        old = p ∙ rw (x, ap (λ (y : Counts). y .old .outputs) n, nets-column (nth 2 s), z);
-        golden = q ∙ rw (y, ap (λ (y : Counts). y .golden .outputs) n, nets-column (nth 4 s), z);
-        nets = t ∙ rw (u, ap (λ (y : Counts). y .candidates) n, candidate-nets-column (nth 5 s), z);
-        weights = w ∙ rw (v, ap (λ (y : Counts). y .candidates) n, weights-column (nth 5 s), z);
+        old = p ∙ rw (nets-in (t .outputs) _ (ap (λ (y : Counts). y .old .outputs) n), z);
+        golden = q ∙ rw (nets-in (t .goldens) _ (ap (λ (y : Counts). y .golden .outputs) n), z);
+        nets = u ∙ rw (candidate-nets-in (t .candidates) _ (ap (λ (y : Counts). y .candidates) n), z);
+        weights = w ∙ rw (weights-in (t .candidates) _ (ap (λ (y : Counts). y .candidates) n), z);
       }
 
   pub rest-left : (r .number ≡ 0 → ⊥) → RestFilled r (jobOf s) b d e f b d e f

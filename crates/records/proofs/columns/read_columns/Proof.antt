@@ -6,7 +6,6 @@ use denote.Ref.{now}
 use Rattle.records.specs.Columns.{Columns, sideColumns, columns}
 use Rattle.records.proofs.Laws.Counts.{passes, fails}
 use Rattle.records.proofs.Laws.Columns.{sideHolds, small-old, small-golden, old-splits, golden-splits, read-columns-ends}
-use borrow.Author.Needs.{needs}
 use Rattle.records.proofs.columns.read_columns.Statement.{statement}
 use Rattle.records.proofs.columns.read_columns.Tie as tie
 
@@ -38,16 +37,16 @@ golden-holds : (c : tie.After-enum-told3) → sideHolds (lent (start (c .before 
 golden-holds c = passes _ (sym (c .before .before .check-columns2 .ensures) ∙ c .enum-told3 .given .1)
 
 check-columns-requires : tie.Need-check-columns-requires
-check-columns-requires c κs = search needs
+check-columns-requires c κs = tt
 
 enum-told : tie.Need-enum-told
-enum-told c = search needs
+enum-told c = c .match .keys1
 
 enum-told-2 : tie.Need-enum-told-2
-enum-told-2 c = search needs
+enum-told-2 c = c .match .keys2
 
 refused-requires : tie.Need-refused-requires
-refused-requires c κs = search needs
+refused-requires c κs = tt
 
 returns : tie.Need-returns
 returns c =
@@ -57,16 +56,16 @@ returns c =
     (c .refused .ensures ∙ r .0, r .1)
 
 check-columns-requires-2 : tie.Need-check-columns-requires-2
-check-columns-requires-2 c κs = search needs
+check-columns-requires-2 c κs = tt
 
 enum-told-3 : tie.Need-enum-told-3
-enum-told-3 c = search needs
+enum-told-3 c = c .match2 .keys1
 
 enum-told-4 : tie.Need-enum-told-4
-enum-told-4 c = search needs
+enum-told-4 c = c .match2 .keys2
 
 refused-requires-2 : tie.Need-refused-requires-2
-refused-requires-2 c κs = search needs
+refused-requires-2 c κs = tt
 
 returns-2 : tie.Need-returns-2
 returns-2 c =
@@ -76,7 +75,7 @@ returns-2 c =
     (c .refused2 .ensures ∙ r .0, r .1)
 
 read-gates-requires : tie.Need-read-gates-requires
-read-gates-requires c κs = search needs
+read-gates-requires c κs = tt
 
 split-requires : tie.Need-split-requires
 split-requires c κs =
@@ -92,35 +91,45 @@ split-requires-2 c κs =
     let r = k .read-gates in
     golden-splits (lent e) (now (e .args .job)) (r .result) (r .ensures .0) (r .ensures .1) (golden-holds (second k))
 
+-- back from the end to the calls
+abbrev at-split2 : tie.After-slice-known20 → tie.After-split2
+at-split2 c = c .before .before .before .before .before .before
+
+abbrev at-split : tie.After-slice-known20 → tie.After-split
+at-split c = at-split2 c .before .before .before .before .before .before .before .before .before .before .before
+
+abbrev at-read : tie.After-slice-known20 → tie.After-read-gates
+at-read c = at-split c .before .before .before .before .before .before .before .before .before .before .before .before .before .before .before .before .before
+
 same-length : tie.Need-same-length
-same-length c = search needs
+same-length c = at-split c .split .kept .1 .1 .0
 
 same-length-2 : tie.Need-same-length-2
-same-length-2 c = search needs
+same-length-2 c = at-split c .split .kept .1 .1 .1 .0
 
 same-length-3 : tie.Need-same-length-3
-same-length-3 c = search needs
+same-length-3 c = at-split c .split .kept .1 .1 .1 .1 .0
 
 same-length-4 : tie.Need-same-length-4
-same-length-4 c = search needs
+same-length-4 c = at-read c .read-gates .kept .1 .0
 
 same-length-5 : tie.Need-same-length-5
-same-length-5 c = search needs
+same-length-5 c = at-split2 c .split2 .kept .1 .1 .0
 
 same-length-6 : tie.Need-same-length-6
-same-length-6 c = search needs
+same-length-6 c = at-split2 c .split2 .kept .1 .1 .1 .0
 
 same-length-7 : tie.Need-same-length-7
-same-length-7 c = search needs
+same-length-7 c = at-split2 c .split2 .kept .1 .1 .1 .1 .0
 
 same-length-8 : tie.Need-same-length-8
-same-length-8 c = search needs
+same-length-8 c = at-read c .read-gates .kept .1 .1 .0
 
 same-length-9 : tie.Need-same-length-9
-same-length-9 c = search needs
+same-length-9 c = at-read c .read-gates .kept .1 .1 .1 .0
 
 same-length-10 : tie.Need-same-length-10
-same-length-10 c = search needs
+same-length-10 c = at-read c .read-gates .kept .1 .1 .1 .1 .0
 
 returns-3 : tie.Need-returns-3
 returns-3 c =

@@ -8,7 +8,6 @@ use Rattle.records.specs.Columns.{Columns, sideColumns, columns}
 use Rattle.records.specs.Inner.{Within}
 use Rattle.records.proofs.Laws.Counts.{passes, fails, countsWithin-facts}
 use Rattle.records.proofs.Laws.Columns.{sideHolds, splits-of, write-columns-ends, put-short, put-counts, unheld-old, unheld-golden}
-use borrow.Author.Needs.{needs}
 use Rattle.records.proofs.columns.write_columns.Statement.{statement}
 use Rattle.records.proofs.columns.write_columns.Tie as tie
 
@@ -53,13 +52,13 @@ returns c =
     put-short (e .args .counts) (lent e) (now (e .args .buf)) (c .if1 .taken)
 
 check-counts-requires : tie.Need-check-counts-requires
-check-counts-requires c κs = search needs
+check-counts-requires c κs = tt
 
 enum-told : tie.Need-enum-told
-enum-told c = search needs
+enum-told c = c .match .keys1
 
 enum-told-2 : tie.Need-enum-told-2
-enum-told-2 c = search needs
+enum-told-2 c = c .match .keys2
 
 returns-2 : tie.Need-returns-2
 returns-2 c =
@@ -68,13 +67,13 @@ returns-2 c =
     (fails _ (sym (c .before .before .check-counts .ensures) ∙ c .enum-told2 .given .1))
 
 check-columns-requires : tie.Need-check-columns-requires
-check-columns-requires c κs = search needs
+check-columns-requires c κs = tt
 
 enum-told-3 : tie.Need-enum-told-3
-enum-told-3 c = search needs
+enum-told-3 c = c .match2 .keys1
 
 enum-told-4 : tie.Need-enum-told-4
-enum-told-4 c = search needs
+enum-told-4 c = c .match2 .keys2
 
 returns-3 : tie.Need-returns-3
 returns-3 c =
@@ -83,13 +82,13 @@ returns-3 c =
     (fails _ (sym (c .before .before .check-columns .ensures) ∙ c .enum-told4 .given .1))
 
 check-columns-requires-2 : tie.Need-check-columns-requires-2
-check-columns-requires-2 c κs = search needs
+check-columns-requires-2 c κs = tt
 
 enum-told-5 : tie.Need-enum-told-5
-enum-told-5 c = search needs
+enum-told-5 c = c .match3 .keys1
 
 enum-told-6 : tie.Need-enum-told-6
-enum-told-6 c = search needs
+enum-told-6 c = c .match3 .keys2
 
 returns-4 : tie.Need-returns-4
 returns-4 c =
@@ -106,10 +105,10 @@ joined-requires-2 c κs =
     splits-of _ _ _ _ _ _ (within (second (third (c .before))) .golden .gates) (le-refl _) (golden-holds (c .before))
 
 write-gates-requires : tie.Need-write-gates-requires
-write-gates-requires c κs = search needs
+write-gates-requires c κs = tt
 
 same-length : tie.Need-same-length
-same-length c = search needs
+same-length c = c .before .before .write-gates .kept .1 .1 .1 .1 .1 .1 .1 .0
 
 returns-5 : tie.Need-returns-5
 returns-5 c =

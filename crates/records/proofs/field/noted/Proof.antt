@@ -8,10 +8,10 @@ use Rattle.records.proofs.field.noted.Statement.{statement}
 use Rattle.records.proofs.field.noted.Tie as tie
 
 enum-known-found : tie.Need-enum-known-found
-enum-known-found c = search needs
+enum-known-found c = c .match .keys1
 
 enum-told : tie.Need-enum-told
-enum-told c = search needs
+enum-told c = c .match .keys2
 
 add-t10 : tie.Need-add-t10
 add-t10 c = search needs

@@ -1,8 +1,7 @@
 -- `records::gate::gate_good` meets its contract: each arm of the match is the gate's test at that arity.
 -- Assumes nothing.
-use borrow.Author.Needs.{needs}
 use borrow.Author.Tests.{lt-ltb, le-ltb, eq-eqb, ne-eqb}
-use mathlib.Core.Path.{_≡_, sym}
+use mathlib.Core.Path.{_≡_, sym, _∙_}
 use mathlib.Core.Bool.{_&&_}
 use native.Mathlib.Omega.{arith}
 use lib.Dec.{ltb, eqb}
@@ -16,7 +15,7 @@ returns : tie.Need-returns
 returns c = let x = c .before .args in sym (gateGood-high (x .net) (x .kind) (x .a) (x .b) (c .if1 .taken))
 
 operand-count-requires : tie.Need-operand-count-requires
-operand-count-requires c κs = search needs
+operand-count-requires c κs = tt
 
 -- ---- the three arms
 
@@ -24,14 +23,14 @@ none : (c : tie.At-match-keys1) → let x = c .before .before .before .args in
     gateGood (x .net) (gateOf (x .kind) (x .a) (x .b)) ≡ (eqb (x .a) 0 && eqb (x .b) 0)
 none c =
     let x = c .before .before .before .args in
-    let e : arity (x .kind) ≡ 0 = cc in
+    let e = sym (c .before .operand-count .ensures) ∙ c .match .keys1 in
     gateGood-none (x .net) (x .kind) (x .a) (x .b) (c .before .before .if1 .left) e
 
 one : (c : tie.At-match-keys2) → let x = c .before .before .before .args in
     gateGood (x .net) (gateOf (x .kind) (x .a) (x .b)) ≡ (ltb (x .a) (x .net) && eqb (x .b) 0)
 one c =
     let x = c .before .before .before .args in
-    let e : arity (x .kind) ≡ 1 = cc in
+    let e = sym (c .before .operand-count .ensures) ∙ c .match .keys2 in
     gateGood-one (x .net) (x .kind) (x .a) (x .b) (c .before .before .if1 .left) e
 
 two : (c : tie.At-match-rest) → let x = c .before .before .before .args in

@@ -3,7 +3,6 @@ use mathlib.Core.Path.{_≡_, sym, _∙_}
 use mathlib.Core.Bool.{true, false}
 use Rattle.records.specs.Inner.{countsWithin, gateSpans}
 use Rattle.records.proofs.Laws.Counts.{passes, fails, countsWithin-facts}
-use borrow.Author.Needs.{needs}
 use Rattle.records.proofs.gates.gate_spans.Statement.{statement}
 use Rattle.records.proofs.gates.gate_spans.Tie as tie
 
@@ -12,13 +11,13 @@ within : (c : tie.After-enum-told) → countsWithin (c .before .before .before .
 within c = passes _ (sym (c .before .before .check-counts .ensures) ∙ c .enum-told .given .1)
 
 check-counts-requires : tie.Need-check-counts-requires
-check-counts-requires c κs = search needs
+check-counts-requires c κs = tt
 
 enum-told : tie.Need-enum-told
-enum-told c = search needs
+enum-told c = c .match .keys1
 
 enum-told-2 : tie.Need-enum-told-2
-enum-told-2 c = search needs
+enum-told-2 c = c .match .keys2
 
 returns : tie.Need-returns
 unfolding gateSpans

@@ -4,8 +4,8 @@ use native.Mathlib.Omega.{arith}
 use mathlib.Core.Path.{_≡_, refl, sym, _∙_, ap}
 use mathlib.Core.Bool.{true}
 use mathlib.Core.List.{List}
-use Prim.Native.Nat.{ℕ, _+_, _-_, _/_, _≤_}
-use lib.ListN.{length, take, drop}
+use Prim.Native.Nat.{ℕ, _+_, _/_, _≤_}
+use lib.ListN.{length, take}
 use denote.Ref.{now}
 use Rattle.records.specs.Bytes.{nth}
 use Rattle.records.specs.Netlist.{fanout}
@@ -13,7 +13,7 @@ use Rattle.records.specs.Job.{gatesOf, candidatesOf}
 use Rattle.records.specs.Refusal.{gatesGood}
 use Rattle.records.specs.Inner.{checkOf, unmarkedAscending}
 use Rattle.records.proofs.Laws.Bytes.{and-left}
-use Rattle.records.proofs.Laws.Shape.{Stands, stands, part, netlists-checks, laid-old, candidates-check}
+use Rattle.records.proofs.Laws.Shape.{Parts, parts, netlists-checks, laid-old, candidates-check}
 use borrow.Author.Needs.{needs}
 use Rattle.records.proofs.job.check_all_candidates.Statement.{statement}
 use Rattle.records.proofs.job.check_all_candidates.Tie as tie
@@ -22,37 +22,29 @@ starts-of-requires : tie.Need-starts-of-requires
 starts-of-requires c κs = search needs
 
 -- where the fields stand, once the starts are known
-at : (c : tie.After-starts-of) → Stands (now (c .before .before .args .job)) (c .starts-of .result)
+at : (c : tie.After-starts-of) → Parts (now (c .before .before .args .job)) (c .starts-of .result)
 at c =
     let a = c .before .before .args in
-    stands (now (a .job)) (a .c) (c .before .before .pre .laid) (c .starts-of .result) (c .starts-of .ensures)
-
--- the part that is marked is the old gates
-old-part : (c : tie.After-starts-of) → let r = c .starts-of .result in
-    take (r .outputs - 3 - r .old) (drop (r .old) (now (c .before .before .args .job))) ≡ nth 1 (now (c .before .before .args .job))
-old-part c =
-    let t = at c in
-    let r = c .starts-of .result in
-    part _ _ (c .before .before .pre .laid) 1 (r .old) (r .outputs - 3) (omega arith) (t .old) (omega arith)
+    parts (now (a .job)) (a .c) (c .before .before .pre .laid) (c .starts-of .result) (c .starts-of .ensures)
 
 sub-b : tie.Need-sub-b
-sub-b c = let t = at (c .before .before) in omega arith
+sub-b c = at (c .before .before) .old-head
 
 sub-fanout-marks : tie.Need-sub-fanout-marks
-sub-fanout-marks c = let t = at (c .before .before) in omega arith
+sub-fanout-marks c = at (c .before .before) .old .ordered
 
 part-fanout-marks-start : tie.Need-part-fanout-marks-start
-part-fanout-marks-start c = let t = at (c .before .before) in omega arith
+part-fanout-marks-start c = at (c .before .before) .old .ordered
 
 part-fanout-marks-end : tie.Need-part-fanout-marks-end
-part-fanout-marks-end c = let t = at (c .before .before) in omega arith
+part-fanout-marks-end c = at (c .before .before) .old .within
 
 fanout-marks-requires : tie.Need-fanout-marks-requires
 fanout-marks-requires c κs =
     let s = now (c .before .before .before .before .before .args .job) in
     let k = c .before .before .before .before .before .args .c in
     let p = c .before .before .before .before .before .pre in
-    let e = old-part (c .before .before .before) in
+    let e = at (c .before .before .before) .old .is in
     let w = p .laid .within in
     let n : k .inputs + k .targets + length (nth 1 s) / 5 ≤ 424 = omega (arith, laid-old s k (p .laid), w .inputs, w .targets, w .old .gates) in
     let g : gatesGood (k .inputs + k .targets) (gatesOf (nth 1 s)) ≡ true =
@@ -60,13 +52,13 @@ fanout-marks-requires c κs =
     (rw e n, rw e g)
 
 sub-check-candidates : tie.Need-sub-check-candidates
-sub-check-candidates c = let t = at (c .before .before .before .before) in omega arith
+sub-check-candidates c = at (c .before .before .before .before) .candidates .ordered
 
 part-check-candidates-start : tie.Need-part-check-candidates-start
-part-check-candidates-start c = let t = at (c .before .before .before .before) in omega arith
+part-check-candidates-start c = at (c .before .before .before .before) .candidates .ordered
 
 part-check-candidates-end : tie.Need-part-check-candidates-end
-part-check-candidates-end c = let t = at (c .before .before .before .before) in omega arith
+part-check-candidates-end c = at (c .before .before .before .before) .candidates .within
 
 add-check-candidates : tie.Need-add-check-candidates
 add-check-candidates c = search needs
@@ -83,17 +75,14 @@ returns c =
     let k = c .before .before .before .before .before .before .before .before .before .before .before .args .c in
     let p = c .before .before .before .before .before .before .before .before .before .before .before .pre in
     let v = c .before .before .before .before .before .before .before .before .before in
-    let r = v .starts-of .result in
     let t = at v in
     let m = c .before .before .before .before .before .fanout-marks .result in
     let n = k .inputs + k .targets + k .old .gates in
-    let q : take (r .end - r .candidates) (drop (r .candidates) s) ≡ nth 5 s =
-    part s k (p .laid) 5 (r .candidates) (r .end) (omega arith) (t .candidates) (t .candidates-end) in
     let o : k .inputs + k .targets + length (nth 1 s) / 5 ≡ n = omega (arith, laid-old s k (p .laid)) in
     let f : take (k .inputs + k .targets + length (nth 1 s) / 5) m ≡ fanout (k .inputs) (k .targets) (gatesOf (nth 1 s)) =
-    rw (old-part v) at (c .before .before .before .before .before .fanout-marks .ensures) in
+    rw (t .old .is) at (c .before .before .before .before .before .fanout-marks .ensures) in
     c .check-candidates .ensures
-    ∙ ap (λ (l : List ℕ). checkOf (unmarkedAscending n m (candidatesOf l))) q
+    ∙ ap (λ (l : List ℕ). checkOf (unmarkedAscending n m (candidatesOf l))) (t .candidates .is)
     ∙ ap checkOf (candidates-check s k (p .laid) m n refl (ap (λ (x : ℕ). take x m) (sym o) ∙ f))
 
 pub check-all-candidates-spec : {M : Type 1} → statement M

@@ -10,18 +10,17 @@ use Rattle.records.specs.Inner.{countsWithin, Laid}
 use Rattle.records.specs.declared.job.Checked.the-variants.{Accepted}
 use Rattle.records.proofs.Laws.Counts.{passes, fails, countsWithin-facts, countsWithin-true, countsWithin-countsOf}
 use Rattle.records.proofs.Laws.Shape.{shape-whole, refused-two, refused-three, refused-four, refused-five, refused-six, accepted}
-use borrow.Author.Needs.{needs}
 use Rattle.records.proofs.job.check_job.Statement.{statement}
 use Rattle.records.proofs.job.check_job.Tie as tie
 
 shaped-requires : tie.Need-shaped-requires
-shaped-requires c κs = search needs
+shaped-requires c κs = tt
 
 enum-known-found : tie.Need-enum-known-found
-enum-known-found c = search needs
+enum-known-found c = c .match .keys1
 
 enum-told : tie.Need-enum-told
-enum-told c = search needs
+enum-told c = c .match .keys2
 
 returns : tie.Need-returns
 returns c = refused-two _ (sym (c .before .before .shaped .ensures) ∙ c .enum-told .given .1)
@@ -32,13 +31,13 @@ shape : (c : tie.After-known-told) → let s = now (c .before .before .before .b
 shape c = shape-whole _ _ (sym (c .before .before .before .shaped .ensures) ∙ c .before .found .given .1)
 
 check-counts-requires : tie.Need-check-counts-requires
-check-counts-requires c κs = search needs
+check-counts-requires c κs = tt
 
 enum-told-2 : tie.Need-enum-told-2
-enum-told-2 c = search needs
+enum-told-2 c = c .match2 .keys1
 
 enum-told-3 : tie.Need-enum-told-3
-enum-told-3 c = search needs
+enum-told-3 c = c .match2 .keys2
 
 -- .. within their ranges
 laid : (c : tie.After-enum-told2) → Laid (now (c .before .before .before .before .before .before .before .before .args .job)) (c .before .before .before .before .found .given .0 .0)
@@ -62,10 +61,10 @@ check-netlists-requires : tie.Need-check-netlists-requires
 check-netlists-requires c κs = laid c
 
 enum-told-4 : tie.Need-enum-told-4
-enum-told-4 c = search needs
+enum-told-4 c = c .match3 .keys1
 
 enum-told-5 : tie.Need-enum-told-5
-enum-told-5 c = search needs
+enum-told-5 c = c .match3 .keys2
 
 -- .. its gates good
 gates : (c : tie.After-enum-told4) → netlistsGood (jobOf (now (c .before .before .before .before .before .before .before .before .before .before .before .args .job))) ≡ true
@@ -80,10 +79,10 @@ check-all-outputs-requires : tie.Need-check-all-outputs-requires
 check-all-outputs-requires c κs = laid (c .before .before .before)
 
 enum-told-6 : tie.Need-enum-told-6
-enum-told-6 c = search needs
+enum-told-6 c = c .match4 .keys1
 
 enum-told-7 : tie.Need-enum-told-7
-enum-told-7 c = search needs
+enum-told-7 c = c .match4 .keys2
 
 -- .. and its outputs
 outputs : (c : tie.After-enum-told6) → outputsGood (jobOf (now (c .before .before .before .before .before .before .before .before .before .before .before .before .before .before .args .job))) ≡ true
@@ -98,10 +97,10 @@ check-all-candidates-requires : tie.Need-check-all-candidates-requires
 check-all-candidates-requires c κs = record { laid = laid (c .before .before .before .before .before .before); good = gates (c .before .before .before) }
 
 enum-told-8 : tie.Need-enum-told-8
-enum-told-8 c = search needs
+enum-told-8 c = c .match5 .keys1
 
 enum-told-9 : tie.Need-enum-told-9
-enum-told-9 c = search needs
+enum-told-9 c = c .match5 .keys2
 
 returns-5 : tie.Need-returns-5
 returns-5 c =

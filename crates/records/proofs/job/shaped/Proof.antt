@@ -13,10 +13,10 @@ walked-requires : tie.Need-walked-requires
 walked-requires c κs = search needs
 
 enum-told : tie.Need-enum-told
-enum-told c = search needs
+enum-told c = c .match .keys1
 
 enum-told-2 : tie.Need-enum-told-2
-enum-told-2 c = search needs
+enum-told-2 c = c .match .keys2
 
 returns : tie.Need-returns
 unfolding shapeOf
@@ -26,10 +26,10 @@ check-lengths-requires : tie.Need-check-lengths-requires
 check-lengths-requires c κs = search needs
 
 enum-told-3 : tie.Need-enum-told-3
-enum-told-3 c = search needs
+enum-told-3 c = c .match2 .keys1
 
 enum-told-4 : tie.Need-enum-told-4
-enum-told-4 c = search needs
+enum-told-4 c = c .match2 .keys2
 
 returns-2 : tie.Need-returns-2
 unfolding shapeOf
@@ -47,13 +47,13 @@ shared-slice-read-wide : tie.Need-shared-slice-read-wide
 shared-slice-read-wide c = let r = sizes-room _ (known (c .before)) in omega arith
 
 wide-requires : tie.Need-wide-requires
-wide-requires c κs = search needs
+wide-requires c κs = tt
 
 shared-slice-read-wide-2 : tie.Need-shared-slice-read-wide-2
 shared-slice-read-wide-2 c = let r = sizes-room _ (known (c .before .before .before)) in omega arith
 
 wide-requires-2 : tie.Need-wide-requires-2
-wide-requires-2 c κs = search needs
+wide-requires-2 c κs = tt
 
 array-read-t15 : tie.Need-array-read-t15
 array-read-t15 c = search needs

@@ -14,7 +14,7 @@ use Rattle.records.proofs.netlist.gate_mark.Statement.{statement}
 use Rattle.records.proofs.netlist.gate_mark.Tie as tie
 
 operand-count-requires : tie.Need-operand-count-requires
-operand-count-requires c κs = search needs
+operand-count-requires c κs = tt
 
 element-copy-out-result : tie.Need-element-copy-out-result
 element-copy-out-result c = search needs
@@ -28,13 +28,13 @@ element-copy-out-y c = search needs
 returns : tie.Need-returns
 returns c =
     let x = c .before .before .args in
-    let e : arity (x .kind) ≡ 0 = cc in
+    let e = sym (c .before .operand-count .ensures) ∙ c .match .keys1 in
     sym (markOf-none (now (x .marks)) (x .kind) (x .a) (x .b) e)
 
 returns-2 : tie.Need-returns-2
 returns-2 c =
     let x = c .before .before .before .args in
-    let e : arity (x .kind) ≡ 1 = cc in
+    let e = sym (c .before .before .operand-count .ensures) ∙ c .before .match .keys2 in
     sym (markOf-one (now (x .marks)) (x .kind) (x .a) (x .b) e)
 
 -- the last arm

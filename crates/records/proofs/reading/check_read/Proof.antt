@@ -4,7 +4,6 @@ use mathlib.Core.Bool.{true}
 use Rattle.records.specs.Inner.{room}
 use Rattle.records.proofs.Laws.Counts.{passes, fails}
 use Rattle.records.proofs.Laws.Reply.{reply-small, reply-refused, reply-accepted}
-use borrow.Author.Needs.{needs}
 use Rattle.records.proofs.reading.check_read.Statement.{statement}
 use Rattle.records.proofs.reading.check_read.Tie as tie
 
@@ -15,16 +14,16 @@ roomy : (c : tie.After-enum-told)
 roomy c = passes _ (sym (c .before .before .check-room .ensures) ∙ c .enum-told .given .1)
 
 check-room-requires : tie.Need-check-room-requires
-check-room-requires c κs = search needs
+check-room-requires c κs = tt
 
 enum-told : tie.Need-enum-told
-enum-told c = search needs
+enum-told c = c .match .keys1
 
 enum-told-2 : tie.Need-enum-told-2
-enum-told-2 c = search needs
+enum-told-2 c = c .match .keys2
 
 refused-requires : tie.Need-refused-requires
-refused-requires c κs = search needs
+refused-requires c κs = tt
 
 returns : tie.Need-returns
 returns c =
@@ -32,16 +31,16 @@ returns c =
     ∙ reply-small _ _ (fails _ (sym (c .before .before .before .check-room .ensures) ∙ c .before .enum-told2 .given .1))
 
 check-job-requires : tie.Need-check-job-requires
-check-job-requires c κs = search needs
+check-job-requires c κs = tt
 
 enum-known-answer : tie.Need-enum-known-answer
-enum-known-answer c = search needs
+enum-known-answer c = c .match2 .keys1
 
 refused-requires-2 : tie.Need-refused-requires-2
-refused-requires-2 c κs = search needs
+refused-requires-2 c κs = tt
 
 enum-known-answer-2 : tie.Need-enum-known-answer-2
-enum-known-answer-2 c = search needs
+enum-known-answer-2 c = c .match2 .keys2
 
 returns-2 : tie.Need-returns-2
 returns-2 c =

@@ -1,11 +1,10 @@
 -- `records::reading::refused` meets its contract: the counts are `no_counts`'s. Assumes nothing.
-use borrow.Author.Needs.{needs}
 use Rattle.records.specs.Inner.{refusedRead}
 use Rattle.records.proofs.reading.refused.Statement.{statement}
 use Rattle.records.proofs.reading.refused.Tie as tie
 
 no-counts-requires : tie.Need-no-counts-requires
-no-counts-requires c κs = search needs
+no-counts-requires c κs = tt
 
 returns : tie.Need-returns
 unfolding refusedRead

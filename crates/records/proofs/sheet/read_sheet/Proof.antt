@@ -65,16 +65,16 @@ abbrev reply : tie.Start → SheetReply
 reply c = sheetReply (c .args .targets) (c .args .candidates) (c .args .nets .now) (c .args .weights .now) (sheet c)
 
 check-sheet-room-requires : tie.Need-check-sheet-room-requires
-check-sheet-room-requires c κs = search needs
+check-sheet-room-requires c κs = tt
 
 enum-told : tie.Need-enum-told
-enum-told c = search needs
+enum-told c = c .match .keys1
 
 enum-told-2 : tie.Need-enum-told-2
-enum-told-2 c = search needs
+enum-told-2 c = c .match .keys2
 
 refused-requires : tie.Need-refused-requires
-refused-requires c κs = search needs
+refused-requires c κs = tt
 
 returns : tie.Need-returns
 returns c =
@@ -101,13 +101,13 @@ sheet-shaped-requires : tie.Need-sheet-shaped-requires
 sheet-shaped-requires c κs = room c .targets
 
 enum-known-found : tie.Need-enum-known-found
-enum-known-found c = search needs
+enum-known-found c = c .match2 .keys1
 
 enum-told-3 : tie.Need-enum-told-3
-enum-told-3 c = search needs
+enum-told-3 c = c .match2 .keys2
 
 refused-requires-2 : tie.Need-refused-requires-2
-refused-requires-2 c κs = search needs
+refused-requires-2 c κs = tt
 
 returns-2 : tie.Need-returns-2
 returns-2 c =
@@ -148,13 +148,13 @@ support-cost-requires c κs =
     (omega (arith, e, spans f), room (at-told f) .nets, room (at-told f) .weights)
 
 enum-known-costs : tie.Need-enum-known-costs
-enum-known-costs c = search needs
+enum-known-costs c = c .match3 .keys1
 
 enum-told-4 : tie.Need-enum-told-4
-enum-told-4 c = search needs
+enum-told-4 c = c .match3 .keys2
 
 refused-requires-3 : tie.Need-refused-requires-3
-refused-requires-3 c κs = search needs
+refused-requires-3 c κs = tt
 
 -- the reply where a test of number 8 fails
 unfit : (c : tie.After-found)
@@ -196,16 +196,16 @@ part-check-entries-end : tie.Need-part-check-entries-end
 part-check-entries-end c = omega (arith, spans (at-found (at-sum c)))
 
 check-entries-requires : tie.Need-check-entries-requires
-check-entries-requires c κs = search needs
+check-entries-requires c κs = tt
 
 enum-told-5 : tie.Need-enum-told-5
-enum-told-5 c = search needs
+enum-told-5 c = c .match4 .keys1
 
 enum-told-6 : tie.Need-enum-told-6
-enum-told-6 c = search needs
+enum-told-6 c = c .match4 .keys2
 
 refused-requires-4 : tie.Need-refused-requires-4
-refused-requires-4 c κs = search needs
+refused-requires-4 c κs = tt
 
 -- the entries of the table, and of the vectors
 table-tested : (c : tie.After-check-entries)
@@ -234,16 +234,16 @@ part-check-entries-end-2 : tie.Need-part-check-entries-end-2
 part-check-entries-end-2 c = search needs
 
 check-entries-requires-2 : tie.Need-check-entries-requires-2
-check-entries-requires-2 c κs = search needs
+check-entries-requires-2 c κs = tt
 
 enum-told-7 : tie.Need-enum-told-7
-enum-told-7 c = search needs
+enum-told-7 c = c .match5 .keys1
 
 enum-told-8 : tie.Need-enum-told-8
-enum-told-8 c = search needs
+enum-told-8 c = c .match5 .keys2
 
 refused-requires-5 : tie.Need-refused-requires-5
-refused-requires-5 c κs = search needs
+refused-requires-5 c κs = tt
 
 vectors-tested : (c : tie.After-check-entries2)
     → let o = start (shape (at-table c)) in
@@ -278,7 +278,7 @@ quad-at-requires c κs =
     omega (arith, spans f, length-take (length s - b) (drop b s), length-drop b s)
 
 refused-requires-6 : tie.Need-refused-requires-6
-refused-requires-6 c κs = search needs
+refused-requires-6 c κs = tt
 
 -- the support's cost as a number, and the sheet's
 sum : (c : tie.After-power)

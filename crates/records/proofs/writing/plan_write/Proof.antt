@@ -1,6 +1,5 @@
 -- `records::writing::plan_write` meets its contract: at each return the tests so far are known. Assumes nothing.
 use mathlib.Core.Path.{sym, _∙_}
-use borrow.Author.Needs.{needs}
 use borrow.Author.Tests.{lt-leb, le-leb}
 use Rattle.records.specs.Refusal.{firstFailing}
 use Rattle.records.specs.Inner.{refusedPlan, planOf}
@@ -9,23 +8,23 @@ use Rattle.records.proofs.writing.plan_write.Statement.{statement}
 use Rattle.records.proofs.writing.plan_write.Tie as tie
 
 refused-plan-requires : tie.Need-refused-plan-requires
-refused-plan-requires c κs = search needs
+refused-plan-requires c κs = tt
 
 returns : tie.Need-returns
 unfolding planOf firstFailing refusedPlan
 returns c = c .refused-plan .ensures ∙ rw (lt-leb _ _ (c .before .if1 .taken))
 
 check-counts-requires : tie.Need-check-counts-requires
-check-counts-requires c κs = search needs
+check-counts-requires c κs = tt
 
 enum-told : tie.Need-enum-told
-enum-told c = search needs
+enum-told c = c .match .keys1
 
 enum-told-2 : tie.Need-enum-told-2
-enum-told-2 c = search needs
+enum-told-2 c = c .match .keys2
 
 refused-plan-requires-2 : tie.Need-refused-plan-requires-2
-refused-plan-requires-2 c κs = search needs
+refused-plan-requires-2 c κs = tt
 
 returns-2 : tie.Need-returns-2
 unfolding planOf firstFailing refusedPlan
@@ -35,16 +34,16 @@ returns-2 c =
     c .refused-plan2 .ensures ∙ rw (le-leb _ _ (w .before .if1 .left), f)
 
 check-held-requires : tie.Need-check-held-requires
-check-held-requires c κs = search needs
+check-held-requires c κs = tt
 
 enum-told-3 : tie.Need-enum-told-3
-enum-told-3 c = search needs
+enum-told-3 c = c .match2 .keys1
 
 enum-told-4 : tie.Need-enum-told-4
-enum-told-4 c = search needs
+enum-told-4 c = c .match2 .keys2
 
 refused-plan-requires-3 : tie.Need-refused-plan-requires-3
-refused-plan-requires-3 c κs = search needs
+refused-plan-requires-3 c κs = tt
 
 returns-3 : tie.Need-returns-3
 unfolding planOf firstFailing refusedPlan

@@ -1,11 +1,10 @@
 -- `records::writing::refused_plan` meets its contract: the counts are `no_counts`'s. Assumes nothing.
-use borrow.Author.Needs.{needs}
 use Rattle.records.specs.Inner.{refusedPlan}
 use Rattle.records.proofs.writing.refused_plan.Statement.{statement}
 use Rattle.records.proofs.writing.refused_plan.Tie as tie
 
 no-counts-requires : tie.Need-no-counts-requires
-no-counts-requires c κs = search needs
+no-counts-requires c κs = tt
 
 returns : tie.Need-returns
 unfolding refusedPlan

@@ -2,7 +2,6 @@
 -- copied where it is accepted. Assumes nothing.
 use Prim.Native.Nat.{_≤_}
 use mathlib.Core.Path.{refl, sym}
-use borrow.Author.Needs.{needs}
 use native.Mathlib.Nat.{le-trans, le-of-eq}
 use native.Mathlib.Omega.{arith}
 use lib.ListN.{length}
@@ -40,13 +39,13 @@ slice-aggregate-check-job : tie.Need-slice-aggregate-check-job
 slice-aggregate-check-job c = sym (length-take-le _ _ (short (c .before .before .before) .0))
 
 check-job-requires : tie.Need-check-job-requires
-check-job-requires c κs = search needs
+check-job-requires c κs = tt
 
 enum-known-answer : tie.Need-enum-known-answer
-enum-known-answer c = search needs
+enum-known-answer c = c .match .keys1
 
 enum-told : tie.Need-enum-told
-enum-told c = search needs
+enum-told c = c .match .keys2
 
 slice-reshare-prefix-copy : tie.Need-slice-reshare-prefix-copy
 slice-reshare-prefix-copy c = short (put (c .before .before)) .0
@@ -61,7 +60,7 @@ copy-requires c κs =
     le-trans (le-of-eq (length-take-le _ _ (short w .0))) (le-trans (short w .1) (start e .pre .size (e .if1 .left)))
 
 same-length : tie.Need-same-length
-same-length c = search needs
+same-length c = put (c .before .before .before) .put-rest .kept .0
 
 returns-2 : tie.Need-returns-2
 returns-2 c gs hs g =
@@ -73,10 +72,10 @@ returns-2 c gs hs g =
     (put k .put-rest .ensures .1 gs hs (g n)) (k .check-job .ensures) _ (c .before .answer .given .1)
 
 same-length-2 : tie.Need-same-length-2
-same-length-2 c = search needs
+same-length-2 c = put (c .before .before .before .before .before .before .before) .put-rest .kept .0
 
 same-length-3 : tie.Need-same-length-3
-same-length-3 c = search needs
+same-length-3 c = c .before .before .copy .kept .1 .0
 
 returns-3 : tie.Need-returns-3
 returns-3 c gs hs g =
