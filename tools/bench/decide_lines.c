@@ -1,8 +1,8 @@
-/* Answers the decide and order calls of run_decide's standard input by one of the two C programs, and prints their lines
+/* Answers the decide and order calls of run_engine's standard input by one of the two C programs, and prints their lines
  * (tools/reference/decide_calls.py has the form), so that they can be laid beside the reference's:
  *
  *     gcc -O3 -o decide_lines decide_lines.c decide_plain.c decide_words.c
- *     ./decide_lines words < STDIN | diff - <(grep -v compare STDOUT)
+ *     ./decide_lines words < STDIN | diff - <(grep -e decide -e order STDOUT)
  */
 #include "decide.h"
 

@@ -1,4 +1,5 @@
-"""The calls that the program run_decide makes, as bytes of its standard input, and the line each must print.
+"""The calls of decide and compare that the program run_engine makes, as bytes of its standard input, and the line each must
+print.
 
 A call is one byte, which service, a two-byte length, and that many bytes:
 

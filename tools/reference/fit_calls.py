@@ -1,9 +1,10 @@
-"""The calls that the program run_fit makes, as bytes of its standard input, and the line each must print.
+"""The calls of fit, and of decide, fit and compare in a row, that the program run_engine makes, as bytes of its standard input, and
+the line each must print.
 
 A call is one byte, which service, a two-byte length, and that many bytes:
 
-    1 fit    two bytes, how much of the buffer is lent; two bytes, a length; a job of that length; and a patch sheet
-    2 row    two bytes, a length; a job of that length; and a second job. Each in turn is decided into one buffer, of which
+    4 fit    two bytes, how much of the buffer is lent; two bytes, a length; a job of that length; and a patch sheet
+    5 row    two bytes, a length; a job of that length; and a second job. Each in turn is decided into one buffer, of which
              1,076 bytes are lent, then fitted with the sheet that stands there into a second one, of which 2,075 are lent,
              then compared with that sheet
 
@@ -46,7 +47,7 @@ def fit_call(job_data, sheet_data, lent=LONGEST_NETLIST):
     buffer = pattern(11, BUFFER, 256)
     words = fitted(buffer, lent, job_data, sheet_data)
     payload = two(lent) + two(len(job_data)) + job_data + sheet_data
-    return call(1, payload), line(["fit"] + words + [hash_of([buffer])])
+    return call(4, payload), line(["fit"] + words + [hash_of([buffer])])
 
 
 def row_call(first, second):
@@ -58,4 +59,4 @@ def row_call(first, second):
         sheet = bytes(sheet_buffer[:length])
         words += fitted(buffer, LONGEST_NETLIST, data, sheet) + compared(data, sheet)
     hashes = [hash_of([sheet_buffer]), hash_of([buffer])]
-    return call(2, two(len(first)) + first + second), line(["row"] + words + hashes)
+    return call(5, two(len(first)) + first + second), line(["row"] + words + hashes)

@@ -5,7 +5,7 @@
 
     crates/run_records/stdin, stdout   calls of the record library, and the lines that this reference gives
     crates/run_gates/stdout            the rows of its stdin (the simulator's table) over 0 and 1 with one or two operands
-    crates/show_job/stdin, stdout      job A of document 01, and what it says
+    examples/a.job, a.shown            job A of document 01, and what `patcher show` says of it; the job also in crates/patcher/data
     tools/bench/longest.job            one accepted job of 4,188 bytes
 
 It prints how often each service gives each number. With --try FILE, a file of lines that run_records wrote, it
@@ -412,7 +412,7 @@ def sheet_calls(rng):
 
 
 def described(job):
-    """What show_job says of an accepted job: each count, and under it the nets, gates or candidates."""
+    """What `patcher show` says of an accepted job: each count, and under it the nets, gates or candidates."""
     rows = [f"inputs {job.inputs}", f"targets {job.targets}"]
     for name, side in (("old", job.old), ("golden", job.golden)):
         rows.append(f"{name} gates {len(side.gates)}")
@@ -484,8 +484,9 @@ def main():
     store("crates/run_records/stdout", "".join(text for _, text in calls))
     with open(os.path.join(TOP, "crates/run_gates/stdin"), encoding="ascii") as file:
         store("crates/run_gates/stdout", plain_rows(file.read()))
-    store("crates/show_job/stdin", encode(rj.job_a()))
-    store("crates/show_job/stdout", described(rj.job_a()))
+    for path in ("examples", "crates/patcher/data"):
+        store(f"{path}/a.job", encode(rj.job_a()))
+    store("examples/a.shown", described(rj.job_a()))
     store("tools/bench/longest.job", encode(rj.longest_job(random.Random(SEED))))
     report(calls)
 

@@ -1,18 +1,7 @@
-#!/usr/bin/env python3
-"""Makes again, from a fixed seed, the calls that the program run_decide is run on and the lines it must write
-(decide_calls.py has their form):
+"""Calls of decide and compare from a fixed seed, and the lines that this reference gives (decide_calls.py has their form).
+random_engine.py stores them."""
 
-    python3 tools/reference/random_decide.py
-
-    crates/run_decide/stdin, stdout   calls of decide and compare, and the lines that this reference gives
-
-It prints how many calls of each class there are. With --try FILE, a file of lines that run_decide wrote, it compares
-them with the stored ones and prints each line that differs with its call.
-"""
-
-import os
 import random
-import sys
 from collections import Counter
 from itertools import combinations
 
@@ -28,8 +17,6 @@ from decide_calls import BUFFER, compare_call, decide, decide_call, order_call
 from job import Candidate, Gate, Job, Netlist, encode
 
 SEED = 1364
-TOP = os.path.dirname(os.path.dirname(os.path.dirname(os.path.abspath(__file__))))
-STORE = "crates/run_decide"
 QUOTAS = {
     "patch over 0 nets": 200,
     "patch over 1 net": 250,
@@ -302,12 +289,7 @@ def report(calls, jobs_and_replies, sheet_names):
             print(f"{count:6}  {name}")
 
 
-# ---- files
-
-
-def store(path, content):
-    with open(os.path.join(TOP, path), "wb") as file:
-        file.write(content if isinstance(content, bytes) else content.encode("ascii"))
+# ---- all of them
 
 
 def made():
@@ -320,21 +302,3 @@ def made():
     calls += [call for _, call in named]
     rng.shuffle(calls)
     return calls, accepted + longs + fulls, Counter(name for name, _ in named)
-
-
-def main():
-    calls, jobs_and_replies, sheet_names = made()
-    if sys.argv[1:2] == ["--try"]:
-        with open(sys.argv[2], encoding="ascii") as file:
-            lines = file.read().splitlines(keepends=True)
-        for (data, text), other in zip(calls, lines + [""] * len(calls)):
-            if text != other:
-                print("call", data.hex(), "must print", text, "printed", other)
-        return
-    store(f"{STORE}/stdin", b"".join(data for data, _ in calls))
-    store(f"{STORE}/stdout", "".join(text for _, text in calls))
-    report(calls, jobs_and_replies, sheet_names)
-
-
-if __name__ == "__main__":
-    main()

@@ -1,18 +1,8 @@
-#!/usr/bin/env python3
-"""Makes again, from a fixed seed, the calls that the program run_fit is run on and the lines it must write (fit_calls.py
-has their form):
-
-    python3 tools/reference/random_fit.py
-
-    crates/run_fit/stdin, stdout   calls of fit, and of decide, fit and compare in a row, and the lines that this reference gives
-
-Every netlist that is fitted is read back from its bytes and evaluated on all inputs beside the driven old circuit; where
-they differ, the script stops. It prints how many calls of each class and number there are. With --try FILE, a file of
-lines that run_fit wrote, it compares them with the stored ones and prints each line that differs with its call.
-"""
+"""Calls of fit, and of decide, fit and compare in a row, from a fixed seed, and the lines that this reference gives (fit_calls.py has
+their form). random_engine.py stores them. Every netlist that is fitted is read back from its bytes and evaluated on all inputs beside
+the driven old circuit; where they differ, the script stops."""
 
 import random
-import sys
 from collections import Counter
 
 import cases
@@ -31,7 +21,6 @@ from fit_calls import BUFFER, fit_call, row_call
 from job import Candidate, Gate, Job, Netlist, encode
 
 SEED = 1364
-STORE = "crates/run_fit"
 LENT = [LONGEST_NETLIST, LONGEST_NETLIST, LONGEST_NETLIST + 1, BUFFER]
 
 
@@ -473,7 +462,7 @@ def report(named, parts):
         print(f"{count:6}  {name}")
 
 
-# ---- files
+# ---- all of them
 
 
 def made():
@@ -484,22 +473,3 @@ def made():
     named += list(short_calls(rng, accepted, parts)) + list(row_calls(rng, accepted))
     rng.shuffle(named)
     return named, parts
-
-
-def main():
-    named, parts = made()
-    calls = [call for _, call in named]
-    if sys.argv[1:2] == ["--try"]:
-        with open(sys.argv[2], encoding="ascii") as file:
-            lines = file.read().splitlines(keepends=True)
-        for (name, (data, text)), other in zip(named, lines + [""] * len(named)):
-            if text != other:
-                print(name, "call", data.hex(), "must print", text, "printed", other)
-        return
-    rd.store(f"{STORE}/stdin", b"".join(data for data, _ in calls))
-    rd.store(f"{STORE}/stdout", "".join(text for _, text in calls))
-    report(named, parts)
-
-
-if __name__ == "__main__":
-    main()

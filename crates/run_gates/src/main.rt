@@ -1,22 +1,7 @@
 // Reads a simulator's table of gate primitives, one row a line, as `nand 0 1 = 1`, and prints each row over 0 and 1
 // with one or two operands again, with the value that the record library gives. The table is the file stdin; what is
 // printed must be the table's own rows.
-ghost use Prim.Native.Nat.{_≤_};
-ghost use lib.ListN.{length};
-
-fn same(a: &[u8], b: &[u8]) -> bool {
-    if a.len() != b.len() {
-        return false;
-    }
-    let mut i = 0usize;
-    while i < a.len() {
-        if a[i] != b[i] {
-            return false;
-        }
-        i += 1;
-    }
-    true
-}
+use check::same;
 
 // The kind that document 01 gives the primitive of this name; 0 for any other name.
 fn kind_of(name: &[u8]) -> u8 {
@@ -47,22 +32,16 @@ fn kind_of(name: &[u8]) -> u8 {
     0
 }
 
-// Where the first space stands; the length where there is none.
-fn space_at(row: &[u8]) -> usize
-    ensures { λ r. ⌜ r ≤ length (now (row .entry)) ⌝ }
-{
-    let mut i = 0usize;
-    while i < row.len() {
-        if row[i] == b' ' {
-            return i;
-        }
-        i += 1;
+// The code of the binary digit at a position; 0 where there is none.
+fn digit_at(row: &[u8], at: usize) -> u8 {
+    if row.len() <= at {
+        return 0;
     }
-    i
-}
-
-fn is_bit(x: u8) -> bool {
-    x == b'0' || x == b'1'
+    let code = row[at];
+    match code {
+        b'0' | b'1' => code,
+        _ => 0,
+    }
 }
 
 // The row up to its value, and the library's value. The last bit of a digit's code is the digit.
@@ -81,22 +60,19 @@ fn print_operands(row: &[u8], kind: u8, p: usize) {
     if row.len() < p {
         return;
     }
-    let rest = &row[p..];
-    if rest.len() == 6 && kind < 4 {
-        if is_bit(rest[1]) {
-            print_value(row, kind, rest[1], 0);
-        }
-        return;
+    let len = row.len() - p;
+    let a = digit_at(row, p + 1);
+    let b = digit_at(row, p + 3);
+    if len == 6 && kind < 4 && a != 0 {
+        print_value(row, kind, a, 0);
     }
-    if rest.len() == 8 && 3 < kind {
-        if is_bit(rest[1]) && is_bit(rest[3]) {
-            print_value(row, kind, rest[1], rest[3]);
-        }
+    if len == 8 && 3 < kind && a != 0 && b != 0 {
+        print_value(row, kind, a, b);
     }
 }
 
 fn print_row(row: &[u8]) {
-    let p = space_at(row);
+    let p = bytes::scan::find(row, 0, row.len(), b' ');
     let kind = kind_of(&row[0..p]);
     if kind == 0 {
         return;
@@ -118,6 +94,7 @@ fn print_rows(table: &[u8]) {
 
 fn main() {
     let mut table = io::large_buffer();
-    let n = io::read_full(0, &mut table);
+    let input = cli::read_standard(&mut table);
+    let n = input.len;
     print_rows(&table[..n]);
 }

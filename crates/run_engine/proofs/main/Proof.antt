@@ -1,8 +1,8 @@
--- `run_fit::main` is safe and ends. The measure is the number of turns that are left.
+-- `run_engine::main` is safe and ends. The measure is the number of turns that are left.
 -- Assumes nothing.
 use borrow.Author.Needs.{needs}
-use Rattle.run_fit.proofs.main.Statement.{statement}
-use Rattle.run_fit.proofs.main.Tie as tie
+use Rattle.run_engine.proofs.main.Statement.{statement}
+use Rattle.run_engine.proofs.main.Tie as tie
 
 abbrev Inv-loop : tie.InvT-loop
 Inv-loop turns₀ turns = Unit {0}

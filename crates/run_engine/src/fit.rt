@@ -1,0 +1,74 @@
+// Calls of fit, and of decide, fit and compare in a row. The buffers have 2,200 bytes.
+use super::compare::print_compared;
+use super::decide::decided;
+use super::decide::print_hash;
+use samples::least;
+use samples::print_number;
+use samples::wide;
+use samples::word_at;
+
+// The buffers of the sheets and of the netlists.
+pub struct Buffers {
+    pub sheets: [u8; 4200],
+    pub netlists: [u8; 4200],
+}
+
+// Fits with so much of the buffer lent, and prints the reply; the buffer afterwards.
+fn fitted(job: &[u8], sheet: &[u8], mut buf: [u8; 4200], room: usize) -> [u8; 4200] {
+    let k = samples::lent(room, buf);
+    let r = engine::fit(job, sheet, &mut buf[..k]);
+    print_number(wide(r.number));
+    print_number(r.len);
+    buf
+}
+
+pub(super) fn fit_call(s: &[u8]) -> bool {
+    if s.len() < 4 {
+        return false;
+    }
+    let end = least(4 + word_at(s, 2), s.len());
+    if end < 4 {
+        return false;
+    }
+    io::write_all(1, b"fit");
+    let room = least(word_at(s, 0), 2200);
+    print_hash(
+        fitted(&s[4..end], &s[end..], samples::new_buffer(), room),
+        2200,
+    );
+    true
+}
+
+// A job decided, fitted and compared, the last two with the sheet that decide wrote.
+fn row(job: &[u8], buffers: Buffers) -> Buffers {
+    let sheets = buffers.sheets;
+    let netlists = buffers.netlists;
+    let a = decided(job, sheets, 1076);
+    let sheets = a.buf;
+    let k = samples::lent(a.len, sheets);
+    let netlists = fitted(job, &sheets[..k], netlists, 2075);
+    print_compared(job, &sheets[..k]);
+    Buffers { sheets, netlists }
+}
+
+// Two jobs in turn with the same buffers.
+pub(super) fn row_call(s: &[u8]) -> bool {
+    if s.len() < 2 {
+        return false;
+    }
+    let end = least(2 + word_at(s, 0), s.len());
+    if end < 2 {
+        return false;
+    }
+    io::write_all(1, b"row");
+    let fresh = Buffers {
+        sheets: samples::new_buffer(),
+        netlists: samples::new_buffer(),
+    };
+    let buffers = row(&s[end..], row(&s[2..end], fresh));
+    let sheets = buffers.sheets;
+    let netlists = buffers.netlists;
+    print_number(samples::hash_front(sheets, 2200));
+    print_hash(netlists, 2200);
+    true
+}
