@@ -8,6 +8,7 @@ pub use input::is_argument;
 pub use input::read_argument;
 pub use input::read_named;
 pub use input::read_standard;
+pub use output::check_written;
 pub use output::print_line;
 pub use output::print_number;
 pub use output::write_reply;

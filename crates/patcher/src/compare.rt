@@ -3,11 +3,9 @@
 fn print_result(result: engine::Comparison) {
     match result {
         engine::Comparison::Equal => cli::write_reply(b"equal\n"),
-        engine::Comparison::Differs(differs) => cli::print_line(
-            1,
-            b"differs",
-            differs.input as u64,
-        ),
+        engine::Comparison::Differs(differs) => {
+            cli::check_written(cli::print_line(1, b"differs", differs.input as u64));
+        }
         engine::Comparison::Declined => {}
     }
 }

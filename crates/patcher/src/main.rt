@@ -108,7 +108,7 @@ fn run(command: Command) {
     let n = second.len;
     let number = answer(command, &job[..m], &sheet[..n]);
     if number != 0 {
-        cli::print_line(refusal_stream(command), b"refused", number as u64);
+        cli::check_written(cli::print_line(refusal_stream(command), b"refused", number as u64));
     }
 }
 

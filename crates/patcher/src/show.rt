@@ -165,7 +165,7 @@ pub(super) fn print_job(job: &[u8]) -> u8 {
     print_side(b"golden", counts.inputs, counts.golden, golden);
     let nets = parts.nets;
     let weights = parts.weights;
-    cli::print_line(1, b"candidates", counts.candidates as u64);
+    cli::check_written(cli::print_line(1, b"candidates", counts.candidates as u64));
     print_candidates(counts.candidates, nets, weights);
     0
 }

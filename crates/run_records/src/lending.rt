@@ -70,41 +70,28 @@ pub(super) fn read_lists(job: &[u8], lists: Lists) -> Read {
 pub(super) fn write_lists(counts: records::Counts, lists: Lists, room: usize) -> Written {
     let lens = lists.lens;
     let old_kinds = lists.old_kinds;
+    let a = &old_kinds[..lent_bytes(old_kinds, lens, 0)];
     let old_firsts = lists.old_firsts;
+    let b = &old_firsts[..lent_words(old_firsts, lens, 1)];
     let old_seconds = lists.old_seconds;
+    let c = &old_seconds[..lent_words(old_seconds, lens, 2)];
     let old_outputs = lists.old_outputs;
+    let d = &old_outputs[..lent_words(old_outputs, lens, 3)];
     let golden_kinds = lists.golden_kinds;
+    let e = &golden_kinds[..lent_bytes(golden_kinds, lens, 4)];
     let golden_firsts = lists.golden_firsts;
+    let f = &golden_firsts[..lent_words(golden_firsts, lens, 5)];
     let golden_seconds = lists.golden_seconds;
+    let g = &golden_seconds[..lent_words(golden_seconds, lens, 6)];
     let golden_outputs = lists.golden_outputs;
+    let h = &golden_outputs[..lent_words(golden_outputs, lens, 7)];
     let nets = lists.nets;
+    let i = &nets[..lent_words(nets, lens, 8)];
     let weights = lists.weights;
-    let a = lent_bytes(old_kinds, lens, 0);
-    let b = lent_words(old_firsts, lens, 1);
-    let c = lent_words(old_seconds, lens, 2);
-    let d = lent_words(old_outputs, lens, 3);
-    let e = lent_bytes(golden_kinds, lens, 4);
-    let f = lent_words(golden_firsts, lens, 5);
-    let g = lent_words(golden_seconds, lens, 6);
-    let h = lent_words(golden_outputs, lens, 7);
-    let i = lent_words(nets, lens, 8);
-    let j = lent_words(weights, lens, 9);
+    let j = &weights[..lent_words(weights, lens, 9)];
     let mut buf = samples::new_buffer();
     let k = samples::lent(room, buf);
-    let reply = records::write_columns(
-        counts,
-        &old_kinds[..a],
-        &old_firsts[..b],
-        &old_seconds[..c],
-        &old_outputs[..d],
-        &golden_kinds[..e],
-        &golden_firsts[..f],
-        &golden_seconds[..g],
-        &golden_outputs[..h],
-        &nets[..i],
-        &weights[..j],
-        &mut buf[..k],
-    );
+    let reply = records::write_columns(counts, a, b, c, d, e, f, g, h, i, j, &mut buf[..k]);
     let hash = samples::hash_front(buf, 4200);
     Written { reply, hash }
 }
