@@ -2,9 +2,9 @@
 -- nothing.
 use mathlib.Core.Path.{refl, sym, _∙_, ap}
 use denote.Ref.{now}
-use Rattle.records.specs.Columns.{Columns, columns, sideColumns}
+use Rattle.records.specs.Columns.{Columns}
 use Rattle.engine.specs.Driven.{sheetComparison}
-use Rattle.engine.proofs.Laws.Decide.{lentPlaces}
+use Rattle.engine.proofs.Laws.Decide.{lentPlaces, readPlaces}
 use Rattle.engine.proofs.Laws.Compare.{declined-job, accepted-job, compared-job}
 use Rattle.engine.proofs.Laws.Read.{ReadJob, read-job}
 use Rattle.engine.proofs.comparing.compare.Statement.{statement}
@@ -18,13 +18,7 @@ abbrev reading : tie.Else1 → tie.After-read-columns
 reading e = e .before .before .before .before .before .before .before .before .before .before .before .before
 
 abbrev places : tie.After-read-columns → Columns
-places t =
-    let p = t .read-columns .last .1 in
-    columns
-    (sideColumns (p .0) (p .1 .0) (p .1 .1 .0) (p .1 .1 .1 .0))
-    (sideColumns (p .1 .1 .1 .1 .0) (p .1 .1 .1 .1 .1 .0) (p .1 .1 .1 .1 .1 .1 .0) (p .1 .1 .1 .1 .1 .1 .1 .0))
-    (p .1 .1 .1 .1 .1 .1 .1 .1 .0)
-    (p .1 .1 .1 .1 .1 .1 .1 .1 .1 .0)
+places t = readPlaces (t .read-columns .last .1)
 
 read : (e : tie.Else1) → let t = reading e in
     ReadJob (now (start t .args .job)) (t .read-columns .result .counts) (places t)

@@ -3,10 +3,10 @@ use Prim.Native.Nat.{_≤_}
 use mathlib.Core.Path.{_≡_, refl, sym, _∙_}
 use denote.Ref.{now}
 use lib.ListN.{length}
-use Rattle.records.specs.Columns.{Columns, columns, sideColumns}
+use Rattle.records.specs.Columns.{Columns}
 use Rattle.records.specs.Refusal.{jobRefusal}
 use Rattle.engine.specs.Verdict.{longestSheet}
-use Rattle.engine.proofs.Laws.Decide.{lentPlaces, lent-refusal, read-number, decided-job, decide-short, decide-refused, decide-accepted}
+use Rattle.engine.proofs.Laws.Decide.{lentPlaces, readPlaces, lent-refusal, read-number, decided-job, decide-short, decide-refused, decide-accepted}
 use Rattle.engine.proofs.Laws.Read.{ReadJob, read-job}
 use Rattle.engine.proofs.deciding.decide.Statement.{statement}
 use Rattle.engine.proofs.deciding.decide.Tie as tie
@@ -26,13 +26,7 @@ abbrev reading : tie.Else2 → tie.After-read-columns
 reading e = e .before .before .before .before .before .before .before .before .before .before .before .before
 
 abbrev places : tie.After-read-columns → Columns
-places t =
-    let p = t .read-columns .last .1 in
-    columns
-    (sideColumns (p .0) (p .1 .0) (p .1 .1 .0) (p .1 .1 .1 .0))
-    (sideColumns (p .1 .1 .1 .1 .0) (p .1 .1 .1 .1 .1 .0) (p .1 .1 .1 .1 .1 .1 .0) (p .1 .1 .1 .1 .1 .1 .1 .0))
-    (p .1 .1 .1 .1 .1 .1 .1 .1 .0)
-    (p .1 .1 .1 .1 .1 .1 .1 .1 .1 .0)
+places t = readPlaces (t .read-columns .last .1)
 
 accepted : (e : tie.Else2) → jobRefusal (now (start (reading e) .args .job)) ≡ 0
 accepted e = number (reading e) ∙ e .if2 .left
