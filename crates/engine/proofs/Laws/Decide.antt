@@ -39,6 +39,14 @@ lentPlaces =
     (sideColumns (replicate 400 0) (replicate 400 0) (replicate 400 0) (replicate 32 0))
     (replicate 10 0) (replicate 10 0)
 
+-- what they hold after it, of the last values of read's lent parameters
+abbrev pub readPlaces : List ℕ × (List ℕ × (List ℕ × (List ℕ × (List ℕ × (List ℕ × (List ℕ × (List ℕ × (List ℕ × (List ℕ × Unit {0}))))))))) → Columns
+readPlaces p =
+    columns
+    (sideColumns (p .0) (p .1 .0) (p .1 .1 .0) (p .1 .1 .1 .0))
+    (sideColumns (p .1 .1 .1 .1 .0) (p .1 .1 .1 .1 .1 .0) (p .1 .1 .1 .1 .1 .1 .0) (p .1 .1 .1 .1 .1 .1 .1 .0))
+    (p .1 .1 .1 .1 .1 .1 .1 .1 .0) (p .1 .1 .1 .1 .1 .1 .1 .1 .1 .0)
+
 pub lent-roomy : columnsRoomy lentPlaces ≡ true
 unfolding columnsRoomy sideColumnsRoomy
 lent-roomy = refl
