@@ -49,11 +49,15 @@ fn pair_command() -> Command {
 }
 
 fn print_usage() {
-    io::write_all(2, b"usage: patcher decide JOB\n");
-    io::write_all(2, b"       patcher fit JOB SHEET\n");
-    io::write_all(2, b"       patcher compare JOB SHEET\n");
-    io::write_all(2, b"       patcher show JOB\n");
-    io::write_all(2, b"One of the files can be -, standard input.\n");
+    io::write_all(
+        2,
+        b"usage: patcher decide JOB
+       patcher fit JOB SHEET
+       patcher compare JOB SHEET
+       patcher show JOB
+One of the files can be -, standard input.
+",
+    );
 }
 
 // Prints the reply and gives 0, or gives the number of the refusal. A job that fills the buffer is refused with 2, as 01 has it for

@@ -4,7 +4,7 @@
 --   patterned w k          the pattern's number at place k of list w
 --   mixed h x              the hash h with one more value
 --   hashed h xs            the hash h with the values of a list
-use Prim.Native.Nat.{ℕ, suc, _+_, _*_, _%_, _<_}
+use Prim.Native.Nat.{ℕ, _+_, _*_, _%_}
 use mathlib.Core.List.{List, [], _∷_}
 use mathlib.Core.Bool.{cond}
 use lib.Dec.{ltb}
