@@ -13,7 +13,7 @@
 --   candidateGood, candidatesGood   number 6: candidates ascend, exist, and are neither targets nor led to by one
 --   partTests j              the tests of the parts j, numbers 3 to 6
 --   jobTests s               the tests of the bytes s: number 2, then those of the job they hold
---   partsRefusal, jobRefusal the number of the first that fails, or 0
+--   jobRefusal s             the number of the first that fails, or 0
 use Prim.Native.Nat.{ℕ, suc, _+_}
 use mathlib.Core.List.{List, [], _∷_, map}
 use mathlib.Core.Bool.{Bool, true, cond, _&&_}
@@ -115,9 +115,6 @@ partTests j =
 
 unfoldable pub jobTests : List ℕ → List Test
 jobTests s = record { number = 2; passes = jobWhole s } ∷ partTests (jobOf s)
-
-unfoldable pub partsRefusal : Job → ℕ
-partsRefusal j = firstFailing (partTests j)
 
 unfoldable pub jobRefusal : List ℕ → ℕ
 jobRefusal s = firstFailing (jobTests s)

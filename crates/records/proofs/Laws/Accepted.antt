@@ -14,7 +14,7 @@ use Rattle.records.specs.Bytes.{upFrom, all, flat, tabulate, bytePair, p
 use Rattle.records.specs.Gate.{Gate, gateOf, arity, operands, unused, disj}
 use Rattle.records.specs.Netlist.{Netlist, netAt, extended, markOf, fanout}
 use Rattle.records.specs.Job.{Candidate, Job, gateAt, gatesOf, netlistOf, jobTags, jobWhole, jobOf, gateBytes, candidateBytes, jobBytes}
-use Rattle.records.specs.Refusal.{sideCountsGood, countsGood, gateGood, gatesGood, netlistsGood, oldNets, goldenNets, outputsGood, ascending, candidateGood, candidatesGood, longestJob, Test, firstFailing, partTests, jobTests, partsRefusal, jobRefusal}
+use Rattle.records.specs.Refusal.{sideCountsGood, countsGood, gateGood, gatesGood, netlistsGood, oldNets, goldenNets, outputsGood, ascending, candidateGood, candidatesGood, longestJob, Test, firstFailing, partTests, jobTests, jobRefusal}
 use Rattle.records.specs.Sheet.{sheetTests}
 use Rattle.records.specs.Service.{SidePlaces, Places, structOf, sideCountsOf, countsOf, noCounts, roomy, filledSide, filled, gatesIn, netlistFrom, candidatesFrom, jobFrom, held, readNumber, readReply, readPlaces, writeNumber, writeReply, writtenBytes, sheetNumber, sheetReply}
 use Rattle.records.specs.Columns.{columnsReply, columnsWriteReply}
@@ -168,7 +168,6 @@ longest s e =
 
 -- good parts take no more bytes
 pub length-good : (j : Job) → TwoEach j → PartsGood j → length (jobBytes j) ≤ longestJob
-unfolding partsRefusal
 length-good j w g = longest (jobBytes j) (jobRefusal-jobBytes j w ∙ none-of-passes (partTests j) (parts-pass j g))
 
 -- every count at its range's end: gates are constant zeros, outputs net 0, candidates the first nets
@@ -189,11 +188,11 @@ two-longest : TwoEach longestParts
 unfolding longestParts longestSide gateOf
 two-longest = record { old = all-tabulate Two _ (λ i. refl) 400; golden = all-tabulate Two _ (λ i. refl) 400 }
 
-partsRefusal-longest : partsRefusal longestParts ≡ 0
-unfolding partsRefusal partTests firstFailing longestParts longestSide tabulate upFrom all
+tests-longest : firstFailing (partTests longestParts) ≡ 0
+unfolding partTests firstFailing longestParts longestSide tabulate upFrom all
     countsGood sideCountsGood netlistsGood gatesGood gateGood gateOf operands unused arity outputsGood oldNets goldenNets
     candidatesGood candidateGood ascending netAt fanout extended markOf disj
-partsRefusal-longest = refl
+tests-longest = refl
 
 bytes-longest : (all (λ x. ltb x 256) (jobBytes longestParts) ≡ true) × (length (jobBytes longestParts) ≡ 4188)
 unfolding all jobBytes field flat bytePair gateBytes candidateBytes gateOf longestParts longestSide tabulate upFrom
@@ -210,7 +209,7 @@ longest-met =
     let s = jobBytes longestParts in (
       s,
       below-of-all 256 (omega arith) s (bytes-longest .0),
-      jobRefusal-jobBytes longestParts two-longest ∙ partsRefusal-longest,
+      jobRefusal-jobBytes longestParts two-longest ∙ tests-longest,
       bytes-longest .1,
     )
 

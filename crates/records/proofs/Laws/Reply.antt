@@ -9,7 +9,7 @@ use lib.Dec.{eqb, lit<}
 use lib.ListN.{length}
 use Rattle.records.specs.Bytes.{placed}
 use Rattle.records.specs.Job.{jobWhole, jobOf, jobBytes}
-use Rattle.records.specs.Refusal.{firstFailing, countsGood, partTests, jobTests, partsRefusal, jobRefusal}
+use Rattle.records.specs.Refusal.{firstFailing, countsGood, partTests, jobTests, jobRefusal}
 use Rattle.records.specs.Service.{Places, countsOf, sideRoomy, roomy, readNumber, readReply, held, jobFrom, writeNumber, writeReply, writtenBytes}
 use Rattle.records.specs.Inner.{countsWithin, Laid, checkedOf, room, refusedRead, replyIn}
 use Rattle.records.specs.declared.job.Counts.{Counts}
@@ -116,8 +116,8 @@ module _ (c : Counts) (p : Places) (d : List ℕ) where
             write-other 3 (rw (le-leb 4188 (length d) h, k, g)) (λ z. omega arith)
 
     module _ (k : held c p ≡ true) where
-      write-tested : writeNumber c p d ≡ partsRefusal (jobFrom c p)
-      unfolding writeNumber partsRefusal firstFailing
+      write-tested : writeNumber c p d ≡ firstFailing (partTests (jobFrom c p))
+      unfolding writeNumber firstFailing
       write-tested = rw (le-leb 4188 (length d) h, k)
 
       pub write-refused : (n : ℕ) → checkedOf (jobBytes (jobFrom c p)) ≡ Refused n

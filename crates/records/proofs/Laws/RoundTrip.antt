@@ -13,7 +13,7 @@ use lib.Seq.{getD-drop, drop-at, drop-drop, take-all, take-append-seam}
 use Rattle.records.specs.Bytes.{upFrom, tabulate, flat, bytePair, word, field, bodyLength, body, rest, fits, whole, nth}
 use Rattle.records.specs.Gate.{Gate, gateOf}
 use Rattle.records.specs.Job.{Candidate, Job, gateAt, gatesOf, netsOf, candidateAt, candidatesOf, netlistOf, jobWhole, jobOf, gateBytes, candidateBytes, jobBytes}
-use Rattle.records.specs.Refusal.{firstFailing, jobTests, partsRefusal, jobRefusal}
+use Rattle.records.specs.Refusal.{firstFailing, partTests, jobTests, jobRefusal}
 use Rattle.records.specs.Service.{Places, gateFrom, structOf, slotOf, gatesIn, netlistFrom, jobFrom}
 use Rattle.records.specs.Claims.{Below}
 use Rattle.records.specs.declared.gate.Gate.{Gate as GateStruct}
@@ -355,8 +355,8 @@ write-read s b h =
     jobBytes-joined (jobOf s) ∙ ap (joined 1) (bodies-jobOf s b w) ∙ joined-nth 1 6 s b (w .fields)
 
 -- a job's bytes are refused as its parts are
-pub jobRefusal-jobBytes : (j : Job) → TwoEach j → jobRefusal (jobBytes j) ≡ partsRefusal j
-unfolding jobRefusal jobTests partsRefusal firstFailing
+pub jobRefusal-jobBytes : (j : Job) → TwoEach j → jobRefusal (jobBytes j) ≡ firstFailing (partTests j)
+unfolding jobRefusal jobTests firstFailing
 jobRefusal-jobBytes j w = let e = read-write j w in rw (e .0, e .1)
 
 -- ---- gate structs
@@ -384,5 +384,5 @@ unfolding jobFrom netlistFrom
 two-jobFrom c p =
     record { old = two-gatesIn (c .old .gates) (p .old .gates); golden = two-gatesIn (c .golden .gates) (p .golden .gates) }
 
-pub written-refusal : (c : Counts) (p : Places) → jobRefusal (jobBytes (jobFrom c p)) ≡ partsRefusal (jobFrom c p)
+pub written-refusal : (c : Counts) (p : Places) → jobRefusal (jobBytes (jobFrom c p)) ≡ firstFailing (partTests (jobFrom c p))
 written-refusal c p = jobRefusal-jobBytes (jobFrom c p) (two-jobFrom c p)
