@@ -405,6 +405,26 @@ part-high {tb} {at} {k} {t} {half} p h e =
 
 -- ---- trees put
 
+-- the nets that a multiplexer is over, those before nets base + low and base + high: each is one, and a number of two bytes
+pub record MuxNets (base low high : ℕ) : Type 0 where
+  pub low-fits : base + low < 2 ^ 64
+  pub low-one : 1 ≤ base + low
+  pub low-small : base + low - 1 < 65536
+  pub high-fits : base + high < 2 ^ 64
+  pub high-one : 1 ≤ base + high
+  pub high-small : base + high - 1 + 3 < 65536
+
+mux-nets : (base low high : ℕ) → base + (high + 4) ≤ 65536 → 0 < low → low < high → MuxNets base low high
+mux-nets base low high p q r =
+    record {
+      low-fits = omega arith;
+      low-one = omega arith;
+      low-small = omega arith;
+      high-fits = omega arith;
+      high-one = omega arith;
+      high-small = omega arith;
+    }
+
 -- the position behind a tree
 pub tree-end : {count r : ℕ} {ks xs ys ks′ xs′ ys′ : List ℕ} (k next : ℕ) (is col : List ℕ)
     → GatesPut count ks xs ys (tree k next is col) r ks′ xs′ ys′ → r ≡ count + treeSize k col
@@ -450,13 +470,14 @@ module _ (tb : List ℕ) (at k t half base : ℕ) (is : List ℕ) (q : shapeOf k
     pub room-mux : GateRoom (high + 4) ks₂ xs₂ ys₂
     room-mux = room-less (room-kept (room-kept (n .room) p) r) (omega (arith, high-end))
 
-    pub nets-mux : (base + (high + 4) ≤ 65536) × (0 < low) × (low < high)
+    pub nets-mux : MuxNets base low high
     nets-mux =
         let l = columnPart tb at (k - 1) t in
         let h = columnPart tb (at + half) (k - 1) t in
         let x = tree-end (k - 1) _ is l p in
         let y = tree-end (k - 1) _ is h r in
-        (omega (arith, n .nets, high-end), omega (arith, treeSize-bounds (k - 1) l), omega (arith, treeSize-bounds (k - 1) h))
+        mux-nets base low high (omega (arith, n .nets, high-end)) (omega (arith, treeSize-bounds (k - 1) l))
+        (omega (arith, treeSize-bounds (k - 1) h))
 
   -- the halves' trees and the multiplexer are the tree
   pub put-split : {count low high r : ℕ} {ks xs ys ks₁ xs₁ ys₁ ks₂ xs₂ ys₂ ks₃ xs₃ ys₃ : List ℕ}

@@ -7,7 +7,7 @@ use borrow.Author.Needs.{needs}
 use denote.Ref.{now}
 use Rattle.engine.specs.Building.{columnPart, shapeOf}
 use Rattle.engine.specs.declared.tree.Shape.the-variants as Shape
-use Rattle.engine.proofs.Laws.Tree.{gates-put-same, deep-equal, deep-split, part-low, part-high}
+use Rattle.engine.proofs.Laws.Tree.{MuxNets, gates-put-same, deep-equal, deep-split, part-low, part-high}
 use Rattle.engine.proofs.Laws.Tree.{room-constant, room-equal, room-low, room-high, room-mux, nets-mux}
 use Rattle.engine.proofs.Laws.Tree.{tree-constant, tree-equal, put-split}
 use borrow.Fn.Kinds.{In}
@@ -77,9 +77,7 @@ split t c =
 nets : (t : ℕ) (c : put-tree-lts.After-put-tree3 (calls t) (put-tree-at t) put-tree.Post)
     → let l = c .before .before .before .before .before .before .before .before .before .before in
     let s = l .before .before .before .before .before .before .before .before .before .before .before .before in
-    (s .args .base + (c .put-tree3 .result + 4) ≤ 65536)
-    × (0 < l .put-tree2 .result)
-    × (l .put-tree2 .result < c .put-tree3 .result)
+    MuxNets (s .args .base) (l .put-tree2 .result) (c .put-tree3 .result)
 nets t c =
     let l = c .before .before .before .before .before .before .before .before .before .before in
     let h = l .before .before .before .before in
@@ -201,16 +199,16 @@ put-tree-array-read-put-mux t c =
     omega arith
 
 put-tree-add-put-mux : (t : ℕ) → put-tree-lts.Need-add-put-mux (calls t) (put-tree-at t) put-tree.Post
-put-tree-add-put-mux t c = let n = nets t (c .before .before .before .before .before .before) in omega arith
+put-tree-add-put-mux t c = record { fits = nets t (c .before .before .before .before .before .before) .low-fits }
 
 put-tree-sub-put-mux-2 : (t : ℕ) → put-tree-lts.Need-sub-put-mux-2 (calls t) (put-tree-at t) put-tree.Post
-put-tree-sub-put-mux-2 t c = let n = nets t (c .before .before .before .before .before .before) in omega arith
+put-tree-sub-put-mux-2 t c = nets t (c .before .before .before .before .before .before) .low-one
 
 put-tree-add-put-mux-2 : (t : ℕ) → put-tree-lts.Need-add-put-mux-2 (calls t) (put-tree-at t) put-tree.Post
-put-tree-add-put-mux-2 t c = let n = nets t (c .before .before .before .before .before .before) in omega arith
+put-tree-add-put-mux-2 t c = record { fits = nets t (c .before .before .before .before .before .before) .high-fits }
 
 put-tree-sub-put-mux-3 : (t : ℕ) → put-tree-lts.Need-sub-put-mux-3 (calls t) (put-tree-at t) put-tree.Post
-put-tree-sub-put-mux-3 t c = let n = nets t (c .before .before .before .before .before .before) in omega arith
+put-tree-sub-put-mux-3 t c = nets t (c .before .before .before .before .before .before) .high-one
 
 put-tree-put-mux-requires : (t : ℕ) → put-tree-lts.Need-put-mux-requires (calls t) (put-tree-at t) put-tree.Post
 put-tree-put-mux-requires t c κs =
@@ -224,18 +222,18 @@ put-tree-put-mux-requires t c κs =
           (s .pre .1 .1)
           (l .put-tree2 .ensures)
           (g .put-tree3 .ensures),
-      omega arith,
-      omega arith,
+      n .low-small,
+      n .high-small,
     )
 
 put-tree-same-length : (t : ℕ) → put-tree-lts.Need-same-length (calls t) (put-tree-at t) put-tree.Post
-put-tree-same-length t c = search needs
+put-tree-same-length t c = c .before .before .before .before .before .before .put-gate .kept .0
 
 put-tree-same-length-2 : (t : ℕ) → put-tree-lts.Need-same-length-2 (calls t) (put-tree-at t) put-tree.Post
-put-tree-same-length-2 t c = search needs
+put-tree-same-length-2 t c = c .before .before .before .before .before .before .put-gate .kept .1 .0
 
 put-tree-same-length-3 : (t : ℕ) → put-tree-lts.Need-same-length-3 (calls t) (put-tree-at t) put-tree.Post
-put-tree-same-length-3 t c = search needs
+put-tree-same-length-3 t c = c .before .before .before .before .before .before .put-gate .kept .1 .1 .0
 
 put-tree-returns : (t : ℕ) → put-tree-lts.Need-returns (calls t) (put-tree-at t) put-tree.Post
 put-tree-returns t c =
@@ -247,13 +245,13 @@ put-tree-returns t c =
     (sym (tree-constant (a .k) (a .base + a .count) (a .t5) (columnAt t s) _ (constant t w)))
 
 put-tree-same-length-4 : (t : ℕ) → put-tree-lts.Need-same-length-4 (calls t) (put-tree-at t) put-tree.Post
-put-tree-same-length-4 t c = search needs
+put-tree-same-length-4 t c = c .before .before .before .before .before .before .put-tree .kept .1 .1 .1 .1 .1 .1 .1 .0
 
 put-tree-same-length-5 : (t : ℕ) → put-tree-lts.Need-same-length-5 (calls t) (put-tree-at t) put-tree.Post
-put-tree-same-length-5 t c = search needs
+put-tree-same-length-5 t c = c .before .before .before .before .before .before .put-tree .kept .1 .1 .1 .1 .1 .1 .1 .1 .0
 
 put-tree-same-length-6 : (t : ℕ) → put-tree-lts.Need-same-length-6 (calls t) (put-tree-at t) put-tree.Post
-put-tree-same-length-6 t c = search needs
+put-tree-same-length-6 t c = c .before .before .before .before .before .before .put-tree .kept .1 .1 .1 .1 .1 .1 .1 .1 .1 .0
 
 put-tree-returns-2 : (t : ℕ) → put-tree-lts.Need-returns-2 (calls t) (put-tree-at t) put-tree.Post
 put-tree-returns-2 t c =
@@ -264,13 +262,22 @@ put-tree-returns-2 t c =
     (sym (tree-equal (now (a .table)) (a .at) (a .k) (a .t) (a .base + a .count) (a .t5) (equal t w .0)))
 
 put-tree-same-length-7 : (t : ℕ) → put-tree-lts.Need-same-length-7 (calls t) (put-tree-at t) put-tree.Post
-put-tree-same-length-7 t c = search needs
+put-tree-same-length-7 t c =
+    let m = c .before .before .before .before .before .before in
+    let g = m .before .before .before .before .before .before .before .before .before .before in
+    m .put-mux .kept .1 .1 .1 .1 .0 ∙ g .put-tree3 .kept .1 .1 .1 .1 .1 .1 .1 .0 ∙ g .before .before .before .before .before .before .before .before .before .before .put-tree2 .kept .1 .1 .1 .1 .1 .1 .1 .0
 
 put-tree-same-length-8 : (t : ℕ) → put-tree-lts.Need-same-length-8 (calls t) (put-tree-at t) put-tree.Post
-put-tree-same-length-8 t c = search needs
+put-tree-same-length-8 t c =
+    let m = c .before .before .before .before .before .before in
+    let g = m .before .before .before .before .before .before .before .before .before .before in
+    m .put-mux .kept .1 .1 .1 .1 .1 .0 ∙ g .put-tree3 .kept .1 .1 .1 .1 .1 .1 .1 .1 .0 ∙ g .before .before .before .before .before .before .before .before .before .before .put-tree2 .kept .1 .1 .1 .1 .1 .1 .1 .1 .0
 
 put-tree-same-length-9 : (t : ℕ) → put-tree-lts.Need-same-length-9 (calls t) (put-tree-at t) put-tree.Post
-put-tree-same-length-9 t c = search needs
+put-tree-same-length-9 t c =
+    let m = c .before .before .before .before .before .before in
+    let g = m .before .before .before .before .before .before .before .before .before .before in
+    m .put-mux .kept .1 .1 .1 .1 .1 .1 .0 ∙ g .put-tree3 .kept .1 .1 .1 .1 .1 .1 .1 .1 .1 .0 ∙ g .before .before .before .before .before .before .before .before .before .before .put-tree2 .kept .1 .1 .1 .1 .1 .1 .1 .1 .1 .0
 
 put-tree-returns-3 : (t : ℕ) → put-tree-lts.Need-returns-3 (calls t) (put-tree-at t) put-tree.Post
 put-tree-returns-3 t c =
