@@ -31,18 +31,6 @@ put-moved-requires c κs =
       (s .pre .1 .0 .0, free-room _ _ _ _ (s .pre .1 .1)),
     )
 
-same-length : tie.Need-same-length
-same-length c = search needs
-
-same-length-2 : tie.Need-same-length-2
-same-length-2 c = search needs
-
-same-length-3 : tie.Need-same-length-3
-same-length-3 c = search needs
-
-same-length-4 : tie.Need-same-length-4
-same-length-4 c = search needs
-
 returns : tie.Need-returns
 returns c =
     let v = c .before .before .before .before .before .before in
@@ -50,6 +38,18 @@ returns c =
     let s = start u in
     free-placed _ _ _ _ _ (now (s .args .numbers)) (s .pre .1 .0 .1) (omega (arith, s .pre .0 .room))
     (numbering u .number-inputs .ensures) (u .number-gates .ensures) (v .put-moved .ensures)
+
+same-length : tie.Need-same-length
+same-length c = returns c .long
+
+same-length-2 : tie.Need-same-length-2
+same-length-2 c = returns c .gates .kinds
+
+same-length-3 : tie.Need-same-length-3
+same-length-3 c = returns c .gates .firsts
+
+same-length-4 : tie.Need-same-length-4
+same-length-4 c = returns c .gates .seconds
 
 pub place-free-spec : {M : Type 1} → statement M
 place-free-spec =

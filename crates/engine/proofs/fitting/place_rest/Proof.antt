@@ -16,23 +16,23 @@ put-moved-requires c κs =
     let s = u .before .before .before .before .before .before .before .before .before .before in
     (evaluable-same (s .pre .0) (u .number-gates .ensures .long), (s .pre .1 .0 .0, s .pre .1 .1))
 
-same-length : tie.Need-same-length
-same-length c = search needs
-
-same-length-2 : tie.Need-same-length-2
-same-length-2 c = search needs
-
-same-length-3 : tie.Need-same-length-3
-same-length-3 c = search needs
-
-same-length-4 : tie.Need-same-length-4
-same-length-4 c = search needs
-
 returns : tie.Need-returns
 returns c =
     let v = c .before .before .before .before .before .before in
     let u = v .before .before .before .before .before .before .before in
     record { many = u .number-gates .result; numbered = u .number-gates .ensures; gates = v .put-moved .ensures }
+
+same-length : tie.Need-same-length
+same-length c = returns c .numbered .long
+
+same-length-2 : tie.Need-same-length-2
+same-length-2 c = returns c .gates .kinds
+
+same-length-3 : tie.Need-same-length-3
+same-length-3 c = returns c .gates .firsts
+
+same-length-4 : tie.Need-same-length-4
+same-length-4 c = returns c .gates .seconds
 
 pub place-rest-spec : {M : Type 1} → statement M
 place-rest-spec =

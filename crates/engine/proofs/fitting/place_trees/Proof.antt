@@ -40,18 +40,6 @@ put-trees-requires c κs =
     let q : s .args .targets ≤ length (take (length d - n) (drop n d)) = omega (arith, length-drop n d) in
     ((s .pre .0 .0, s .pre .0 .1, s .pre .1 .0 .0, q), s .pre .1 .1 .1)
 
-same-length : tie.Need-same-length
-same-length c = search needs
-
-same-length-2 : tie.Need-same-length-2
-same-length-2 c = search needs
-
-same-length-3 : tie.Need-same-length-3
-same-length-3 c = search needs
-
-same-length-4 : tie.Need-same-length-4
-same-length-4 c = search needs
-
 returns : tie.Need-returns
 returns c =
     let v = c .before .before .before .before .before .before .before .before in
@@ -60,6 +48,18 @@ returns c =
     let a = s .args in
     trees-placed (a .inputs) (a .targets) (a .count) (a .support .len) (a .support .nets) (now (a .numbers))
     (u .move-nets .ensures) (v .put-trees .ensures)
+
+same-length : tie.Need-same-length
+same-length c = search needs
+
+same-length-2 : tie.Need-same-length-2
+same-length-2 c = returns c .gates .kinds
+
+same-length-3 : tie.Need-same-length-3
+same-length-3 c = returns c .gates .firsts
+
+same-length-4 : tie.Need-same-length-4
+same-length-4 c = returns c .gates .seconds
 
 pub place-trees-spec : {M : Type 1} → statement M
 place-trees-spec =

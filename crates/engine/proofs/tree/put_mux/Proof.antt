@@ -64,15 +64,6 @@ put-gate-requires-4 c κs =
     room-less (room-kept (room-kept (room-kept p (f .put-gate .ensures)) (g .put-gate2 .ensures)) (h .put-gate3 .ensures))
     (omega (arith, f .put-gate .ensures .end, g .put-gate2 .ensures .end, h .put-gate3 .ensures .end))
 
-same-length : tie.Need-same-length
-same-length c = search needs
-
-same-length-2 : tie.Need-same-length-2
-same-length-2 c = search needs
-
-same-length-3 : tie.Need-same-length-3
-same-length-3 c = search needs
-
 returns : tie.Need-returns
 unfolding mux
 returns c =
@@ -83,6 +74,15 @@ returns c =
     gates-put-append
     (gates-put-append (gates-put-append (f .put-gate .ensures) (g .put-gate2 .ensures)) (h .put-gate3 .ensures))
     (i .put-gate4 .ensures)
+
+same-length : tie.Need-same-length
+same-length c = returns c .kinds
+
+same-length-2 : tie.Need-same-length-2
+same-length-2 c = returns c .firsts
+
+same-length-3 : tie.Need-same-length-3
+same-length-3 c = returns c .seconds
 
 pub put-mux-spec : {M : Type 1} → statement M
 put-mux-spec =
