@@ -8,6 +8,7 @@ pub mod Gate
 pub mod Gates
 pub mod Independent
 pub mod Job
+pub mod Loading
 pub mod Netlist
 pub mod Put
 pub mod ReadColumns

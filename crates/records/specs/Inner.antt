@@ -12,6 +12,7 @@ use Rattle.records.specs.Job.{Candidate, Job, gateSize, netSize, candida
 use Rattle.records.specs.Refusal.{maxInputs, maxTargets, maxGates, maxOutputs, maxCandidates, longestJob, firstFailing, netlistsGood, ascending, jobTests, jobRefusal}
 use Rattle.records.specs.Sheet.{sheetWhole, isCandidate, costOf}
 use Rattle.records.specs.Service.{Places, gatesIn, countsOf, noCounts, held, jobFrom, writeReply, writtenBytes}
+unfoldable pub use Rattle.records.specs.Service.{checkOf, noGate, noGates}
 use Rattle.records.specs.declared.gate.Gate.{Gate as GateStruct}
 use Rattle.records.specs.declared.field.Field.{Field}
 use Rattle.records.specs.declared.field.Field.the-variants.{Body, Missing}
@@ -38,10 +39,6 @@ use Rattle.records.specs.declared.job.Checked.{Checked}
 use Rattle.records.specs.declared.job.Checked.the-variants.{Accepted, Refused}
 use Rattle.records.specs.declared.writing.WritePlan.{WritePlan}
 use Rattle.records.specs.declared.writing.WriteReply.{WriteReply}
-
--- a check's answer for a test
-unfoldable pub checkOf : Bool → Check
-checkOf b = cond b Passed Failed
 
 -- ---- fields
 
@@ -128,6 +125,20 @@ lengthsGood ns =
     && eqb (getD ns 4 0 % netSize) 0
     && eqb (getD ns 5 0 % candidateSize) 0
 
+-- the counts of fields of these lengths, of which the first holds the numbers n and m
+unfoldable pub countedFrom : List ℕ → ℕ → ℕ → Shape
+countedFrom ns n m =
+    cond (lengthsGood ns)
+    (Whole
+    (record {
+      inputs = n;
+      targets = m;
+      old = record { gates = getD ns 1 0 / gateSize; outputs = getD ns 2 0 / netSize };
+      golden = record { gates = getD ns 3 0 / gateSize; outputs = getD ns 4 0 / netSize };
+      candidates = getD ns 5 0 / candidateSize;
+    }))
+    Broken
+
 unfoldable pub sideWithin : SideCounts → Bool
 sideWithin c = leb (c .gates) maxGates && leb 1 (c .outputs) && leb (c .outputs) maxOutputs
 
@@ -201,12 +212,6 @@ unfoldable pub wordColumn : List ℕ → ℕ → ℕ → ℕ → List ℕ
 wordColumn s size offset count = tabulate count (λ i. word s (size * i + offset))
 
 -- ---- gate structs
-
-unfoldable pub noGate : GateStruct
-noGate = record { kind = 0; first = 0; second = 0 }
-
-unfoldable pub noGates : List GateStruct
-noGates = replicate maxGates noGate
 
 -- the gate struct at position at of the bytes s; count of them, from there on
 unfoldable pub structAt : List ℕ → ℕ → GateStruct
@@ -286,6 +291,11 @@ planOf c size held =
     ∷ record { number = 3; passes = countsWithin c && held }
     ∷ []) in
     record { number = n; counts = cond (eqb n 0) c noCounts }
+
+-- the bytes d with the numbers f 0, f 1, .. f (n - 1) from position at on, two bytes each, size bytes apart
+unfoldable pub spread : List ℕ → ℕ → ℕ → ℕ → (ℕ → ℕ) → List ℕ
+spread d at size zero f = d
+spread d at size (suc n) f = placed (spread d at size n f) (at + size * n) (bytePair (f n))
 
 -- a buffer of n bytes has room from position at on for a netlist's fields, and k places hold the outputs
 pub record SidePut (n at t : ℕ) (c : SideCounts) (k : ℕ) : Type 0 where
@@ -372,6 +382,22 @@ spansOf s =
 
 unfoldable pub sheetShapeOf : ℕ → List ℕ → SheetShape
 sheetShapeOf m s = cond (sheetWhole m s) (SheetShape.Whole (spansOf s)) SheetShape.Broken
+
+-- the fields' lengths are those of nets, of a table, a cost and vectors that fit each other and m targets; a table is shorter than
+-- 65,536 bytes, so the nets are at most fifteen
+unfoldable pub sheetLengths : List ℕ → ℕ → Bool
+sheetLengths ns m =
+    leb (getD ns 0 0) 31
+    && (eqb (getD ns 0 0 % netSize) 0 && eqb (getD ns 1 0) (2 ^ (getD ns 0 0 / netSize)) && eqb (getD ns 2 0) 4
+    && leb 1 (getD ns 3 0)
+    && leb (getD ns 3 0) (2 ^ m))
+
+-- the fields of these starts and lengths
+unfoldable pub spannedFrom : List ℕ → List ℕ → ℕ → SheetShape
+spannedFrom ss ns m =
+    cond (sheetLengths ns m)
+    (SheetShape.Whole (record { nets = getD ns 0 0 / netSize; table = getD ss 1 0; cost = getD ss 2 0; vectors = getD ss 3 0 }))
+    SheetShape.Broken
 
 -- the place of i in the list, from place k on
 unfoldable pub foundFrom : ℕ → List ℕ → ℕ → Found

@@ -9,3 +9,4 @@ pub mod Service
 pub mod Columns
 pub mod Inner
 pub mod Claims
+pub mod Parts

@@ -4,12 +4,16 @@
 --   GateStruct            the struct Gate of src/gate.rt: kind, first and second operand slot
 --   slotOf i g            what stands in operand slot i of a gate
 --   gateFrom g, structOf g                 the gate that a gate struct holds, and back
+--   noGate, noGates       the gate struct of zeros, and a netlist's places of it
+--   checkOf b             a check's answer for a test
 --   SidePlaces, Places    the lent places of a netlist, of a job
 --   sidePlaces, places    the same from the lists of their places
 --   sideCountsOf l, countsOf j, noCounts   the counts of a netlist, of a job, and of a refused one
 --   sideRoomy, roomy p    number 1 for read: places for the longest job
 --   filledSide, filled p j                 the places p with the parts of j at their starts
 --   readNumber, readReply, readPlaces      what read replies, and the places afterwards
+--   emptyPlaces           places for the longest job that hold zeros
+--   loaded s              what load gives: the reply of read into empty places, and what they hold afterwards
 --   sideHeld, held c p    number 3 for write: no count of c exceeds its places
 --   gatesIn, netlistFrom, candidatesFrom, jobFrom c p     the job whose parts stand at the starts of the places p, as many as the counts c say
 --   writeNumber, writeReply, writtenBytes  what write replies, and the reply buffer afterwards
@@ -28,9 +32,12 @@ use Rattle.records.specs.Job.{Candidate, Job, jobOf, jobBytes}
 use Rattle.records.specs.Refusal.{maxTargets, maxGates, maxOutputs, maxCandidates, longestJob, firstFailing, partTests, jobTests}
 use Rattle.records.specs.Sheet.{patchOf, sheetTests}
 use Rattle.records.specs.declared.gate.Gate.{Gate as GateStruct}
+use Rattle.records.specs.declared.field.Check.{Check}
+use Rattle.records.specs.declared.field.Check.the-variants.{Passed, Failed}
 use Rattle.records.specs.declared.job.SideCounts.{SideCounts}
 use Rattle.records.specs.declared.job.Counts.{Counts}
 use Rattle.records.specs.declared.reading.ReadReply.{ReadReply}
+use Rattle.records.specs.declared.loading.JobParts.{JobParts}
 use Rattle.records.specs.declared.writing.WriteReply.{WriteReply}
 use Rattle.records.specs.declared.sheet.SheetReply.{SheetReply}
 
@@ -42,6 +49,15 @@ gateFrom g = gateOf (g .kind) (g .first) (g .second)
 
 unfoldable pub structOf : Gate → GateStruct
 structOf g = record { kind = g .kind; first = slotOf 0 g; second = slotOf 1 g }
+
+unfoldable pub noGate : GateStruct
+noGate = record { kind = 0; first = 0; second = 0 }
+
+unfoldable pub noGates : List GateStruct
+noGates = replicate maxGates noGate
+
+unfoldable pub checkOf : Bool → Check
+checkOf b = cond b Passed Failed
 
 pub record SidePlaces : Type 0 where
   pub gates : List GateStruct
@@ -116,6 +132,32 @@ readReply p s =
 
 unfoldable pub readPlaces : Places → List ℕ → Places
 readPlaces p s = cond (eqb (readNumber p s) 0) (filled p (jobOf s)) p
+
+-- ---- load
+
+unfoldable pub emptyPlaces : Places
+emptyPlaces =
+    places
+    (sidePlaces noGates (replicate maxOutputs 0))
+    (sidePlaces noGates (replicate maxOutputs 0))
+    (replicate maxCandidates 0)
+    (replicate maxCandidates 0)
+
+unfoldable pub loaded : List ℕ → JobParts
+loaded s =
+    let reply = readReply emptyPlaces s in
+    let held = readPlaces emptyPlaces s in
+    record {
+      number = reply .number;
+      check = checkOf (eqb (reply .number) 0);
+      counts = reply .counts;
+      old = held .old .gates;
+      outputs = held .old .outputs;
+      golden = held .golden .gates;
+      goldens = held .golden .outputs;
+      nets = held .nets;
+      weights = held .weights;
+    }
 
 -- ---- write
 

@@ -5,9 +5,10 @@ ghost use Rattle.records.specs.Job.{candidatesOf};
 ghost use Rattle.records.specs.Inner.{checkOf, unmarkedAscending};
 use super::field::Check;
 use super::field::word_at;
+use super::limits::NETS;
 
 // Whether the candidates ascend, are below nets and have no mark.
-pub(super) fn check_candidates(s: &[u8], nets: usize, marks: &[u8; 424]) -> Check
+pub(super) fn check_candidates(s: &[u8], nets: usize, marks: &[u8; NETS]) -> Check
     requires { ⌜ nets ≤ 424 ⌝ }
     ensures { λ r. ⌜ r ≡ checkOf (unmarkedAscending nets (now (marks .entry)) (candidatesOf (now (s .entry)))) ⌝ }
 {

@@ -9,6 +9,8 @@ use super::field::Check;
 use super::gate::Gate;
 use super::job::Counts;
 use super::job::check_counts;
+use super::limits::GATES;
+use super::limits::LONGEST_JOB;
 use super::reading::ReadReply;
 use super::reading::read;
 use super::reading::refused;
@@ -18,12 +20,12 @@ use super::writing::write;
 // What read replies, and the gates of both netlists.
 pub struct GatesRead {
     pub reply: ReadReply,
-    pub old: [Gate; 400],
-    pub golden: [Gate; 400],
+    pub old: [Gate; GATES],
+    pub golden: [Gate; GATES],
 }
 
 // Read into gates of its own.
-fn read_gates(
+pub(super) fn read_gates(
     job: &[u8],
     old_outputs: &mut [u16],
     golden_outputs: &mut [u16],
@@ -53,8 +55,8 @@ fn read_gates(
         first: 0,
         second: 0,
     };
-    let mut old = [none; 400];
-    let mut golden = [none; 400];
+    let mut old = [none; GATES];
+    let mut golden = [none; GATES];
     let reply = read(
         job,
         &mut old,
@@ -70,9 +72,9 @@ fn read_gates(
 // Write from gates by value.
 fn write_gates(
     counts: Counts,
-    old: [Gate; 400],
+    old: [Gate; GATES],
     old_outputs: &[u16],
-    golden: [Gate; 400],
+    golden: [Gate; GATES],
     golden_outputs: &[u16],
     nets: &[u16],
     weights: &[u16],
@@ -105,7 +107,7 @@ fn write_gates(
 
 // The first count gates into columns.
 fn split(
-    gates: [Gate; 400],
+    gates: [Gate; GATES],
     count: usize,
     kinds: &mut [u8],
     firsts: &mut [u16],
@@ -127,7 +129,7 @@ fn split(
 }
 
 // The first count gates of columns.
-fn joined(kinds: &[u8], firsts: &[u16], seconds: &[u16], count: usize) -> [Gate; 400]
+fn joined(kinds: &[u8], firsts: &[u16], seconds: &[u16], count: usize) -> [Gate; GATES]
     requires { ⌜ ColumnsHold 400 count (length (now kinds)) (length (now firsts)) (length (now seconds)) ⌝ }
     ensures { λ r. ⌜ r ≡ placed noGates 0 (structsFrom count (now (kinds .entry)) (now (firsts .entry)) (now (seconds .entry))) ⌝ }
 {
@@ -135,7 +137,7 @@ fn joined(kinds: &[u8], firsts: &[u16], seconds: &[u16], count: usize) -> [Gate;
         kind: 0,
         first: 0,
         second: 0,
-    }; 400];
+    }; GATES];
     let mut k = 0usize;
     while k < count {
         gates[k] = Gate {
@@ -152,16 +154,10 @@ fn joined(kinds: &[u8], firsts: &[u16], seconds: &[u16], count: usize) -> [Gate;
 fn check_columns(count: usize, kinds: usize, firsts: usize, seconds: usize) -> Check
     ensures { λ r. ⌜ r ≡ checkOf (columnsHold count kinds firsts seconds) ⌝ }
 {
-    if kinds < count {
-        return Check::Failed;
+    if (count <= kinds) & (count <= firsts) & (count <= seconds) {
+        return Check::Passed;
     }
-    if firsts < count {
-        return Check::Failed;
-    }
-    if seconds < count {
-        return Check::Failed;
-    }
-    Check::Passed
+    Check::Failed
 }
 
 // The service read, with a netlist's gates in columns. It takes read's time and one pass over the gates.
@@ -196,12 +192,12 @@ pub fn read_columns(
         (now (nets .entry)) (now (weights .entry)))
         (now (job .entry)) ⌝ }
 {
-    let first = check_columns(400, old_kinds.len(), old_firsts.len(), old_seconds.len());
+    let first = check_columns(GATES, old_kinds.len(), old_firsts.len(), old_seconds.len());
     let Check::Passed = first else {
         return refused(1);
     };
     let second = check_columns(
-        400,
+        GATES,
         golden_kinds.len(),
         golden_firsts.len(),
         golden_seconds.len(),
@@ -255,7 +251,7 @@ pub fn write_columns(
         (now (nets .entry)) (now (weights .entry)))
         (now (buf .entry)) ⌝ }
 {
-    if buf.len() < 4188 {
+    if buf.len() < LONGEST_JOB {
         return WriteReply { number: 1, len: 0 };
     }
     let first = check_counts(counts);

@@ -4,11 +4,16 @@ ghost use lib.ListN.{length};
 ghost use Rattle.records.specs.Job.{jobOf};
 ghost use Rattle.records.specs.Refusal.{netlistsGood, outputsGood, candidatesGood};
 ghost use Rattle.records.specs.Service.{noCounts};
-ghost use Rattle.records.specs.Inner.{checkOf, lengthsGood, countsWithin, Within, shapeOf, startsOf, Laid, LaidGates, checkedOf};
+ghost use Rattle.records.specs.Inner.{checkOf, countedFrom, countsWithin, Within, shapeOf, startsOf, Laid, LaidGates, checkedOf};
 use super::candidate::check_candidates;
 use super::field::Check;
 use super::field::walked;
 use super::field::wide;
+use super::limits::CANDIDATES;
+use super::limits::GATES;
+use super::limits::INPUTS;
+use super::limits::OUTPUTS;
+use super::limits::TARGETS;
 use super::netlist::check_gates;
 use super::netlist::check_outputs;
 use super::netlist::fanout_marks;
@@ -67,30 +72,34 @@ pub enum Checked {
     Refused(u8),
 }
 
-// Whether fields of these lengths hold two counts and whole gates, nets and candidates.
-fn check_lengths(lens: [usize; 6]) -> Check
+// The counts of fields of these lengths, of which the first holds the inputs and targets, or that they are not those of two counts
+// and whole gates, nets and candidates.
+fn counted(lens: [usize; 6], inputs: usize, targets: usize) -> Shape
     requires { ⌜ length lens ≡ 6 ⌝ }
-    ensures { λ r. ⌜ r ≡ checkOf (lengthsGood lens) ⌝ }
+    ensures { λ r. ⌜ r ≡ countedFrom lens inputs targets ⌝ }
 {
-    if lens[0] != 2 {
-        return Check::Failed;
+    let old = lens[1];
+    let outputs = lens[2];
+    let golden = lens[3];
+    let goldens = lens[4];
+    let candidates = lens[5];
+    let first = (lens[0] == 2) & (old % 5 == 0) & (outputs % 2 == 0);
+    if first & (golden % 5 == 0) & (goldens % 2 == 0) & (candidates % 4 == 0) {
+        return Shape::Whole(Counts {
+            inputs,
+            targets,
+            old: SideCounts {
+                gates: old / 5,
+                outputs: outputs / 2,
+            },
+            golden: SideCounts {
+                gates: golden / 5,
+                outputs: goldens / 2,
+            },
+            candidates: candidates / 4,
+        });
     }
-    if lens[1] % 5 != 0 {
-        return Check::Failed;
-    }
-    if lens[2] % 2 != 0 {
-        return Check::Failed;
-    }
-    if lens[3] % 5 != 0 {
-        return Check::Failed;
-    }
-    if lens[4] % 2 != 0 {
-        return Check::Failed;
-    }
-    if lens[5] % 4 != 0 {
-        return Check::Failed;
-    }
-    Check::Passed
+    Shape::Broken
 }
 
 // The six fields, and that each has a length that its records allow.
@@ -103,59 +112,21 @@ fn shaped(job: &[u8]) -> Shape
         return Shape::Broken;
     };
     let lens = w.lens;
-    let second = check_lengths(lens);
-    let Check::Passed = second else {
-        return Shape::Broken;
-    };
-    Shape::Whole(Counts {
-        inputs: wide(job[3]),
-        targets: wide(job[4]),
-        old: SideCounts {
-            gates: lens[1] / 5,
-            outputs: lens[2] / 2,
-        },
-        golden: SideCounts {
-            gates: lens[3] / 5,
-            outputs: lens[4] / 2,
-        },
-        candidates: lens[5] / 4,
-    })
+    counted(lens, wide(job[3]), wide(job[4]))
 }
 
 // Whether every count is within its range.
 pub(super) fn check_counts(c: Counts) -> Check
     ensures { λ r. ⌜ r ≡ checkOf (countsWithin c) ⌝ }
 {
-    if 20 < c.inputs {
-        return Check::Failed;
+    let old = (c.old.gates <= GATES) & (1 <= c.old.outputs) & (c.old.outputs <= OUTPUTS);
+    let golden = (c.golden.gates <= GATES)
+        & (1 <= c.golden.outputs)
+        & (c.golden.outputs <= OUTPUTS);
+    if (c.inputs <= INPUTS) & (c.targets <= TARGETS) & old & golden & (c.candidates <= CANDIDATES) {
+        return Check::Passed;
     }
-    if 4 < c.targets {
-        return Check::Failed;
-    }
-    let old = c.old;
-    let golden = c.golden;
-    if 400 < old.gates {
-        return Check::Failed;
-    }
-    if old.outputs < 1 {
-        return Check::Failed;
-    }
-    if 32 < old.outputs {
-        return Check::Failed;
-    }
-    if 400 < golden.gates {
-        return Check::Failed;
-    }
-    if golden.outputs < 1 {
-        return Check::Failed;
-    }
-    if 32 < golden.outputs {
-        return Check::Failed;
-    }
-    if 10 < c.candidates {
-        return Check::Failed;
-    }
-    Check::Passed
+    Check::Failed
 }
 
 // Where the fields of a job with these counts stand.

@@ -14,6 +14,7 @@ use super::field::Check;
 use super::field::word_at;
 use super::gate::gate_good;
 use super::gate::operand_count;
+use super::limits::NETS;
 
 // The gate check: whether each gate of the gate field's bytes may drive its net, the first one net base.
 pub(super) fn check_gates(s: &[u8], base: usize) -> Check
@@ -52,7 +53,7 @@ pub(super) fn check_outputs(s: &[u8], at: usize, count: usize, nets: usize) -> C
 }
 
 // The mark of a gate: 1 where a used operand is marked.
-fn gate_mark(marks: &[u8; 424], kind: u8, a: usize, b: usize) -> u8
+fn gate_mark(marks: &[u8; NETS], kind: u8, a: usize, b: usize) -> u8
     requires { ⌜ (a < 424) × (b < 424) ⌝ }
     ensures { λ r. ⌜ r ≡ markOf (now (marks .entry)) (gateOf kind a b) ⌝ }
 {
@@ -68,11 +69,11 @@ fn gate_mark(marks: &[u8; 424], kind: u8, a: usize, b: usize) -> u8
 }
 
 // The marks of inputs and targets: 0 and 1.
-fn leaf_marks(inputs: usize, targets: usize) -> [u8; 424]
+fn leaf_marks(inputs: usize, targets: usize) -> [u8; NETS]
     requires { ⌜ inputs + targets ≤ 424 ⌝ }
     ensures { λ r. ⌜ (length r ≡ 424) × (take (inputs + targets) r ≡ leafMarks inputs targets) ⌝ }
 {
-    let mut marks = [0u8; 424];
+    let mut marks = [0u8; NETS];
     let mut i = 0usize;
     while i < targets {
         marks[inputs + i] = 1;
@@ -82,7 +83,7 @@ fn leaf_marks(inputs: usize, targets: usize) -> [u8; 424]
 }
 
 // The targets' fanout, a mark for each net of the old netlist whose gates have these bytes.
-pub(super) fn fanout_marks(s: &[u8], inputs: usize, targets: usize) -> [u8; 424]
+pub(super) fn fanout_marks(s: &[u8], inputs: usize, targets: usize) -> [u8; NETS]
     requires { ⌜ inputs + targets + length (now s) / 5 ≤ 424 ⌝ }
     requires { ⌜ gatesGood (inputs + targets) (gatesOf (now s)) ≡ true ⌝ }
     ensures { λ r. ⌜ take (inputs + targets + length (now (s .entry)) / 5) r ≡ fanout inputs targets (gatesOf (now (s .entry))) ⌝ }

@@ -3,16 +3,22 @@ ghost use mathlib.Core.Path.{_≡_};
 ghost use mathlib.Core.List.{List, _∷_};
 ghost use Prim.Native.Nat.{_+_, _*_, _<_, _≤_};
 ghost use mathlib.Core.Bool.{cond};
-ghost use lib.ListN.{length, take};
-ghost use Rattle.records.specs.Bytes.{flat, bytePair, placed, headSize, field};
-ghost use Rattle.records.specs.Job.{candidateBytes};
+ghost use lib.ListN.{length, getD};
+ghost use Rattle.records.specs.Bytes.{bytePair, placed, headSize, field};
 ghost use Rattle.records.specs.Refusal.{longestJob};
-ghost use Rattle.records.specs.Service.{candidatesFrom, sidePlaces, places, fieldFits};
-ghost use Rattle.records.specs.Inner.{SidePut, SideDone, JobPut, JobDone, GatesPut};
+ghost use Rattle.records.specs.Service.{sidePlaces, places, fieldFits};
+ghost use Rattle.records.specs.Inner.{spread, SidePut, SideDone, JobPut, JobDone, GatesPut};
 ghost use Rattle.records.specs.declared.gate.Gate.{Gate as GateStruct};
 use super::fill::copy;
 use super::job::Counts;
 use super::job::SideCounts;
+use super::limits::LONGEST_JOB;
+
+// A job's bytes so far: the first len of them.
+pub struct JobBytes {
+    pub bytes: [u8; LONGEST_JOB],
+    pub len: usize,
+}
 
 // A field's tag and length.
 fn put_head(buf: &mut [u8], at: usize, tag: u8, len: usize) -> usize
@@ -63,74 +69,93 @@ pub(super) fn put_word(buf: &mut [u8], at: usize, x: u16)
     buf[at + 1] = (x % 256) as u8;
 }
 
-// The first count numbers of xs.
-fn put_words(buf: &mut [u8], at: usize, xs: &[u16], count: usize) -> usize
-    requires { ⌜ (at + 2 * count ≤ length (now buf)) × (count ≤ length (now xs)) ⌝ }
-    ensures { λ r. ⌜ (r ≡ at + 2 * count) × (now (buf .exit) ≡ placed (now (buf .entry)) at (flat bytePair (take count (now (xs .entry))))) ⌝ }
+// The bytes with a field's tag and length.
+fn headed(bytes: [u8; LONGEST_JOB], at: usize, tag: u8, len: usize) -> [u8; LONGEST_JOB]
+    requires { ⌜ (at + 3 ≤ length bytes) × (len < 65536) ⌝ }
+    ensures { λ r. ⌜ r ≡ placed bytes at (tag ∷ bytePair len) ⌝ }
 {
-    let mut i = 0usize;
-    while i < count {
-        put_word(buf, at + 2 * i, xs[i]);
-        i += 1;
-    }
-    at + 2 * count
+    let mut bytes = bytes;
+    put_head(&mut bytes, at, tag, len);
+    bytes
 }
 
-// The first count candidates.
-fn put_candidates(buf: &mut [u8], at: usize, nets: &[u16], weights: &[u16], count: usize) -> usize
-    requires { ⌜ (at + 4 * count ≤ length (now buf)) × (count ≤ length (now nets)) × (count ≤ length (now weights)) ⌝ }
-    ensures { λ r. ⌜ (r ≡ at + 4 * count) × (now (buf .exit) ≡ placed (now (buf .entry)) at
-        (flat candidateBytes (candidatesFrom count (now (nets .entry)) (now (weights .entry))))) ⌝ }
+// The bytes with the first count numbers of xs, size bytes apart.
+fn put_column(
+    bytes: [u8; LONGEST_JOB],
+    at: usize,
+    size: usize,
+    xs: &[u16],
+    count: usize,
+) -> [u8; LONGEST_JOB]
+    requires { ⌜ (size ≤ 4) × (at + size * count + 2 ≤ length bytes + size) × (count ≤ length (now xs)) ⌝ }
+    ensures { λ r. ⌜ r ≡ spread bytes at size count (λ i. getD (now (xs .entry)) i 0) ⌝ }
 {
+    let mut bytes = bytes;
+    let mut p = at;
     let mut i = 0usize;
     while i < count {
-        let p = at + 4 * i;
-        put_word(buf, p, nets[i]);
-        put_word(buf, p + 2, weights[i]);
+        put_word(&mut bytes, p, xs[i]);
+        p += size;
         i += 1;
     }
-    at + 4 * count
+    bytes
 }
 
 // The head of the field of a netlist's gates, with this tag, whose bytes stand behind it already, and the field of its outputs, with
 // the next tag.
-fn put_side(buf: &mut [u8], at: usize, tag: u8, outputs: &[u16], counts: SideCounts) -> usize
-    requires { ⌜ SidePut (length (now buf)) at tag counts (length (now outputs)) ⌝ }
-    ensures { λ r. ⌜ SideDone (now (buf .entry)) at tag counts (now (outputs .entry)) r (now (buf .exit)) ⌝ }
+fn put_side(job: JobBytes, tag: u8, outputs: &[u16], counts: SideCounts) -> JobBytes
+    requires { ⌜ (length (job .bytes) ≡ 4188) × SidePut 4188 (job .len) tag counts (length (now outputs)) ⌝ }
+    ensures { λ r. ⌜ (length (r .bytes) ≡ 4188) × SideDone (job .bytes) (job .len) tag counts (now (outputs .entry)) (r .len) (r .bytes) ⌝ }
 {
-    let gates = counts.gates;
-    let outs = counts.outputs;
-    let a = put_head(buf, at, tag, 5 * gates);
-    let b = put_head(buf, a + 5 * gates, tag + 1, 2 * outs);
-    put_words(buf, b, outputs, outs)
+    let bytes = job.bytes;
+    let a = job.len;
+    let gates = 5 * counts.gates;
+    let outs = 2 * counts.outputs;
+    let b = a + 3 + gates;
+    let first = headed(bytes, a, tag, gates);
+    let second = headed(first, b, tag + 1, outs);
+    let third = put_column(second, b + 3, 2, outputs, counts.outputs);
+    JobBytes {
+        bytes: third,
+        len: b + 3 + outs,
+    }
 }
 
-// A job's bytes around its gates', which stand in their places already: heads, counts, outputs and candidates. The job's length.
+// A job's bytes around its gates', which stand in their places already: heads, counts, outputs and candidates.
 pub(super) fn put_rest(
-    buf: &mut [u8],
+    bytes: [u8; LONGEST_JOB],
     counts: Counts,
     old_outputs: &[u16],
     golden_outputs: &[u16],
     nets: &[u16],
     weights: &[u16],
-) -> usize
-    requires { ⌜ JobPut (length (now buf)) counts
+) -> JobBytes
+    requires { ⌜ JobPut (length bytes) counts
         (length (now «old_outputs»)) (length (now «golden_outputs»)) (length (now nets)) (length (now weights)) ⌝ }
-    ensures { λ r. ⌜ (r ≤ longestJob) × ((gs hs : List GateStruct) → GatesPut counts gs hs (now (buf .entry)) → JobDone counts
+    ensures { λ r. ⌜ (r .len ≤ longestJob) × (length (r .bytes) ≡ longestJob) × ((gs hs : List GateStruct) → GatesPut counts gs hs bytes → JobDone counts
         (places
         (sidePlaces gs (now («old_outputs» .entry)))
         (sidePlaces hs (now («golden_outputs» .entry)))
         (now (nets .entry)) (now (weights .entry)))
-        r (now (buf .exit))) ⌝ }
+        (r .len) (r .bytes)) ⌝ }
 {
-    let a = put_head(buf, 0, 1, 2);
-    buf[a] = (counts.inputs % 256) as u8;
-    buf[a + 1] = (counts.targets % 256) as u8;
-    let old = counts.old;
-    let golden = counts.golden;
-    let priced = counts.candidates;
-    let b = put_side(buf, 5, 2, old_outputs, old);
-    let c = put_side(buf, b, 4, golden_outputs, golden);
-    let d = put_head(buf, c, 6, 4 * priced);
-    put_candidates(buf, d, nets, weights, priced)
+    let mut first = headed(bytes, 0, 1, 2);
+    first[3] = (counts.inputs % 256) as u8;
+    first[4] = (counts.targets % 256) as u8;
+    let sized = JobBytes {
+        bytes: first,
+        len: 5,
+    };
+    let old = put_side(sized, 2, old_outputs, counts.old);
+    let golden = put_side(old, 4, golden_outputs, counts.golden);
+    let sides = golden.bytes;
+    let at = golden.len;
+    let count = counts.candidates;
+    let second = headed(sides, at, 6, 4 * count);
+    let third = put_column(second, at + 3, 4, nets, count);
+    let fourth = put_column(third, at + 5, 4, weights, count);
+    JobBytes {
+        bytes: fourth,
+        len: at + 3 + 4 * count,
+    }
 }

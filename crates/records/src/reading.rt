@@ -14,6 +14,9 @@ use super::job::Counts;
 use super::job::check_job;
 use super::job::no_counts;
 use super::job::starts_of;
+use super::limits::CANDIDATES;
+use super::limits::GATES;
+use super::limits::OUTPUTS;
 
 // The number, and the counts of an accepted job; on refusal every count is 0.
 pub struct ReadReply {
@@ -41,22 +44,22 @@ fn check_room(
 ) -> Check
     ensures { λ r. ⌜ r ≡ checkOf (room old «old_outputs» golden «golden_outputs» nets weights) ⌝ }
 {
-    if old < 400 {
+    if old < GATES {
         return Check::Failed;
     }
-    if old_outputs < 32 {
+    if old_outputs < OUTPUTS {
         return Check::Failed;
     }
-    if golden < 400 {
+    if golden < GATES {
         return Check::Failed;
     }
-    if golden_outputs < 32 {
+    if golden_outputs < OUTPUTS {
         return Check::Failed;
     }
-    if nets < 10 {
+    if nets < CANDIDATES {
         return Check::Failed;
     }
-    if weights < 10 {
+    if weights < CANDIDATES {
         return Check::Failed;
     }
     Check::Passed

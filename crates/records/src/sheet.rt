@@ -1,21 +1,21 @@
 // Patch sheets, read against a job's candidates.
 ghost use mathlib.Core.Path.{_≡_};
-ghost use Prim.Native.Nat.{_+_, _*_, _^_, _≤_, _<_};
-ghost use lib.ListN.{length, take};
+ghost use Prim.Native.Nat.{_+_, _*_, _-_, _^_, _≤_, _<_};
+ghost use lib.ListN.{length, take, drop};
 ghost use lib.Dec.{ltb};
 ghost use Rattle.records.specs.Bytes.{all};
-ghost use Rattle.records.specs.Job.{netsOf};
 ghost use Rattle.records.specs.Sheet.{quad};
 ghost use Rattle.records.specs.Service.{candidatesFrom, sheetReply};
-ghost use Rattle.records.specs.Inner.{checkOf, sheetShapeOf, sheetRoom, foundIn, supportOf, refusedSheet, tenPlaces};
+ghost use Rattle.records.specs.Inner.{checkOf, spannedFrom, sheetShapeOf, sheetRoom, foundIn, wordColumn, supportOf, refusedSheet, tenPlaces};
 use super::field::Check;
 use super::field::walked;
 use super::field::wide;
 use super::field::word_at;
+use super::limits::CANDIDATES;
 
 // Candidate nets: the first len of ten places.
 pub struct Support {
-    pub nets: [u16; 10],
+    pub nets: [u16; CANDIDATES],
     pub len: usize,
 }
 
@@ -59,7 +59,7 @@ fn refused(number: u8) -> SheetReply
     SheetReply {
         number,
         support: Support {
-            nets: [0u16; 10],
+            nets: [0u16; CANDIDATES],
             len: 0,
         },
         table: 0,
@@ -71,19 +71,10 @@ fn refused(number: u8) -> SheetReply
 fn check_sheet_room(targets: usize, candidates: usize, nets: usize, weights: usize) -> Check
     ensures { λ r. ⌜ r ≡ checkOf (sheetRoom targets candidates nets weights) ⌝ }
 {
-    if 4 < targets {
-        return Check::Failed;
+    if (targets <= 4) & (candidates <= 10) & (candidates <= nets) & (candidates <= weights) {
+        return Check::Passed;
     }
-    if 10 < candidates {
-        return Check::Failed;
-    }
-    if nets < candidates {
-        return Check::Failed;
-    }
-    if weights < candidates {
-        return Check::Failed;
-    }
-    Check::Passed
+    Check::Failed
 }
 
 // Two to the power k.
@@ -100,6 +91,28 @@ fn power(k: usize) -> usize
     p
 }
 
+// The fields that start and are as long as these say, or that their lengths do not fit each other and the number of targets.
+fn spanned(starts: [usize; 6], lens: [usize; 6], targets: usize) -> SheetShape
+    requires { ⌜ (length starts ≡ 6) × (length lens ≡ 6) × (targets ≤ 4) ⌝ }
+    ensures { λ r. ⌜ r ≡ spannedFrom starts lens targets ⌝ }
+{
+    let long = lens[0];
+    if 31 < long {
+        return SheetShape::Broken;
+    }
+    let vectors = lens[3];
+    let first = (long % 2 == 0) & (lens[1] == power(long / 2)) & (lens[2] == 4);
+    if first & (1 <= vectors) & (vectors <= power(targets)) {
+        return SheetShape::Whole(SheetSpans {
+            nets: long / 2,
+            table: starts[1],
+            cost: starts[2],
+            vectors: starts[3],
+        });
+    }
+    SheetShape::Broken
+}
+
 // The four fields, and that their lengths fit each other and the number of targets.
 fn sheet_shaped(sheet: &[u8], targets: usize) -> SheetShape
     requires { ⌜ targets ≤ 4 ⌝ }
@@ -112,31 +125,7 @@ fn sheet_shaped(sheet: &[u8], targets: usize) -> SheetShape
     };
     let starts = w.starts;
     let lens = w.lens;
-    let long = lens[0];
-    if long % 2 != 0 {
-        return SheetShape::Broken;
-    }
-    if 31 < long {
-        return SheetShape::Broken;
-    }
-    if lens[1] != power(long / 2) {
-        return SheetShape::Broken;
-    }
-    if lens[2] != 4 {
-        return SheetShape::Broken;
-    }
-    if lens[3] < 1 {
-        return SheetShape::Broken;
-    }
-    if power(targets) < lens[3] {
-        return SheetShape::Broken;
-    }
-    SheetShape::Whole(SheetSpans {
-        nets: long / 2,
-        table: starts[1],
-        cost: starts[2],
-        vectors: starts[3],
-    })
+    spanned(starts, lens, targets)
 }
 
 // Where net stands among the first count of nets.
@@ -155,17 +144,16 @@ fn find(nets: &[u16], count: usize, net: usize) -> Found
     Found::Nowhere
 }
 
-// The cost of the support whose nets have these bytes.
-fn support_cost(s: &[u8], count: usize, nets: &[u16], weights: &[u16]) -> Costs
-    requires { ⌜ (length (now s) ≤ 30) × (count ≤ length (now nets)) × (count ≤ length (now weights)) ⌝ }
-    ensures { λ r. ⌜ r ≡ supportOf (candidatesFrom count (now (nets .entry)) (now (weights .entry))) (netsOf (now (s .entry))) ⌝ }
+// The cost of the support, of which a sheet has long nets, from position 3 on.
+fn support_cost(s: &[u8], long: usize, count: usize, nets: &[u16], weights: &[u16]) -> Costs
+    requires { ⌜ (2 * long + 3 ≤ length (now s)) × (long ≤ 15) × (count ≤ length (now nets)) × (count ≤ length (now weights)) ⌝ }
+    ensures { λ r. ⌜ r ≡ supportOf (candidatesFrom count (now (nets .entry)) (now (weights .entry))) (wordColumn (now (s .entry)) 2 3 long) ⌝ }
 {
-    let long = s.len() / 2;
     let mut least = 0usize;
     let mut sum = 0u32;
     let mut i = 0usize;
     while i < long {
-        let net = word_at(s, 2 * i);
+        let net = word_at(s, 2 * i + 3);
         if net < least {
             return Costs::Unfit;
         }
@@ -180,12 +168,13 @@ fn support_cost(s: &[u8], count: usize, nets: &[u16], weights: &[u16]) -> Costs
     Costs::Sum(sum)
 }
 
-// Whether each byte is below limit.
-fn check_entries(s: &[u8], limit: usize) -> Check
-    ensures { λ r. ⌜ r ≡ checkOf (all (λ v. ltb v limit) (now (s .entry))) ⌝ }
+// Whether each byte between two positions is below limit.
+fn check_entries(s: &[u8], from: usize, end: usize, limit: usize) -> Check
+    requires { ⌜ (from ≤ end) × (end ≤ length (now s)) ⌝ }
+    ensures { λ r. ⌜ r ≡ checkOf (all (λ v. ltb v limit) (take (end - from) (drop from (now (s .entry))))) ⌝ }
 {
-    let mut i = 0usize;
-    while i < s.len() {
+    let mut i = from;
+    while i < end {
         if limit <= wide(s[i]) {
             return Check::Failed;
         }
@@ -194,24 +183,23 @@ fn check_entries(s: &[u8], limit: usize) -> Check
     Check::Passed
 }
 
-// The four-byte number at the front of s.
-fn quad_at(s: &[u8]) -> u32
-    requires { ⌜ 4 ≤ length (now s) ⌝ }
-    ensures { λ r. ⌜ r ≡ quad (now (s .entry)) ⌝ }
+// The four-byte number at a position.
+fn quad_at(s: &[u8], at: usize) -> u32
+    requires { ⌜ at + 4 ≤ length (now s) ⌝ }
+    ensures { λ r. ⌜ r ≡ quad (drop at (now (s .entry))) ⌝ }
 {
-    (65536 * (word_at(s, 0) % 65536) + word_at(s, 2) % 65536) as u32
+    (65536 * (word_at(s, at) % 65536) + word_at(s, at + 2) % 65536) as u32
 }
 
-// The support whose nets have these bytes.
-fn support_from(s: &[u8]) -> Support
-    requires { ⌜ length (now s) ≤ 21 ⌝ }
-    ensures { λ r. ⌜ r ≡ tenPlaces (netsOf (now (s .entry))) ⌝ }
+// The support of a sheet that has len nets, from position 3 on.
+fn support_from(s: &[u8], len: usize) -> Support
+    requires { ⌜ (2 * len + 3 ≤ length (now s)) × (len ≤ 10) ⌝ }
+    ensures { λ r. ⌜ r ≡ tenPlaces (wordColumn (now (s .entry)) 2 3 len) ⌝ }
 {
-    let mut nets = [0u16; 10];
-    let len = s.len() / 2;
+    let mut nets = [0u16; CANDIDATES];
     let mut i = 0usize;
     while i < len {
-        nets[i] = (word_at(s, 2 * i) % 65536) as u16;
+        nets[i] = (word_at(s, 2 * i + 3) % 65536) as u16;
         i += 1;
     }
     Support { nets, len }
@@ -238,30 +226,26 @@ pub fn read_sheet(
     let SheetShape::Whole(at) = found else {
         return refused(7);
     };
-    let a = at.table;
-    let b = at.cost;
-    let c = at.vectors;
-    let k = 3 + 2 * at.nets;
-    let costs = support_cost(&sheet[3..k], candidates, nets, weights);
+    let costs = support_cost(sheet, at.nets, candidates, nets, weights);
     let Costs::Sum(sum) = costs else {
         return refused(8);
     };
     let limit = power(targets);
-    let second = check_entries(&sheet[a..b - 3], limit);
+    let second = check_entries(sheet, at.table, at.cost - 3, limit);
     let Check::Passed = second else {
         return refused(8);
     };
-    let third = check_entries(&sheet[c..], limit);
+    let third = check_entries(sheet, at.vectors, sheet.len(), limit);
     let Check::Passed = third else {
         return refused(8);
     };
-    if sum != quad_at(&sheet[b..]) {
+    if sum != quad_at(sheet, at.cost) {
         return refused(8);
     }
     SheetReply {
         number: 0,
-        support: support_from(&sheet[3..k]),
-        table: a,
+        support: support_from(sheet, at.nets),
+        table: at.table,
         cost: sum,
     }
 }

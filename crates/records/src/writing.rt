@@ -15,6 +15,7 @@ use super::job::Counts;
 use super::job::check_counts;
 use super::job::check_job;
 use super::job::no_counts;
+use super::limits::LONGEST_JOB;
 use super::put::put_rest;
 
 // The number, and how many bytes of the buffer hold the job, 0 on refusal.
@@ -50,27 +51,12 @@ fn check_held(
 ) -> Check
     ensures { λ r. ⌜ r ≡ checkOf (holds counts old «old_outputs» golden «golden_outputs» nets weights) ⌝ }
 {
-    let old_counts = counts.old;
-    let golden_counts = counts.golden;
-    if old < old_counts.gates {
-        return Check::Failed;
+    let first = (counts.old.gates <= old) & (counts.old.outputs <= old_outputs);
+    let second = (counts.golden.gates <= golden) & (counts.golden.outputs <= golden_outputs);
+    if first & second & (counts.candidates <= nets) & (counts.candidates <= weights) {
+        return Check::Passed;
     }
-    if old_outputs < old_counts.outputs {
-        return Check::Failed;
-    }
-    if golden < golden_counts.gates {
-        return Check::Failed;
-    }
-    if golden_outputs < golden_counts.outputs {
-        return Check::Failed;
-    }
-    if nets < counts.candidates {
-        return Check::Failed;
-    }
-    if weights < counts.candidates {
-        return Check::Failed;
-    }
-    Check::Passed
+    Check::Failed
 }
 
 // The plan for a buffer of so many bytes and so many places.
@@ -86,7 +72,7 @@ fn plan_write(
 ) -> WritePlan
     ensures { λ r. ⌜ r ≡ planOf counts size (holds counts old «old_outputs» golden «golden_outputs» nets weights) ⌝ }
 {
-    if size < 4188 {
+    if size < LONGEST_JOB {
         return refused_plan(1);
     }
     let first = check_counts(counts);
@@ -108,20 +94,20 @@ fn plan_write(
     WritePlan { number: 0, counts }
 }
 
-// The rest of the job around the gates' bytes in scratch, checked there and copied to the buffer.
+// The rest of the job around the gates' bytes in scratch, checked and copied to the buffer.
 fn write_rest(
     plan: WritePlan,
     old_outputs: &[u16],
     golden_outputs: &[u16],
     nets: &[u16],
     weights: &[u16],
-    scratch: &mut [u8],
+    scratch: [u8; LONGEST_JOB],
     buf: &mut [u8],
 ) -> WriteReply
     requires { ⌜ RestHeld plan
         (length (now «old_outputs»)) (length (now «golden_outputs»)) (length (now nets)) (length (now weights))
-        (length (now scratch)) (length (now buf)) ⌝ }
-    ensures { λ r. ⌜ ((gs hs : List GateStruct) → (plan .number ≡ 0 → GatesPut (plan .counts) gs hs (now (scratch .entry)))
+        (length scratch) (length (now buf)) ⌝ }
+    ensures { λ r. ⌜ ((gs hs : List GateStruct) → (plan .number ≡ 0 → GatesPut (plan .counts) gs hs scratch)
         → RestWritten plan
         (places
         (sidePlaces gs (now («old_outputs» .entry)))
@@ -135,13 +121,21 @@ fn write_rest(
             len: 0,
         };
     }
-    let counts = plan.counts;
-    let len = put_rest(scratch, counts, old_outputs, golden_outputs, nets, weights);
-    let answer = check_job(&scratch[..len]);
+    let job = put_rest(
+        scratch,
+        plan.counts,
+        old_outputs,
+        golden_outputs,
+        nets,
+        weights,
+    );
+    let bytes = job.bytes;
+    let len = job.len;
+    let answer = check_job(&bytes[..len]);
     match answer {
         Checked::Refused(number) => WriteReply { number, len: 0 },
         Checked::Accepted(_) => {
-            copy(&scratch[..len], buf);
+            copy(&bytes[..len], buf);
             WriteReply { number: 0, len }
         }
     }
@@ -185,7 +179,7 @@ pub fn write(
         weights.len(),
     );
     let spans = gate_spans(plan.counts);
-    let mut scratch = [0u8; 4188];
+    let mut scratch = [0u8; LONGEST_JOB];
     put_gates(old, spans.old_count, spans.old, &mut scratch);
     put_gates(golden, spans.golden_count, spans.golden, &mut scratch);
     write_rest(
@@ -194,7 +188,7 @@ pub fn write(
         golden_outputs,
         nets,
         weights,
-        &mut scratch,
+        scratch,
         buf,
     )
 }

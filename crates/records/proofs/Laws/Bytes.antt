@@ -225,6 +225,32 @@ module _ {A : Type 0} where
       ∙ ap (λ (r : List A). take at d ++ r) (take-append-drop (length xs) (drop at d))
       ∙ take-append-drop at d
 
+  -- a list placed in the first of two lists
+  placed-append : (a b : List A) (at : ℕ) (xs : List A) → at + length xs ≤ length a → placed (a ++ b) at xs ≡ placed a at xs ++ b
+  unfolding placed
+  placed-append a b at xs h =
+      ap (λ (l : List A). l ++ xs ++ drop (at + length xs) (a ++ b)) (take-append-le at a b (omega arith))
+      ∙ ap (λ (l : List A). take at a ++ xs ++ l) (drop-append-le (at + length xs) a b h)
+      ∙ sym (append-assoc (take at a ++ xs) (drop (at + length xs) a) b)
+
+  -- two lists placed, one before the other, in either order
+  pub placed-swap : (d : List A) (at : ℕ) (xs : List A) (p : ℕ) (ys : List A) → at + length xs ≤ p → p + length ys ≤ length d
+      → placed (placed d p ys) at xs ≡ placed (placed d at xs) p ys
+  placed-swap d at xs p ys l h =
+      let n : length (take p d) ≡ p = length-take-le p d (omega arith) in
+      let a : List A = placed (take p d) at xs in
+      let m : length a ≡ p = length-placed (take p d) at xs (omega arith) ∙ n in
+      let k : length (placed d at xs) ≡ length d = length-placed d at xs (omega arith) in
+      let e : placed d at xs ≡ a ++ drop p d =
+      ap (λ (r : List A). placed r at xs) (sym (take-append-drop p d)) ∙ placed-append (take p d) (drop p d) at xs (omega arith) in
+      let f : take p (placed d at xs) ≡ a =
+      ap (take p) e ∙ ap (λ (i : ℕ). take i (a ++ drop p d)) (sym m) ∙ take-append-seam a (drop p d) in
+      let g : drop (p + length ys) (placed d at xs) ≡ drop (p + length ys) d =
+      drop-placed-behind d at xs (omega arith) (p + length ys) (omega arith) in
+      ap (λ (r : List A). placed r at xs) (placed-split d p ys h)
+      ∙ placed-append (take p d) (ys ++ drop (p + length ys) d) at xs (omega arith)
+      ∙ sym (placed-split (placed d at xs) p ys (omega arith) ∙ rw (f, g))
+
   -- one list placed after another is the two placed together
   pub placed-placed : (d : List A) (at : ℕ) (xs ys : List A) → at + length xs + length ys ≤ length d
       → placed (placed d at xs) (at + length xs) ys ≡ placed d at (xs ++ ys)

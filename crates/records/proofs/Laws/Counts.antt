@@ -201,7 +201,3 @@ unfolding columnsHold
 columnsHold-facts count k x y h =
     let t = row-at (leb count k) (leb count x ∷ leb count y ∷ []) h in
     (leb-true _ _ (t 0), leb-true _ _ (t 1), leb-true _ _ (t 2))
-
-pub columnsHold-true : (count k x y : ℕ) → (count ≤ k) × (count ≤ x) × (count ≤ y) → columnsHold count k x y ≡ true
-unfolding columnsHold
-columnsHold-true count k x y h = and-both _ _ (and-both _ _ (le-leb _ _ (h .0)) (le-leb _ _ (h .1))) (le-leb _ _ (h .2))

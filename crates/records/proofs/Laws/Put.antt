@@ -1,24 +1,24 @@
 -- Laws of what is put: a list placed in a part of another, a field where it fits, and a job's fields around its gates' bytes.
 -- Assumes nothing.
-use Prim.Native.Nat.{ℕ, suc, _+_, _-_, _*_, _≤_, _<_}
+use Prim.Native.Nat.{ℕ, zero, suc, _+_, _-_, _*_, _≤_, _<_}
 use mathlib.Core.Path.{_≡_, refl, sym, _∙_, ap}
 use mathlib.Core.List.{List, [], _∷_, _++_, append-assoc}
 use mathlib.Core.Bool.{true, false, cond}
-use native.Mathlib.Nat.{zero-add}
+use native.Mathlib.Nat.{zero-add, mul-suc}
 use native.Mathlib.Numerals.{add-one}
 use native.Mathlib.Omega.{arith}
 use borrow.Author.Tests.{le-leb, lt-leb, lt-ltb, le-ltb}
 use lib.Dec.{leb}
-use lib.ListN.{length, take, drop, length-append, length-drop, take-append-drop}
+use lib.ListN.{length, getD, take, drop, length-append, length-drop, take-append-drop}
 use lib.Seq.{drop-drop, drop-append-le, length-take-le}
 use Rattle.records.specs.Bytes.{flat, placed, headSize, field, bytePair}
-use Rattle.records.specs.Job.{candidateBytes, jobBytes}
+use Rattle.records.specs.Job.{Candidate, candidateBytes, jobBytes}
 use Rattle.records.specs.Service.{Places, netlistFrom, candidatesFrom, jobFrom, fieldFits}
-use Rattle.records.specs.Inner.{Within, startsOf, gatesBytes, SidePut, SideDone, JobPut, JobDone, GatesPut}
+use Rattle.records.specs.Inner.{Within, startsOf, gatesBytes, spread, SidePut, SideDone, JobPut, JobDone, GatesPut}
 use Rattle.records.specs.declared.job.SideCounts.{SideCounts}
 use Rattle.records.specs.declared.job.Counts.{Counts}
-use Rattle.records.proofs.Laws.Bytes.{and-both, and-false-left, and-false-right, length-placed, drop-placed, drop-placed-behind, placed-same}
-use Rattle.records.proofs.Laws.Job.{JobBounds, placed-then, field-placed, take-placed-front, length-field, length-outputs, length-candidates, length-gatesBytes, length-candidatesFrom, length-jobFrom}
+use Rattle.records.proofs.Laws.Bytes.{and-both, and-false-left, and-false-right, length-placed, drop-placed, drop-placed-behind, placed-same, placed-swap}
+use Rattle.records.proofs.Laws.Job.{tabulate-getD, Put, put-none, put-next, candidate-placed, length-bytePair, length-candidateBytes, JobBounds, placed-then, field-placed, take-placed-front, length-field, length-outputs, length-candidates, length-gatesBytes, length-candidatesFrom, length-jobFrom}
 
 -- ---- a part
 
@@ -82,27 +82,109 @@ module _ (d : List ℕ) (at : ℕ) (xs : List ℕ) where
       let f : r ≡ at + 3 + length xs = rw e at (w .0) in
       (omega (arith, length-field t xs), rw e at (w .1))
 
+-- ---- numbers put from a position on, so many bytes apart
+
+pub spread-next : (d : List ℕ) (at size n : ℕ) (f : ℕ → ℕ) (p : ℕ) → p ≡ at + size * n
+    → placed (spread d at size n f) p (bytePair (f n)) ≡ spread d at size (n + 1) f
+unfolding spread
+spread-next d at size n f p e = rw (e, add-one)
+
+pub length-spread : (d : List ℕ) (at size n : ℕ) (f : ℕ → ℕ) → at + size * n + 2 ≤ length d + size
+    → length (spread d at size n f) ≡ length d
+unfolding spread
+length-spread d at size zero f h = refl
+length-spread d at size (suc n) f h =
+    let m = mul-suc size n in
+    let e = length-spread d at size n f (omega arith) in
+    length-placed _ (at + size * n) (bytePair (f n)) (omega (arith, length-bytePair (f n))) ∙ e
+
+-- next to each other they are one list
+pub spread-two : (d : List ℕ) (at n : ℕ) (f : ℕ → ℕ) → at + 2 * n ≤ length d → Put bytePair f d at (spread d at 2 n f) n
+unfolding spread
+spread-two d at zero f h = put-none bytePair f d at
+spread-two d at (suc n) f h =
+    rw add-one at
+    (put-next bytePair f d at 2 (λ i. length-bytePair (f i)) (spread d at 2 n f) _ n (at + 2 * n)
+    refl (omega arith) refl (spread-two d at n f (omega arith)))
+
+-- a list placed behind them, before or after
+spread-placed : (d : List ℕ) (at n : ℕ) (f : ℕ → ℕ) (p : ℕ) (xs : List ℕ) → at + 4 * n ≤ p + 2 → p + length xs ≤ length d
+    → spread (placed d p xs) at 4 n f ≡ placed (spread d at 4 n f) p xs
+unfolding spread
+spread-placed d at zero f p xs h l = refl
+spread-placed d at (suc n) f p xs h l =
+    let k = length-spread d at 4 n f (omega arith) in
+    ap (λ (r : List ℕ). placed r (at + 4 * n) (bytePair (f n))) (spread-placed d at n f p xs (omega arith) l)
+    ∙ placed-swap (spread d at 4 n f) (at + 4 * n) (bytePair (f n)) p xs (omega (arith, length-bytePair (f n))) (omega arith)
+
+-- nets, and weights two bytes behind them, are candidates
+pub spread-pairs : (d : List ℕ) (at n : ℕ) (f g : ℕ → ℕ) → at + 4 * n ≤ length d
+    → Put candidateBytes (λ i. record { net = f i; weight = g i }) d at (spread (spread d at 4 n f) (at + 2) 4 n g) n
+unfolding spread
+spread-pairs d at zero f g h = put-none candidateBytes _ d at
+spread-pairs d at (suc n) f g h =
+    let c : ℕ → Candidate = λ i. record { net = f i; weight = g i } in
+    let p : ℕ = at + 4 * n in
+    let s : List ℕ = spread d at 4 n f in
+    let x : List ℕ = spread s (at + 2) 4 n g in
+    let w : Put candidateBytes c d at x n = spread-pairs d at n f g (omega arith) in
+    let k = length-spread d at 4 n f (omega arith) in
+    let y : List ℕ = spread (placed s p (bytePair (f n))) (at + 2) 4 n g in
+    let e : y ≡ placed x p (bytePair (f n)) =
+    spread-placed s (at + 2) n g p (bytePair (f n)) (omega arith) (omega (arith, length-bytePair (f n))) in
+    let q : at + 2 + 4 * n ≡ p + 2 = omega arith in
+    rw add-one at
+    (put-next candidateBytes c d at 4 (λ i. length-candidateBytes (c i)) x (placed y (at + 2 + 4 * n) (bytePair (g n))) n p refl
+    (omega arith) (candidate-placed x p (c n) (omega (arith, w .0)) e (ap (λ (i : ℕ). placed y i (bytePair (g n))) q)) w)
+
+-- the candidates behind a head at e
+candidates-placed : (d : List ℕ) {d₁ d₂ : List ℕ} (e n : ℕ) (nets weights : List ℕ) → e + 3 + 4 * n ≤ length d
+    → d₁ ≡ spread d (e + 3) 4 n (λ i. getD nets i 0) → d₂ ≡ spread d₁ (e + 5) 4 n (λ i. getD weights i 0)
+    → d₂ ≡ placed d (e + 3) (flat candidateBytes (candidatesFrom n nets weights))
+unfolding candidatesFrom
+candidates-placed d {d₁} e n nets weights h e₁ e₂ =
+    let k : e + 5 ≡ e + 3 + 2 = omega arith in
+    e₂
+    ∙ ap (λ (i : ℕ). spread d₁ i 4 n (λ j. getD weights j 0)) k
+    ∙ ap (λ (r : List ℕ). spread r (e + 3 + 2) 4 n (λ j. getD weights j 0)) e₁
+    ∙ spread-pairs d (e + 3) n (λ i. getD nets i 0) (λ i. getD weights i 0) h .1
+
 -- ---- a job's fields around its gates' bytes, which stand in the buffer d already
 
--- the steps of put_side; the positions a, b, r are those that the code has
-pub side-done : (d : List ℕ) {d₁ d₂ d₃ : List ℕ} (at t : ℕ) {a b r : ℕ} {c : SideCounts} (os : List ℕ)
-    → SidePut (length d) at t c (length os)
-    → a ≡ at + 3 → b ≡ a + 5 * c .gates + 3 → r ≡ b + 2 * c .outputs
-    → d₁ ≡ placed d at (t ∷ bytePair (5 * c .gates))
-    → d₂ ≡ placed d₁ (a + 5 * c .gates) ((t + 1) ∷ bytePair (2 * c .outputs))
-    → d₃ ≡ placed d₂ b (flat bytePair (take (c .outputs) os))
-    → SideDone d at t c os r d₃
+-- a field's head keeps the bytes' length
+pub length-headed : (d : List ℕ) {d₁ : List ℕ} (at t n : ℕ) → at + 3 ≤ length d → d₁ ≡ placed d at (t ∷ bytePair n)
+    → length d₁ ≡ length d
 unfolding bytePair
-side-done d at t {a} {b} {c} os h pa pb pr e₁ e₂ e₃ =
-    let ys : List ℕ = flat bytePair (take (c .outputs) os) in
-    let m : 2 * c .outputs ≡ length ys = sym (length-outputs _ ∙ rw (length-take-le (c .outputs) os (h .held))) in
-    let k = ap length e₁ ∙ length-placed d at (t ∷ bytePair (5 * c .gates)) (omega arith) in
-    record {
-      end = omega arith;
-      bytes =
-          rw (← e₁, ← pa)
-          (field-placed _ (a + 5 * c .gates) (suc t) (2 * c .outputs) ys b m pb (omega arith) (rw add-one at e₂) e₃);
-    }
+length-headed d at t n h e = ap length e ∙ length-placed d at (t ∷ bytePair n) (omega arith)
+
+-- the steps of put_side
+module _ (d : List ℕ) {d₁ : List ℕ} (at t : ℕ) (c : SideCounts) (os : List ℕ)
+    (n : length d ≡ 4188) (h : SidePut 4188 at t c (length os)) (e₁ : d₁ ≡ placed d at (t ∷ bytePair (5 * c .gates))) where
+  pub side-first : length d₁ ≡ 4188
+  side-first = length-headed d at t (5 * c .gates) (omega arith) e₁ ∙ n
+
+  module _ {d₂ : List ℕ} (e₂ : d₂ ≡ placed d₁ (at + 3 + 5 * c .gates) ((t + 1) ∷ bytePair (2 * c .outputs))) where
+    pub side-second : length d₂ ≡ 4188
+    side-second =
+        length-headed d₁ (at + 3 + 5 * c .gates) (t + 1) (2 * c .outputs) (omega (arith, side-first)) e₂ ∙ side-first
+
+    pub side-done : {d₃ : List ℕ} → d₃ ≡ spread d₂ (at + 3 + 5 * c .gates + 3) 2 (c .outputs) (λ i. getD os i 0)
+        → (length d₃ ≡ 4188) × SideDone d at t c os (at + 3 + 5 * c .gates + 3 + 2 * c .outputs) d₃
+    side-done {d₃} e₃ =
+        let b : ℕ = at + 3 + 5 * c .gates in
+        let ys : List ℕ = flat bytePair (take (c .outputs) os) in
+        let m : 2 * c .outputs ≡ length ys = sym (length-outputs _ ∙ rw (length-take-le (c .outputs) os (h .held))) in
+        let w = spread-two d₂ (b + 3) (c .outputs) (λ i. getD os i 0) (omega (arith, side-second)) in
+        let e : d₃ ≡ placed d₂ (b + 3) ys =
+        e₃ ∙ w .1 ∙ ap (λ (xs : List ℕ). placed d₂ (b + 3) (flat bytePair xs)) (tabulate-getD os (c .outputs) (h .held)) in (
+          ap length e₃ ∙ w .0 ∙ side-second,
+          record {
+            end = omega arith;
+            bytes =
+                rw (← e₁)
+                (field-placed d₁ b (suc t) (2 * c .outputs) ys (b + 3) m refl (omega (arith, side-first)) (rw add-one at e₂) e);
+          },
+        )
 
 pub job-bounds : {n : ℕ} {z : List ℕ} {c : Counts} (p : Places)
     → JobPut n c (length (p .old .outputs)) (length (p .golden .outputs)) (length (p .nets)) (length (p .weights))
@@ -143,18 +225,18 @@ module _ (d : List ℕ) where
       placed-then d 0 (fs ++ field t gs) (field (suc t) ys) (at + 3 + n)
       (omega (arith, length-field t gs)) (omega (arith, length-field (suc t) ys)) w f
 
-  -- the steps of put_rest; the positions a, b, e, r are those that the code has
-  pub job-done : {d₁ d₂ d₃ d₄ d₅ d₆ : List ℕ} {a b e r n : ℕ} {c : Counts} {p : Places}
+  -- the steps of put_rest; b and e are where the netlists' fields end
+  pub job-done : {d₁ d₂ d₃ d₄ d₅ d₆ d₇ : List ℕ} {b e : ℕ} {c : Counts} {p : Places}
       → JobBounds c p → Within c → GatesPut c (p .old .gates) (p .golden .gates) d → 4188 ≤ length d
-      → a ≡ 3 → r ≡ e + 3 → n ≡ r + 4 * c .candidates
-      → d₁ ≡ placed d 0 (1 ∷ bytePair 2) → d₂ ≡ placed d₁ a (c .inputs ∷ c .targets ∷ [])
+      → d₁ ≡ placed d 0 (1 ∷ bytePair 2) → d₂ ≡ placed d₁ 3 (c .inputs ∷ c .targets ∷ [])
       → SideDone d₂ 5 2 (c .old) (p .old .outputs) b d₃
       → SideDone d₃ b 4 (c .golden) (p .golden .outputs) e d₄
       → d₅ ≡ placed d₄ e (6 ∷ bytePair (4 * c .candidates))
-      → d₆ ≡ placed d₅ r (flat candidateBytes (candidatesFrom (c .candidates) (p .nets) (p .weights)))
-      → JobDone c p n d₆
+      → d₆ ≡ spread d₅ (e + 3) 4 (c .candidates) (λ i. getD (p .nets) i 0)
+      → d₇ ≡ spread d₆ (e + 5) 4 (c .candidates) (λ i. getD (p .weights) i 0)
+      → JobDone c p (e + 3 + 4 * c .candidates) d₇
   unfolding jobBytes jobFrom netlistFrom gatesBytes startsOf
-  job-done {d₃} {d₄} {d₆} {a} {b} {e} {r} {n} {c} {p} o w g h pa pr pn e₁ e₂ e₃ e₄ e₅ e₆ =
+  job-done {d₃} {d₄} {d₅} {d₇} {b} {e} {c} {p} o w g h e₁ e₂ e₃ e₄ e₅ e₆ e₇ =
       let f : List ℕ = field 1 (c .inputs ∷ c .targets ∷ []) in
       let gs : List ℕ = gatesBytes (c .old .gates) (p .old .gates) in
       let hs : List ℕ = gatesBytes (c .golden .gates) (p .golden .gates) in
@@ -177,20 +259,22 @@ module _ (d : List ℕ) where
       let st : b + 3 ≡ startsOf c .golden = omega arith in
       let w₃ : d₃ ≡ placed d 0 s =
       side-around f 5 2 (5 * c .old .gates) gs xs
-      (field-placed d 0 1 2 (c .inputs ∷ c .targets ∷ []) a refl pa (omega arith) e₁ e₂)
+      (field-placed d 0 1 2 (c .inputs ∷ c .targets ∷ []) 3 refl refl (omega arith) e₁ e₂)
       (sym nf) (sym ng) (omega arith) (g .old) (e₃ .bytes) in
       let w₄ : d₄ ≡ placed d 0 z =
       side-around s b 4 (5 * c .golden .gates) hs ys w₃ (omega arith) (sym nh) (omega arith)
       (ap (λ (k : ℕ). take (5 * c .golden .gates) (drop k d)) st ∙ g .golden) (e₄ .bytes) in
       let k : length d₄ ≡ length d = ap length w₄ ∙ length-placed d 0 z (omega arith) in
-      let w₆ : d₆ ≡ placed d 0 (jobBytes (jobFrom c p)) =
+      let l = length-headed d₄ e 6 (4 * c .candidates) (omega arith) e₅ in
+      let w₇ : d₇ ≡ placed d 0 (jobBytes (jobFrom c p)) =
       placed-then d 0 z (field 6 cs) e (omega arith) (omega arith) w₄
-      (field-placed d₄ e 6 (4 * c .candidates) cs r (sym nc) pr (omega arith) e₅ e₆) in
-      let m : n ≡ length (jobBytes (jobFrom c p)) = omega (arith, length-jobFrom o) in
+      (field-placed d₄ e 6 (4 * c .candidates) cs (e + 3) (sym nc) refl (omega arith) e₅
+      (candidates-placed d₅ e (c .candidates) (p .nets) (p .weights) (omega arith) e₆ e₇)) in
+      let m : e + 3 + 4 * c .candidates ≡ length (jobBytes (jobFrom c p)) = omega (arith, length-jobFrom o) in
       record {
         len = m;
         bytes =
-            ap (λ (i : ℕ). take i d₆) m
-            ∙ ap (take (length (jobBytes (jobFrom c p)))) w₆
+            ap (λ (i : ℕ). take i d₇) m
+            ∙ ap (take (length (jobBytes (jobFrom c p)))) w₇
             ∙ take-placed-front d (jobBytes (jobFrom c p));
       }

@@ -13,7 +13,7 @@ use Rattle.records.specs.Netlist.{netAt, fanout}
 use Rattle.records.specs.Job.{Candidate, jobTags, gatesOf, netsOf, candidatesOf, netlistOf, jobWhole, jobOf}
 use Rattle.records.specs.Refusal.{gatesGood, netlistsGood, oldNets, goldenNets, outputsGood, ascending, candidateGood, candidatesGood, countsGood, firstFailing, partTests, jobTests, jobRefusal}
 use Rattle.records.specs.Service.{sideCountsOf, countsOf}
-use Rattle.records.specs.Inner.{startOf, startsOf, checkOf, shapeOf, lengthsGood, Walks, Laid, unmarkedAscending, checkedOf}
+use Rattle.records.specs.Inner.{startOf, startsOf, checkOf, countedFrom, shapeOf, lengthsGood, Walks, Laid, unmarkedAscending, checkedOf}
 use Rattle.records.specs.declared.field.Check.the-variants.{Passed, Failed}
 use Rattle.records.specs.declared.field.Walk.{Walk}
 use Rattle.records.specs.declared.job.Shape.the-variants as Shape
@@ -21,7 +21,7 @@ use Rattle.records.specs.declared.job.Checked.the-variants.{Accepted, Re
 use Rattle.records.specs.declared.job.Counts.{Counts}
 use Rattle.records.specs.declared.job.Starts.{Starts}
 use Rattle.records.proofs.Laws.Bytes.{row-at, and-both, false-of, all-ext, length-tabulate}
-use Rattle.records.proofs.Laws.Counts.{LengthsGood, lengthsGood-true, passes, fails}
+use Rattle.records.proofs.Laws.Counts.{LengthsGood, lengthsGood-facts, lengthsGood-true, passes, fails}
 use Rattle.records.proofs.Laws.Field.{startOf-suc, startOf-le, nth-slice}
 
 pub record JobWhole (s : List ℕ) : Type 0 where
@@ -120,7 +120,7 @@ module _ (s : List ℕ) (w : Walk) (h : Walks s 1 6 w) where
   unfolding upFrom
   walk-lens t k l = h .lens t k l
 
-  pub lengths-of-whole : JobWhole s → LengthsGood (w .lens)
+  lengths-of-whole : JobWhole s → LengthsGood (w .lens)
   lengths-of-whole j =
       let n = walk-lens (j .fields) in
       record {
@@ -132,7 +132,7 @@ module _ (s : List ℕ) (w : Walk) (h : Walks s 1 6 w) where
         candidates = ap (λ (x : ℕ). x % 4) (n 5 (omega arith)) ∙ j .candidates;
       }
 
-  pub whole-of-lengths : w .check ≡ Passed → LengthsGood (w .lens) → JobWhole s
+  whole-of-lengths : w .check ≡ Passed → LengthsGood (w .lens) → JobWhole s
   whole-of-lengths p g =
       let f = passes (whole jobTags s) (sym walk-fields ∙ p) in
       let n = walk-lens f in
@@ -150,26 +150,27 @@ module _ (s : List ℕ) (w : Walk) (h : Walks s 1 6 w) where
   broken-of-walk p =
       false-of (jobWhole s) (λ t. true≢false (sym (jobWhole-facts s t .fields) ∙ fails (whole jobTags s) (sym walk-fields ∙ p)))
 
-  pub broken-of-lengths : checkOf (lengthsGood (w .lens)) ≡ Failed → jobWhole s ≡ false
-  broken-of-lengths p =
-      false-of (jobWhole s)
-      (λ t. true≢false (sym (lengthsGood-true (w .lens) (lengths-of-whole (jobWhole-facts s t))) ∙ fails (lengthsGood (w .lens)) p))
+  broken-of-lengths : lengthsGood (w .lens) ≡ false → jobWhole s ≡ false
+  broken-of-lengths e =
+      false-of (jobWhole s) (λ t. true≢false (sym (lengthsGood-true (w .lens) (lengths-of-whole (jobWhole-facts s t))) ∙ e))
 
-  -- the counts of a whole job, from the walk
-  pub walk-counts : JobWhole s → (n m : ℕ) → n ≡ getD s 3 0 → m ≡ getD s 4 0
-      → Shape.Whole
-      (record {
-        inputs = n;
-        targets = m;
-        old = record { gates = getD (w .lens) 1 0 / 5; outputs = getD (w .lens) 2 0 / 2 };
-        golden = record { gates = getD (w .lens) 3 0 / 5; outputs = getD (w .lens) 4 0 / 2 };
-        candidates = getD (w .lens) 5 0 / 4;
-      })
-      ≡ shapeOf s
-  unfolding shapeOf
-  walk-counts j n m en em =
-      let l = walk-lens (j .fields) in
-      rw (jobWhole-true s j, counts-at s j, en, em, l 1 (omega arith), l 2 (omega arith), l 3 (omega arith), l 4 (omega arith), l 5 (omega arith))
+  -- past the walk there is a first field
+  pub walk-room : w .check ≡ Passed → 5 ≤ length s
+  unfolding startOf
+  walk-room p =
+      omega (arith, startOf-le jobTags s (passes (whole jobTags s) (sym walk-fields ∙ p)) 1 (omega arith))
+
+  -- the shape, from the walk
+  pub walk-counts : w .check ≡ Passed → (n m : ℕ) → n ≡ getD s 3 0 → m ≡ getD s 4 0 → countedFrom (w .lens) n m ≡ shapeOf s
+  unfolding shapeOf countedFrom
+  walk-counts p n m en em = pick (lengthsGood (w .lens)) refl
+    where
+      pick : (b : Bool) → lengthsGood (w .lens) ≡ b → countedFrom (w .lens) n m ≡ shapeOf s
+      pick false e = rw (e, broken-of-lengths e)
+      pick true e =
+          let j = whole-of-lengths p (lengthsGood-facts (w .lens) e) in
+          let l = walk-lens (j .fields) in
+          rw (e, jobWhole-true s j, counts-at s j, en, em, l 1 (omega arith), l 2 (omega arith), l 3 (omega arith), l 4 (omega arith), l 5 (omega arith))
 
 -- ---- where the parts of a whole job stand
 

@@ -9,20 +9,20 @@ use native.Mathlib.Nat.{add-assoc, add-zero, zero-add}
 use native.Mathlib.Omega.{arith}
 use borrow.Author.Tests.{le-leb, lt-leb, leb-true, leb-false, eqb-true, eq-eqb, ne-eqb}
 use lib.Dec.{leb, eqb}
-use lib.ListN.{length, getD, take, drop, set, replicate, drop-of-length-le}
+use lib.ListN.{length, getD, take, drop, set, replicate, length-drop, drop-of-length-le}
 use lib.Pow.{pow-mono}
-use lib.Seq.{drop-cons, getD-take, length-take-le, take-suc, take-length, set-at, append-snoc}
+use lib.Seq.{drop-cons, getD-take, getD-drop, length-take-le, take-suc, take-length, set-at, append-snoc}
 use Rattle.records.specs.Bytes.{upFrom, tabulate, all, word}
 use Rattle.records.specs.Job.{Candidate, netsOf}
 use Rattle.records.specs.Refusal.{ascending, maxCandidates}
 use Rattle.records.specs.Sheet.{weightOf, costOf, isCandidate}
 use Rattle.records.specs.Service.{candidatesFrom}
-use Rattle.records.specs.Inner.{foundFrom, foundIn, supportOf, tenPlaces}
+use Rattle.records.specs.Inner.{wordColumn, foundFrom, foundIn, supportOf, tenPlaces}
 use Rattle.records.specs.declared.sheet.Found.{Found}
 use Rattle.records.specs.declared.sheet.Found.the-variants.{At, Nowhere}
 use Rattle.records.specs.declared.sheet.Costs.{Costs}
 use Rattle.records.specs.declared.sheet.Costs.the-variants.{Sum, Unfit}
-use Rattle.records.proofs.Laws.Bytes.{and-left, and-right, and-false-right, length-tabulate, getD-tabulate, drop-tabulate}
+use Rattle.records.proofs.Laws.Bytes.{and-left, and-right, and-false-right, length-tabulate, getD-tabulate}
 use Rattle.records.proofs.Laws.Job.{tabulate-getD}
 use Rattle.records.proofs.Laws.Shape.{length-netsOf}
 use Rattle.records.proofs.Laws.Refusal.{ascendingFrom, ascending-from}
@@ -46,6 +46,14 @@ power-short k h = at (leb k 15) refl
     at false e = let p : 65536 ≤ 2 ^ k = pow-mono (leb-false k 15 e) in absurd (omega arith)
 
 -- ---- nets in bytes
+
+pub column-at : (s : List ℕ) (size at n i : ℕ) → i < n → getD (wordColumn s size at n) i 0 ≡ word s (size * i + at)
+unfolding wordColumn
+column-at s size at n i h = getD-tabulate n (λ j. word s (size * j + at)) i 0 h
+
+pub length-column : (s : List ℕ) (size at n : ℕ) → length (wordColumn s size at n) ≡ n
+unfolding wordColumn
+length-column s size at n = length-tabulate n (λ j. word s (size * j + at))
 
 pub net-at : (s : List ℕ) (i : ℕ) → i < length s / 2 → getD (netsOf s) i 0 ≡ word s (2 * i)
 unfolding netsOf
@@ -73,14 +81,32 @@ ten-all xs = rw take-length
 
 -- ---- tests over the rest of a list
 
-pub all-next : (p : ℕ → Bool) (xs : List ℕ) (i : ℕ) → i < length xs
-    → all p (drop i xs) ≡ (p (getD xs i 0) && all p (drop (i + 1) xs))
-unfolding all
-all-next p xs i h = ap (all p) (drop-next xs i h)
+-- what is left of a part of a list from position i on
+module _ (p : ℕ → Bool) (s : List ℕ) (from end i : ℕ) (l : end ≤ length s) where
+  part : List ℕ
+  part = take (end - from) (drop from s)
 
-pub all-end : (p : ℕ → Bool) (xs : List ℕ) (i : ℕ) → length xs ≤ i → all p (drop i xs) ≡ true
-unfolding all
-all-end p xs i h = rw (drop-of-length-le xs h)
+  length-part : from ≤ end → length part ≡ end - from
+  unfolding part
+  length-part h = length-take-le (end - from) (drop from s) (omega (arith, length-drop from s))
+
+  pub all-next : from ≤ i → i < end
+      → all p (drop (i - from) (take (end - from) (drop from s)))
+      ≡ (p (getD s i 0) && all p (drop (i + 1 - from) (take (end - from) (drop from s))))
+  unfolding all part
+  all-next h k =
+      let j : ℕ = i - from in
+      let n : j + 1 ≡ i + 1 - from = omega arith in
+      let m : from + j ≡ i = omega arith in
+      let e : getD part j 0 ≡ getD s i 0 =
+      getD-take (end - from) (drop from s) j 0 (omega arith) ∙ getD-drop from s j 0 ∙ ap (λ (a : ℕ). getD s a 0) m in
+      ap (all p) (drop-next part j (omega (arith, length-part (omega arith))))
+      ∙ ap (λ (x : ℕ). p x && all p (drop (j + 1) part)) e
+      ∙ ap (λ (a : ℕ). p (getD s i 0) && all p (drop a part)) n
+
+  pub all-end : from ≤ end → end ≤ i → all p (drop (i - from) (take (end - from) (drop from s))) ≡ true
+  unfolding all part
+  all-end h k = rw (drop-of-length-le part {i = i - from} (omega (arith, length-part h)))
 
 -- ---- where a net stands among the candidates
 
@@ -189,30 +215,29 @@ module _ (cs : List Candidate) (lo sum x : ℕ) (xs : List ℕ) where
   unfolding supportFrom ascendingFrom all costOf
   cons-good v h e w = rw (le-leb lo x h, e, w, add-one, add-assoc)
 
--- .. of the nets in the bytes s that are left from place i on, against the first count of nets and weights
+-- .. of the nets xs that are left from place i on, against the first count of nets and weights
 abbrev pub supportLeft : List ℕ → ℕ → List ℕ → List ℕ → ℕ → ℕ → ℕ → Costs
-supportLeft s count nets weights lo sum i = supportFrom (candidatesFrom count nets weights) lo sum (drop i (netsOf s))
+supportLeft xs count nets weights lo sum i = supportFrom (candidatesFrom count nets weights) lo sum (drop i xs)
 
-module _ (s : List ℕ) (count : ℕ) (nets weights : List ℕ) (lo sum i : ℕ) where
-  pub support-end : length s / 2 ≤ i → supportLeft s count nets weights lo sum i ≡ Sum sum
+module _ (xs : List ℕ) (count : ℕ) (nets weights : List ℕ) (lo sum i : ℕ) where
+  pub support-end : length xs ≤ i → supportLeft xs count nets weights lo sum i ≡ Sum sum
   unfolding supportFrom ascendingFrom all costOf
-  support-end h = rw (drop-of-length-le (netsOf s) {i = i} (omega (arith, length-netsOf s)), add-zero)
+  support-end h = rw (drop-of-length-le xs {i = i} h, add-zero)
 
   -- a turn: x is the net at place i
-  module _ (x : ℕ) (e : x ≡ word s (2 * i)) (h : i < length s / 2) where
-    nets-next : drop i (netsOf s) ≡ x ∷ drop (i + 1) (netsOf s)
-    unfolding netsOf
-    nets-next = rw e (drop-tabulate (length s / 2) (λ j. word s (2 * j)) i h)
+  module _ (x : ℕ) (e : x ≡ getD xs i 0) (h : i < length xs) where
+    nets-next : drop i xs ≡ x ∷ drop (i + 1) xs
+    nets-next = rw e (drop-next xs i h)
 
-    pub support-low : x < lo → supportLeft s count nets weights lo sum i ≡ Unfit
+    pub support-low : x < lo → supportLeft xs count nets weights lo sum i ≡ Unfit
     support-low l = rw nets-next (cons-low _ lo sum x _ l)
 
     pub support-odd : count ≤ length nets → foundIn (take count nets) x ≡ Nowhere
-        → supportLeft s count nets weights lo sum i ≡ Unfit
+        → supportLeft xs count nets weights lo sum i ≡ Unfit
     support-odd l f = rw nets-next (cons-odd _ lo sum x _ (found-nowhere nets weights x count l f))
 
     pub support-next : (v k n : ℕ) → lo ≤ x → Stands (candidatesFrom count nets weights) x v k n
-        → supportLeft s count nets weights lo sum i ≡ supportLeft s count nets weights (x + 1) (sum + v) (i + 1)
+        → supportLeft xs count nets weights lo sum i ≡ supportLeft xs count nets weights (x + 1) (sum + v) (i + 1)
     support-next v k n l f = rw nets-next (cons-good _ lo sum x _ v l (f .candidate) (f .weight))
 
 -- ---- an ascending support of candidates is no longer than they are

@@ -7,17 +7,19 @@ use native.Mathlib.Omega.{arith}
 use borrow.Author.Tests.{eqb-true, eq-eqb, leb-true, le-leb}
 use lib.Dec.{eqb, leb}
 use lib.ListN.{length, getD, take, drop, length-take}
-use lib.Seq.{getD-take, take-take}
+use lib.Seq.{getD-take}
 use Rattle.records.specs.Bytes.{upFrom, word, bodyLength, body, whole, nth}
+use Rattle.records.specs.Job.{netsOf}
 use Rattle.records.specs.Sheet.{quad, sheetTags, sheetWhole}
-use Rattle.records.specs.Inner.{startOf, checkOf, Walks, spansOf, sheetShapeOf}
+use Rattle.records.specs.Inner.{startOf, checkOf, Walks, spansOf, wordColumn, sheetLengths, spannedFrom, sheetShapeOf}
 use Rattle.records.specs.declared.field.Check.the-variants.{Passed, Failed}
 use Rattle.records.specs.declared.field.Walk.{Walk}
 use Rattle.records.specs.declared.sheet.SheetSpans.{SheetSpans}
 use Rattle.records.specs.declared.sheet.SheetShape.the-variants.{Whole, Broken}
-use Rattle.records.proofs.Laws.Bytes.{row-at, and-both, false-of}
+use Rattle.records.proofs.Laws.Bytes.{row-at, and-left, and-right, and-both, false-of}
 use Rattle.records.proofs.Laws.Counts.{passes, fails}
 use Rattle.records.proofs.Laws.Field.{positionOf, skip, skip-drop, bodyLength-drop, nth-body, startOf-suc, startOf-position, whole-end, nth-slice}
+use Rattle.records.proofs.Laws.Reading.{nets-in}
 use Rattle.records.proofs.Laws.Sheet.{word-lt, power-short}
 
 pub record SheetWhole (m : ℕ) (s : List ℕ) : Type 0 where
@@ -62,14 +64,40 @@ sheetWhole-true m s h =
 
 -- ---- what a walk says of a sheet
 
--- the same of the lengths ns that the walk finds; a table is shorter than 65536 bytes, so the nets are at most fifteen
-pub record SheetLengths (m : ℕ) (ns : List ℕ) : Type 0 where
-  pub nets : getD ns 0 0 % 2 ≡ 0
+-- the same of the lengths ns that the walk finds
+record SheetLengths (m : ℕ) (ns : List ℕ) : Type 0 where
   pub few : getD ns 0 0 ≤ 31
+  pub nets : getD ns 0 0 % 2 ≡ 0
   pub table : getD ns 1 0 ≡ 2 ^ (getD ns 0 0 / 2)
   pub cost : getD ns 2 0 ≡ 4
   pub some : 1 ≤ getD ns 3 0
   pub vectors : getD ns 3 0 ≤ 2 ^ m
+
+sheetLengths-facts : (m : ℕ) (ns : List ℕ) → sheetLengths ns m ≡ true → SheetLengths m ns
+unfolding sheetLengths
+sheetLengths-facts m ns h =
+    let t =
+    row-at (eqb (getD ns 0 0 % 2) 0)
+    (eqb (getD ns 1 0) (2 ^ (getD ns 0 0 / 2)) ∷ eqb (getD ns 2 0) 4 ∷ leb 1 (getD ns 3 0) ∷ leb (getD ns 3 0) (2 ^ m) ∷ [])
+    (and-right (leb (getD ns 0 0) 31) _ h) in
+    record {
+      few = leb-true _ _ (and-left (leb (getD ns 0 0) 31) _ h);
+      nets = eqb-true _ _ (t 0);
+      table = eqb-true _ _ (t 1);
+      cost = eqb-true _ _ (t 2);
+      some = leb-true _ _ (t 3);
+      vectors = leb-true _ _ (t 4);
+    }
+
+sheetLengths-true : (m : ℕ) (ns : List ℕ) → SheetLengths m ns → sheetLengths ns m ≡ true
+unfolding sheetLengths
+sheetLengths-true m ns h =
+    and-both _ _ (le-leb _ _ (h .few))
+    (and-both _ _
+    (and-both _ _
+    (and-both _ _ (and-both _ _ (eq-eqb _ _ (h .nets)) (eq-eqb _ _ (h .table))) (eq-eqb _ _ (h .cost)))
+    (le-leb _ _ (h .some)))
+    (le-leb _ _ (h .vectors)))
 
 nth-short : (s : List ℕ) → ((i : ℕ) → getD s i 0 < 256) → (k : ℕ) → length (nth k s) < 65536
 unfolding body
@@ -131,26 +159,23 @@ module _ (m : ℕ) (s : List ℕ) (w : Walk) (h : Walks s 16 4 w) where
       let f = fails (whole sheetTags s) (sym walk-fields ∙ p) in
       rw (false-of (sheetWhole m s) (λ t. true≢false (sym (sheetWhole-facts m s t .fields) ∙ f)))
 
-  pub broken-of-lengths : ((i : ℕ) → getD s i 0 < 256) → (SheetLengths m (w .lens) → ⊥) → Broken ≡ sheetShapeOf m s
-  unfolding sheetShapeOf
-  broken-of-lengths bytes off =
-      rw (false-of (sheetWhole m s) (λ t. off (lengths-of-whole bytes (sheetWhole-facts m s t))))
+  broken-of-lengths : ((i : ℕ) → getD s i 0 < 256) → sheetLengths (w .lens) m ≡ false → sheetWhole m s ≡ false
+  broken-of-lengths bytes e =
+      false-of (sheetWhole m s)
+      (λ t. true≢false (sym (sheetLengths-true m (w .lens) (lengths-of-whole bytes (sheetWhole-facts m s t))) ∙ e))
 
-  pub walk-spans : w .check ≡ Passed → SheetLengths m (w .lens)
-      → Whole
-      (record {
-        nets = getD (w .lens) 0 0 / 2;
-        table = getD (w .starts) 1 0;
-        cost = getD (w .starts) 2 0;
-        vectors = getD (w .starts) 3 0;
-      })
-      ≡ sheetShapeOf m s
-  unfolding sheetShapeOf spansOf
-  walk-spans p g =
-      let j = whole-of-lengths p g in
-      let n = walk-lens (j .fields) in
-      let a = walk-starts (j .fields) in
-      rw (sheetWhole-true m s j, n 0 (omega arith), a 1 (omega arith), a 2 (omega arith), a 3 (omega arith))
+  -- the shape, from the walk
+  pub walk-spans : ((i : ℕ) → getD s i 0 < 256) → w .check ≡ Passed → spannedFrom (w .starts) (w .lens) m ≡ sheetShapeOf m s
+  unfolding sheetShapeOf spannedFrom spansOf
+  walk-spans bytes p = pick (sheetLengths (w .lens) m) refl
+    where
+      pick : (b : Bool) → sheetLengths (w .lens) m ≡ b → spannedFrom (w .starts) (w .lens) m ≡ sheetShapeOf m s
+      pick false e = rw (e, broken-of-lengths bytes e)
+      pick true e =
+          let j = whole-of-lengths p (sheetLengths-facts m (w .lens) e) in
+          let n = walk-lens (j .fields) in
+          let a = walk-starts (j .fields) in
+          rw (e, sheetWhole-true m s j, n 0 (omega arith), a 1 (omega arith), a 2 (omega arith), a 3 (omega arith))
 
 -- ---- where the fields of a whole sheet stand
 
@@ -162,9 +187,9 @@ pub record Spans (m : ℕ) (s : List ℕ) (at : SheetSpans) : Type 0 where
   pub cost : at .cost ≡ at .table + length (nth 1 s) + 3
   pub vectors : at .vectors ≡ at .cost + 7
   pub end : at .vectors ≤ length s
-  pub netsPart : take (3 + 2 * at .nets - 3) (drop 3 s) ≡ nth 0 s
+  pub netsPart : wordColumn s 2 3 (at .nets) ≡ netsOf (nth 0 s)
   pub tablePart : take (at .cost - 3 - at .table) (drop (at .table) s) ≡ nth 1 s
-  pub costPart : quad (take (length s - at .cost) (drop (at .cost) s)) ≡ quad (nth 2 s)
+  pub costPart : quad (drop (at .cost) s) ≡ quad (nth 2 s)
   pub vectorsPart : take (length s - at .vectors) (drop (at .vectors) s) ≡ nth 3 s
 
 -- four bytes are enough for a four-byte number
@@ -172,9 +197,6 @@ quad-four : (u : List ℕ) → quad (take 4 u) ≡ quad u
 unfolding quad word
 quad-four u =
     rw (getD-take 4 u 0 0 (omega arith), getD-take 4 u 1 0 (omega arith), getD-take 4 u 2 0 (omega arith), getD-take 4 u 3 0 (omega arith))
-
-quad-take : (n : ℕ) (u : List ℕ) → 4 ≤ n → quad (take n u) ≡ quad (take 4 u)
-quad-take n u h = sym (quad-four (take n u)) ∙ ap quad (take-take 4 n u h)
 
 pick-whole : (b : Bool) (x y : SheetSpans) → cond b (Whole x) Broken ≡ Whole y → (b ≡ true) × (y ≡ x)
 pick-whole true x y e = (refl, (cc))
@@ -217,11 +239,16 @@ module _ (m : ℕ) (s : List ℕ) (j : SheetWhole m s) where
         vectors = omega (arith, j .cost);
         end = omega (arith, to-end);
         netsPart =
-            part 0 (omega arith) 3 (3 + 2 * (length (nth 0 s) / 2) - 3) (sym (start-zero s)) (omega (arith, j .nets));
+            nets-in {to = 3 + length (nth 0 s)}
+            (record {
+              ordered = omega arith;
+              within = omega (arith, start-zero s, to-end);
+              is = part 0 (omega arith) 3 (3 + length (nth 0 s) - 3) (sym (start-zero s)) (omega arith);
+            })
+            (length (nth 0 s) / 2) refl;
         tablePart = part 1 (omega arith) (startOf 1 s) (startOf 2 s - 3 - startOf 1 s) refl (omega arith);
         costPart =
-            quad-take (length s - startOf 2 s) (drop (startOf 2 s) s) (omega (arith, to-end, j .cost))
-            ∙ ap quad (part 2 (omega arith) (startOf 2 s) 4 refl (sym (j .cost)));
+            sym (quad-four (drop (startOf 2 s) s)) ∙ ap quad (part 2 (omega arith) (startOf 2 s) 4 refl (sym (j .cost)));
         vectorsPart = part 3 (omega arith) (startOf 3 s) (length s - startOf 3 s) refl (omega (arith, to-end));
       }
 

@@ -26,12 +26,6 @@ loop-holds c =
     let x = c .before .args in
     unmarked-from (x .nets) (now (x .marks)) (candidatesOf (now (x .s)))
 
-mul-word-at : tie.Need-mul-word-at Inv-loop μ-loop
-mul-word-at c = omega arith
-
-word-at-requires : tie.Need-word-at-requires Inv-loop μ-loop
-word-at-requires c κs = omega arith
-
 -- all pass where candidate i does, and those after it
 turn : (c : tie.After-word-at Inv-loop μ-loop) → let x = c .before .before .before .before .args in
     let l = c .before .before .loop in
@@ -57,9 +51,6 @@ returns-2 : tie.Need-returns-2 Inv-loop μ-loop
 unfolding checkOf
 returns-2 c = rw (turn (c .before .before), le-leb _ _ (c .before .if1 .left), le-ltb _ _ (c .if2 .taken))
 
-element-copy-out-if3 : tie.Need-element-copy-out-if3 Inv-loop μ-loop
-element-copy-out-if3 c = omega arith
-
 -- .. where both tests of its net have passed
 unmarked : (c : tie.After-if32 Inv-loop μ-loop) → let l = c .before .before .before .before .before in
     let x = l .before .before .args in
@@ -75,15 +66,6 @@ returns-3 : tie.Need-returns-3 Inv-loop μ-loop
 unfolding checkOf
 returns-3 c = rw (unmarked (c .before), ne-eqb _ _ (c .if3 .taken))
 
-add-least : tie.Need-add-least Inv-loop μ-loop
-add-least c = omega arith
-
-add-i : tie.Need-add-i Inv-loop μ-loop
-add-i c = omega arith
-
-loop-less : tie.Need-loop-less Inv-loop μ-loop
-loop-less c = omega arith
-
 loop-again : tie.Need-loop-again Inv-loop μ-loop
 loop-again c = sym (unmarked (c .before) ∙ rw (eq-eqb _ _ (c .if3 .left)))
 
@@ -94,18 +76,5 @@ returns-4 c = rw (← (c .before .loop .inv), unmarked-past _ _ _ _ _ (c .loop-t
 pub check-candidates-spec : {M : Type 1} → statement M
 check-candidates-spec =
     tie.close
-    (tie.spec
-    Inv-loop
-    μ-loop
-    loop-holds
-    mul-word-at
-    word-at-requires
-    returns
-    returns-2
-    element-copy-out-if3
-    returns-3
-    add-least
-    add-i
-    loop-less
-    loop-again
-    returns-4)
+    (tie.spec Inv-loop μ-loop loop-holds (λ c. omega arith) (λ c κs. omega arith) returns returns-2 (λ c. omega arith)
+    returns-3 (λ c. omega arith) (λ c. omega arith) (λ c. omega arith) loop-again returns-4)

@@ -36,17 +36,11 @@ old-holds c = passes _ (sym (c .before .before .check-columns .ensures) ∙ c .e
 golden-holds : (c : tie.After-enum-told3) → sideHolds (lent (start (c .before .before .before .before .before)) .golden) 400 ≡ true
 golden-holds c = passes _ (sym (c .before .before .check-columns2 .ensures) ∙ c .enum-told3 .given .1)
 
-check-columns-requires : tie.Need-check-columns-requires
-check-columns-requires c κs = tt
-
 enum-told : tie.Need-enum-told
 enum-told c = c .match .keys1
 
 enum-told-2 : tie.Need-enum-told-2
 enum-told-2 c = c .match .keys2
-
-refused-requires : tie.Need-refused-requires
-refused-requires c κs = tt
 
 returns : tie.Need-returns
 returns c =
@@ -55,17 +49,11 @@ returns c =
     let r = small-old (lent e) (now (e .args .job)) f in
     (c .refused .ensures ∙ r .0, r .1)
 
-check-columns-requires-2 : tie.Need-check-columns-requires-2
-check-columns-requires-2 c κs = tt
-
 enum-told-3 : tie.Need-enum-told-3
 enum-told-3 c = c .match2 .keys1
 
 enum-told-4 : tie.Need-enum-told-4
 enum-told-4 c = c .match2 .keys2
-
-refused-requires-2 : tie.Need-refused-requires-2
-refused-requires-2 c κs = tt
 
 returns-2 : tie.Need-returns-2
 returns-2 c =
@@ -73,9 +61,6 @@ returns-2 c =
     let f = fails _ (sym (c .before .before .before .check-columns2 .ensures) ∙ c .before .enum-told4 .given .1) in
     let r = small-golden (lent e) (now (e .args .job)) f in
     (c .refused2 .ensures ∙ r .0, r .1)
-
-read-gates-requires : tie.Need-read-gates-requires
-read-gates-requires c κs = tt
 
 split-requires : tie.Need-split-requires
 split-requires c κs =
@@ -144,28 +129,6 @@ returns-3 c =
 pub read-columns-spec : {M : Type 1} → statement M
 read-columns-spec =
     tie.close
-    (tie.spec
-    check-columns-requires
-    enum-told
-    enum-told-2
-    refused-requires
-    returns
-    check-columns-requires-2
-    enum-told-3
-    enum-told-4
-    refused-requires-2
-    returns-2
-    read-gates-requires
-    split-requires
-    split-requires-2
-    same-length
-    same-length-2
-    same-length-3
-    same-length-4
-    same-length-5
-    same-length-6
-    same-length-7
-    same-length-8
-    same-length-9
-    same-length-10
-    returns-3)
+    (tie.spec (λ c κs. tt) enum-told enum-told-2 (λ c κs. tt) returns (λ c κs. tt) enum-told-3 enum-told-4
+    (λ c κs. tt) returns-2 (λ c κs. tt) split-requires split-requires-2 same-length same-length-2 same-length-3
+    same-length-4 same-length-5 same-length-6 same-length-7 same-length-8 same-length-9 same-length-10 returns-3)

@@ -30,33 +30,6 @@ loop-holds c =
       filled-none (a .seconds .now) (λ k. getD (a .t1) k noGate .second),
     )
 
-mul-gate : tie.Need-mul-gate Inv-loop μ-loop
-mul-gate c = omega arith
-
-array-copy-out-gate : tie.Need-array-copy-out-gate Inv-loop μ-loop
-array-copy-out-gate c = omega arith
-
-slice-write-kinds : tie.Need-slice-write-kinds Inv-loop μ-loop
-slice-write-kinds c = omega arith
-
-mul-firsts : tie.Need-mul-firsts Inv-loop μ-loop
-mul-firsts c = omega arith
-
-slice-write-firsts : tie.Need-slice-write-firsts Inv-loop μ-loop
-slice-write-firsts c = omega arith
-
-mul-seconds : tie.Need-mul-seconds Inv-loop μ-loop
-mul-seconds c = omega arith
-
-slice-write-seconds : tie.Need-slice-write-seconds Inv-loop μ-loop
-slice-write-seconds c = omega arith
-
-add-i : tie.Need-add-i Inv-loop μ-loop
-add-i c = omega arith
-
-loop-less : tie.Need-loop-less Inv-loop μ-loop
-loop-less c = omega arith
-
 loop-again : tie.Need-loop-again Inv-loop μ-loop
 unfolding noGate
 loop-again c =
@@ -92,21 +65,6 @@ returns c =
 pub split-spec : {M : Type 1} → statement M
 split-spec =
     tie.close
-    (tie.spec
-    Inv-loop
-    μ-loop
-    loop-holds
-    mul-gate
-    array-copy-out-gate
-    slice-write-kinds
-    mul-firsts
-    slice-write-firsts
-    mul-seconds
-    slice-write-seconds
-    add-i
-    loop-less
-    loop-again
-    same-length
-    same-length-2
-    same-length-3
-    returns)
+    (tie.spec Inv-loop μ-loop loop-holds (λ c. omega arith) (λ c. omega arith) (λ c. omega arith) (λ c. omega arith)
+    (λ c. omega arith) (λ c. omega arith) (λ c. omega arith) (λ c. omega arith) (λ c. omega arith) loop-again
+    same-length same-length-2 same-length-3 returns)

@@ -51,9 +51,6 @@ returns c =
     let e = c .before .before .before .before .before .before .before .before .before .before .before .before in
     put-short (e .args .counts) (lent e) (now (e .args .buf)) (c .if1 .taken)
 
-check-counts-requires : tie.Need-check-counts-requires
-check-counts-requires c κs = tt
-
 enum-told : tie.Need-enum-told
 enum-told c = c .match .keys1
 
@@ -66,9 +63,6 @@ returns-2 c =
     put-counts (e .args .counts) (lent e) (now (e .args .buf)) (c .before .before .before .if1 .left)
     (fails _ (sym (c .before .before .check-counts .ensures) ∙ c .enum-told2 .given .1))
 
-check-columns-requires : tie.Need-check-columns-requires
-check-columns-requires c κs = tt
-
 enum-told-3 : tie.Need-enum-told-3
 enum-told-3 c = c .match2 .keys1
 
@@ -80,9 +74,6 @@ returns-3 c =
     let e = start (c .before .before .before .before .before .before .before) in
     unheld-old (e .args .counts) (lent e) (now (e .args .buf)) (c .before .before .before .before .before .before .before .if1 .left)
     (fails _ (sym (c .before .before .check-columns .ensures) ∙ c .enum-told4 .given .1))
-
-check-columns-requires-2 : tie.Need-check-columns-requires-2
-check-columns-requires-2 c κs = tt
 
 enum-told-5 : tie.Need-enum-told-5
 enum-told-5 c = c .match3 .keys1
@@ -104,9 +95,6 @@ joined-requires-2 : tie.Need-joined-requires-2
 joined-requires-2 c κs =
     splits-of _ _ _ _ _ _ (within (second (third (c .before))) .golden .gates) (le-refl _) (golden-holds (c .before))
 
-write-gates-requires : tie.Need-write-gates-requires
-write-gates-requires c κs = tt
-
 same-length : tie.Need-same-length
 same-length c = c .before .before .write-gates .kept .1 .1 .1 .1 .1 .1 .1 .0
 
@@ -120,22 +108,6 @@ returns-5 c =
 pub write-columns-spec : {M : Type 1} → statement M
 write-columns-spec =
     tie.close
-    (tie.spec
-    returns
-    check-counts-requires
-    enum-told
-    enum-told-2
-    returns-2
-    check-columns-requires
-    enum-told-3
-    enum-told-4
-    returns-3
-    check-columns-requires-2
-    enum-told-5
-    enum-told-6
-    returns-4
-    joined-requires
-    joined-requires-2
-    write-gates-requires
-    same-length
+    (tie.spec returns (λ c κs. tt) enum-told enum-told-2 returns-2 (λ c κs. tt) enum-told-3 enum-told-4 returns-3
+    (λ c κs. tt) enum-told-5 enum-told-6 returns-4 joined-requires joined-requires-2 (λ c κs. tt) same-length
     returns-5)

@@ -12,33 +12,15 @@ returns : tie.Need-returns
 unfolding fieldAt
 returns c = let a = c .before .before .args in rw (fits-short (now (a .s)) (a .at) (a .tag) (omega arith))
 
-sub-if2 : tie.Need-sub-if2
-sub-if2 c = search needs
-
 returns-2 : tie.Need-returns-2
 unfolding fieldAt
 returns-2 c = let a = c .before .before .before .args in rw (fits-short (now (a .s)) (a .at) (a .tag) (omega arith))
-
-shared-slice-read-if3 : tie.Need-shared-slice-read-if3
-shared-slice-read-if3 c = search needs
 
 returns-3 : tie.Need-returns-3
 unfolding fieldAt
 returns-3 c =
     let a = c .before .before .before .before .before .args in
     rw (fits-other-tag (now (a .s)) (a .at) (a .tag) (c .if3 .taken))
-
-add-word-at : tie.Need-add-word-at
-add-word-at c = search needs
-
-word-at-requires : tie.Need-word-at-requires
-word-at-requires c κs = search needs
-
-add-start : tie.Need-add-start
-add-start c = search needs
-
-sub-if4 : tie.Need-sub-if4
-sub-if4 c = search needs
 
 returns-4 : tie.Need-returns-4
 unfolding fieldAt
@@ -55,15 +37,5 @@ returns-5 c =
 pub field-at-spec : {M : Type 1} → statement M
 field-at-spec =
     tie.close
-    (tie.spec
-    returns
-    sub-if2
-    returns-2
-    shared-slice-read-if3
-    returns-3
-    add-word-at
-    word-at-requires
-    add-start
-    sub-if4
-    returns-4
-    returns-5)
+    (tie.spec returns (λ c. search needs) returns-2 (λ c. search needs) returns-3 (λ c. search needs)
+    (λ c κs. search needs) (λ c. search needs) (λ c. search needs) returns-4 returns-5)

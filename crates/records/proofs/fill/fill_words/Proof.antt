@@ -31,26 +31,11 @@ word-at-requires c κs =
     let a = c .before .before .before .before .args in
     omega (arith, record-within (a .size) (l .i) (a .count) (c .loop-test .taken))
 
-cast-places : tie.Need-cast-places Inv-loop μ-loop
-cast-places c = omega arith
-
-mul-places : tie.Need-mul-places Inv-loop μ-loop
-mul-places c = omega arith
-
-slice-write-places : tie.Need-slice-write-places Inv-loop μ-loop
-slice-write-places c = omega arith
-
 add-at : tie.Need-add-at Inv-loop μ-loop
 add-at c =
     let l = c .before .before .loop in
     let a = c .before .before .before .before .before .args in
     omega (arith, record-within (a .size) (l .i) (a .count) (c .before .loop-test .taken))
-
-add-i : tie.Need-add-i Inv-loop μ-loop
-add-i c = omega arith
-
-loop-less : tie.Need-loop-less Inv-loop μ-loop
-loop-less c = omega arith
 
 loop-again : tie.Need-loop-again Inv-loop μ-loop
 unfolding word
@@ -82,17 +67,5 @@ returns c =
 pub fill-words-spec : {M : Type 1} → statement M
 fill-words-spec =
     tie.close
-    (tie.spec
-    Inv-loop
-    μ-loop
-    loop-holds
-    word-at-requires
-    cast-places
-    mul-places
-    slice-write-places
-    add-at
-    add-i
-    loop-less
-    loop-again
-    same-length
-    returns)
+    (tie.spec Inv-loop μ-loop loop-holds word-at-requires (λ c. omega arith) (λ c. omega arith) (λ c. omega arith)
+    add-at (λ c. omega arith) (λ c. omega arith) loop-again same-length returns)

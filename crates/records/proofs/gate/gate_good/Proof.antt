@@ -14,9 +14,6 @@ use Rattle.records.proofs.gate.gate_good.Tie as tie
 returns : tie.Need-returns
 returns c = let x = c .before .args in sym (gateGood-high (x .net) (x .kind) (x .a) (x .b) (c .if1 .taken))
 
-operand-count-requires : tie.Need-operand-count-requires
-operand-count-requires c κs = tt
-
 -- ---- the three arms
 
 none : (c : tie.At-match-keys1) → let x = c .before .before .before .args in
@@ -60,13 +57,4 @@ returns-7 c = rw (two (c .before), le-ltb _ _ (c .if4 .left))
 
 pub gate-good-spec : {M : Type 1} → statement M
 gate-good-spec =
-    tie.close
-    (tie.spec
-    returns
-    operand-count-requires
-    returns-2
-    returns-3
-    returns-4
-    returns-5
-    returns-6
-    returns-7)
+    tie.close (tie.spec returns (λ c κs. tt) returns-2 returns-3 returns-4 returns-5 returns-6 returns-7)

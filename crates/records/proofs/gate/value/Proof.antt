@@ -8,9 +8,6 @@ use borrow.Author.Needs.{needs}
 use Rattle.records.proofs.gate.value.Statement.{statement}
 use Rattle.records.proofs.gate.value.Tie as tie
 
-sub-result : tie.Need-sub-result
-sub-result c = search needs
-
 mul-result : tie.Need-mul-result
 mul-result c = omega (arith, product-le (c .before .args .a) (c .before .args .b))
 
@@ -20,35 +17,17 @@ mul-result-2 c = omega (arith, product-le (c .before .args .a) (c .before .args 
 sub-result-2 : tie.Need-sub-result-2
 sub-result-2 c = omega (arith, product-le (c .before .args .a) (c .before .args .b))
 
-add-result : tie.Need-add-result
-add-result c = search needs
-
 mul-result-3 : tie.Need-mul-result-3
 mul-result-3 c = omega (arith, product-le (c .before .args .a) (c .before .args .b))
 
 add-result-2 : tie.Need-add-result-2
 add-result-2 c = omega (arith, product-le (c .before .args .a) (c .before .args .b))
 
-add-result-3 : tie.Need-add-result-3
-add-result-3 c = search needs
-
 mul-result-4 : tie.Need-mul-result-4
 mul-result-4 c = omega (arith, product-le (c .before .args .a) (c .before .args .b))
 
 add-result-4 : tie.Need-add-result-4
 add-result-4 c = omega (arith, product-le (c .before .args .a) (c .before .args .b))
-
-sub-result-3 : tie.Need-sub-result-3
-sub-result-3 c = search needs
-
-add-result-5 : tie.Need-add-result-5
-add-result-5 c = search needs
-
-add-result-6 : tie.Need-add-result-6
-add-result-6 c = search needs
-
-sub-result-4 : tie.Need-sub-result-4
-sub-result-4 c = search needs
 
 -- a kind that is n has the value of kind n
 at-kind : (a b : ℕ) {k n v : ℕ} → k ≡ n → v ≡ applied n a b → v ≡ applied k a b
@@ -96,28 +75,7 @@ returns-10 c = sym (gateValue-other _ _ (c .match .rest))
 pub value-spec : {M : Type 1} → statement M
 value-spec =
     tie.close
-    (tie.spec
-    sub-result
-    mul-result
-    mul-result-2
-    sub-result-2
-    add-result
-    mul-result-3
-    add-result-2
-    add-result-3
-    mul-result-4
-    add-result-4
-    sub-result-3
-    add-result-5
-    add-result-6
-    sub-result-4
-    returns
-    returns-2
-    returns-3
-    returns-4
-    returns-5
-    returns-6
-    returns-7
-    returns-8
-    returns-9
+    (tie.spec (λ c. search needs) mul-result mul-result-2 sub-result-2 (λ c. search needs) mul-result-3 add-result-2
+    (λ c. search needs) mul-result-4 add-result-4 (λ c. search needs) (λ c. search needs) (λ c. search needs)
+    (λ c. search needs) returns returns-2 returns-3 returns-4 returns-5 returns-6 returns-7 returns-8 returns-9
     returns-10)

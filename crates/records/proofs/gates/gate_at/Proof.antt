@@ -8,27 +8,6 @@ use borrow.Author.Needs.{needs}
 use Rattle.records.proofs.gates.gate_at.Statement.{statement}
 use Rattle.records.proofs.gates.gate_at.Tie as tie
 
-shared-slice-read-t4 : tie.Need-shared-slice-read-t4
-shared-slice-read-t4 c = search needs
-
-add-word-at : tie.Need-add-word-at
-add-word-at c = search needs
-
-word-at-requires : tie.Need-word-at-requires
-word-at-requires c κs = search needs
-
-cast-t8 : tie.Need-cast-t8
-cast-t8 c = search needs
-
-add-word-at-2 : tie.Need-add-word-at-2
-add-word-at-2 c = search needs
-
-word-at-requires-2 : tie.Need-word-at-requires-2
-word-at-requires-2 c κs = search needs
-
-cast-t12 : tie.Need-cast-t12
-cast-t12 c = search needs
-
 returns : tie.Need-returns
 unfolding structAt word
 returns c =
@@ -43,12 +22,5 @@ returns c =
 pub gate-at-spec : {M : Type 1} → statement M
 gate-at-spec =
     tie.close
-    (tie.spec
-    shared-slice-read-t4
-    add-word-at
-    word-at-requires
-    cast-t8
-    add-word-at-2
-    word-at-requires-2
-    cast-t12
-    returns)
+    (tie.spec (λ c. search needs) (λ c. search needs) (λ c κs. search needs) (λ c. search needs) (λ c. search needs)
+    (λ c κs. search needs) (λ c. search needs) returns)

@@ -7,17 +7,8 @@ use Rattle.records.proofs.Laws.Job.{gate-placed}
 use Rattle.records.proofs.gates.put_gate.Statement.{statement}
 use Rattle.records.proofs.gates.put_gate.Tie as tie
 
-slice-write-buf : tie.Need-slice-write-buf
-slice-write-buf c = search needs
-
-add-put-word : tie.Need-add-put-word
-add-put-word c = search needs
-
 put-word-requires : tie.Need-put-word-requires
 put-word-requires c κs = simp length-set (omega arith)
-
-add-put-word-2 : tie.Need-add-put-word-2
-add-put-word-2 c = search needs
 
 put-word-requires-2 : tie.Need-put-word-requires-2
 put-word-requires-2 c κs = omega (arith, simp length-set at (c .before .before .before .put-word .kept .0))
@@ -36,11 +27,5 @@ returns c =
 pub put-gate-spec : {M : Type 1} → statement M
 put-gate-spec =
     tie.close
-    (tie.spec
-    slice-write-buf
-    add-put-word
-    put-word-requires
-    add-put-word-2
-    put-word-requires-2
-    same-length
-    returns)
+    (tie.spec (λ c. search needs) (λ c. search needs) put-word-requires (λ c. search needs) put-word-requires-2
+    same-length returns)

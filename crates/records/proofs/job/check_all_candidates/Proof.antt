@@ -18,9 +18,6 @@ use borrow.Author.Needs.{needs}
 use Rattle.records.proofs.job.check_all_candidates.Statement.{statement}
 use Rattle.records.proofs.job.check_all_candidates.Tie as tie
 
-starts-of-requires : tie.Need-starts-of-requires
-starts-of-requires c κs = search needs
-
 -- where the fields stand, once the starts are known
 at : (c : tie.After-starts-of) → Parts (now (c .before .before .args .job)) (c .starts-of .result)
 at c =
@@ -60,15 +57,6 @@ part-check-candidates-start c = at (c .before .before .before .before) .candidat
 part-check-candidates-end : tie.Need-part-check-candidates-end
 part-check-candidates-end c = at (c .before .before .before .before) .candidates .within
 
-add-check-candidates : tie.Need-add-check-candidates
-add-check-candidates c = search needs
-
-add-check-candidates-2 : tie.Need-add-check-candidates-2
-add-check-candidates-2 c = search needs
-
-check-candidates-requires : tie.Need-check-candidates-requires
-check-candidates-requires c κs = search needs
-
 returns : tie.Need-returns
 returns c =
     let s = now (c .before .before .before .before .before .before .before .before .before .before .before .args .job) in
@@ -88,17 +76,6 @@ returns c =
 pub check-all-candidates-spec : {M : Type 1} → statement M
 check-all-candidates-spec =
     tie.close
-    (tie.spec
-    starts-of-requires
-    sub-b
-    sub-fanout-marks
-    part-fanout-marks-start
-    part-fanout-marks-end
-    fanout-marks-requires
-    sub-check-candidates
-    part-check-candidates-start
-    part-check-candidates-end
-    add-check-candidates
-    add-check-candidates-2
-    check-candidates-requires
-    returns)
+    (tie.spec (λ c κs. search needs) sub-b sub-fanout-marks part-fanout-marks-start part-fanout-marks-end
+    fanout-marks-requires sub-check-candidates part-check-candidates-start part-check-candidates-end
+    (λ c. search needs) (λ c. search needs) (λ c κs. search needs) returns)

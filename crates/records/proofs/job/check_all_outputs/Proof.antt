@@ -46,9 +46,6 @@ alike s = eqb (s .args .c .old .outputs) (s .args .c .golden .outputs)
 tests : (s : tie.Start) → outputsGood (jobOf (now (s .args .job))) ≡ (old-below s && golden-below s && alike s)
 tests s = outputs-checks (now (s .args .job)) (s .args .c) (s .pre)
 
-starts-of-requires : tie.Need-starts-of-requires
-starts-of-requires c κs = search needs
-
 -- where the fields stand, once the starts are known, and how many outputs they have
 at : (c : tie.After-starts-of) → Parts (now (begin c .args .job)) (c .starts-of .result)
 at c =
@@ -61,12 +58,6 @@ counted : (s : tie.Start)
 counted s =
     let n = laid-counts (now (s .args .job)) (s .args .c) (s .pre) in
     (ap (λ (y : Counts). y .old .outputs) n, ap (λ (y : Counts). y .golden .outputs) n)
-
-add-check-outputs : tie.Need-add-check-outputs
-add-check-outputs c = search needs
-
-add-check-outputs-2 : tie.Need-add-check-outputs-2
-add-check-outputs-2 c = search needs
 
 check-outputs-requires : tie.Need-check-outputs-requires
 check-outputs-requires c κs =
@@ -94,9 +85,6 @@ returns c =
     let s = begin (old v) in
     let e = fails _ (sym (first v) ∙ c .enum-told2 .given .1) in
     failed-of _ (tests s ∙ ap (λ (x : Bool). x && golden-below s && alike s) e)
-
-add-check-outputs-3 : tie.Need-add-check-outputs-3
-add-check-outputs-3 c = search needs
 
 check-outputs-requires-2 : tie.Need-check-outputs-requires-2
 check-outputs-requires-2 c κs =
@@ -151,18 +139,6 @@ returns-4 c = failed-of _ (both (c .before .before .before) ∙ ne-eqb _ _ (c .i
 pub check-all-outputs-spec : {M : Type 1} → statement M
 check-all-outputs-spec =
     tie.close
-    (tie.spec
-    starts-of-requires
-    add-check-outputs
-    add-check-outputs-2
-    check-outputs-requires
-    enum-told
-    enum-told-2
-    returns
-    add-check-outputs-3
-    check-outputs-requires-2
-    enum-told-3
-    enum-told-4
-    returns-2
-    returns-3
+    (tie.spec (λ c κs. search needs) (λ c. search needs) (λ c. search needs) check-outputs-requires enum-told
+    enum-told-2 returns (λ c. search needs) check-outputs-requires-2 enum-told-3 enum-told-4 returns-2 returns-3
     returns-4)

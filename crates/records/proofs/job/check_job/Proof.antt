@@ -13,9 +13,6 @@ use Rattle.records.proofs.Laws.Shape.{shape-whole, refused-two, refused
 use Rattle.records.proofs.job.check_job.Statement.{statement}
 use Rattle.records.proofs.job.check_job.Tie as tie
 
-shaped-requires : tie.Need-shaped-requires
-shaped-requires c κs = tt
-
 enum-known-found : tie.Need-enum-known-found
 enum-known-found c = c .match .keys1
 
@@ -29,9 +26,6 @@ returns c = refused-two _ (sym (c .before .before .shaped .ensures) ∙ c .enum-
 shape : (c : tie.After-known-told) → let s = now (c .before .before .before .before .before .args .job) in
     (jobWhole s ≡ true) × (c .before .found .given .0 .0 ≡ countsOf (jobOf s))
 shape c = shape-whole _ _ (sym (c .before .before .before .shaped .ensures) ∙ c .before .found .given .1)
-
-check-counts-requires : tie.Need-check-counts-requires
-check-counts-requires c κs = tt
 
 enum-told-2 : tie.Need-enum-told-2
 enum-told-2 c = c .match2 .keys1
@@ -118,25 +112,6 @@ returns-6 c =
 pub check-job-spec : {M : Type 1} → statement M
 check-job-spec =
     tie.close
-    (tie.spec
-    shaped-requires
-    enum-known-found
-    enum-told
-    returns
-    check-counts-requires
-    enum-told-2
-    enum-told-3
-    returns-2
-    check-netlists-requires
-    enum-told-4
-    enum-told-5
-    returns-3
-    check-all-outputs-requires
-    enum-told-6
-    enum-told-7
-    returns-4
-    check-all-candidates-requires
-    enum-told-8
-    enum-told-9
-    returns-5
-    returns-6)
+    (tie.spec (λ c κs. tt) enum-known-found enum-told returns (λ c κs. tt) enum-told-2 enum-told-3 returns-2
+    check-netlists-requires enum-told-4 enum-told-5 returns-3 check-all-outputs-requires enum-told-6 enum-told-7
+    returns-4 check-all-candidates-requires enum-told-8 enum-told-9 returns-5 returns-6)

@@ -15,9 +15,6 @@ use borrow.Author.Needs.{needs}
 use Rattle.records.proofs.job.check_netlists.Statement.{statement}
 use Rattle.records.proofs.job.check_netlists.Tie as tie
 
-starts-of-requires : tie.Need-starts-of-requires
-starts-of-requires c κs = search needs
-
 -- where the fields stand, once the starts are known
 at : (c : tie.After-starts-of) → Parts (now (c .before .before .args .job)) (c .starts-of .result)
 at c =
@@ -35,12 +32,6 @@ part-check-gates-start c = at (c .before) .old .ordered
 
 part-check-gates-end : tie.Need-part-check-gates-end
 part-check-gates-end c = at (c .before) .old .within
-
-add-check-gates : tie.Need-add-check-gates
-add-check-gates c = search needs
-
-check-gates-requires : tie.Need-check-gates-requires
-check-gates-requires c κs = search needs
 
 enum-told : tie.Need-enum-told
 enum-told c = c .match .keys1
@@ -78,9 +69,6 @@ part-check-gates-start-2 c = at (c .before .before .before .before .before .befo
 part-check-gates-end-2 : tie.Need-part-check-gates-end-2
 part-check-gates-end-2 c = at (c .before .before .before .before .before .before .before) .golden .within
 
-check-gates-requires-2 : tie.Need-check-gates-requires-2
-check-gates-requires-2 c κs = search needs
-
 returns-2 : tie.Need-returns-2
 returns-2 c =
     let a = c .before .before .before .before .before .before .before .before .before .before .before .args in
@@ -93,20 +81,6 @@ returns-2 c =
 pub check-netlists-spec : {M : Type 1} → statement M
 check-netlists-spec =
     tie.close
-    (tie.spec
-    starts-of-requires
-    sub-b
-    sub-check-gates
-    part-check-gates-start
-    part-check-gates-end
-    add-check-gates
-    check-gates-requires
-    enum-told
-    enum-told-2
-    returns
-    sub-e
-    sub-check-gates-2
-    part-check-gates-start-2
-    part-check-gates-end-2
-    check-gates-requires-2
-    returns-2)
+    (tie.spec (λ c κs. search needs) sub-b sub-check-gates part-check-gates-start part-check-gates-end
+    (λ c. search needs) (λ c κs. search needs) enum-told enum-told-2 returns sub-e sub-check-gates-2
+    part-check-gates-start-2 part-check-gates-end-2 (λ c κs. search needs) returns-2)

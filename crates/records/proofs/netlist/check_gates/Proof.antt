@@ -29,30 +29,6 @@ abbrev μ-loop : tie.MeasureT-loop
 loop-holds : tie.Need-loop-holds Inv-loop μ-loop
 loop-holds c = rw add-zero
 
-mul-at : tie.Need-mul-at Inv-loop μ-loop
-mul-at c = omega arith
-
-shared-slice-read-kind : tie.Need-shared-slice-read-kind Inv-loop μ-loop
-shared-slice-read-kind c = omega arith
-
-add-word-at : tie.Need-add-word-at Inv-loop μ-loop
-add-word-at c = omega arith
-
-word-at-requires : tie.Need-word-at-requires Inv-loop μ-loop
-word-at-requires c κs = omega arith
-
-add-word-at-2 : tie.Need-add-word-at-2 Inv-loop μ-loop
-add-word-at-2 c = omega arith
-
-word-at-requires-2 : tie.Need-word-at-requires-2 Inv-loop μ-loop
-word-at-requires-2 c κs = omega arith
-
-add-gate-good : tie.Need-add-gate-good Inv-loop μ-loop
-add-gate-good c = omega arith
-
-gate-good-requires : tie.Need-gate-good-requires Inv-loop μ-loop
-gate-good-requires c κs = tt
-
 -- all are good where gate i is, and those after it
 turn : (c : tie.After-gate-good Inv-loop μ-loop) → let l = c .before .before .before .before .before in
     let x = l .before .before .args in
@@ -69,12 +45,6 @@ returns : tie.Need-returns Inv-loop μ-loop
 unfolding checkOf
 returns c = rw (turn (c .before), not-true (c .before .gate-good .result) (c .if1 .taken))
 
-add-i : tie.Need-add-i Inv-loop μ-loop
-add-i c = omega arith
-
-loop-less : tie.Need-loop-less Inv-loop μ-loop
-loop-less c = omega arith
-
 loop-again : tie.Need-loop-again Inv-loop μ-loop
 loop-again c = sym (turn (c .before) ∙ rw (not-false (c .before .gate-good .result) (c .if1 .left)))
 
@@ -85,20 +55,6 @@ returns-2 c = rw (← (c .before .loop .inv), drop-gates-past _ _ (c .loop-test 
 pub check-gates-spec : {M : Type 1} → statement M
 check-gates-spec =
     tie.close
-    (tie.spec
-    Inv-loop
-    μ-loop
-    loop-holds
-    mul-at
-    shared-slice-read-kind
-    add-word-at
-    word-at-requires
-    add-word-at-2
-    word-at-requires-2
-    add-gate-good
-    gate-good-requires
-    returns
-    add-i
-    loop-less
-    loop-again
-    returns-2)
+    (tie.spec Inv-loop μ-loop loop-holds (λ c. omega arith) (λ c. omega arith) (λ c. omega arith)
+    (λ c κs. omega arith) (λ c. omega arith) (λ c κs. omega arith) (λ c. omega arith) (λ c κs. tt) returns
+    (λ c. omega arith) (λ c. omega arith) loop-again returns-2)

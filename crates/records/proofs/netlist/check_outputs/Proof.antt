@@ -25,18 +25,6 @@ Inv-loop s at count nets i₀ i = below nets s at count i ≡ below nets s at co
 abbrev μ-loop : tie.MeasureT-loop
 μ-loop s at count nets i₀ i = count - i
 
-loop-holds : tie.Need-loop-holds Inv-loop μ-loop
-loop-holds c = refl
-
-mul-word-at : tie.Need-mul-word-at Inv-loop μ-loop
-mul-word-at c = omega arith
-
-add-word-at : tie.Need-add-word-at Inv-loop μ-loop
-add-word-at c = omega arith
-
-word-at-requires : tie.Need-word-at-requires Inv-loop μ-loop
-word-at-requires c κs = omega arith
-
 -- all pass where net i does, and those after it
 turn : (c : tie.After-word-at Inv-loop μ-loop) → let x = c .before .before .before .before .args in
     let from = below (x .nets) (now (x .s)) (x .at) (x .count) in
@@ -54,12 +42,6 @@ returns : tie.Need-returns Inv-loop μ-loop
 unfolding checkOf
 returns c = rw (turn (c .before), le-ltb _ _ (c .if1 .taken))
 
-add-i : tie.Need-add-i Inv-loop μ-loop
-add-i c = omega arith
-
-loop-less : tie.Need-loop-less Inv-loop μ-loop
-loop-less c = omega arith
-
 loop-again : tie.Need-loop-again Inv-loop μ-loop
 loop-again c = sym (turn (c .before) ∙ rw (lt-ltb _ _ (c .if1 .left)))
 
@@ -70,15 +52,5 @@ returns-2 c = rw (← (c .before .loop .inv), drop-tabulate-past _ _ _ (c .loop-
 pub check-outputs-spec : {M : Type 1} → statement M
 check-outputs-spec =
     tie.close
-    (tie.spec
-    Inv-loop
-    μ-loop
-    loop-holds
-    mul-word-at
-    add-word-at
-    word-at-requires
-    returns
-    add-i
-    loop-less
-    loop-again
-    returns-2)
+    (tie.spec Inv-loop μ-loop (λ c. refl) (λ c. omega arith) (λ c. omega arith) (λ c κs. omega arith) returns
+    (λ c. omega arith) (λ c. omega arith) loop-again returns-2)

@@ -27,35 +27,11 @@ Inv-loop s inputs targets marks₀ count base i₀ marks i =
 abbrev μ-loop : tie.MeasureT-loop
 μ-loop s inputs targets marks₀ count base i₀ marks i = count - i
 
-leaf-marks-requires : tie.Need-leaf-marks-requires Inv-loop μ-loop
-leaf-marks-requires c κs = omega arith
-
-add-base : tie.Need-add-base Inv-loop μ-loop
-add-base c = omega arith
-
 loop-holds : tie.Need-loop-holds Inv-loop μ-loop
 unfolding fanout leafMarks
 loop-holds c =
     let e = c .leaf-marks .ensures in
     (omega arith, e .0, rw add-zero (c .before .before .pre .1), rw (add-zero, e .1))
-
-mul-at : tie.Need-mul-at Inv-loop μ-loop
-mul-at c = omega arith
-
-shared-slice-read-kind : tie.Need-shared-slice-read-kind Inv-loop μ-loop
-shared-slice-read-kind c = omega arith
-
-add-word-at : tie.Need-add-word-at Inv-loop μ-loop
-add-word-at c = omega arith
-
-word-at-requires : tie.Need-word-at-requires Inv-loop μ-loop
-word-at-requires c κs = omega arith
-
-add-word-at-2 : tie.Need-add-word-at-2 Inv-loop μ-loop
-add-word-at-2 c = omega arith
-
-word-at-requires-2 : tie.Need-word-at-requires-2 Inv-loop μ-loop
-word-at-requires-2 c κs = omega arith
 
 -- gate i is good, and so are those after it
 good : (c : tie.In-loop Inv-loop μ-loop) → let x = c .before .before .before .before .args in
@@ -77,18 +53,6 @@ gate-mark-requires c κs =
     let net = x .inputs + x .targets + i in
     let le = slots-le net (getD s (5 * i) 0) (word s (5 * i + 1)) (word s (5 * i + 3)) (good t .0) in
     omega (arith, le, c .before .before .word-at .ensures, c .before .word-at2 .ensures)
-
-add-marks : tie.Need-add-marks Inv-loop μ-loop
-add-marks c = omega arith
-
-array-write-marks : tie.Need-array-write-marks Inv-loop μ-loop
-array-write-marks c = omega arith
-
-add-i : tie.Need-add-i Inv-loop μ-loop
-add-i c = omega arith
-
-loop-less : tie.Need-loop-less Inv-loop μ-loop
-loop-less c = omega arith
 
 loop-again : tie.Need-loop-again Inv-loop μ-loop
 unfolding gateAt
@@ -113,22 +77,6 @@ returns c =
 pub fanout-marks-spec : {M : Type 1} → statement M
 fanout-marks-spec =
     tie.close
-    (tie.spec
-    Inv-loop
-    μ-loop
-    leaf-marks-requires
-    add-base
-    loop-holds
-    mul-at
-    shared-slice-read-kind
-    add-word-at
-    word-at-requires
-    add-word-at-2
-    word-at-requires-2
-    gate-mark-requires
-    add-marks
-    array-write-marks
-    add-i
-    loop-less
-    loop-again
-    returns)
+    (tie.spec Inv-loop μ-loop (λ c κs. omega arith) (λ c. omega arith) loop-holds (λ c. omega arith)
+    (λ c. omega arith) (λ c. omega arith) (λ c κs. omega arith) (λ c. omega arith) (λ c κs. omega arith)
+    gate-mark-requires (λ c. omega arith) (λ c. omega arith) (λ c. omega arith) (λ c. omega arith) loop-again returns)

@@ -13,18 +13,6 @@ use Rattle.records.proofs.Laws.Netlist.{markOf-none, markOf-one, markOf
 use Rattle.records.proofs.netlist.gate_mark.Statement.{statement}
 use Rattle.records.proofs.netlist.gate_mark.Tie as tie
 
-operand-count-requires : tie.Need-operand-count-requires
-operand-count-requires c κs = tt
-
-element-copy-out-result : tie.Need-element-copy-out-result
-element-copy-out-result c = search needs
-
-element-copy-out-x : tie.Need-element-copy-out-x
-element-copy-out-x c = search needs
-
-element-copy-out-y : tie.Need-element-copy-out-y
-element-copy-out-y c = search needs
-
 returns : tie.Need-returns
 returns c =
     let x = c .before .before .args in
@@ -55,12 +43,5 @@ returns-4 c = sym (two (c .before .before .before) ∙ omega arith)
 pub gate-mark-spec : {M : Type 1} → statement M
 gate-mark-spec =
     tie.close
-    (tie.spec
-    operand-count-requires
-    element-copy-out-result
-    element-copy-out-x
-    element-copy-out-y
-    returns
-    returns-2
-    returns-3
+    (tie.spec (λ c κs. tt) (λ c. search needs) (λ c. search needs) (λ c. search needs) returns returns-2 returns-3
     returns-4)

@@ -25,9 +25,6 @@ full s h = left s (put-field-full (now (s .args .buf)) (s .args .at) (now (s .ar
 returns : tie.Need-returns
 returns c = full (c .before .before .before) (omega arith)
 
-sub-room : tie.Need-sub-room
-sub-room c = search needs
-
 returns-2 : tie.Need-returns-2
 returns-2 c = full (c .before .before .before .before) (omega arith)
 
@@ -39,27 +36,6 @@ returns-4 c =
     let s = c .before .before .before .before .before .before in
     left s (put-field-long (now (s .args .buf)) (s .args .at) (now (s .args .bytes)) (c .if4 .taken))
 
-put-head-requires : tie.Need-put-head-requires
-put-head-requires c κs = search needs
-
-sub-copy : tie.Need-sub-copy
-sub-copy c = search needs
-
-part-copy-start : tie.Need-part-copy-start
-part-copy-start c = search needs
-
-part-copy-end : tie.Need-part-copy-end
-part-copy-end c = search needs
-
-copy-requires : tie.Need-copy-requires
-copy-requires c κs = search needs
-
-add-result : tie.Need-add-result
-add-result c = search needs
-
-same-length : tie.Need-same-length
-same-length c = search needs
-
 returns-5 : tie.Need-returns-5
 returns-5 c =
     let h = c .before .before .before .before .before .before in
@@ -70,17 +46,5 @@ returns-5 c =
 pub put-field-spec : {M : Type 1} → statement M
 put-field-spec =
     tie.close
-    (tie.spec
-    returns
-    sub-room
-    returns-2
-    returns-3
-    returns-4
-    put-head-requires
-    sub-copy
-    part-copy-start
-    part-copy-end
-    copy-requires
-    add-result
-    same-length
-    returns-5)
+    (tie.spec returns (λ c. search needs) returns-2 returns-3 returns-4 (λ c κs. search needs) (λ c. search needs)
+    (λ c. search needs) (λ c. search needs) (λ c κs. search needs) (λ c. search needs) (λ c. search needs) returns-5)

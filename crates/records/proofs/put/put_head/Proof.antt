@@ -11,32 +11,11 @@ use Rattle.records.proofs.Laws.Job.{sets-placed, high-byte}
 use Rattle.records.proofs.put.put_head.Statement.{statement}
 use Rattle.records.proofs.put.put_head.Tie as tie
 
-slice-write-buf : tie.Need-slice-write-buf
-slice-write-buf c = search needs
-
-cast-buf : tie.Need-cast-buf
-cast-buf c = search needs
-
-add-buf : tie.Need-add-buf
-add-buf c = search needs
-
 slice-write-buf-2 : tie.Need-slice-write-buf-2
 slice-write-buf-2 c = simp length-set (omega arith)
 
-cast-buf-2 : tie.Need-cast-buf-2
-cast-buf-2 c = search needs
-
-add-buf-2 : tie.Need-add-buf-2
-add-buf-2 c = search needs
-
 slice-write-buf-3 : tie.Need-slice-write-buf-3
 slice-write-buf-3 c = simp length-set (omega arith)
-
-add-result : tie.Need-add-result
-add-result c = search needs
-
-same-length : tie.Need-same-length
-same-length c = search needs
 
 returns : tie.Need-returns
 unfolding bytePair
@@ -51,14 +30,5 @@ returns c =
 pub put-head-spec : {M : Type 1} → statement M
 put-head-spec =
     tie.close
-    (tie.spec
-    slice-write-buf
-    cast-buf
-    add-buf
-    slice-write-buf-2
-    cast-buf-2
-    add-buf-2
-    slice-write-buf-3
-    add-result
-    same-length
-    returns)
+    (tie.spec (λ c. search needs) (λ c. search needs) (λ c. search needs) slice-write-buf-2 (λ c. search needs)
+    (λ c. search needs) slice-write-buf-3 (λ c. search needs) (λ c. search needs) returns)

@@ -1,57 +1,45 @@
 -- `records::put::put_side` meets its contract: a head, and behind the gates' bytes a head and the outputs. Assumes nothing.
-use borrow.Author.Needs.{needs}
-use Rattle.records.proofs.Laws.Put.{side-done}
+use mathlib.Core.Path.{_≡_}
+use native.Mathlib.Omega.{arith}
+use denote.Ref.{now}
+use lib.ListN.{length}
+use Rattle.records.proofs.Laws.Put.{side-first, side-second, side-done}
 use Rattle.records.proofs.put.put_side.Statement.{statement}
 use Rattle.records.proofs.put.put_side.Tie as tie
 
-mul-put-head : tie.Need-mul-put-head
-mul-put-head c = search needs
+-- the heads keep the bytes' length
+first : (w : tie.After-headed) → length (w .headed .result) ≡ 4188
+first w =
+    let s = w .before .before .before .before .before in
+    let a = s .args in
+    side-first (a .job .bytes) (a .job .len) (a .tag) (a .counts) (now (a .outputs)) (s .pre .0) (s .pre .1) (w .headed .ensures)
 
-put-head-requires : tie.Need-put-head-requires
-put-head-requires c κs = search needs
+second : (w : tie.After-headed2) → length (w .headed2 .result) ≡ 4188
+second w =
+    let v = w .before in
+    let s = v .before .before .before .before .before in
+    let a = s .args in
+    side-second (a .job .bytes) (a .job .len) (a .tag) (a .counts) (now (a .outputs)) (s .pre .0) (s .pre .1)
+    (v .headed .ensures) (w .headed2 .ensures)
 
-mul-put-head-2 : tie.Need-mul-put-head-2
-mul-put-head-2 c = search needs
+headed-requires-2 : tie.Need-headed-requires-2
+headed-requires-2 c κs = omega (arith, first c)
 
-add-put-head : tie.Need-add-put-head
-add-put-head c = search needs
-
-add-put-head-2 : tie.Need-add-put-head-2
-add-put-head-2 c = search needs
-
-mul-put-head-3 : tie.Need-mul-put-head-3
-mul-put-head-3 c = search needs
-
-put-head-requires-2 : tie.Need-put-head-requires-2
-put-head-requires-2 c κs = search needs
-
-put-words-requires : tie.Need-put-words-requires
-put-words-requires c κs = search needs
-
-same-length : tie.Need-same-length
-same-length c = search needs
+put-column-requires : tie.Need-put-column-requires
+put-column-requires c κs = omega (arith, second c)
 
 returns : tie.Need-returns
 returns c =
-    let w₃ = c .before .before in
-    let w₂ = w₃ .before .before .before .before in
-    let w₁ = w₂ .before .before .before .before in
-    let s = w₁ .before .before .before .before in
-    side-done (s .args .buf .now) (s .args .at) (s .args .tag) (s .args .outputs .now) (s .pre)
-    (w₁ .put-head .ensures .0) (w₂ .put-head2 .ensures .0) (w₃ .put-words .ensures .0)
-    (w₁ .put-head .ensures .1) (w₂ .put-head2 .ensures .1) (w₃ .put-words .ensures .1)
+    let w = c .before in
+    let v = w .before in
+    let s = v .before .before .before .before .before in
+    let a = s .args in
+    side-done (a .job .bytes) (a .job .len) (a .tag) (a .counts) (now (a .outputs)) (s .pre .0) (s .pre .1)
+    (v .headed .ensures) (w .headed2 .ensures) (c .put-column .ensures)
 
 pub put-side-spec : {M : Type 1} → statement M
 put-side-spec =
     tie.close
-    (tie.spec
-    mul-put-head
-    put-head-requires
-    mul-put-head-2
-    add-put-head
-    add-put-head-2
-    mul-put-head-3
-    put-head-requires-2
-    put-words-requires
-    same-length
+    (tie.spec (λ c. omega arith) (λ c. omega arith) (λ c. omega arith) (λ c. omega arith) (λ c κs. omega arith)
+    (λ c. omega arith) headed-requires-2 (λ c. omega arith) put-column-requires (λ c. omega arith) (λ c. omega arith)
     returns)

@@ -10,23 +10,8 @@ use Rattle.records.proofs.Laws.Job.{sets-placed, high-byte}
 use Rattle.records.proofs.put.put_word.Statement.{statement}
 use Rattle.records.proofs.put.put_word.Tie as tie
 
-cast-buf : tie.Need-cast-buf
-cast-buf c = search needs
-
-slice-write-buf : tie.Need-slice-write-buf
-slice-write-buf c = search needs
-
-cast-buf-2 : tie.Need-cast-buf-2
-cast-buf-2 c = search needs
-
-add-buf : tie.Need-add-buf
-add-buf c = search needs
-
 slice-write-buf-2 : tie.Need-slice-write-buf-2
 slice-write-buf-2 c = simp length-set (omega arith)
-
-same-length : tie.Need-same-length
-same-length c = search needs
 
 returns : tie.Need-returns
 unfolding bytePair
@@ -38,4 +23,5 @@ returns c =
 pub put-word-spec : {M : Type 1} → statement M
 put-word-spec =
     tie.close
-    (tie.spec cast-buf slice-write-buf cast-buf-2 add-buf slice-write-buf-2 same-length returns)
+    (tie.spec (λ c. search needs) (λ c. search needs) (λ c. search needs) (λ c. search needs) slice-write-buf-2
+    (λ c. search needs) returns)

@@ -13,31 +13,19 @@ roomy : (c : tie.After-enum-told)
     room (a .old) (a .old-outputs) (a .golden) (a .golden-outputs) (a .nets) (a .weights) ≡ true
 roomy c = passes _ (sym (c .before .before .check-room .ensures) ∙ c .enum-told .given .1)
 
-check-room-requires : tie.Need-check-room-requires
-check-room-requires c κs = tt
-
 enum-told : tie.Need-enum-told
 enum-told c = c .match .keys1
 
 enum-told-2 : tie.Need-enum-told-2
 enum-told-2 c = c .match .keys2
 
-refused-requires : tie.Need-refused-requires
-refused-requires c κs = tt
-
 returns : tie.Need-returns
 returns c =
     c .refused .ensures
     ∙ reply-small _ _ (fails _ (sym (c .before .before .before .check-room .ensures) ∙ c .before .enum-told2 .given .1))
 
-check-job-requires : tie.Need-check-job-requires
-check-job-requires c κs = tt
-
 enum-known-answer : tie.Need-enum-known-answer
 enum-known-answer c = c .match2 .keys1
-
-refused-requires-2 : tie.Need-refused-requires-2
-refused-requires-2 c κs = tt
 
 enum-known-answer-2 : tie.Need-enum-known-answer-2
 enum-known-answer-2 c = c .match2 .keys2
@@ -57,15 +45,5 @@ returns-3 c =
 pub check-read-spec : {M : Type 1} → statement M
 check-read-spec =
     tie.close
-    (tie.spec
-    check-room-requires
-    enum-told
-    enum-told-2
-    refused-requires
-    returns
-    check-job-requires
-    enum-known-answer
-    refused-requires-2
-    enum-known-answer-2
-    returns-2
-    returns-3)
+    (tie.spec (λ c κs. tt) enum-told enum-told-2 (λ c κs. tt) returns (λ c κs. tt) enum-known-answer (λ c κs. tt)
+    enum-known-answer-2 returns-2 returns-3)

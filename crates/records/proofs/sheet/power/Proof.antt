@@ -15,17 +15,8 @@ Inv-loop k p₀ i₀ p i = (i ≤ k) × (p ≡ 2 ^ i)
 abbrev μ-loop : tie.MeasureT-loop
 μ-loop k p₀ i₀ p i = k - i
 
-loop-holds : tie.Need-loop-holds Inv-loop μ-loop
-loop-holds c = search needs
-
 mul-p : tie.Need-mul-p Inv-loop μ-loop
 mul-p c = let h : 2 ^ c .before .loop .i < 65536 = pow-lt {j = 16} (omega arith) in omega arith
-
-add-i : tie.Need-add-i Inv-loop μ-loop
-add-i c = search needs
-
-loop-less : tie.Need-loop-less Inv-loop μ-loop
-loop-less c = search needs
 
 loop-again : tie.Need-loop-again Inv-loop μ-loop
 loop-again c = (omega arith, rw (c .before .loop .inv .1, add-one, pow-succ'))
@@ -36,4 +27,5 @@ returns c =
     rw (← e) (c .before .loop .inv .1)
 
 pub power-spec : {M : Type 1} → statement M
-power-spec = tie.close (tie.spec Inv-loop μ-loop loop-holds mul-p add-i loop-less loop-again returns)
+power-spec = tie.close
+    (tie.spec Inv-loop μ-loop (λ c. search needs) mul-p (λ c. search needs) (λ c. search needs) loop-again returns)

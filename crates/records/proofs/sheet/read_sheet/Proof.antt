@@ -1,12 +1,12 @@
 -- `records::sheet::read_sheet` meets its contract: each check answers the next test of the reply, on the field's bytes.
 -- Assumes nothing.
-use Prim.Native.Nat.{ℕ, _-_, _^_}
+use Prim.Native.Nat.{ℕ, _^_}
 use mathlib.Core.Path.{_≡_, sym, _∙_, ap}
 use mathlib.Core.Bool.{true, false}
 use mathlib.Core.List.{List}
 use native.Mathlib.Omega.{arith}
 use lib.Dec.{ltb}
-use lib.ListN.{length, drop, length-take, length-drop}
+use lib.ListN.{length}
 use Rattle.records.specs.Bytes.{all, nth}
 use Rattle.records.specs.Job.{Candidate, netsOf}
 use Rattle.records.specs.Sheet.{quad, patchOf, patchGood}
@@ -19,7 +19,6 @@ use Rattle.records.proofs.Laws.Shape.{length-netsOf}
 use Rattle.records.proofs.Laws.Sheet.{length-candidatesFrom}
 use Rattle.records.proofs.Laws.SheetShape.{Spans, shape-whole, shape-broken}
 use Rattle.records.proofs.Laws.SheetReply.{Room, room-facts, reply-room, reply-whole, reply-good, reply-accepted, entries, bad-support, bad-table, bad-vectors, bad-cost, good, few-support}
-use borrow.Author.Needs.{needs}
 use Rattle.records.proofs.sheet.read_sheet.Statement.{statement}
 use Rattle.records.proofs.sheet.read_sheet.Tie as tie
 
@@ -34,7 +33,7 @@ abbrev at-told : tie.After-found → tie.After-enum-told
 at-told c = c .before .before .before
 
 abbrev at-found : tie.After-support-cost → tie.After-found
-at-found c = c .before .before .before .before
+at-found c = c .before .before
 
 abbrev at-sum : tie.After-power → tie.After-support-cost
 at-sum c = c .before .before .before .before
@@ -43,10 +42,10 @@ abbrev at-power : tie.After-check-entries → tie.After-power
 at-power c = c .before .before
 
 abbrev at-table : tie.After-check-entries2 → tie.After-check-entries
-at-table c = c .before .before .before .before
+at-table c = c .before .before .before
 
 abbrev at-vectors : tie.After-quad-at → tie.After-check-entries2
-at-vectors c = c .before .before .before .before
+at-vectors c = c .before .before .before
 
 abbrev start : tie.After-found → tie.Start
 start c = entry (at-room (at-told c))
@@ -64,17 +63,11 @@ candidates c = candidatesFrom (c .args .candidates) (c .args .nets .now) (c .arg
 abbrev reply : tie.Start → SheetReply
 reply c = sheetReply (c .args .targets) (c .args .candidates) (c .args .nets .now) (c .args .weights .now) (sheet c)
 
-check-sheet-room-requires : tie.Need-check-sheet-room-requires
-check-sheet-room-requires c κs = tt
-
 enum-told : tie.Need-enum-told
 enum-told c = c .match .keys1
 
 enum-told-2 : tie.Need-enum-told-2
 enum-told-2 c = c .match .keys2
-
-refused-requires : tie.Need-refused-requires
-refused-requires c κs = tt
 
 returns : tie.Need-returns
 returns c =
@@ -106,9 +99,6 @@ enum-known-found c = c .match2 .keys1
 enum-told-3 : tie.Need-enum-told-3
 enum-told-3 c = c .match2 .keys2
 
-refused-requires-2 : tie.Need-refused-requires-2
-refused-requires-2 c κs = tt
-
 returns-2 : tie.Need-returns-2
 returns-2 c =
     let v = c .before .before .before in
@@ -126,35 +116,17 @@ spans c =
     shape-whole (o .args .targets) (sheet o) (λ i. byte i .fits) (c .found .given .0 .0)
     (sym (c .before .before .sheet-shaped .ensures) ∙ c .found .given .1)
 
-mul-k : tie.Need-mul-k
-mul-k c = omega (arith, spans (c .before .before) .few)
-
-add-k : tie.Need-add-k
-add-k c = omega (arith, spans (c .before .before) .few)
-
-sub-support-cost : tie.Need-sub-support-cost
-sub-support-cost c = search needs
-
-part-support-cost-start : tie.Need-part-support-cost-start
-part-support-cost-start c = search needs
-
-part-support-cost-end : tie.Need-part-support-cost-end
-part-support-cost-end c = omega (arith, spans (c .before .before))
-
 support-cost-requires : tie.Need-support-cost-requires
 support-cost-requires c κs =
-    let f = c .before .before .before in
-    let e = ap length (spans f .netsPart) in
-    (omega (arith, e, spans f), room (at-told f) .nets, room (at-told f) .weights)
+    let f = c .before in
+    let r = room (at-told f) in
+    (omega (arith, spans f), omega (arith, spans f .few), r .nets, r .weights)
 
 enum-known-costs : tie.Need-enum-known-costs
 enum-known-costs c = c .match3 .keys1
 
 enum-told-4 : tie.Need-enum-told-4
 enum-told-4 c = c .match3 .keys2
-
-refused-requires-3 : tie.Need-refused-requires-3
-refused-requires-3 c κs = tt
 
 -- the reply where a test of number 8 fails
 unfit : (c : tie.After-found)
@@ -169,8 +141,7 @@ unfit c e =
 supported : (c : tie.After-support-cost)
     → let o = start (at-found c) in c .support-cost .result ≡ supportOf (candidates o) (netsOf (nth 0 (sheet o)))
 supported c =
-    c .support-cost .ensures
-    ∙ ap (λ (l : List ℕ). supportOf (candidates (start (at-found c))) (netsOf l)) (spans (at-found c) .netsPart)
+    c .support-cost .ensures ∙ ap (supportOf (candidates (start (at-found c)))) (spans (at-found c) .netsPart)
 
 returns-3 : tie.Need-returns-3
 returns-3 c =
@@ -184,28 +155,16 @@ power-requires : tie.Need-power-requires
 power-requires c κs = omega (arith, room (at-told (at-found (c .before .before .before))) .targets)
 
 sub-check-entries : tie.Need-sub-check-entries
-sub-check-entries c = omega (arith, spans (at-found (at-sum c)))
-
-sub-check-entries-2 : tie.Need-sub-check-entries-2
-sub-check-entries-2 c = omega (arith, spans (at-found (at-sum c)))
-
-part-check-entries-start : tie.Need-part-check-entries-start
-part-check-entries-start c = omega (arith, spans (at-found (at-sum c)))
-
-part-check-entries-end : tie.Need-part-check-entries-end
-part-check-entries-end c = omega (arith, spans (at-found (at-sum c)))
+sub-check-entries c = omega (arith, spans (at-found (at-sum (c .before))))
 
 check-entries-requires : tie.Need-check-entries-requires
-check-entries-requires c κs = tt
+check-entries-requires c κs = omega (arith, spans (at-found (at-sum (c .before))))
 
 enum-told-5 : tie.Need-enum-told-5
 enum-told-5 c = c .match4 .keys1
 
 enum-told-6 : tie.Need-enum-told-6
 enum-told-6 c = c .match4 .keys2
-
-refused-requires-4 : tie.Need-refused-requires-4
-refused-requires-4 c κs = tt
 
 -- the entries of the table, and of the vectors
 table-tested : (c : tie.After-check-entries)
@@ -224,26 +183,14 @@ returns-4 c =
     (bad-table (o .args .targets) (candidates o) (sheet o)
     (fails _ (sym (table-tested v) ∙ c .before .enum-told6 .given .1)))
 
-sub-check-entries-3 : tie.Need-sub-check-entries-3
-sub-check-entries-3 c = omega (arith, spans (shape (c .before .before)))
-
-part-check-entries-start-2 : tie.Need-part-check-entries-start-2
-part-check-entries-start-2 c = omega (arith, spans (shape (c .before .before)))
-
-part-check-entries-end-2 : tie.Need-part-check-entries-end-2
-part-check-entries-end-2 c = search needs
-
 check-entries-requires-2 : tie.Need-check-entries-requires-2
-check-entries-requires-2 c κs = tt
+check-entries-requires-2 c κs = omega (arith, spans (shape (c .before .before)))
 
 enum-told-7 : tie.Need-enum-told-7
 enum-told-7 c = c .match5 .keys1
 
 enum-told-8 : tie.Need-enum-told-8
 enum-told-8 c = c .match5 .keys2
-
-refused-requires-5 : tie.Need-refused-requires-5
-refused-requires-5 c κs = tt
 
 vectors-tested : (c : tie.After-check-entries2)
     → let o = start (shape (at-table c)) in
@@ -261,24 +208,8 @@ returns-5 c =
     (bad-vectors (o .args .targets) (candidates o) (sheet o)
     (fails _ (sym (vectors-tested v) ∙ c .before .enum-told8 .given .1)))
 
-sub-quad-at : tie.Need-sub-quad-at
-sub-quad-at c = omega (arith, spans (shape (at-table (c .before .before))))
-
-part-quad-at-start : tie.Need-part-quad-at-start
-part-quad-at-start c = omega (arith, spans (shape (at-table (c .before .before))))
-
-part-quad-at-end : tie.Need-part-quad-at-end
-part-quad-at-end c = search needs
-
 quad-at-requires : tie.Need-quad-at-requires
-quad-at-requires c κs =
-    let f = shape (at-table (c .before .before .before)) in
-    let s = sheet (start f) in
-    let b = f .found .given .0 .0 .cost in
-    omega (arith, spans f, length-take (length s - b) (drop b s), length-drop b s)
-
-refused-requires-6 : tie.Need-refused-requires-6
-refused-requires-6 c κs = tt
+quad-at-requires c κs = omega (arith, spans (shape (at-table (c .before .before))))
 
 -- the support's cost as a number, and the sheet's
 sum : (c : tie.After-power)
@@ -299,24 +230,15 @@ returns-6 c =
     (bad-cost (o .args .targets) (candidates o) (sheet o) _ (sum (at-power e))
     (λ q. c .before .if1 .taken (q ∙ sym (cost v))))
 
-sub-support-from : tie.Need-sub-support-from
-sub-support-from c = search needs
-
-part-support-from-start : tie.Need-part-support-from-start
-part-support-from-start c = search needs
-
-part-support-from-end : tie.Need-part-support-from-end
-part-support-from-end c = omega (arith, spans (shape (at-table (at-vectors (c .before)))))
-
 support-from-requires : tie.Need-support-from-requires
 support-from-requires c κs =
-    let e = at-table (at-vectors (c .before .before)) in
+    let e = at-table (at-vectors (c .before)) in
     let f = shape e in
     let o = start f in
     let n = few-support (o .args .targets) (candidates o) (sheet o) _ (sum (at-power e)) in
     omega (
       arith,
-      ap length (spans f .netsPart),
+      spans f,
       n,
       length-netsOf (nth 0 (sheet o)),
       length-candidatesFrom (o .args .candidates) (o .args .nets .now) (o .args .weights .now),
@@ -325,70 +247,25 @@ support-from-requires c κs =
 
 returns-7 : tie.Need-returns-7
 returns-7 c =
-    let q = c .before .before .before in
+    let q = c .before .before in
     let v = at-vectors q in
     let e = at-table v in
     let f = shape e in
     let o = start f in
     let a = o .args in
-    let p = c .before .before .if1 .left ∙ cost q in
-    let t = passes _ (sym (table-tested e) ∙ v .before .before .enum-told5 .given .1) in
-    let w = passes _ (sym (vectors-tested v) ∙ q .before .before .enum-told7 .given .1) in
+    let p = c .before .if1 .left ∙ cost q in
+    let t = passes _ (sym (table-tested e) ∙ v .before .enum-told5 .given .1) in
+    let w = passes _ (sym (vectors-tested v) ∙ q .before .enum-told7 .given .1) in
     let g = good (a .targets) (candidates o) (sheet o) _ (sum (at-power e)) t w p in
     reply-accepted (a .targets) (a .candidates) (a .nets .now) (a .weights .now) (a .sheet .now) (roomy (at-told f))
     (spans f .whole) g (c .support-from .result) (f .found .given .0 .0 .table) _
-    (c .support-from .ensures ∙ ap (λ (l : List ℕ). tenPlaces (netsOf l)) (spans f .netsPart)) (spans f .table) p
+    (c .support-from .ensures ∙ ap tenPlaces (spans f .netsPart)) (spans f .table) p
 
 pub read-sheet-spec : {M : Type 1} → statement M
 read-sheet-spec =
     tie.close
-    (tie.spec
-    check-sheet-room-requires
-    enum-told
-    enum-told-2
-    refused-requires
-    returns
-    sheet-shaped-requires
-    enum-known-found
-    enum-told-3
-    refused-requires-2
-    returns-2
-    mul-k
-    add-k
-    sub-support-cost
-    part-support-cost-start
-    part-support-cost-end
-    support-cost-requires
-    enum-known-costs
-    enum-told-4
-    refused-requires-3
-    returns-3
-    power-requires
-    sub-check-entries
-    sub-check-entries-2
-    part-check-entries-start
-    part-check-entries-end
-    check-entries-requires
-    enum-told-5
-    enum-told-6
-    refused-requires-4
-    returns-4
-    sub-check-entries-3
-    part-check-entries-start-2
-    part-check-entries-end-2
-    check-entries-requires-2
-    enum-told-7
-    enum-told-8
-    refused-requires-5
-    returns-5
-    sub-quad-at
-    part-quad-at-start
-    part-quad-at-end
-    quad-at-requires
-    refused-requires-6
-    returns-6
-    sub-support-from
-    part-support-from-start
-    part-support-from-end
-    support-from-requires
-    returns-7)
+    (tie.spec (λ c κs. tt) enum-told enum-told-2 (λ c κs. tt) returns sheet-shaped-requires enum-known-found
+    enum-told-3 (λ c κs. tt) returns-2 support-cost-requires enum-known-costs enum-told-4 (λ c κs. tt) returns-3
+    power-requires sub-check-entries check-entries-requires enum-told-5 enum-told-6 (λ c κs. tt) returns-4
+    check-entries-requires-2 enum-told-7 enum-told-8 (λ c κs. tt) returns-5 quad-at-requires (λ c κs. tt) returns-6
+    support-from-requires returns-7)

@@ -3,22 +3,23 @@
 use Prim.Native.Nat.{ℕ, _+_, _-_, _*_, _≤_, _<_}
 use mathlib.Core.Path.{_≡_, sym, _∙_}
 use native.Mathlib.Omega.{arith}
-use lib.ListN.{getD}
-use Rattle.records.specs.Job.{netsOf}
+use mathlib.Core.List.{List}
+use lib.ListN.{length, getD}
 use Rattle.records.specs.Service.{candidatesFrom}
-use Rattle.records.specs.Inner.{supportOf}
-use Rattle.records.proofs.Laws.Sheet.{word-lt, Stands, found-at, supportLeft, support-start, support-end, support-low, support-odd, support-next}
+use Rattle.records.specs.Inner.{wordColumn, supportOf}
+use Rattle.records.proofs.Laws.Sheet.{word-lt, column-at, length-column, Stands, found-at, supportLeft, support-start, support-end, support-low, support-odd, support-next}
 use Rattle.records.proofs.sheet.support_cost.Statement.{statement}
 use Rattle.records.proofs.sheet.support_cost.Tie as tie
 
 abbrev Inv-loop : tie.InvT-loop
-Inv-loop s count nets weights long least₀ sum₀ i₀ least sum i =
+Inv-loop s long count nets weights least₀ sum₀ i₀ least sum i =
     (i ≤ long)
     × (sum ≤ 65535 * i)
-    × (supportLeft s count nets weights least sum i ≡ supportOf (candidatesFrom count nets weights) (netsOf s))
+    × (supportLeft (wordColumn s 2 3 long) count nets weights least sum i
+    ≡ supportOf (candidatesFrom count nets weights) (wordColumn s 2 3 long))
 
 abbrev μ-loop : tie.MeasureT-loop
-μ-loop s count nets weights long least₀ sum₀ i₀ least sum i = long - i
+μ-loop s long count nets weights least₀ sum₀ i₀ least sum i = long - i
 
 -- the places passed on the way
 abbrev entry : tie.At-loop Inv-loop μ-loop → tie.Start Inv-loop μ-loop
@@ -27,17 +28,26 @@ entry c = c .before .before .before .before
 abbrev head : tie.After-word-at Inv-loop μ-loop → tie.At-loop Inv-loop μ-loop
 head c = c .before .before
 
+-- the support, and its net of a turn
+abbrev support : tie.At-loop Inv-loop μ-loop → List ℕ
+support o = wordColumn (entry o .args .s .now) 2 3 (entry o .args .long)
+
+net : (w : tie.After-word-at Inv-loop μ-loop) → w .word-at .result ≡ getD (support (head w)) (head w .loop .i) 0
+net w =
+    let o = head w in
+    let a = entry o .args in
+    w .word-at .ensures ∙ sym (column-at (a .s .now) 2 3 (a .long) (o .loop .i) (w .before .loop-test .taken))
+
+short : (w : tie.After-word-at Inv-loop μ-loop) → head w .loop .i < length (support (head w))
+short w =
+    let a = entry (head w) .args in
+    omega (arith, w .before .loop-test .taken, length-column (a .s .now) 2 3 (a .long))
+
 abbrev word : tie.After-known-told Inv-loop μ-loop → tie.After-word-at Inv-loop μ-loop
 word c = c .before .before .before .before .before
 
 loop-holds : tie.Need-loop-holds Inv-loop μ-loop
 loop-holds c = (omega arith, omega arith, support-start _ _)
-
-mul-word-at : tie.Need-mul-word-at Inv-loop μ-loop
-mul-word-at c = omega arith
-
-word-at-requires : tie.Need-word-at-requires Inv-loop μ-loop
-word-at-requires c κs = omega arith
 
 returns : tie.Need-returns Inv-loop μ-loop
 returns c =
@@ -45,12 +55,9 @@ returns c =
     let o = head w in
     let a = entry o .args in
     sym
-    (support-low (a .s .now) (a .count) (a .nets .now) (a .weights .now) (o .loop .least) (o .loop .sum) (o .loop .i)
-    (w .word-at .result) (w .word-at .ensures) (omega arith) (c .if1 .taken))
+    (support-low (support o) (a .count) (a .nets .now) (a .weights .now) (o .loop .least) (o .loop .sum) (o .loop .i)
+    (w .word-at .result) (net w) (short w) (c .if1 .taken))
     ∙ o .loop .inv .2
-
-find-requires : tie.Need-find-requires Inv-loop μ-loop
-find-requires c κs = omega arith
 
 enum-known-place : tie.Need-enum-known-place Inv-loop μ-loop
 enum-known-place c = c .match .keys1
@@ -65,8 +72,8 @@ returns-2 c =
     let a = entry o .args in
     let e = sym (c .before .before .find .ensures) ∙ c .enum-told .given .1 in
     sym
-    (support-odd (a .s .now) (a .count) (a .nets .now) (a .weights .now) (o .loop .least) (o .loop .sum) (o .loop .i)
-    (w .word-at .result) (w .word-at .ensures) (omega arith) (entry o .pre .1) e)
+    (support-odd (support o) (a .count) (a .nets .now) (a .weights .now) (o .loop .least) (o .loop .sum) (o .loop .i)
+    (w .word-at .result) (net w) (short w) (entry o .pre .2) e)
     ∙ o .loop .inv .2
 
 -- the place where the net stands
@@ -79,7 +86,7 @@ stands : (c : tie.After-known-told Inv-loop μ-loop)
     (getD (a .weights .now) (at c) 0) (at c) (a .count)
 stands c =
     let b = entry (head (word c)) in
-    found-at (b .args .nets .now) (b .args .weights .now) (word c .word-at .result) (b .args .count) (b .pre .1) (at c)
+    found-at (b .args .nets .now) (b .args .weights .now) (word c .word-at .result) (b .args .count) (b .pre .2) (at c)
     (sym (c .before .before .before .find .ensures) ∙ c .before .place .given .1)
 
 -- the weight there takes two bytes
@@ -104,14 +111,8 @@ add-least c =
     let w = word (c .before) in
     let o = head w in
     let byte = o .before .before .before .shared-slice-known .given in
-    let j = 2 * o .loop .i in
+    let j = 2 * o .loop .i + 3 in
     omega (arith, w .word-at .ensures, word-lt (entry o .args .s .now) j (byte j .fits) (byte (j + 1) .fits))
-
-add-i : tie.Need-add-i Inv-loop μ-loop
-add-i c = omega arith
-
-loop-less : tie.Need-loop-less Inv-loop μ-loop
-loop-less c = omega arith
 
 loop-again : tie.Need-loop-again Inv-loop μ-loop
 loop-again c =
@@ -122,8 +123,8 @@ loop-again c =
       omega arith,
       omega (arith, light c),
       sym
-          (support-next (a .s .now) (a .count) (a .nets .now) (a .weights .now) (o .loop .least) (o .loop .sum) (o .loop .i)
-          (w .word-at .result) (w .word-at .ensures) (omega arith) (getD (a .weights .now) k 0) k (a .count)
+          (support-next (support o) (a .count) (a .nets .now) (a .weights .now) (o .loop .least) (o .loop .sum) (o .loop .i)
+          (w .word-at .result) (net w) (short w) (getD (a .weights .now) k 0) k (a .count)
           (c .before .before .before .before .before .if1 .left) (stands (c .before)))
           ∙ o .loop .inv .2,
     )
@@ -133,30 +134,13 @@ returns-3 c =
     let o = c .before in
     let a = entry o .args in
     sym
-    (support-end (a .s .now) (a .count) (a .nets .now) (a .weights .now) (o .loop .least) (o .loop .sum) (o .loop .i)
-    (omega arith))
+    (support-end (support o) (a .count) (a .nets .now) (a .weights .now) (o .loop .least) (o .loop .sum) (o .loop .i)
+    (omega (arith, length-column (a .s .now) 2 3 (a .long))))
     ∙ o .loop .inv .2
 
 pub support-cost-spec : {M : Type 1} → statement M
 support-cost-spec =
     tie.close
-    (tie.spec
-    Inv-loop
-    μ-loop
-    loop-holds
-    mul-word-at
-    word-at-requires
-    returns
-    find-requires
-    enum-known-place
-    enum-told
-    returns-2
-    mul-sum
-    shared-slice-read-sum
-    cast-sum
-    add-sum
-    add-least
-    add-i
-    loop-less
-    loop-again
-    returns-3)
+    (tie.spec Inv-loop μ-loop loop-holds (λ c. omega arith) (λ c. omega arith) (λ c κs. omega arith) returns
+    (λ c κs. omega arith) enum-known-place enum-told returns-2 mul-sum shared-slice-read-sum cast-sum add-sum
+    add-least (λ c. omega arith) (λ c. omega arith) loop-again returns-3)

@@ -1,31 +1,16 @@
--- `records::writing::check_held` meets its contract: each test is one of six inequalities. Assumes nothing.
-use native.Mathlib.Omega.{arith}
+-- `records::writing::check_held` meets its contract: the test is the definition's. Assumes nothing.
 use Rattle.records.specs.Inner.{holds}
-use Rattle.records.proofs.Laws.Counts.{holds-facts, holds-true, passed, failed}
+use Rattle.records.proofs.Laws.Counts.{passed, failed-of}
 use Rattle.records.proofs.writing.check_held.Statement.{statement}
 use Rattle.records.proofs.writing.check_held.Tie as tie
 
 returns : tie.Need-returns
-returns c = failed (holds _ _ _ _ _ _ _) (λ t. let w = holds-facts _ _ _ _ _ _ _ t in omega arith)
+unfolding holds
+returns c = let a = c .before .before .before .before .before .before .before .args in passed (holds (a .counts) (a .old) (a .old-outputs) (a .golden) (a .golden-outputs) (a .nets) (a .weights)) (c .if1 .taken)
 
 returns-2 : tie.Need-returns-2
-returns-2 c = failed (holds _ _ _ _ _ _ _) (λ t. let w = holds-facts _ _ _ _ _ _ _ t in omega arith)
-
-returns-3 : tie.Need-returns-3
-returns-3 c = failed (holds _ _ _ _ _ _ _) (λ t. let w = holds-facts _ _ _ _ _ _ _ t in omega arith)
-
-returns-4 : tie.Need-returns-4
-returns-4 c = failed (holds _ _ _ _ _ _ _) (λ t. let w = holds-facts _ _ _ _ _ _ _ t in omega arith)
-
-returns-5 : tie.Need-returns-5
-returns-5 c = failed (holds _ _ _ _ _ _ _) (λ t. let w = holds-facts _ _ _ _ _ _ _ t in omega arith)
-
-returns-6 : tie.Need-returns-6
-returns-6 c = failed (holds _ _ _ _ _ _ _) (λ t. let w = holds-facts _ _ _ _ _ _ _ t in omega arith)
-
-returns-7 : tie.Need-returns-7
-returns-7 c = passed (holds _ _ _ _ _ _ _) (holds-true _ _ _ _ _ _ _ (omega arith))
+unfolding holds
+returns-2 c = let a = c .before .before .before .before .before .before .before .args in failed-of (holds (a .counts) (a .old) (a .old-outputs) (a .golden) (a .golden-outputs) (a .nets) (a .weights)) (c .if1 .left)
 
 pub check-held-spec : {M : Type 1} → statement M
-check-held-spec =
-    tie.close (tie.spec returns returns-2 returns-3 returns-4 returns-5 returns-6 returns-7)
+check-held-spec = tie.close (tie.spec returns returns-2)

@@ -7,24 +7,15 @@ use Rattle.records.proofs.Laws.Counts.{passes, fails}
 use Rattle.records.proofs.writing.plan_write.Statement.{statement}
 use Rattle.records.proofs.writing.plan_write.Tie as tie
 
-refused-plan-requires : tie.Need-refused-plan-requires
-refused-plan-requires c κs = tt
-
 returns : tie.Need-returns
 unfolding planOf firstFailing refusedPlan
 returns c = c .refused-plan .ensures ∙ rw (lt-leb _ _ (c .before .if1 .taken))
-
-check-counts-requires : tie.Need-check-counts-requires
-check-counts-requires c κs = tt
 
 enum-told : tie.Need-enum-told
 enum-told c = c .match .keys1
 
 enum-told-2 : tie.Need-enum-told-2
 enum-told-2 c = c .match .keys2
-
-refused-plan-requires-2 : tie.Need-refused-plan-requires-2
-refused-plan-requires-2 c κs = tt
 
 returns-2 : tie.Need-returns-2
 unfolding planOf firstFailing refusedPlan
@@ -33,17 +24,11 @@ returns-2 c =
     let f = fails _ (sym (w .check-counts .ensures) ∙ c .before .enum-told2 .given .1) in
     c .refused-plan2 .ensures ∙ rw (le-leb _ _ (w .before .if1 .left), f)
 
-check-held-requires : tie.Need-check-held-requires
-check-held-requires c κs = tt
-
 enum-told-3 : tie.Need-enum-told-3
 enum-told-3 c = c .match2 .keys1
 
 enum-told-4 : tie.Need-enum-told-4
 enum-told-4 c = c .match2 .keys2
-
-refused-plan-requires-3 : tie.Need-refused-plan-requires-3
-refused-plan-requires-3 c κs = tt
 
 returns-3 : tie.Need-returns-3
 unfolding planOf firstFailing refusedPlan
@@ -66,17 +51,5 @@ returns-4 c =
 pub plan-write-spec : {M : Type 1} → statement M
 plan-write-spec =
     tie.close
-    (tie.spec
-    refused-plan-requires
-    returns
-    check-counts-requires
-    enum-told
-    enum-told-2
-    refused-plan-requires-2
-    returns-2
-    check-held-requires
-    enum-told-3
-    enum-told-4
-    refused-plan-requires-3
-    returns-3
-    returns-4)
+    (tie.spec (λ c κs. tt) returns (λ c κs. tt) enum-told enum-told-2 (λ c κs. tt) returns-2 (λ c κs. tt) enum-told-3
+    enum-told-4 (λ c κs. tt) returns-3 returns-4)

@@ -3,12 +3,9 @@ use Rattle.records.specs.Inner.{refusedPlan}
 use Rattle.records.proofs.writing.refused_plan.Statement.{statement}
 use Rattle.records.proofs.writing.refused_plan.Tie as tie
 
-no-counts-requires : tie.Need-no-counts-requires
-no-counts-requires c κs = tt
-
 returns : tie.Need-returns
 unfolding refusedPlan
 returns c = rw (c .no-counts .ensures)
 
 pub refused-plan-spec : {M : Type 1} → statement M
-refused-plan-spec = tie.close (tie.spec no-counts-requires returns)
+refused-plan-spec = tie.close (tie.spec (λ c κs. tt) returns)

@@ -1,5 +1,5 @@
 -- `records::writing::write` meets its contract: a walk of its MIR, by hand. All that the proof knows of `plan_write`, `gate_spans`, `put_gates` and `write_rest` is that each meets its contract. Assumes nothing.
--- The local scratch is lent to each of its three callees for a lifetime that is made for the call, and comes back; buf is given up to the last.
+-- The local scratch is lent to `put_gates` for a lifetime that is made for the call, and comes back; a copy of it goes to `write_rest`, and buf is given up.
 use mathlib.Core.Path.{_≡_, refl, _∙_}
 use Prim.Native.Nat.{ℕ, _+_, _*_, _^_, _≤_, _<_}
 use native.Mathlib.Omega.{arith}
@@ -32,7 +32,7 @@ use denote.Builtin.{u8, u16, usize}
 use denote.Lend.{Held}
 use denote.Ref.{RefT}
 use denote.Slice.{sliceVal, ShrSlice, slice-vals, shr-slice-tells, mut-slice-tells}
-use denote.Steps.{owned, facts}
+use denote.Steps.{owned, peeks, facts}
 use denote.Struct.Laws as LL
 use denote.Triple.Entry.{Args, Vals, onEntry}
 use denote.Triple.Spec.{Meets, tripleOf}
@@ -203,15 +203,15 @@ module _ {M : Type 1} (𝓤 : URA M) (H : Heap 𝓤) (A : Atoms 𝓤) (W : Given
   abbrev to-spans : Spans 𝓤 H A mem run .Ghost
   to-spans = ((tt, tt, tt, (plan .counts, tt), (N′.lowered (plan .counts) ∷ [], tt)), tt)
 
-  -- the scratch at b is lent for β, under the name γ, at the bytes z
-  abbrev to-rest : ℕ → GName → ℕ → List ℕ → WriteRest 𝓤 H A mem run .Ghost
-  to-rest β γ b z = (
+  -- the scratch is passed with the bytes z
+  abbrev to-rest : List ℕ → Val → WriteRest 𝓤 H A mem run .Ghost
+  to-rest z v = (
     (
-      (κs .1 .0, (κs .1 .1 .1 .0, (κs .1 .1 .1 .1 .0, (κs .1 .1 .1 .1 .1 .0, (β ∷ [], (κs .1 .1 .1 .1 .1 .1 .0, tt)))))),
-      (qs .1 .0, (qs .1 .1 .1 .0, (qs .1 .1 .1 .1 .0, (qs .1 .1 .1 .1 .1 .0, (fullShare, (qs .1 .1 .1 .1 .1 .1 .0, tt)))))),
+      (κs .1 .0, (κs .1 .1 .1 .0, (κs .1 .1 .1 .1 .0, (κs .1 .1 .1 .1 .1 .0, (κs .1 .1 .1 .1 .1 .1 .0, tt))))),
+      (qs .1 .0, (qs .1 .1 .1 .0, (qs .1 .1 .1 .1 .0, (qs .1 .1 .1 .1 .1 .0, (qs .1 .1 .1 .1 .1 .1 .0, tt))))),
       tt,
-      (plan, (outs, (outs′, (nets, (weights, (slice b 0 γ z, (buf, tt))))))),
-      (P′.lowered plan ∷ [], (slice-vals outs, (slice-vals outs′, (slice-vals nets, (slice-vals weights, (sliceVal (b, 0) 4188 ∷ [], (slice-vals buf, tt))))))),
+      (plan, (outs, (outs′, (nets, (weights, (z, (buf, tt))))))),
+      (P′.lowered plan ∷ [], (slice-vals outs, (slice-vals outs′, (slice-vals nets, (slice-vals weights, (v ∷ [], (slice-vals buf, tt))))))),
     ),
     tt,
   )
@@ -231,60 +231,59 @@ module _ {M : Type 1} (𝓤 : URA M) (H : Heap 𝓤) (A : Atoms 𝓤) (W : Given
         starts 𝓤 H A W write.signature κs qs a vals _ (qed W (alls 7 κs qs ++ (parts (typesAt (write.signature .params) κs) a vals ++ [])) ∵ enter ! (𝓣 .C) (𝓣 .Λ) code.function (flat (typesAt (write.signature .params) κs) vals) _ $
         arrives ! (LL.lawful N.the-type N′.the-laws 𝓤 H A W .typed (a .0) _ (are .0) .0, (slice-typed fit-2, (slice-typed fit-3, (slice-typed fit-4, (slice-typed fit-5, (slice-typed fit-6, (slice-typed fit-7, (slice-typed fit-8, tt)))))))) (λ bs.
         let b : ℕ = bs .1 .1 .1 .1 .1 .1 .1 .1 .1 .1 .1 .0 in
-        lets ! 30 (of-opd ! (piece ! 38 refl refl refl)) refl (tt, record { fits = fit-8 }) $
-        lets ! 28 (of-opd ! (piece ! 50 refl refl refl)) refl (tt, record { fits = fit-2 }) $
-        lets ! 26 (of-opd ! (piece ! 48 refl refl refl)) refl (tt, record { fits = fit-3 }) $
-        lets ! 24 (of-opd ! (piece ! 46 refl refl refl)) refl (tt, record { fits = fit-4 }) $
-        lets ! 22 (of-opd ! (piece ! 44 refl refl refl)) refl (tt, record { fits = fit-5 }) $
-        lets ! 20 (of-opd ! (piece ! 42 refl refl refl)) refl (tt, record { fits = fit-6 }) $
-        lets ! 18 (of-opd ! (piece ! 40 refl refl refl)) refl (tt, record { fits = fit-7 }) $
+        lets ! 28 (of-opd ! (piece ! 36 refl refl refl)) refl (tt, record { fits = fit-8 }) $
+        lets ! 26 (of-opd ! (piece ! 48 refl refl refl)) refl (tt, record { fits = fit-2 }) $
+        lets ! 24 (of-opd ! (piece ! 46 refl refl refl)) refl (tt, record { fits = fit-3 }) $
+        lets ! 22 (of-opd ! (piece ! 44 refl refl refl)) refl (tt, record { fits = fit-4 }) $
+        lets ! 20 (of-opd ! (piece ! 42 refl refl refl)) refl (tt, record { fits = fit-5 }) $
+        lets ! 18 (of-opd ! (piece ! 40 refl refl refl)) refl (tt, record { fits = fit-6 }) $
+        lets ! 16 (of-opd ! (piece ! 38 refl refl refl)) refl (tt, record { fits = fit-7 }) $
         -- `plan_write`
         made ! (typesAt (plan-write.signature .params) tt) (to-plan .0 .3) (to-plan .0 .4) (LL.makes N.the-type N′.the-plain 𝓤 H A, (w, (w, (w, (w, (w, (w, (w, tt)))))))) (are .0, ((refl, fit-8), ((refl, fit-2), ((refl, fit-3), ((refl, fit-4), ((refl, fit-5), ((refl, fit-6), ((refl, fit-7), tt)))))))) $
         calls-giving ! (fmOf 𝓤 H (W .laws) 𝓣) plan-write.ended (plan-write.clauses 𝓤 H A mem run) known-plan to-plan (id⊢ 𝓤 _) P′.lowers plan (λ r e. id⊢ 𝓤 _)
-        (and-then ! (var ! 53 refl) (and-then ! (var ! 31 refl) (and-then ! (var ! 29 refl) (and-then ! (var ! 27 refl) (and-then ! (var ! 25 refl) (and-then ! (var ! 23 refl) (and-then ! (var ! 21 refl) (and-then ! (var ! 19 refl) (no-more !))))))))) (λ plan-is.
-        land ! (from ! (stop !)) (init ! 36 refl (LL.lawful P.the-type P′.the-laws 𝓤 H A W .typed plan _ plan-is .0)) $
+        (and-then ! (var ! 51 refl) (and-then ! (var ! 29 refl) (and-then ! (var ! 27 refl) (and-then ! (var ! 25 refl) (and-then ! (var ! 23 refl) (and-then ! (var ! 21 refl) (and-then ! (var ! 19 refl) (and-then ! (var ! 17 refl) (no-more !))))))))) (λ plan-is.
+        land ! (from ! (stop !)) (init ! 34 refl (LL.lawful P.the-type P′.the-laws 𝓤 H A W .typed plan _ plan-is .0)) $
         -- `gate_spans`
         made ! (typesAt (gate-spans.signature .params) tt) (plan .counts, tt) (N′.lowered (plan .counts) ∷ [], tt) (LL.makes N.the-type N′.the-plain 𝓤 H A, tt) (LL.owed P.the-type P′.the-laws plan _ plan-is .1 .0, tt) $
-        calls-giving ! (fmOf 𝓤 H (W .laws) 𝓣) gate-spans.ended (gate-spans.clauses 𝓤 H A mem run) known-spans to-spans (id⊢ 𝓤 _) S′.lowers spans (λ r e. id⊢ 𝓤 _) (and-then ! (piece ! 37 {τ = N′.mir} {d = 8} refl refl refl) (no-more !)) (λ spans-is.
+        calls-giving ! (fmOf 𝓤 H (W .laws) 𝓣) gate-spans.ended (gate-spans.clauses 𝓤 H A mem run) known-spans to-spans (id⊢ 𝓤 _) S′.lowers spans (λ r e. id⊢ 𝓤 _) (and-then ! (piece ! 35 {τ = N′.mir} {d = 8} refl refl refl) (no-more !)) (λ spans-is.
         let fits = LL.owed S.the-type S′.the-laws spans _ spans-is in
         let ok = spans-held (a .0) held (buf .now) plan spans refl refl in
         let full : length zeros ≡ 4188 = length-replicate {A = ℕ} 4188 0 in
-        land ! (from ! (stop !)) (init ! 34 refl (LL.lawful S.the-type S′.the-laws 𝓤 H A W .typed spans _ spans-is .0)) $
+        let bytes = array-lawful 𝓤 H A W u8 (uint-lawful 𝓤 H A W w8) 4188 in
+        land ! (from ! (stop !)) (init ! 32 refl (LL.lawful S.the-type S′.the-laws 𝓤 H A W .typed spans _ spans-is .0)) $
         -- the scratch is made, and the old gates are put
         use0 W (‵ (Own zeros zeros-val)) zeros-owned $ facts ! (Array u8 4188) (Is (Array u8 4188)) (shown-by 𝓤 H A (Array u8 4188)) zeros (zeros-val ∷ []) (λ zeros-is.
-        lets ! 32 (rep ! 4188 (lit ! tt)) refl (array-lawful 𝓤 H A W u8 (uint-lawful 𝓤 H A W w8) 4188 .typed zeros _ zeros-is .0) $
-        lets ! 14 (addr ! (from ! (stop !))) refl (tt, tt) $
-        lets ! 12 (agg ! (and-then ! (var ! 14 refl) (and-then ! (big ! size) (no-more !)))) refl (tt, (tt, (size, tt))) $
-        use0 W (‵ (Own zeros zeros-val)) zeros-owned $ move ! (33 ∷ 0 ∷ 57 ∷ 65 ∷ []) $
+        lets ! 30 (rep ! 4188 (lit ! tt)) refl (bytes .typed zeros _ zeros-is .0) $
+        lets ! 12 (addr ! (from ! (stop !))) refl (tt, tt) $
+        lets ! 10 (agg ! (and-then ! (var ! 12 refl) (and-then ! (big ! size) (no-more !)))) refl (tt, (tt, (size, tt))) $
+        use0 W (‵ (Own zeros zeros-val)) zeros-owned $ move ! (31 ∷ 0 ∷ 55 ∷ 63 ∷ []) $
         puts 𝓤 H A mem run W 𝓣 known-put (κs .0) (qs .0) old (spans .«old_count») (spans .old) b zeros zeros-val (fits .1 .0 .1) (fits .0 .1) (omega (arith, ok .0, full), ok .1)
-        (λ α γ. and-then ! (var ! 51 refl) (and-then ! (piece ! 35 refl refl refl) (and-then ! (piece ! 35 refl refl refl) (and-then ! (var ! 14 refl) (no-more !))))) (λ u₁ v₁ z₁ l₁ e₁ ok₁.
+        (λ α γ. and-then ! (var ! 49 refl) (and-then ! (piece ! 33 refl refl refl) (and-then ! (piece ! 33 refl refl refl) (and-then ! (var ! 12 refl) (no-more !))))) (λ u₁ v₁ z₁ l₁ e₁ ok₁.
         -- [the scratch; what it owns; old's token; the locals; the other tokens; what the other parameters own]: the golden gates are put
-        land ! (from ! (stop !)) (init ! 19 refl ok₁) $ lets ! 13 (addr ! (from ! (stop !))) refl (tt, tt) $
-        lets ! 11 (agg ! (and-then ! (var ! 13 refl) (and-then ! (big ! size) (no-more !)))) refl (tt, (tt, (size, tt))) $ move ! (0 ∷ 1 ∷ 59 ∷ 66 ∷ []) $
+        land ! (from ! (stop !)) (init ! 17 refl ok₁) $ lets ! 11 (addr ! (from ! (stop !))) refl (tt, tt) $
+        lets ! 9 (agg ! (and-then ! (var ! 11 refl) (and-then ! (big ! size) (no-more !)))) refl (tt, (tt, (size, tt))) $ move ! (0 ∷ 1 ∷ 57 ∷ 64 ∷ []) $
         puts 𝓤 H A mem run W 𝓣 known-put (κs .1 .1 .0) (qs .1 .1 .0) golden (spans .«golden_count») (spans .golden) b z₁ v₁ (fits .1 .1 .1 .0 .1) (fits .1 .1 .0 .1) (omega (arith, ok .2, full, l₁), ok .3)
-        (λ α γ. and-then ! (var ! 48 refl) (and-then ! (piece ! 36 {d = 24} refl refl refl) (and-then ! (piece ! 36 refl refl refl) (and-then ! (var ! 11 refl) (no-more !))))) (λ u₂ v₂ z₂ l₂ e₂ ok₂.
-        land ! (from ! (stop !)) (store ! 20 refl ok₂) $ lets ! 10 (addr ! (from ! (stop !))) refl (tt, tt) $
-        lets ! 8 (agg ! (and-then ! (var ! 10 refl) (and-then ! (big ! size) (no-more !)))) refl (tt, (tt, (size, tt))) $ relends ! 41 6 4 refl refl refl (tt, tt) refl refl refl (slice-typed fit-8) $
-        -- `write_rest`, with the scratch lent for a lifetime β
-        lft-new ! tt (λ β. move ! (1 ∷ 2 ∷ []) $ lends ! tt u8 tt 4188 (lit< tt, lit< tt) (named 4) (β ∷ []) b 0 z₂ v₂ (λ γ.
+        (λ α γ. and-then ! (var ! 46 refl) (and-then ! (piece ! 34 {d = 24} refl refl refl) (and-then ! (piece ! 34 refl refl refl) (and-then ! (var ! 9 refl) (no-more !))))) (λ u₂ v₂ z₂ l₂ e₂ ok₂.
+        land ! (from ! (stop !)) (store ! 18 refl ok₂) $ move ! (1 ∷ []) $ peeks ! (Array u8 4188) (Is (Array u8 4188)) (shown-by 𝓤 H A (Array u8 4188)) z₂ (v₂ ∷ []) (λ z₂-is.
+        -- [what the scratch owns; the scratch; two tokens; the other locals; …]: `write_rest`, with a copy of the scratch
+        lets ! 8 (of-opd ! (var ! 1 refl)) refl (bytes .typed z₂ _ z₂-is .0) $ relends ! 39 6 4 refl refl refl (tt, tt) refl refl refl (slice-typed fit-8) $
         owned ! P.the-row (Is P.the-row) (LL.makes P.the-type P′.the-plain 𝓤 H A) plan (P′.lowered plan ∷ []) plan-is $
-        -- [plan; the slice; the lender's part; β; two tokens; the locals but the scratch; the other tokens; counts; what the other parameters own]
-        move ! (61 ∷ 62 ∷ 63 ∷ 64 ∷ 3 ∷ 65 ∷ 0 ∷ 67 ∷ 68 ∷ 69 ∷ 70 ∷ 1 ∷ 71 ∷ []) $
-        calls ! (fmOf 𝓤 H (W .laws) 𝓣) write-rest.ended (write-rest.clauses 𝓤 H A mem run) known-rest (to-rest β γ b z₂)
+        -- [plan; what the scratch owns; the scratch; two tokens; the other locals; the other tokens; counts; what the other parameters own]
+        move ! (58 ∷ 59 ∷ 60 ∷ 61 ∷ 62 ∷ 0 ∷ 64 ∷ 65 ∷ 66 ∷ 67 ∷ 1 ∷ 68 ∷ []) $
+        calls ! (fmOf 𝓤 H (W .laws) 𝓣) write-rest.ended (write-rest.clauses 𝓤 H A mem run) known-rest (to-rest z₂ v₂)
         (factI 𝓤 _ (emp 𝓤) (rest-held (a .0) held (buf .now) plan (length z₂) refl (l₂ ∙ l₁ ∙ full)))
         (λ r zs. (gs hs : List Gate) → (plan .number ≡ 0 → GatesPut (plan .counts) gs hs z₂)
         → RestWritten plan (places (sidePlaces gs (outs .now)) (sidePlaces hs (outs′ .now)) (nets .now) (weights .now)) (buf .now) r (zs .1 .1 .1 .1 .1 .1 .0)) (λ r zs. id⊢ 𝓤 _)
-        (and-then ! (var ! 39 refl) (and-then ! (var ! 51 refl) (and-then ! (var ! 47 refl) (and-then ! (var ! 45 refl) (and-then ! (var ! 43 refl) (and-then ! (var ! 8 refl) (and-then ! (var ! 4 refl) (no-more !)))))))) (λ u r zs e is.
-        land ! (from ! (stop !)) (init ! 64 refl (LL.lawful R.the-type R′.the-laws 𝓤 H A W .typed r _ is .0)) $
-        -- [four tokens; β; buf's token; the last bytes of the scratch and of buf; the lender's part; two tokens; the locals but the scratch; counts]: the scratch comes back
-        move ! (4 ∷ []) $ lft-end ! tt $ move ! (6 ∷ []) $ fsplit ! $ move ! (1 ∷ []) $ drop ! $ move ! (1 ∷ 8 ∷ 0 ∷ []) $
-        returned ! tt u8 4188 b 0 (β ∷ []) γ (zs .1 .1 .1 .1 .1 .0) (λ v₃. move ! (1 ∷ 65 ∷ []) $ drop ! $ drop ! $ move ! (8 ∷ 1 ∷ 7 ∷ 2 ∷ 3 ∷ 4 ∷ 5 ∷ 6 ∷ (positions 9 32 ++ (0 ∷ []))) $
-        returns ! (look ! 62 refl) $ released ! 8 (holds _ ∷ holds _ ∷ holds _ ∷ holds _ ∷ holds _ ∷ holds _ ∷ holds _ ∷ holds _ ∷ holds _ ∷ holds _ ∷ holds _ ∷ holds _ ∷ holds _ ∷ holds _
-        ∷ holds _ ∷ holds _ ∷ holds _ ∷ holds _ ∷ holds _ ∷ holds _ ∷ holds _ ∷ holds _ ∷ holds _ ∷ holds _ ∷ holds _ ∷ holds _ ∷ holds _ ∷ holds _ ∷ []) refl $
+        (and-then ! (var ! 37 refl) (and-then ! (var ! 49 refl) (and-then ! (var ! 45 refl) (and-then ! (var ! 43 refl) (and-then ! (var ! 41 refl) (and-then ! (var ! 8 refl) (and-then ! (var ! 4 refl) (no-more !)))))))) (λ u r zs e is.
+        land ! (from ! (stop !)) (init ! 60 refl (LL.lawful R.the-type R′.the-laws 𝓤 H A W .typed r _ is .0)) $
+        -- [five tokens; the last bytes of buf; the scratch; two tokens; the other locals; counts]
+        move ! (62 ∷ []) $ drop ! $ move ! (8 ∷ 0 ∷ 7 ∷ 1 ∷ 2 ∷ 3 ∷ 4 ∷ 5 ∷ (positions 9 30 ++ (6 ∷ []))) $
+        returns ! (look ! 60 refl) $ released ! 8 (holds _ ∷ holds _ ∷ holds _ ∷ holds _ ∷ holds _ ∷ holds _ ∷ holds _ ∷ holds _ ∷ holds _ ∷ holds _ ∷ holds _ ∷ holds _ ∷ holds _ ∷ holds _
+        ∷ holds _ ∷ holds _ ∷ holds _ ∷ holds _ ∷ holds _ ∷ holds _ ∷ holds _ ∷ holds _ ∷ holds _ ∷ holds _ ∷ holds _ ∷ holds _ ∷ holds _ ∷ []) refl $
         owned ! R.the-row (Is R.the-row) (LL.makes R.the-type R′.the-plain 𝓤 H A) r (u ∷ []) is $ move ! (positions 1 8) $
         let ends = write-ends (a .0) held (buf .now) plan r (zs .1 .1 .1 .1 .1 .1 .0) refl (e (old .now) (golden .now) (gates-put (a .0) held (buf .now) plan spans zeros z₁ z₂ refl refl full e₁ e₂)) in
         by ! (ending 𝓤 H A W write.ended (write.clauses 𝓤 H A mem run) ((κs, qs, tt, a, vals), tt) u r (tt, (tt, (tt, (tt, (tt, (tt, (tt, (zs .1 .1 .1 .1 .1 .1 .0, tt))))))))
-        (via 𝓤 _ (emp∗ 𝓤 (emp 𝓤)) (mono∗ 𝓤 (factI 𝓤 _ (emp 𝓤) (ends .0)) (factI 𝓤 _ (emp 𝓤) (ends .1))))))))))))))))
+        (via 𝓤 _ (emp∗ 𝓤 (emp 𝓤)) (mono∗ 𝓤 (factI 𝓤 _ (emp 𝓤) (ends .0)) (factI 𝓤 _ (emp 𝓤) (ends .1))))))))))))))
 
 write-meets : {M : Type 1} (𝓤 : URA M) (H : Heap 𝓤) (A : Atoms 𝓤) → Given 𝓤 H A → (mem : Memory → SProp 𝓤) (run : Routine → Fun 𝓤) (𝓣 : Tables 𝓤 H) → Triple 𝓤 (𝓣 .C #plan-write) (PlanWrite 𝓤 H A mem run)
     → Triple 𝓤 (𝓣 .C #gate-spans) (Spans 𝓤 H A mem run) → Triple 𝓤 (𝓣 .C #put-gates) (PutGates 𝓤 H A mem run) → Triple 𝓤 (𝓣 .C #write-rest) (WriteRest 𝓤 H A mem run)
