@@ -27,7 +27,7 @@ use Rattle.engine.specs.Eval.{bit, bits, numberOf, oldValues, oldOutputs
 use Rattle.engine.specs.Rectify.{rectifies, vectorLoop}
 use Rattle.engine.specs.Support.{reading, drivenBy, sound, tableOf, candidateNets, cost}
 use Rattle.engine.specs.Verdict.{patch, ruling, fourBytes, sheetOf, longestSheet, decideNumber}
-use Rattle.engine.specs.Inner.{patchBytes}
+use Rattle.engine.specs.Inner.Sheet.{patchBytes}
 use Rattle.engine.specs.Fit.{treesFrom, trees, fitted, fittedBytes, fits as fits′, longestFit}
 use Rattle.engine.specs.Reply.{fitNumber}
 use Rattle.engine.specs.Claims.{LongestSheetMet, LongestFitMet}

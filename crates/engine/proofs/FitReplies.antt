@@ -25,7 +25,7 @@ use Rattle.records.specs.Service.{countsOf, sideCountsOf}
 use Rattle.engine.specs.Compare.{pairTests}
 use Rattle.engine.specs.Tree.{column, tree}
 use Rattle.engine.specs.Fit.{treesFrom, trees, gateIndices, newNets, moved, movedGates, fitted, fittedBytes, fits, longestFit}
-use Rattle.engine.specs.Reply.{compareNumber, fitTests, fitNumber, fitReply, fittedBuffer}
+use Rattle.engine.specs.Reply.{fitTests, fitNumber, fitReply, fittedBuffer}
 use Rattle.engine.specs.Claims.{FitAccepts, FitRefuses, FitKeeps, FitIndependent, LongestFit, FittedIn, FittedGiven, FitIgnoresVectors}
 use Rattle.engine.specs.declared.fitting.FitReply.{FitReply}
 use Rattle.engine.proofs.Laws.FitTree.{TreeCase, zeros, ones, halves, choice, tree-case}

@@ -25,7 +25,7 @@ use Rattle.engine.specs.Support.{drivenBy, sound, tableOf, candidateNets
 use Rattle.engine.specs.Compare.{difference, pairTests}
 use Rattle.engine.specs.Verdict.{Ruling, patch, unfixable, blind, blindReading, ruling, fourBytes, sheetOf, longestSheet, decideNumber, decidedBytes}
 use Rattle.engine.specs.Reply.{verdictFrom, verdictOf, verdictFields, declinedReply, decideReply, comparisonOf, compareNumber, compareReply, fitReply}
-use Rattle.engine.specs.Inner.{patchBytes}
+use Rattle.engine.specs.Inner.Sheet.{patchBytes}
 use Rattle.engine.specs.Claims.{NumberGiven, DecideAccepts, DecideRefuses, DecideKeeps, DecideIndependent, LongestSheet, OneVerdict, GivesPatch, PatchIn, PatchGiven, GivesUnfixable, GivesBlind, GivesBlindExactly, VectorsGiven, CompareAccepts, CompareRefuses, ComparesEqual, ComparesDiffers, CompareIgnoresVectors}
 use Rattle.engine.specs.declared.comparing.Comparison.{Comparison}
 use Rattle.engine.specs.declared.comparing.Comparison.the-variants as Comparison
@@ -34,7 +34,7 @@ use Rattle.engine.specs.declared.deciding.DecideReply.{DecideReply}
 use Rattle.engine.proofs.Laws.Decide.{lentPlaces, lent-roomy, lent-refusal, number-long}
 use Rattle.engine.proofs.Laws.Sheet.{patchBytes-ruling, sheet-ruling}
 use Rattle.engine.proofs.Laws.Choice.{cond-of, cond-zero, true-or-false, not-both, first-least, first-none-below}
-use Rattle.engine.proofs.Laws.WalkList.{first-of-least, first-of-none}
+use Rattle.engine.proofs.Laws.ListLoop.{first-of-least, first-of-none}
 use Rattle.engine.proofs.Laws.Support.{rectifies-iff-outputs, length-tableOf, tableOf-below, sound-iff-subset-carries}
 use Rattle.engine.proofs.Laws.Loop.{stuck-none-iff}
 use Rattle.engine.proofs.Laws.Verdict.{longest-sheet, ruling-blind, blind-reading}

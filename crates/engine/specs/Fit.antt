@@ -18,7 +18,7 @@
 use Prim.Native.Nat.{ℕ, zero, suc, _+_, _-_}
 use mathlib.Core.List.{List, [], _∷_, _++_, map}
 use mathlib.Core.Bool.{Bool, cond}
-use lib.ListN.{length, getD, take, drop}
+use lib.ListN.{length, getD}
 use lib.Dec.{leb, ltb, eqb}
 use Rattle.records.specs.Bytes.{upFrom, tabulate, flat, bytePair, field}
 use Rattle.records.specs.Gate.{Gate, gateOf, operands, unused}

@@ -12,10 +12,3 @@ pub mod Reply
 pub mod Claims
 pub mod Cases
 pub mod Inner
-pub mod Walk
-pub mod Sets
-pub mod Rule
-pub mod Partial
-pub mod Driven
-pub mod Building
-pub mod Fitting

@@ -11,9 +11,9 @@
 --   decideNumber d s     the number for job bytes s and a reply buffer d
 --   decidedBytes d s     the reply buffer afterwards
 use Prim.Native.Nat.{ℕ, _/_, _%_, _^_}
-use mathlib.Core.List.{List, [], _∷_, _++_}
-use mathlib.Core.Bool.{Bool, true, false, cond, not}
-use mathlib.Core.Option.{Option, none, some}
+use mathlib.Core.List.{List, _∷_, _++_}
+use mathlib.Core.Bool.{true, false, cond, not}
+use mathlib.Core.Option.{none, some}
 use lib.ListN.{length}
 use lib.Dec.{leb, eqb}
 use Rattle.records.specs.Bytes.{upFrom, flat, bytePair, placed, field}

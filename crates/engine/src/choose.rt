@@ -1,41 +1,48 @@
-// The choice of the support. It works on the sets of vectors of all readings alone: place r holds the vectors that rectify every
-// input giving reading r of all candidates.
+// The choice of the support. It works on sets of vectors alone: place r of a support's sets holds the vectors that rectify every
+// input giving reading r of its nets.
 ghost use mathlib.Core.Path.{_≡_};
-ghost use Prim.Native.Nat.{ℕ, _^_, _≤_, _<_};
+ghost use mathlib.Core.Bool.{true};
+ghost use Prim.Native.Nat.{_-_, _^_, _≤_, _<_};
 ghost use lib.ListN.{length, take};
 ghost use Rattle.records.specs.Job.{Job};
-ghost use Rattle.engine.specs.Support.{sound, candidateNets, earlier};
-ghost use Rattle.engine.specs.Sets.{picked, SetsFor, Projected, FirstEmpty, PickedNets, total, betterBy};
-ghost use Rattle.engine.specs.Sets.{HeldSupport, Built, Choosable, ChosenOf};
+ghost use Rattle.engine.specs.Support.{sound, candidateNets};
+ghost use Rattle.engine.specs.Inner.Choose.{picked, total, lowFirst, before, PickedNets, FirstEmpty, SetsOf, LeftOut, OpenPick, WeightsOf, PickOf, OpenOf, BestFrom, HeldSupport, Choosable, ChosenOf};
+use super::limits::READINGS;
+use records::CANDIDATES;
 use records::Support;
 
-// A support, its cost, and the set of its candidates: bit i is 1 where candidate i is in it.
+// A set of candidates, bit i for candidate i, its cost, and how many nets it has.
+pub struct Pick {
+    pub set: usize,
+    pub cost: u32,
+    pub len: usize,
+}
+
+// The sets of a support with one net fewer, and whether none is empty; the places from the first empty one on are not filled.
+pub struct Left {
+    pub sets: [u16; READINGS],
+    pub sound: bool,
+}
+
+// A support, its cost and its sets.
 pub struct Chosen {
     pub support: Support,
     pub cost: u32,
-    pub set: usize,
+    pub sets: [u16; READINGS],
 }
 
-// The sets of the candidates in keep: at r & keep, the vectors in the set of every reading below count that agrees with r on
-// keep. It costs 1,024 and count steps.
-pub(super) fn project(sets: &[u16], count: usize, keep: usize) -> [u16; 1024]
-    requires { ⌜ (count ≤ 1024) × (count ≤ length (now sets)) ⌝ }
-    ensures { λ r. ⌜ Projected (now (sets .entry)) count keep r ⌝ }
+// How many readings k nets have.
+pub(super) fn reading_count(k: usize) -> usize
+    requires { ⌜ k ≤ 10 ⌝ }
+    ensures { λ r. ⌜ r ≡ 2 ^ k ⌝ }
 {
-    let mut out = [0xffffu16; 1024];
-    let mut r = 0usize;
-    while r < count {
-        let q = r & keep;
-        out[q] = out[q] & sets[r];
-        r += 1;
-    }
-    out
+    1usize << k
 }
 
 // The smallest place below count whose set is empty, else count: the blind reading, or that all candidates are sound.
-pub(super) fn first_empty(sets: &[u16], count: usize) -> usize
-    requires { ⌜ count ≤ length (now sets) ⌝ }
-    ensures { λ r. ⌜ FirstEmpty (now (sets .entry)) count r ⌝ }
+pub(super) fn first_empty(sets: [u16; READINGS], count: usize) -> usize
+    requires { ⌜ count ≤ 1024 ⌝ }
+    ensures { λ r. ⌜ FirstEmpty sets count r ⌝ }
 {
     let mut r = 0usize;
     while r < count {
@@ -47,30 +54,61 @@ pub(super) fn first_empty(sets: &[u16], count: usize) -> usize
     r
 }
 
-// Whether the candidates in keep are a sound support: no projected set is empty. It costs 1,024 and twice count steps.
-pub(super) fn sound_set(sets: &[u16], count: usize, keep: usize) -> bool
-    requires { ⌜ (count ≤ 1024) × (count ≤ length (now sets)) ⌝ }
-    ensures { λ r. ⌜ ((j : Job) (k : ℕ) → SetsFor j k (now (sets .entry)) → count ≡ 2 ^ k
-        → r ≡ sound j (picked (candidateNets j) keep)) ⌝ }
+// The sets of len nets without the one at place: a reading of the others leaves what both readings share that it comes from. It
+// ends at the first set that is empty, since the support is not sound then, and takes at most 2 ^ (len - 1) steps.
+fn leave_out(sets: [u16; READINGS], len: usize, place: usize) -> Left
+    requires { ⌜ (place < len) × (len ≤ 10) ⌝ }
+    ensures { λ r. ⌜ LeftOut sets (len - 1) place r ⌝ }
 {
-    let projected = project(sets, count, keep);
-    let mut r = 0usize;
-    while r < count {
-        let q = r & keep;
-        if projected[q] == 0 {
-            return false;
+    let count = reading_count(len - 1);
+    let other = reading_count(place);
+    let mut out = [0u16; READINGS];
+    let mut q = 0usize;
+    while q < count {
+        let r = q + ((q >> place) << place);
+        let both = sets[r] & sets[r + other];
+        if both == 0 {
+            return Left {
+                sets: out,
+                sound: false,
+            };
         }
-        r += 1;
+        out[q] = both;
+        q += 1;
     }
-    true
+    Left {
+        sets: out,
+        sound: true,
+    }
+}
+
+// The sets of the candidates that are in a sound set, from those of all.
+fn sets_of(sets: [u16; READINGS], candidates: usize, set: usize) -> [u16; READINGS]
+    requires { ⌜ candidates ≤ 10 ⌝ }
+    ensures { λ r. ⌜ ((j : Job) → length (candidateNets j) ≡ candidates → SetsOf j (candidateNets j) sets
+        → sound j (picked (candidateNets j) set) ≡ true → SetsOf j (picked (candidateNets j) set) r) ⌝ }
+{
+    let mut found = sets;
+    let mut len = candidates;
+    let mut i = candidates;
+    while 0 < i {
+        i -= 1;
+        if (set >> i) % 2 == 0 {
+            let left = leave_out(found, len, i);
+            let next = left.sets;
+            found = next;
+            len -= 1;
+        }
+    }
+    found
 }
 
 // The nets whose places are in the set.
-pub(super) fn pick_support(nets: &[u16], count: usize, set: usize) -> Support
-    requires { ⌜ (count ≤ 10) × (count ≤ length (now nets)) ⌝ }
-    ensures { λ r. ⌜ PickedNets (take count (now (nets .entry))) set r ⌝ }
+fn pick_support(nets: [u16; CANDIDATES], count: usize, set: usize) -> Support
+    requires { ⌜ count ≤ 10 ⌝ }
+    ensures { λ r. ⌜ PickedNets (take count nets) set r ⌝ }
 {
-    let mut picks = [0u16; 10];
+    let mut picks = [0u16; CANDIDATES];
     let mut len = 0usize;
     let mut i = 0usize;
     while i < count {
@@ -83,45 +121,39 @@ pub(super) fn pick_support(nets: &[u16], count: usize, set: usize) -> Support
     Support { nets: picks, len }
 }
 
-// The sum of the weights whose places are in the set.
-pub(super) fn pick_cost(weights: &[u16], count: usize, set: usize) -> u32
-    requires { ⌜ (count ≤ 10) × (count ≤ length (now weights)) ⌝ }
-    ensures { λ r. ⌜ r ≡ total (picked (take count (now (weights .entry))) set) ⌝ }
+// The sum of the first count weights.
+fn sum_weights(weights: [u16; CANDIDATES], count: usize) -> u32
+    requires { ⌜ count ≤ 10 ⌝ }
+    ensures { λ r. ⌜ r ≡ total (take count weights) ⌝ }
 {
     let mut sum = 0u32;
     let mut i = 0usize;
     while i < count {
-        if (set >> i) % 2 == 1 {
-            sum += weights[i] as u32;
-        }
+        sum += weights[i] as u32;
         i += 1;
     }
     sum
 }
 
-// Whether a has the smaller net at the first of len places where they differ.
-fn comes_earlier(a: [u16; 10], b: [u16; 10], len: usize) -> bool
-    requires { ⌜ (len ≤ 10) × (len ≤ length a) × (len ≤ length b) ⌝ }
-    ensures { λ r. ⌜ r ≡ earlier (take len a) (take len b) ⌝ }
+// Whether of two sets a has the lowest candidate in which they differ.
+fn low_first(a: usize, b: usize) -> bool
+    ensures { λ r. ⌜ r ≡ lowFirst 10 a b ⌝ }
 {
     let mut i = 0usize;
-    while i < len {
-        if a[i] < b[i] {
-            return true;
-        }
-        if b[i] < a[i] {
-            return false;
+    while i < 10 {
+        let x = (a >> i) % 2;
+        if x != (b >> i) % 2 {
+            return x == 1;
         }
         i += 1;
     }
     false
 }
 
-// Whether a is chosen before b: lower cost, then fewer nets, then the smaller net at the first place where they differ.
-pub(super) fn precedes(a: Chosen, b: Chosen) -> bool
-    requires { ⌜ HeldSupport (a .support) × HeldSupport (b .support) ⌝ }
-    ensures { λ r. ⌜ r ≡ betterBy
-        (a .cost) (take (a .support .len) (a .support .nets)) (b .cost) (take (b .support .len) (b .support .nets)) ⌝ }
+// Whether a is chosen before b: lower cost, then fewer nets, then the smaller net at the first place where they differ. Candidates
+// ascend, so that is the lowest one in which the sets differ.
+fn precedes(a: Pick, b: Pick) -> bool
+    ensures { λ r. ⌜ r ≡ before a b ⌝ }
 {
     if a.cost < b.cost {
         return true;
@@ -129,59 +161,86 @@ pub(super) fn precedes(a: Chosen, b: Chosen) -> bool
     if b.cost < a.cost {
         return false;
     }
-    let x = a.support;
-    let y = b.support;
-    if x.len < y.len {
+    if a.len < b.len {
         return true;
     }
-    if y.len < x.len {
+    if b.len < a.len {
         return false;
     }
-    let xs = x.nets;
-    let ys = y.nets;
-    comes_earlier(xs, ys, x.len)
+    low_first(a.set, b.set)
 }
 
-// The support that a set of the candidates picks, and its cost.
-fn build(nets: &[u16], weights: &[u16], candidates: usize, set: usize) -> Chosen
-    requires { ⌜ (candidates ≤ 10) × (candidates ≤ length (now nets)) × (candidates ≤ length (now weights)) ⌝ }
-    ensures { λ r. ⌜ r .set ≡ set ⌝ }
-    ensures { λ r. ⌜ Built candidates (now (nets .entry)) (now (weights .entry)) r ⌝ }
+// The one that is chosen of best and all sound sets of candidates which have, from place i on, those in from.set, at from.cost. The
+// support of these and all i candidates before them has from.len nets; it is sound, and sets are its sets. A support that costs
+// more than best is not looked into, nor one that is not sound, since no part of it is. With the calls that it makes it takes at
+// most 3 ^ i * 2 ^ (from.len - i) steps.
+fn best_from(
+    weights: [u16; CANDIDATES],
+    sets: [u16; READINGS],
+    best: Pick,
+    from: Pick,
+    i: usize,
+) -> Pick
+    requires { ⌜ OpenPick i from ⌝ }
+    ensures { λ r. ⌜ ((j : Job) → WeightsOf j weights → PickOf j best → OpenOf j i from sets
+        → BestFrom j i (from .set) best r) ⌝ }
 {
-    let support = pick_support(nets, candidates, set);
-    let cost = pick_cost(weights, candidates, set);
-    Chosen { support, cost, set }
-}
-
-// How many readings k nets have.
-pub(super) fn reading_count(k: usize) -> usize
-    requires { ⌜ k ≤ 10 ⌝ }
-    ensures { λ r. ⌜ r ≡ 2 ^ k ⌝ }
-{
-    1usize << k
-}
-
-// The chosen support of the candidates that stand in places: the best sound one. Each of the 2 ^ k sets of k candidates is built
-// and compared, and tested for soundness only where it is better than the best so far; that is at most 2 ^ k times 1,024 and
-// twice 2 ^ k steps. It evaluates no gate.
-pub(super) fn choose(nets: &[u16], weights: &[u16], candidates: usize, sets: &[u16]) -> Chosen
-    requires { ⌜ (candidates ≤ 10) × (candidates ≤ length (now nets)) × (candidates ≤ length (now weights)) ⌝ }
-    requires { ⌜ length (now sets) ≡ 1024 ⌝ }
-    ensures { λ r. ⌜ HeldSupport (r .support) ⌝ }
-    ensures { λ r. ⌜ ((j : Job)
-        → Choosable j candidates (now (nets .entry)) (now (weights .entry)) (now (sets .entry)) → ChosenOf j r) ⌝ }
-{
-    let count = reading_count(candidates);
-    let mut best = build(nets, weights, candidates, count - 1);
-    let mut set = 0usize;
-    while set < count {
-        let next = build(nets, weights, candidates, set);
-        if precedes(next, best) {
-            if sound_set(sets, count, set) {
-                best = next;
-            }
-        }
-        set += 1;
+    if best.cost < from.cost {
+        return best;
     }
-    best
+    if i == 0 {
+        if precedes(from, best) {
+            return from;
+        }
+        return best;
+    }
+    let place = i - 1;
+    let mut found = best;
+    let left = leave_out(sets, from.len, place);
+    if left.sound {
+        let fewer = Pick {
+            set: 2 * from.set,
+            cost: from.cost,
+            len: from.len - 1,
+        };
+        let next = left.sets;
+        found = best_from(weights, next, best, fewer, place);
+    }
+    let kept = Pick {
+        set: 2 * from.set + 1,
+        cost: from.cost + weights[place] as u32,
+        len: from.len,
+    };
+    best_from(weights, sets, found, kept, place)
+}
+
+// The chosen support of the candidates that stand in places: the best sound one. For k candidates it takes at most 3 ^ k steps, and
+// evaluates no gate.
+pub(super) fn choose(
+    nets: [u16; CANDIDATES],
+    weights: [u16; CANDIDATES],
+    candidates: usize,
+    sets: [u16; READINGS],
+) -> Chosen
+    requires { ⌜ candidates ≤ 10 ⌝ }
+    ensures { λ r. ⌜ HeldSupport (r .support) ⌝ }
+    ensures { λ r. ⌜ ((j : Job) → Choosable j candidates nets weights sets → ChosenOf j r) ⌝ }
+{
+    let all = Pick {
+        set: reading_count(candidates) - 1,
+        cost: sum_weights(weights, candidates),
+        len: candidates,
+    };
+    let none = Pick {
+        set: 0,
+        cost: 0,
+        len: candidates,
+    };
+    let best = best_from(weights, sets, all, none, candidates);
+    let found = sets_of(sets, candidates, best.set);
+    Chosen {
+        support: pick_support(nets, candidates, best.set),
+        cost: best.cost,
+        sets: found,
+    }
 }

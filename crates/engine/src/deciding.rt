@@ -4,25 +4,34 @@ ghost use mathlib.Core.Bool.{true, false};
 ghost use Prim.Native.Nat.{_≤_, _<_};
 ghost use lib.ListN.{length};
 ghost use Rattle.records.specs.Job.{Job};
-ghost use Rattle.records.specs.Columns.{sideColumns, columns, columnsJob};
+ghost use Rattle.records.specs.Claims.{Below};
+ghost use Rattle.records.specs.Parts.{PartsOf};
 ghost use Rattle.engine.specs.Support.{sound, candidateNets};
 ghost use Rattle.engine.specs.Verdict.{blindReading, decidedBytes};
 ghost use Rattle.engine.specs.Reply.{declinedReply, decideReply};
 ghost use Rattle.engine.specs.Rectify.{vectorLoop};
-ghost use Rattle.engine.specs.Walk.{Ready, Held, listedOf};
-ghost use Rattle.engine.specs.Sets.{Choosable};
-ghost use Rattle.engine.specs.Rule.{Decided, Ruleable};
+ghost use Rattle.engine.specs.Inner.List.{Held, listedOf};
+ghost use Rattle.engine.specs.Inner.Miter.{SomeParts};
+ghost use Rattle.engine.specs.Inner.Choose.{Choosable};
+ghost use Rattle.engine.specs.Inner.Deciding.{Decided, Ruleable};
 use super::choose::choose;
 use super::choose::first_empty;
 use super::choose::reading_count;
+use super::limits::LISTED;
+use super::limits::LONGEST_SHEET;
+use super::limits::READINGS;
 use super::list::Vectors;
+use super::miter::miter_of;
+use super::plan::plan_of;
+use super::search::search_inputs;
 use super::sheet::put_blind;
 use super::sheet::put_patch;
 use super::sheet::put_unfixable;
-use super::survey::survey;
 use super::table::fill_table;
-use records::Counts;
-use records::read_columns;
+use records::CANDIDATES;
+use records::Check;
+use records::JobParts;
+use records::load;
 
 pub struct PatchCost {
     pub cost: u32,
@@ -97,23 +106,22 @@ fn rule_blind(reading: usize, list: Vectors, reply: &mut [u8]) -> DecideReply
 
 // The verdict where all candidates together are sound: the chosen support with its table.
 fn rule_patch(
-    nets: &[u16],
-    weights: &[u16],
+    nets: [u16; CANDIDATES],
+    weights: [u16; CANDIDATES],
     candidates: usize,
     list: Vectors,
-    sets: &[u16],
+    sets: [u16; READINGS],
     reply: &mut [u8],
 ) -> DecideReply
-    requires { ⌜ (candidates ≤ 10) × (candidates ≤ length (now nets)) × (candidates ≤ length (now weights)) ⌝ }
-    requires { ⌜ Held list × (length (now sets) ≡ 1024) × (1076 ≤ length (now reply)) ⌝ }
+    requires { ⌜ (candidates ≤ 10) × Held list × (1076 ≤ length (now reply)) ⌝ }
     ensures { λ r. ⌜ ((j : Job) → listedOf list ≡ vectorLoop j → list .stuck ≡ false
-        → Choosable j candidates (now (nets .entry)) (now (weights .entry)) (now (sets .entry))
+        → Choosable j candidates nets weights sets
         → Decided j (now (reply .entry)) r (now (reply .exit))) ⌝ }
 {
     let best = choose(nets, weights, candidates, sets);
-    let mut table = [0u8; 1024];
-    fill_table(sets, candidates, best.set, &mut table);
     let support = best.support;
+    let left = best.sets;
+    let table = fill_table(left, support.len);
     let vectors = list.list;
     let len = put_patch(reply, support, &table, best.cost, vectors, list.len);
     DecideReply {
@@ -125,17 +133,15 @@ fn rule_patch(
 
 // The verdict after the walk, and its sheet.
 fn rule(
-    nets: &[u16],
-    weights: &[u16],
+    nets: [u16; CANDIDATES],
+    weights: [u16; CANDIDATES],
     candidates: usize,
     list: Vectors,
-    sets: &[u16],
+    sets: [u16; READINGS],
     reply: &mut [u8],
 ) -> DecideReply
-    requires { ⌜ (candidates ≤ 10) × (candidates ≤ length (now nets)) × (candidates ≤ length (now weights)) ⌝ }
-    requires { ⌜ Held list × (list .stuck ≡ true → list .input < 4294967296) ⌝ }
-    requires { ⌜ (length (now sets) ≡ 1024) × (1076 ≤ length (now reply)) ⌝ }
-    ensures { λ r. ⌜ ((j : Job) → Ruleable j candidates (now (nets .entry)) (now (weights .entry)) list (now (sets .entry))
+    requires { ⌜ (candidates ≤ 10) × Held list × (list .stuck ≡ true → list .input < 4294967296) × (1076 ≤ length (now reply)) ⌝ }
+    ensures { λ r. ⌜ ((j : Job) → Ruleable j candidates nets weights list sets
         → Decided j (now (reply .entry)) r (now (reply .exit))) ⌝ }
 {
     if list.stuck {
@@ -149,102 +155,39 @@ fn rule(
     rule_patch(nets, weights, candidates, list, sets, reply)
 }
 
-// The verdict on the job whose parts stand in places, and its sheet.
-fn decide_job(
-    kinds: &[u8],
-    firsts: &[u16],
-    seconds: &[u16],
-    outputs: &[u16],
-    golden_kinds: &[u8],
-    golden_firsts: &[u16],
-    golden_seconds: &[u16],
-    golden_outputs: &[u16],
-    nets: &[u16],
-    weights: &[u16],
-    counts: Counts,
-    reply: &mut [u8],
-) -> DecideReply
-    requires { ⌜ Ready counts
-        (sideColumns (now kinds) (now firsts) (now seconds) (now outputs))
-        (sideColumns (now «golden_kinds») (now «golden_firsts») (now «golden_seconds») (now «golden_outputs»)) (now nets) ⌝ }
-    requires { ⌜ (counts .candidates ≤ length (now weights)) × (1076 ≤ length (now reply)) ⌝ }
-    ensures { λ r. ⌜ Decided
-        (columnsJob counts
-        (columns
-        (sideColumns (now (kinds .entry)) (now (firsts .entry)) (now (seconds .entry)) (now (outputs .entry)))
-        (sideColumns (now («golden_kinds» .entry)) (now («golden_firsts» .entry)) (now («golden_seconds» .entry)) (now («golden_outputs» .entry)))
-        (now (nets .entry)) (now (weights .entry))))
-        (now (reply .entry)) r (now (reply .exit)) ⌝ }
+// The verdict on a good job's parts, and its sheet.
+fn decide_job(job: JobParts, reply: &mut [u8]) -> DecideReply
+    requires { ⌜ SomeParts job × Below 1024 (job .nets) × (1076 ≤ length (now reply)) ⌝ }
+    ensures { λ r. ⌜ ((j : Job) → PartsOf j job → Decided j (now (reply .entry)) r (now (reply .exit))) ⌝ }
 {
-    let mut sets = [0u16; 1024];
-    let list = survey(
-        kinds,
-        firsts,
-        seconds,
-        outputs,
-        golden_kinds,
-        golden_firsts,
-        golden_seconds,
-        golden_outputs,
-        nets,
-        counts,
-        &mut sets,
-    );
-    rule(nets, weights, counts.candidates, list, &sets, reply)
+    let counts = job.counts;
+    let nets = job.nets;
+    let weights = job.weights;
+    let mut gates = [0u64; LISTED];
+    let plan = plan_of(miter_of(job), nets, counts.candidates, &mut gates);
+    let found = search_inputs(&gates, plan);
+    let sets = found.sets;
+    rule(nets, weights, counts.candidates, found.list, sets, reply)
 }
 
 // The service decide: the verdict on a job's bytes, and its sheet at the start of the reply buffer. Refused are a buffer below
-// 1,076 bytes (1) and what is no whole job (2 to 6). It costs, for each block of 64 inputs, one gate evaluation a gate of both
-// netlists, one for each vector and each gate that a target leads to, and 64 steps to note the inputs. Partial evaluation is tried on
-// fewer than 2 ^ (n - 8) ranges of the n inputs: one gate evaluation a gate on 0, 1 and not yet known for each, which may spare
-// all its blocks. The choice among the 2 ^ k sets of k candidates, at most 1,024, takes up to 2 ^ k times 1,024 and twice 2 ^ k
-// steps: 3 * 2 ^ 20 for ten candidates, whatever the gates are.
+// 1,076 bytes (1) and what is no whole job (2 to 6). It costs, for each block of 1,024 inputs, one gate evaluation a gate of both
+// netlists, and one for every second vector and each gate that the target with the fewest leads to, for every fourth vector and each
+// gate that another leads to, and so on; an evaluation takes 16 words. Noting a block's inputs takes some 1,000 steps, and 16 times as
+// many where the vector list grows. Partial evaluation is tried on fewer than 2 ^ (n - 13) ranges of the n inputs: one gate evaluation a
+// gate on 0, 1 and not yet known for each, which may spare all its blocks. The choice among the sets of k candidates leaves out one net
+// after the other and stops at unsound and at too dear sets: at most 3 ^ k steps, whatever the gates are.
 pub fn decide(job: &[u8], reply: &mut [u8]) -> DecideReply
     ensures reply { λ r. ⌜ r ≡ decideReply (now (reply .entry)) (now (job .entry)) ⌝ }
     ensures lent { λ _. ⌜ now (reply .exit) ≡ decidedBytes (now (reply .entry)) (now (job .entry)) ⌝ }
 {
-    if reply.len() < 1076 {
+    if reply.len() < LONGEST_SHEET {
         return declined(1);
     }
-    let mut kinds = [0u8; 400];
-    let mut firsts = [0u16; 400];
-    let mut seconds = [0u16; 400];
-    let mut outputs = [0u16; 32];
-    let mut golden_kinds = [0u8; 400];
-    let mut golden_firsts = [0u16; 400];
-    let mut golden_seconds = [0u16; 400];
-    let mut golden_outputs = [0u16; 32];
-    let mut nets = [0u16; 10];
-    let mut weights = [0u16; 10];
-    let found = read_columns(
-        job,
-        &mut kinds,
-        &mut firsts,
-        &mut seconds,
-        &mut outputs,
-        &mut golden_kinds,
-        &mut golden_firsts,
-        &mut golden_seconds,
-        &mut golden_outputs,
-        &mut nets,
-        &mut weights,
-    );
-    if found.number != 0 {
-        return declined(found.number);
-    }
-    let counts = found.counts;
-    decide_job(
-        &kinds,
-        &firsts,
-        &seconds,
-        &outputs,
-        &golden_kinds,
-        &golden_firsts,
-        &golden_seconds,
-        &golden_outputs,
-        &nets,
-        &weights,
-        counts,
-        reply,
-    )
+    let parts = load(job);
+    let check = parts.check;
+    let Check::Passed = check else {
+        return declined(parts.number);
+    };
+    decide_job(parts, reply)
 }

@@ -1,25 +1,30 @@
 // The engine: the verdict on a job (decide), the old circuit with a sheet's table built in (fit) or driven by it, against the golden
-// one (compare), and the three by three tables of the gates for the search. Values of all nets are in 64 scenarios at once, a word a
-// net. Every service answers with a number of document 01, 0 where it accepts, and leaves every lent byte as it was where it does
+// one (compare), and the three by three tables of the gates for the search. Values of all nets are in 1,024 scenarios at once,
+// 16 words a net. Every service answers with a number of document 01, 0 where it accepts, and leaves every lent byte as it was where it does
 // not.
-mod block;
 mod choose;
 mod comparing;
 mod deciding;
-mod fanout;
+mod drive;
 mod fitting;
+mod kernel;
+mod leaves;
+mod limits;
 mod list;
+mod masks;
+mod miter;
 mod netlist;
-mod partial;
-mod rectify;
+mod note;
+mod packed;
+mod plan;
+mod ranges;
 mod renumber;
 mod search;
 mod sheet;
-mod survey;
 mod table;
 mod ternary;
 mod tree;
-mod visit;
+mod turn;
 mod word;
 
 pub use comparing::CompareReply;

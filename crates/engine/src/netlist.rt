@@ -5,38 +5,50 @@ ghost use Prim.Native.Nat.{_+_, _*_, _≤_, _<_};
 ghost use lib.ListN.{length, take};
 ghost use Rattle.records.specs.Bytes.{flat, bytePair, field};
 ghost use Rattle.records.specs.Job.{gateBytes};
-ghost use Rattle.records.specs.Columns.{gatesFrom};
-ghost use Rattle.engine.specs.Inner.{BytesPut};
-ghost use Rattle.engine.specs.Building.{GateRoom};
-ghost use Rattle.engine.specs.Fitting.{netlistBytes};
+ghost use Rattle.engine.specs.Inner.Sheet.{BytesPut};
+ghost use Rattle.engine.specs.Inner.Renumber.{gateIn, unpacked};
+ghost use Rattle.engine.specs.Inner.Netlist.{netlistBytes};
 use super::sheet::two_bytes;
+use records::GATES;
+use records::OUTPUTS;
 use records::put_field;
 
-// The first count gates, five bytes each, at the start of the places.
-fn gate_bytes(kinds: &[u8], firsts: &[u16], seconds: &[u16], count: usize, bytes: &mut [u8])
-    requires { ⌜ GateRoom count (now kinds) (now firsts) (now seconds) × (5 * count ≤ length (now bytes)) ⌝ }
-    ensures { λ _. ⌜ take (5 * count) (now (bytes .exit))
-        ≡ flat gateBytes (gatesFrom count (now (kinds .entry)) (now (firsts .entry)) (now (seconds .entry))) ⌝ }
+// The five bytes of the gate in the number c.
+fn gate_bytes(c: u64) -> [u8; 5]
+    ensures { λ r. ⌜ r ≡ gateBytes (gateIn c) ⌝ }
 {
-    let mut i = 0usize;
-    while i < count {
-        let first = two_bytes(firsts[i]);
-        let second = two_bytes(seconds[i]);
-        let at = 5 * i;
-        bytes[at] = kinds[i];
-        bytes[at + 1] = first[0];
-        bytes[at + 2] = first[1];
-        bytes[at + 3] = second[0];
-        bytes[at + 4] = second[1];
-        i += 1;
-    }
+    let slots = c / 131072;
+    let first = two_bytes((slots % 1024) as u16);
+    let second = two_bytes((slots / 1024 % 1024) as u16);
+    [(c % 16) as u8, first[0], first[1], second[0], second[1]]
 }
 
-// The first count nets, two bytes each, at the start of the places.
-fn pair_bytes(nets: &[u16], count: usize, bytes: &mut [u8])
-    requires { ⌜ (count ≤ length (now nets)) × (2 * count ≤ length (now bytes)) ⌝ }
-    ensures { λ _. ⌜ take (2 * count) (now (bytes .exit)) ≡ flat bytePair (take count (now (nets .entry))) ⌝ }
+// The first count gates, five bytes each, at the start.
+fn gates_bytes(gates: [u64; GATES], count: usize) -> [u8; 5 * GATES]
+    requires { ⌜ count ≤ 400 ⌝ }
+    ensures { λ r. ⌜ take (5 * count) r ≡ flat gateBytes (unpacked count gates) ⌝ }
 {
+    let mut bytes = [0u8; 5 * GATES];
+    let mut i = 0usize;
+    while i < count {
+        let five = gate_bytes(gates[i]);
+        let at = 5 * i;
+        bytes[at] = five[0];
+        bytes[at + 1] = five[1];
+        bytes[at + 2] = five[2];
+        bytes[at + 3] = five[3];
+        bytes[at + 4] = five[4];
+        i += 1;
+    }
+    bytes
+}
+
+// The first count nets, two bytes each, at the start.
+fn pair_bytes(nets: [u16; OUTPUTS], count: usize) -> [u8; 64]
+    requires { ⌜ count ≤ 32 ⌝ }
+    ensures { λ r. ⌜ take (2 * count) r ≡ flat bytePair (take count nets) ⌝ }
+{
+    let mut bytes = [0u8; 64];
     let mut i = 0usize;
     while i < count {
         let pair = two_bytes(nets[i]);
@@ -45,6 +57,7 @@ fn pair_bytes(nets: &[u16], count: usize, bytes: &mut [u8])
         bytes[at + 1] = pair[1];
         i += 1;
     }
+    bytes
 }
 
 // The field of the input count, with no targets, at the start.
@@ -57,34 +70,21 @@ fn put_inputs(reply: &mut [u8], inputs: usize) -> usize
 }
 
 // The field of the first count gates, from position at on.
-fn put_gates(
-    reply: &mut [u8],
-    at: usize,
-    kinds: &[u8],
-    firsts: &[u16],
-    seconds: &[u16],
-    count: usize,
-) -> usize
-    requires { ⌜ GateRoom count (now kinds) (now firsts) (now seconds) × (count ≤ 400) ⌝ }
-    requires { ⌜ at + 3 + 5 * count ≤ length (now reply) ⌝ }
-    ensures { λ r. ⌜ BytesPut (now (reply .entry)) at
-        (field 2 (flat gateBytes (gatesFrom count (now (kinds .entry)) (now (firsts .entry)) (now (seconds .entry)))))
-        (now (reply .exit)) r ⌝ }
+fn put_gate_list(reply: &mut [u8], at: usize, gates: [u64; GATES], count: usize) -> usize
+    requires { ⌜ (count ≤ 400) × (at + 3 + 5 * count ≤ length (now reply)) ⌝ }
+    ensures { λ r. ⌜ BytesPut (now (reply .entry)) at (field 2 (flat gateBytes (unpacked count gates))) (now (reply .exit)) r ⌝ }
 {
-    let mut bytes = [0u8; 2000];
-    gate_bytes(kinds, firsts, seconds, count, &mut bytes);
+    let bytes = gates_bytes(gates, count);
     let len = 5 * count;
     put_field(reply, at, 2, &bytes[..len])
 }
 
 // The field of the first count outputs, from position at on.
-fn put_outputs(reply: &mut [u8], at: usize, outputs: &[u16], count: usize) -> usize
-    requires { ⌜ (count ≤ length (now outputs)) × (count ≤ 32) × (at + 3 + 2 * count ≤ length (now reply)) ⌝ }
-    ensures { λ r. ⌜ BytesPut (now (reply .entry)) at (field 3 (flat bytePair (take count (now (outputs .entry)))))
-        (now (reply .exit)) r ⌝ }
+fn put_outputs(reply: &mut [u8], at: usize, outputs: [u16; OUTPUTS], count: usize) -> usize
+    requires { ⌜ (count ≤ 32) × (at + 3 + 2 * count ≤ length (now reply)) ⌝ }
+    ensures { λ r. ⌜ BytesPut (now (reply .entry)) at (field 3 (flat bytePair (take count outputs))) (now (reply .exit)) r ⌝ }
 {
-    let mut bytes = [0u8; 64];
-    pair_bytes(outputs, count, &mut bytes);
+    let bytes = pair_bytes(outputs, count);
     let len = 2 * count;
     put_field(reply, at, 3, &bytes[..len])
 }
@@ -93,21 +93,16 @@ fn put_outputs(reply: &mut [u8], at: usize, outputs: &[u16], count: usize) -> us
 pub(super) fn put_netlist(
     reply: &mut [u8],
     inputs: usize,
-    kinds: &[u8],
-    firsts: &[u16],
-    seconds: &[u16],
-    gates: usize,
-    nets: &[u16],
+    gates: [u64; GATES],
+    count: usize,
+    nets: [u16; OUTPUTS],
     outputs: usize,
 ) -> usize
-    requires { ⌜ (2075 ≤ length (now reply)) × (inputs < 256) × (gates ≤ 400) × (outputs ≤ 32) ⌝ }
-    requires { ⌜ GateRoom gates (now kinds) (now firsts) (now seconds) × (outputs ≤ length (now nets)) ⌝ }
-    ensures { λ r. ⌜ BytesPut (now (reply .entry)) 0
-        (netlistBytes inputs (gatesFrom gates (now (kinds .entry)) (now (firsts .entry)) (now (seconds .entry)))
-        (take outputs (now (nets .entry))))
+    requires { ⌜ (2075 ≤ length (now reply)) × (inputs < 256) × (count ≤ 400) × (outputs ≤ 32) ⌝ }
+    ensures { λ r. ⌜ BytesPut (now (reply .entry)) 0 (netlistBytes inputs (unpacked count gates) (take outputs nets))
         (now (reply .exit)) r ⌝ }
 {
     let a = put_inputs(reply, inputs);
-    let b = put_gates(reply, a, kinds, firsts, seconds, gates);
+    let b = put_gate_list(reply, a, gates, count);
     put_outputs(reply, b, nets, outputs)
 }

@@ -2,57 +2,51 @@
 ghost use mathlib.Core.Path.{_≡_};
 ghost use mathlib.Core.List.{map};
 ghost use mathlib.Core.Bool.{cond};
-ghost use Prim.Native.Nat.{_+_, _≤_, _<_};
+ghost use Prim.Native.Nat.{_+_, _%_, _≤_, _<_};
 ghost use lib.Dec.{ltb};
 ghost use lib.ListN.{length, getD, take};
-ghost use Rattle.records.specs.Bytes.{tabulate, placed};
-ghost use Rattle.records.specs.Columns.{gatesFrom};
-ghost use Rattle.engine.specs.Inner.{Evaluable, Outputs};
-ghost use Rattle.engine.specs.Building.{GateRoom, GatesPut};
-ghost use Rattle.engine.specs.Fitting.{marked, Numbered, movedFrom};
-use super::tree::put_gate;
+ghost use Rattle.engine.specs.Fit.{moved};
+ghost use Rattle.engine.specs.Inner.Packed.{packed};
+ghost use Rattle.engine.specs.Inner.Tree.{Nets, GateRoom};
+ghost use Rattle.engine.specs.Inner.Renumber.{gateIn, OldHeld, InputsNumbered, withMark, MarkedPlaced};
+use super::limits::MITER_GATES;
+use super::limits::NETS;
+use super::packed::pack;
+use records::GATES;
 
-// The new numbers of the gates with this mark, in their order, from first on; how many they are.
-pub(super) fn number_gates(
-    marks: &[u8],
-    base: usize,
-    gates: usize,
-    mark: u8,
-    first: usize,
-    numbers: &mut [u16],
-) -> usize
-    requires { ⌜ (base + gates ≤ length (now marks)) × (base + gates ≤ length (now numbers)) × (first + gates < 65536) ⌝ }
-    ensures { λ r. ⌜ Numbered (now (marks .entry)) base mark gates first (now (numbers .entry)) (now (numbers .exit)) r ⌝ }
-{
-    let mut count = 0usize;
-    let mut i = 0usize;
-    while i < gates {
-        let at = base + i;
-        if marks[at] == mark {
-            numbers[at] = (first + count) as u16;
-            count += 1;
-        }
-        i += 1;
-    }
-    count
+// A job's old netlist as fit reads it: packed gates, the first of the miter's, and a mark for each net that a target leads to.
+pub struct OldSide {
+    pub inputs: usize,
+    pub targets: usize,
+    pub count: usize,
+    pub gates: [u64; MITER_GATES],
+    pub marks: [u8; NETS],
+}
+
+// A patched netlist as it grows: how many gates it has, each old net's new number, and the packed gates.
+pub struct NewSide {
+    pub count: usize,
+    pub numbers: [u16; NETS],
+    pub gates: [u64; GATES],
 }
 
 // The numbers of the inputs stay.
-pub(super) fn number_inputs(inputs: usize, numbers: &mut [u16])
-    requires { ⌜ (inputs ≤ length (now numbers)) × (inputs < 65536) ⌝ }
-    ensures { λ _. ⌜ now (numbers .exit) ≡ placed (now (numbers .entry)) 0 (tabulate inputs (λ i. i)) ⌝ }
+pub(super) fn number_inputs(inputs: usize) -> [u16; NETS]
+    requires { ⌜ inputs ≤ 1024 ⌝ }
+    ensures { λ r. ⌜ InputsNumbered inputs r ⌝ }
 {
+    let mut numbers = [0u16; NETS];
     let mut i = 0usize;
     while i < inputs {
         numbers[i] = i as u16;
         i += 1;
     }
+    numbers
 }
 
 // The first count nets at their new numbers.
-pub(super) fn move_nets(nets: &[u16], count: usize, numbers: &[u16], out: &mut [u16])
-    requires { ⌜ Outputs (now nets) count (length (now numbers)) ⌝ }
-    requires { ⌜ count ≤ length (now out) ⌝ }
+pub(super) fn move_nets(nets: &[u16], count: usize, numbers: &[u16; NETS], out: &mut [u16])
+    requires { ⌜ (count ≤ length (now nets)) × (count ≤ length (now out)) × Nets count (now nets) ⌝ }
     ensures { λ _. ⌜ take count (now (out .exit))
         ≡ map (λ o. getD (now (numbers .entry)) o 0) (take count (now (nets .entry))) ⌝ }
 {
@@ -64,53 +58,58 @@ pub(super) fn move_nets(nets: &[u16], count: usize, numbers: &[u16], out: &mut [
     }
 }
 
-// An operand slot: at its new number where the kind uses it, which kinds from least on do, else as it is.
-fn moved_slot(kind: u8, least: u8, net: u16, numbers: &[u16]) -> u16
-    requires { ⌜ net < length (now numbers) ⌝ }
-    ensures { λ r. ⌜ r ≡ cond (ltb kind least) net (getD (now (numbers .entry)) net 0) ⌝ }
+// The lowest operand slot: at its new number where the kind uses it, which kinds from least on do, else as it is.
+fn moved_slot(kind: u8, least: u8, slots: u64, numbers: &[u16; NETS]) -> usize
+    requires { ⌜ Nets 1024 (now numbers) ⌝ }
+    ensures { λ r. ⌜ r ≡ cond (ltb kind least) (slots % 1024) (getD (now (numbers .entry)) (slots % 1024) 0) ⌝ }
 {
+    let net = (slots % 1024) as usize;
     if kind < least {
         return net;
     }
-    let at = net as usize;
-    numbers[at]
+    numbers[net] as usize
 }
 
-// The gates with this mark, in their order, at their new numbers behind the first count gates; how many gates there are then.
-pub(super) fn put_moved(
-    kinds: &[u8],
-    firsts: &[u16],
-    seconds: &[u16],
-    gates: usize,
-    marks: &[u8],
-    base: usize,
-    mark: u8,
-    numbers: &[u16],
-    count: usize,
-    new_kinds: &mut [u8],
-    new_firsts: &mut [u16],
-    new_seconds: &mut [u16],
-) -> usize
-    requires { ⌜ Evaluable (now kinds) (now firsts) (now seconds) gates base (length (now numbers)) ⌝ }
-    requires { ⌜ base + gates ≤ length (now marks) ⌝ }
-    requires { ⌜ GateRoom (count + length (marked (now marks) base mark gates))
-        (now «new_kinds») (now «new_firsts») (now «new_seconds») ⌝ }
-    ensures { λ r. ⌜ GatesPut count (now («new_kinds» .entry)) (now («new_firsts» .entry)) (now («new_seconds» .entry))
-        (movedFrom (gatesFrom gates (now (kinds .entry)) (now (firsts .entry)) (now (seconds .entry))) (now (numbers .entry))
-        (marked (now (marks .entry)) base mark gates))
-        r (now («new_kinds» .exit)) (now («new_firsts» .exit)) (now («new_seconds» .exit)) ⌝ }
+// The gate in the number c at its new numbers, driving net own, in one number.
+fn moved_code(c: u64, own: usize, numbers: &[u16; NETS]) -> u64
+    requires { ⌜ (c % 16 < 10) × (own < 1024) × Nets 1024 (now numbers) ⌝ }
+    ensures { λ r. ⌜ r ≡ packed own (moved (now (numbers .entry)) (gateIn c)) ⌝ }
 {
-    let mut end = count;
+    let kind = (c % 16) as u8;
+    let slots = c / 131072;
+    let first = moved_slot(kind, 2, slots, numbers);
+    let second = moved_slot(kind, 4, slots / 1024, numbers);
+    pack(kind, own, first, second)
+}
+
+// The old gates with this mark, in their order, numbered from the new netlist's next net on and put behind its gates.
+pub(super) fn place_marked(old: OldSide, mark: u8, new: NewSide) -> NewSide
+    requires { ⌜ OldHeld old × (length (new .numbers) ≡ 1024) × Nets 1024 (new .numbers) ⌝ }
+    requires { ⌜ GateRoom (old .inputs) (new .count + length (withMark old mark)) (new .gates) ⌝ }
+    ensures { λ r. ⌜ MarkedPlaced old mark new r ⌝ }
+{
+    let marks = old.marks;
+    let codes = old.gates;
+    let inputs = old.inputs;
+    let base = inputs + old.targets;
+    let many = old.count;
+    let mut numbers = new.numbers;
+    let mut gates = new.gates;
+    let mut count = new.count;
     let mut i = 0usize;
-    while i < gates {
+    while i < many {
         let net = base + i;
         if marks[net] == mark {
-            let kind = kinds[i];
-            let a = moved_slot(kind, 2, firsts[i], numbers);
-            let b = moved_slot(kind, 4, seconds[i], numbers);
-            end = put_gate(new_kinds, new_firsts, new_seconds, end, kind, a, b);
+            let own = inputs + count;
+            numbers[net] = own as u16;
+            gates[count] = moved_code(codes[i], own, &numbers);
+            count += 1;
         }
         i += 1;
     }
-    end
+    NewSide {
+        count,
+        numbers,
+        gates,
+    }
 }

@@ -4,7 +4,8 @@ ghost use Prim.Native.Nat.{_+_, _*_, _^_, _≤_, _<_};
 ghost use lib.ListN.{length, take};
 ghost use Rattle.records.specs.Bytes.{flat, bytePair, field};
 ghost use Rattle.engine.specs.Verdict.{fourBytes};
-ghost use Rattle.engine.specs.Inner.{BytesPut, patchBytes, unfixableBytes, blindBytes};
+ghost use Rattle.engine.specs.Inner.Sheet.{BytesPut, patchBytes, unfixableBytes, blindBytes};
+use super::limits::VECTORS;
 use records::Support;
 use records::put_field;
 
@@ -78,7 +79,7 @@ fn put_number(reply: &mut [u8], at: usize, tag: u8, x: u32) -> usize
 }
 
 // The field of the vector list, the first len places of list, from position at on.
-pub(super) fn put_vectors(reply: &mut [u8], at: usize, list: [u8; 16], len: usize) -> usize
+pub(super) fn put_vectors(reply: &mut [u8], at: usize, list: [u8; VECTORS], len: usize) -> usize
     requires { ⌜ (len ≤ 16) × (at + 3 + len ≤ length (now reply)) ⌝ }
     ensures { λ r. ⌜ BytesPut (now (reply .entry)) at (field 19 (take len list)) (now (reply .exit)) r ⌝ }
 {
@@ -91,7 +92,7 @@ pub(super) fn put_patch(
     support: Support,
     table: &[u8],
     cost: u32,
-    list: [u8; 16],
+    list: [u8; VECTORS],
     len: usize,
 ) -> usize
     requires { ⌜ (1076 ≤ length (now reply)) × (support .len ≤ 10) × (2 ^ support .len ≤ length (now table)) × (len ≤ 16) ⌝ }
@@ -106,7 +107,12 @@ pub(super) fn put_patch(
 }
 
 // The sheet of an unfixable input: the input and the vector list.
-pub(super) fn put_unfixable(reply: &mut [u8], input: usize, list: [u8; 16], len: usize) -> usize
+pub(super) fn put_unfixable(
+    reply: &mut [u8],
+    input: usize,
+    list: [u8; VECTORS],
+    len: usize,
+) -> usize
     requires { ⌜ (1076 ≤ length (now reply)) × (input < 4294967296) × (len ≤ 16) ⌝ }
     ensures { λ r. ⌜ BytesPut (now (reply .entry)) 0 (unfixableBytes input (take len list)) (now (reply .exit)) r ⌝ }
 {
@@ -115,7 +121,7 @@ pub(super) fn put_unfixable(reply: &mut [u8], input: usize, list: [u8; 16], len:
 }
 
 // The sheet of a blind reading: the reading and the vector list.
-pub(super) fn put_blind(reply: &mut [u8], reading: usize, list: [u8; 16], len: usize) -> usize
+pub(super) fn put_blind(reply: &mut [u8], reading: usize, list: [u8; VECTORS], len: usize) -> usize
     requires { ⌜ (1076 ≤ length (now reply)) × (reading < 65536) × (len ≤ 16) ⌝ }
     ensures { λ r. ⌜ BytesPut (now (reply .entry)) 0 (blindBytes reading (take len list)) (now (reply .exit)) r ⌝ }
 {

@@ -1,4 +1,4 @@
-// Multiplexer trees: gates put into the places of a netlist, a tree over each target's column of a table.
+// Multiplexer trees: packed gates put behind those of a netlist, a tree over each target's column of a table.
 ghost use mathlib.Core.Path.{_≡_};
 ghost use mathlib.Core.List.{[], _∷_};
 ghost use Prim.Native.Nat.{_+_, _^_, _≤_, _<_};
@@ -9,35 +9,34 @@ ghost use Rattle.records.specs.Gate.{gateOf};
 ghost use Rattle.engine.specs.Choice.{same};
 ghost use Rattle.engine.specs.Eval.{bit};
 ghost use Rattle.engine.specs.Tree.{column, tree, treeSize};
-ghost use Rattle.engine.specs.Building.{GateRoom, NetRoom, GatesPut, columnPart, TablePart, shapeOf, mux};
-ghost use Rattle.engine.specs.Building.{treesSize, TreesPut};
+ghost use Rattle.engine.specs.Inner.Tree.{Nets, GateRoom, GatesPut, columnPart, TablePart, treeStart, mux, treesSize, TreesPut};
 use super::choose::reading_count;
+use super::packed::pack;
+use records::CANDIDATES;
+use records::GATES;
 
 // How a tree starts: it is one constant gate of this kind, or the tree of the column's halves, which are equal, or the trees of
 // both halves and a multiplexer.
-pub enum Shape {
+pub enum TreeStart {
     Constant(u8),
     Equal,
     Split,
 }
 
-// One gate at place at; the place behind it.
-pub(super) fn put_gate(
-    kinds: &mut [u8],
-    firsts: &mut [u16],
-    seconds: &mut [u16],
+// One gate at place at, which drives net base + at; the place behind it.
+pub(super) fn add_gate(
+    gates: &mut [u64; GATES],
+    base: usize,
     at: usize,
     kind: u8,
     a: u16,
     b: u16,
 ) -> usize
-    requires { ⌜ GateRoom (at + 1) (now kinds) (now firsts) (now seconds) ⌝ }
-    ensures { λ r. ⌜ GatesPut at (now (kinds .entry)) (now (firsts .entry)) (now (seconds .entry)) (gateOf kind a b ∷ []) r
-        (now (kinds .exit)) (now (firsts .exit)) (now (seconds .exit)) ⌝ }
+    requires { ⌜ GateRoom base (at + 1) (now gates) ⌝ }
+    requires { ⌜ (kind < 10) × (a < 1024) × (b < 1024) ⌝ }
+    ensures { λ r. ⌜ GatesPut base at (now (gates .entry)) (gateOf kind a b ∷ []) r (now (gates .exit)) ⌝ }
 {
-    kinds[at] = kind;
-    firsts[at] = a;
-    seconds[at] = b;
+    gates[at] = pack(kind, base + at, a as usize, b as usize);
     at + 1
 }
 
@@ -47,20 +46,21 @@ fn put_mux(
     s: u16,
     low: usize,
     high: usize,
+    base: usize,
     count: usize,
-    kinds: &mut [u8],
-    firsts: &mut [u16],
-    seconds: &mut [u16],
+    gates: &mut [u64; GATES],
 ) -> usize
-    requires { ⌜ GateRoom (count + 4) (now kinds) (now firsts) (now seconds) × (low < 65536) × (high + 3 < 65536) ⌝ }
-    ensures { λ r. ⌜ GatesPut count (now (kinds .entry)) (now (firsts .entry)) (now (seconds .entry)) (mux s low high) r
-        (now (kinds .exit)) (now (firsts .exit)) (now (seconds .exit)) ⌝ }
+    requires { ⌜ GateRoom base (count + 4) (now gates) ⌝ }
+    requires { ⌜ (s < 1024) × (low ≤ high) × (high + 1 ≡ base + count) ⌝ }
+    ensures { λ r. ⌜ GatesPut base count (now (gates .entry)) (mux s low high) r (now (gates .exit)) ⌝ }
 {
     let n = high + 1;
-    let a = put_gate(kinds, firsts, seconds, count, 3, s, 0);
-    let b = put_gate(kinds, firsts, seconds, a, 4, n as u16, low as u16);
-    let c = put_gate(kinds, firsts, seconds, b, 4, s, high as u16);
-    put_gate(kinds, firsts, seconds, c, 6, (n + 1) as u16, (n + 2) as u16)
+    let chooser = s as usize;
+    gates[count] = pack(3, n, chooser, 0);
+    gates[count + 1] = pack(4, n + 1, n, low);
+    gates[count + 2] = pack(4, n + 2, chooser, high);
+    gates[count + 3] = pack(6, n + 3, n + 1, n + 2);
+    count + 4
 }
 
 // The bit of target t in the entry at place i.
@@ -103,22 +103,22 @@ fn halves_equal(table: &[u8], at: usize, half: usize, t: usize) -> bool
     true
 }
 
-// The shape of the tree over k nets and the column of target t, at the 2 ^ k entries from place at on.
-fn shape_of(table: &[u8], at: usize, k: usize, t: usize) -> Shape
+// How the tree over k nets and the column of target t, at the 2 ^ k entries from place at on, starts.
+fn tree_start(table: &[u8], at: usize, k: usize, t: usize) -> TreeStart
     requires { ⌜ TablePart (now table) at k t ⌝ }
-    ensures { λ r. ⌜ r ≡ shapeOf k (columnPart (now (table .entry)) at k t) ⌝ }
+    ensures { λ r. ⌜ r ≡ treeStart k (columnPart (now (table .entry)) at k t) ⌝ }
 {
     let size = reading_count(k);
     if column_is(table, at, size, t, 0) {
-        return Shape::Constant(0);
+        return TreeStart::Constant(0);
     }
     if column_is(table, at, size, t, 1) {
-        return Shape::Constant(1);
+        return TreeStart::Constant(1);
     }
     if halves_equal(table, at, size / 2, t) {
-        return Shape::Equal;
+        return TreeStart::Equal;
     }
-    Shape::Split
+    TreeStart::Split
 }
 
 // How many gates that tree has. It calls itself on each half of the column; at most (k + 1) 2 ^ k entries are read, three times
@@ -127,11 +127,11 @@ fn tree_size(table: &[u8], at: usize, k: usize, t: usize) -> usize
     requires { ⌜ TablePart (now table) at k t ⌝ }
     ensures { λ r. ⌜ r ≡ treeSize k (columnPart (now (table .entry)) at k t) ⌝ }
 {
-    let shape = shape_of(table, at, k, t);
-    match shape {
-        Shape::Constant(_) => 1,
-        Shape::Equal => tree_size(table, at, k - 1, t),
-        Shape::Split => {
+    let start = tree_start(table, at, k, t);
+    match start {
+        TreeStart::Constant(_) => 1,
+        TreeStart::Equal => tree_size(table, at, k - 1, t),
+        TreeStart::Split => {
             let half = reading_count(k - 1);
             let low = tree_size(table, at, k - 1, t);
             let high = tree_size(table, at + half, k - 1, t);
@@ -147,69 +147,26 @@ pub(super) fn put_tree(
     at: usize,
     k: usize,
     t: usize,
-    support: [u16; 10],
+    support: [u16; CANDIDATES],
     base: usize,
     count: usize,
-    kinds: &mut [u8],
-    firsts: &mut [u16],
-    seconds: &mut [u16],
+    gates: &mut [u64; GATES],
 ) -> usize
-    requires { ⌜ TablePart (now table) at k t ⌝ }
-    requires { ⌜ NetRoom base (count + treeSize k (columnPart (now table) at k t)) (now kinds) (now firsts) (now seconds) ⌝ }
-    ensures { λ r. ⌜ GatesPut count (now (kinds .entry)) (now (firsts .entry)) (now (seconds .entry))
-        (tree k (base + count) support (columnPart (now (table .entry)) at k t)) r
-        (now (kinds .exit)) (now (firsts .exit)) (now (seconds .exit)) ⌝ }
+    requires { ⌜ TablePart (now table) at k t × Nets k support ⌝ }
+    requires { ⌜ GateRoom base (count + treeSize k (columnPart (now table) at k t)) (now gates) ⌝ }
+    ensures { λ r. ⌜ GatesPut base count (now (gates .entry))
+        (tree k (base + count) support (columnPart (now (table .entry)) at k t)) r (now (gates .exit)) ⌝ }
 {
-    let shape = shape_of(table, at, k, t);
-    match shape {
-        Shape::Constant(kind) => put_gate(kinds, firsts, seconds, count, kind, 0, 0),
-        Shape::Equal => put_tree(
-            table,
-            at,
-            k - 1,
-            t,
-            support,
-            base,
-            count,
-            kinds,
-            firsts,
-            seconds,
-        ),
-        Shape::Split => {
+    let start = tree_start(table, at, k, t);
+    match start {
+        TreeStart::Constant(kind) => add_gate(gates, base, count, kind, 0, 0),
+        TreeStart::Equal => put_tree(table, at, k - 1, t, support, base, count, gates),
+        TreeStart::Split => {
             let half = reading_count(k - 1);
-            let low = put_tree(
-                table,
-                at,
-                k - 1,
-                t,
-                support,
-                base,
-                count,
-                kinds,
-                firsts,
-                seconds,
-            );
-            let high = put_tree(
-                table,
-                at + half,
-                k - 1,
-                t,
-                support,
-                base,
-                low,
-                kinds,
-                firsts,
-                seconds,
-            );
-            put_mux(
-                support[k - 1],
-                base + low - 1,
-                base + high - 1,
-                high,
-                kinds,
-                firsts,
-                seconds,
-            )
+            let low = put_tree(table, at, k - 1, t, support, base, count, gates);
+            let high = put_tree(table, at + half, k - 1, t, support, base, low, gates);
+            let s = support[k - 1];
+            put_mux(s, base + low - 1, base + high - 1, base, high, gates)
         }
     }
 }
@@ -229,30 +186,28 @@ pub(super) fn trees_size(table: &[u8], k: usize, targets: usize) -> usize
 }
 
 // The trees of all targets, one after the other behind the first count gates, over the first k nets of the support; gate i drives
-// net base + i. The net of each tree stands in ends afterwards.
+// net base + i. The net of each tree is the number of its target afterwards, from place base on.
 pub(super) fn put_trees(
     table: &[u8],
     k: usize,
     targets: usize,
-    support: [u16; 10],
+    support: [u16; CANDIDATES],
     base: usize,
     count: usize,
-    ends: &mut [u16],
-    kinds: &mut [u8],
-    firsts: &mut [u16],
-    seconds: &mut [u16],
+    numbers: &mut [u16; 1024],
+    gates: &mut [u64; GATES],
 ) -> usize
-    requires { ⌜ (k ≤ 10) × (2 ^ k ≤ length (now table)) × (targets ≤ 4) × (targets ≤ length (now ends)) ⌝ }
-    requires { ⌜ NetRoom base (count + treesSize targets 0 k (now table)) (now kinds) (now firsts) (now seconds) ⌝ }
-    ensures { λ r. ⌜ TreesPut targets k base support (now (table .entry)) count
-        (now (kinds .entry)) (now (firsts .entry)) (now (seconds .entry)) (now (ends .entry)) r
-        (now (kinds .exit)) (now (firsts .exit)) (now (seconds .exit)) (now (ends .exit)) ⌝ }
+    requires { ⌜ (k ≤ 10) × (2 ^ k ≤ length (now table)) × (targets ≤ 4) × Nets k support ⌝ }
+    requires { ⌜ (base + targets ≤ 1024) × (length (now numbers) ≡ 1024) ⌝ }
+    requires { ⌜ GateRoom base (count + treesSize targets 0 k (now table)) (now gates) ⌝ }
+    ensures { λ r. ⌜ TreesPut targets k base support (now (table .entry)) count (now (numbers .entry)) (now (gates .entry)) r
+        (now (numbers .exit)) (now (gates .exit)) ⌝ }
 {
     let mut next = count;
     let mut t = 0usize;
     while t < targets {
-        next = put_tree(table, 0, k, t, support, base, next, kinds, firsts, seconds);
-        ends[t] = (base + next - 1) as u16;
+        next = put_tree(table, 0, k, t, support, base, next, gates);
+        numbers[base + t] = (base + next - 1) as u16;
         t += 1;
     }
     next

@@ -2,16 +2,16 @@
 use Prim.Native.Nat.{ℕ, zero, suc, _+_, _≤_, _<_}
 use mathlib.Core.Path.{_≡_, refl, sym, _∙_, ap, subst}
 use mathlib.Core.Logic.{_↔_, _⊎_, inl, inr, ⊎-elim}
-use mathlib.Core.List.{List, [], _∷_, map, List·Memᴰ as Mem, List·Memᴰ·head as here, List·Memᴰ·tail as there, List·Memᴰ·not-nil as not-nil, List·Memᴰ·cases-cons as cases-cons}
+use mathlib.Core.List.{List, [], _∷_, _++_, map, List·Memᴰ as Mem, List·Memᴰ·head as here, List·Memᴰ·tail as there, List·Memᴰ·not-nil as not-nil, List·Memᴰ·cases-cons as cases-cons}
 use mathlib.Core.Bool.{Bool, true, false, cond, _&&_, _||_, true≢false, false≢true}
 use mathlib.Core.Option.{Option, none, some, Option·some-injective as some-injective, Option·none-ne-some as none-ne-some, Option·some-ne-none as some-ne-none}
-use native.Mathlib.Nat.{eq-or-lt-of-le}
+use native.Mathlib.Nat.{le-trans, eq-or-lt-of-le}
 use native.Mathlib.Omega.{arith}
-use borrow.Author.Tests.{eqb-true, eq-eqb, ne-eqb}
-use lib.Dec.{eqb}
-use lib.ListN.{length}
+use borrow.Author.Tests.{lt-ltb, ltb-true, eqb-true, eq-eqb, ne-eqb}
+use lib.Dec.{eqb, ltb}
+use lib.ListN.{length, getD}
 use Rattle.records.specs.Bytes.{upFrom, all}
-use Rattle.records.proofs.Laws.Bytes.{and-left, and-right, and-both, false-of}
+use Rattle.records.proofs.Laws.Bytes.{and-left, and-right, and-both, all-cons, false-of}
 use Rattle.engine.specs.Choice.{any, keep, first, found, orZero, same}
 
 -- ---- tests
@@ -65,9 +65,6 @@ module _ {A : Type 0} (p : A → Bool) where
   all-of-members (y ∷ ys) h =
       and-both (p y) (all p ys) (h y (here refl)) (all-of-members ys (λ x m. h x (there m)))
 
-  pub all-iff-members : (xs : List A) → (all p xs ≡ true) ↔ ((x : A) → Mem x xs → p x ≡ true)
-  all-iff-members xs = (all-true xs, all-of-members xs)
-
   pub all-false : (xs : List A) → all p xs ≡ false → (x : A) × Mem x xs × (p x ≡ false)
   unfolding all
   all-false [] e = absurd (true≢false e)
@@ -100,6 +97,12 @@ module _ {A : Type 0} (p : A → Bool) where
 
   pub any-false : (xs : List A) → any p xs ≡ false → (x : A) → Mem x xs → p x ≡ false
   any-false xs e x m = false-of (p x) (λ q. not-both (any-of-member xs x m q) e)
+
+  pub all-append : (xs ys : List A) → all p xs ≡ true → all p ys ≡ true → all p (xs ++ ys) ≡ true
+  unfolding all
+  all-append [] ys e f = f
+  all-append (x ∷ xs) ys e f =
+      and-both (p x) (all p (xs ++ ys)) (and-left (p x) (all p xs) e) (all-append xs ys (and-right (p x) (all p xs) e) f)
 
   -- ---- keep
 
@@ -160,6 +163,20 @@ module _ {A : Type 0} (p : A → Bool) where
       (λ (n : Mem x ys). first-none ys (sym (first-there y ys q) ∙ e) x n)
       (cases-cons m))
       (true-or-false (p y))
+
+-- ---- numbers below a bound
+
+pub all-getD : (n : ℕ) (xs : List ℕ) → all (λ o. ltb o n) xs ≡ true → (i : ℕ) → i < length xs → getD xs i 0 < n
+all-getD n [] e i h = let f : ⊥ = omega arith in absurd f
+all-getD n (x ∷ xs) e zero h = ltb-true x n (all-cons (λ o. ltb o n) x xs e .0)
+all-getD n (x ∷ xs) e (suc i) h = all-getD n xs (all-cons (λ o. ltb o n) x xs e .1) i (omega arith)
+
+pub all-below-more : (n m : ℕ) → n ≤ m → (os : List ℕ) → all (λ o. ltb o n) os ≡ true → all (λ o. ltb o m) os ≡ true
+unfolding all
+all-below-more n m h [] e = refl
+all-below-more n m h (o ∷ os) e =
+    let p = all-cons (λ x. ltb x n) o os e in
+    and-both _ _ (lt-ltb o m (le-trans (ltb-true o n (p .0)) h)) (all-below-more n m h os (p .1))
 
 -- ---- how many are kept
 

@@ -1,19 +1,27 @@
 -- Laws of decide's reply: which number it gives, and what the buffer holds. Assumes nothing.
-use Prim.Native.Nat.{ℕ, _≤_, _<_}
-use mathlib.Core.Path.{_≡_, refl, sym, _∙_, ap, subst}
-use mathlib.Core.List.{List, [], _∷_}
-use mathlib.Core.Bool.{Bool, true, false, cond}
+use Prim.Native.Nat.{ℕ, zero, suc, _+_, _≤_, _<_}
+use mathlib.Core.Path.{_≡_, refl, sym, _∙_, ap}
+use mathlib.Core.List.{List, [], _∷_, _++_}
+use mathlib.Core.Bool.{true, false}
 use borrow.Author.Tests.{le-leb, lt-leb, eq-eqb, ne-eqb}
 use native.Mathlib.Omega.{arith}
-use lib.Dec.{leb, eqb}
-use lib.ListN.{length, replicate}
-use Rattle.records.specs.Job.{Job, jobOf}
-use Rattle.records.specs.Refusal.{firstFailing, jobTests, jobRefusal}
-use Rattle.records.specs.Columns.{Columns, columns, sideColumns, sideColumnsRoomy, columnsRoomy, columnsNumber, columnsReply}
-use Rattle.records.specs.declared.reading.ReadReply.{ReadReply}
+use lib.Dec.{ltb, eqb}
+use lib.ListN.{length, drop, replicate}
+use Rattle.records.specs.Bytes.{all, placed}
+use Rattle.records.specs.Claims.{Below}
+use Rattle.records.specs.Job.{jobOf}
+use Rattle.records.specs.Service.{readNumber, readReply, emptyPlaces, filled, loaded}
+use Rattle.records.specs.Service as Service
+use Rattle.records.proofs.Laws.Accepted.{below-of-all}
+use Rattle.records.proofs.Laws.Loading.{loaded-number, loaded-parts}
+use Rattle.engine.specs.Support.{candidateNets}
+use Rattle.engine.proofs.Laws.Choice.{all-below-more}
+use Rattle.engine.proofs.Laws.Miter.{oldNets-le, miter-nets, candidates-below}
+use Rattle.records.specs.Refusal.{oldNets, firstFailing, jobRefusal}
+use Rattle.records.specs.Columns.{Columns, columns, sideColumns, sideColumnsRoomy, columnsRoomy, columnsNumber}
 use Rattle.engine.specs.Verdict.{longestSheet, decideNumber, decidedBytes}
 use Rattle.engine.specs.Reply.{declinedReply, decideReply}
-use Rattle.engine.specs.Rule.{Decided}
+use Rattle.engine.specs.Inner.Deciding.{Decided}
 use Rattle.engine.specs.declared.deciding.DecideReply.{DecideReply}
 
 -- ---- numbers
@@ -54,13 +62,40 @@ lent-roomy = refl
 pub lent-refusal : (s : List ℕ) → columnsNumber lentPlaces s ≡ jobRefusal s
 lent-refusal s = read-refusal lentPlaces s lent-roomy
 
--- the number of what read replied there
-pub read-number : (s : List ℕ) {r : ReadReply} → r ≡ columnsReply lentPlaces s → jobRefusal s ≡ r .number
-unfolding columnsReply
-read-number s e = sym (lent-refusal s) ∙ ap (λ (x : ReadReply). x .number) (sym e)
+-- ---- the candidates' nets of a loaded job are small
 
-pub decided-job : {j k : Job} {d e : List ℕ} {r : DecideReply} → j ≡ k → Decided j d r e → Decided k d r e
-decided-job {j} {k} {d} {e} {r} q w = subst (λ (i : Job). Decided i d r e) q w
+pub below-append : (n : ℕ) (xs ys : List ℕ) → Below n xs → Below n ys → Below n (xs ++ ys)
+below-append n [] ys b d i = d i
+below-append n (x ∷ xs) ys b d zero = b zero
+below-append n (x ∷ xs) ys b d (suc i) = below-append n xs ys (λ k. b (suc k)) d i
+
+below-drop : (n k : ℕ) (xs : List ℕ) → Below n xs → Below n (drop k xs)
+below-drop n zero xs b = b
+below-drop n (suc k) [] b = b
+below-drop n (suc k) (x ∷ xs) b = below-drop n k xs (λ i. b (suc i))
+
+pub below-zeros : (n k : ℕ) → 0 < n → Below n (replicate k 0)
+below-zeros n zero h i = h
+below-zeros n (suc k) h zero = h
+below-zeros n (suc k) h (suc i) = below-zeros n k h i
+
+loaded-places : (s : List ℕ) → jobRefusal s ≡ 0 → loaded s .nets ≡ placed (replicate 10 0) 0 (candidateNets (jobOf s))
+unfolding loaded Service.readPlaces readReply emptyPlaces filled candidateNets
+loaded-places s e =
+    let f : eqb (readNumber emptyPlaces s) 0 ≡ true = eq-eqb (readNumber emptyPlaces s) 0 (loaded-number s ∙ e) in
+    rw f refl
+
+pub loaded-nets : (s : List ℕ) → jobRefusal s ≡ 0 → Below 1024 (loaded s .nets)
+unfolding placed
+loaded-nets s e =
+    let j = jobOf s in
+    let p = loaded-parts s e in
+    let is = candidateNets j in
+    let small : all (λ i. ltb i 1024) is ≡ true =
+    all-below-more (oldNets j) 1024 (omega (arith, oldNets-le j (p .good), miter-nets j (p .good))) is (candidates-below j (p .good)) in
+    rw (loaded-places s e)
+    (below-append 1024 is (drop (0 + length is) (replicate 10 0)) (below-of-all 1024 (omega arith) is small)
+    (below-drop 1024 (0 + length is) (replicate 10 0) (below-zeros 1024 10 (omega arith))))
 
 -- ---- replies
 

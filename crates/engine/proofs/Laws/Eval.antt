@@ -161,7 +161,7 @@ valueOf-agree {ms} {vs} {ws} a g e =
     ap (gateValue (g .kind))
     (map-agree (netAt vs) (netAt ws) (operands g) (λ i m. netAt-agree a i (disj-zero (netAt ms) (operands g) e i m)))
 
-extended-agree : (ms vs ws : List ℕ) → Agree ms vs ws → (gs : List Gate)
+pub extended-agree : (ms vs ws : List ℕ) → Agree ms vs ws → (gs : List Gate)
     → Agree (extended markOf ms gs) (extended valueOf vs gs) (extended valueOf ws gs)
 unfolding extended
 extended-agree ms vs ws a [] = a

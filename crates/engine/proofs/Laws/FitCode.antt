@@ -1,32 +1,36 @@
 -- Laws of fit's code (specs/Fitting): new numbers of nets, and gates moved to them. Assumes nothing.
-use Prim.Native.Nat.{ℕ, zero, suc, _+_, _-_, _^_, _≤_, _<_}
+use Prim.Native.Nat.{ℕ, zero, suc, _+_, _-_, _^_, _/_, _%_, _≤_, _<_}
 use mathlib.Core.Path.{_≡_, refl, sym, _∙_, ap}
 use mathlib.Core.Logic.{⊎-elim}
-use mathlib.Core.List.{List, [], _∷_, _++_, map, append-nil, map-append}
-use mathlib.Core.Bool.{Bool, true, false, cond, true≢false}
+use mathlib.Core.List.{List, [], _∷_, _++_, map, append-nil, map-append, List·Memᴰ as Mem}
+use mathlib.Core.Bool.{Bool, true, false, cond}
 use native.Mathlib.Nat.{add-zero, zero-add}
 use native.Mathlib.Omega.{arith}
-use borrow.Author.Tests.{eq-eqb, ne-eqb, ltb-true, ltb-false, lt-ltb, le-ltb}
+use borrow.Author.Tests.{eq-eqb, ne-eqb, eqb-true, eqb-false, ltb-true, ltb-false, lt-ltb, le-ltb}
 use lib.Dec.{eqb, ltb}
-use lib.ListN.{length, getD, take, drop, set, length-set, length-append, length-map, length-drop}
-use lib.ListN.{drop-of-length-le, List·getD-append}
-use lib.Seq.{take-all, getD-set-same, getD-set-other}
-use Rattle.records.specs.Bytes.{upFrom, tabulate, placed}
+use lib.ListN.{length, getD, take, set, replicate, length-set, length-append, length-map, length-replicate, List·getD-map}
+use lib.ListN.{getD-replicate}
+use lib.Seq.{length-take-le, getD-take, getD-set-same, getD-set-other}
+use Rattle.records.specs.Bytes.{upFrom}
 use Rattle.records.specs.Gate.{Gate, gateOf, operands, unused}
 use Rattle.records.specs.Netlist.{netAt}
-use Rattle.records.specs.Refusal.{gateGood, gatesGood}
-use Rattle.records.specs.Columns.{gatesFrom}
-use Rattle.records.proofs.Laws.Bytes.{length-upFrom, length-tabulate, getD-tabulate, length-placed}
-use Rattle.records.proofs.Laws.Gate.{arity-low, arity-one, arity-two, gateGood-high}
+use Rattle.records.proofs.Laws.Bytes.{length-upFrom}
+use Rattle.records.proofs.Laws.Gate.{gateGood-parts}
 use Rattle.engine.specs.Choice.{keep}
 use Rattle.engine.specs.Fit.{moved}
-use Rattle.engine.specs.Building.{GateRoom, GatesPut, TreesPut}
-use Rattle.engine.specs.Inner.{Evaluable}
-use Rattle.engine.specs.Fitting.{marked, Numbered, movedFrom, FreePlaced, numberedTrees, TreesPlaced}
-use Rattle.engine.proofs.Laws.Choice.{true-or-false, length-keep-le}
-use Rattle.engine.proofs.Laws.EvalWords.{length-gates}
+use Rattle.engine.specs.Inner.Packed.{fields, packed, packedFrom}
+use Rattle.engine.specs.Inner.Tree.{Nets, GateRoom, GatesPut, TreesPut}
+use Rattle.engine.specs.Inner.Renumber.{gateIn, unpacked, oldGates, oldBase, OldHeld, indicesWith, InputsNumbered, Numbered}
+use Rattle.engine.specs.Inner.Renumber.{movedFrom, withMark, MarkedPlaced}
+use Rattle.engine.specs.Inner.Fitting.{TreesPlaced}
+use Rattle.engine.specs.declared.renumber.NewSide.{NewSide}
+use Rattle.engine.specs.declared.renumber.OldSide.{OldSide}
+use Rattle.engine.proofs.Laws.Choice.{true-or-false, length-keep-le, mem-keep, mem-below, map-agree, all-true}
 use Rattle.engine.proofs.Laws.FitGates.{good-at}
-use Rattle.engine.proofs.Laws.Tree.{gates-put-append, room-kept, room-less}
+use Rattle.engine.proofs.Laws.FitNets.{getD-defaults}
+use Rattle.engine.proofs.Laws.MiterCode.{mapped-slots}
+use Rattle.engine.proofs.Laws.Packed.{kind-lt}
+use Rattle.engine.proofs.Laws.Tree.{gates-put-one, gates-put-append, gates-put-same, room-kept, room-less}
 
 -- ---- keep
 
@@ -68,45 +72,67 @@ module _ (ms : List ℕ) (base b : ℕ) where
   abbrev has : ℕ → Bool
   has i = eqb (netAt ms (base + i)) b
 
-  pub marked-next : (i : ℕ) → getD ms (base + i) 0 ≡ b → marked ms base b (i + 1) ≡ marked ms base b i ++ (i ∷ [])
-  unfolding marked netAt
-  marked-next i e =
+  indicesWith-next : (i : ℕ) → getD ms (base + i) 0 ≡ b → indicesWith ms base b (i + 1) ≡ indicesWith ms base b i ++ (i ∷ [])
+  unfolding indicesWith netAt
+  indicesWith-next i e =
       ap (keep has) (upFrom-snoc i)
       ∙ keep-append has (upFrom 0 i) (i ∷ [])
       ∙ ap (λ (l : List ℕ). keep has (upFrom 0 i) ++ l) (keep-one has i (eq-eqb (getD ms (base + i) 0) b e))
 
-  pub marked-skip : (i : ℕ) → (getD ms (base + i) 0 ≡ b → ⊥) → marked ms base b (i + 1) ≡ marked ms base b i
-  unfolding marked netAt
-  marked-skip i e =
+  indicesWith-skip : (i : ℕ) → (getD ms (base + i) 0 ≡ b → ⊥) → indicesWith ms base b (i + 1) ≡ indicesWith ms base b i
+  unfolding indicesWith netAt
+  indicesWith-skip i e =
       ap (keep has) (upFrom-snoc i)
       ∙ keep-append has (upFrom 0 i) (i ∷ [])
       ∙ ap (λ (l : List ℕ). keep has (upFrom 0 i) ++ l) (keep-none has i (ne-eqb (getD ms (base + i) 0) b e))
       ∙ append-nil (keep has (upFrom 0 i))
 
--- ---- the loop that numbers them
+-- ---- new numbers
 
-pub numbered-none : (ms : List ℕ) (base b first : ℕ) (d : List ℕ) → Numbered ms base b 0 first d d 0
-unfolding marked upFrom keep
+pub inputs-none : InputsNumbered 0 (replicate 1024 0)
+inputs-none =
+    record {
+      long = length-replicate {A = ℕ} 1024 0;
+      inputs = λ i h. let f : ⊥ = omega arith in absurd f;
+      nets = λ i h. rw (getD-replicate {A = ℕ} 1024 i 0 0 h) (omega arith);
+    }
+
+pub inputs-next : {i : ℕ} {ns : List ℕ} → InputsNumbered i ns → i < 1024 → InputsNumbered (i + 1) (set ns i i)
+inputs-next {i} {ns} w h =
+    let same : getD (set ns i i) i 0 ≡ i = getD-set-same ns i i 0 (omega (arith, w .long)) in
+    let other : (k : ℕ) → (k ≡ i → ⊥) → getD (set ns i i) k 0 ≡ getD ns k 0 = λ k d. getD-set-other ns i k i 0 d in
+    record {
+      long = length-set ns i i ∙ w .long;
+      inputs =
+          λ k l.
+          ⊎-elim
+          (λ (t : eqb k i ≡ true). let e = eqb-true k i t in rw e same)
+          (λ (t : eqb k i ≡ false). let d = eqb-false k i t in other k d ∙ w .inputs k (omega arith))
+          (true-or-false (eqb k i));
+      nets =
+          λ k l.
+          ⊎-elim
+          (λ (t : eqb k i ≡ true). let e = eqb-true k i t in rw (e, same) h)
+          (λ (t : eqb k i ≡ false). rw (other k (eqb-false k i t)) (w .nets k l))
+          (true-or-false (eqb k i));
+    }
+
+numbered-none : (ms : List ℕ) (base b first : ℕ) (d : List ℕ) → Numbered ms base b 0 first d d
 numbered-none ms base b first d =
     record {
-      count = refl;
       long = refl;
       numbers = λ i h e. let f : ⊥ = omega arith in absurd f;
       leaves = λ i h. refl;
       others = λ i h. refl;
     }
 
-module _ (ms : List ℕ) (base b first : ℕ) (before after : List ℕ) (i r : ℕ) (w : Numbered ms base b i first before after r) where
-  pub numbered-next : getD ms (base + i) 0 ≡ b → base + i < length before
-      → Numbered ms base b (i + 1) first before (set after (base + i) (first + r)) (r + 1)
-  numbered-next e h =
-      let v = first + r in
-      let m : length (marked ms base b (i + 1)) ≡ r + 1 =
-      ap length (marked-next ms base b i e) ∙ omega (arith, length-append (marked ms base b i) (i ∷ []), w .count) in
+module _ (ms : List ℕ) (base b first : ℕ) (before after : List ℕ) (i : ℕ) (w : Numbered ms base b i first before after) where
+  numbered-next : getD ms (base + i) 0 ≡ b → base + i < length before → {v : ℕ} → v ≡ first + length (indicesWith ms base b i)
+      → Numbered ms base b (i + 1) first before (set after (base + i) v)
+  numbered-next e h {v} n =
       let other : (k : ℕ) → (k ≡ base + i → ⊥) → getD (set after (base + i) v) k 0 ≡ getD after k 0 =
       λ k d. getD-set-other after (base + i) k v 0 d in
       record {
-        count = sym m;
         long = length-set after (base + i) v ∙ w .long;
         numbers =
             λ k l d.
@@ -115,7 +141,7 @@ module _ (ms : List ℕ) (base b first : ℕ) (before after : List ℕ) (i r : �
             let u = ltb-true k i t in other (base + k) (λ z. omega arith) ∙ w .numbers k u d)
             (λ (t : ltb k i ≡ false).
             let u : k ≡ i = let q = ltb-false k i t in omega arith in
-            rw u (getD-set-same after (base + i) v 0 (omega (arith, w .long)) ∙ ap (λ (x : ℕ). first + x) (w .count)))
+            rw u (getD-set-same after (base + i) v 0 (omega (arith, w .long)) ∙ n))
             (true-or-false (ltb k i));
         leaves = λ k l. other k (λ z. omega arith) ∙ w .leaves k l;
         others =
@@ -124,10 +150,9 @@ module _ (ms : List ℕ) (base b first : ℕ) (before after : List ℕ) (i r : �
             other (base + k) (λ z. n (omega arith)) ∙ w .others k (λ l. d (omega arith));
       }
 
-  pub numbered-skip : (getD ms (base + i) 0 ≡ b → ⊥) → Numbered ms base b (i + 1) first before after r
+  numbered-skip : (getD ms (base + i) 0 ≡ b → ⊥) → Numbered ms base b (i + 1) first before after
   numbered-skip e =
       record {
-        count = w .count ∙ ap length (sym (marked-skip ms base b i e));
         long = w .long;
         numbers =
             λ k l d.
@@ -141,10 +166,39 @@ module _ (ms : List ℕ) (base b first : ℕ) (before after : List ℕ) (i r : �
         others = λ k d. w .others k (λ l. d (omega arith));
       }
 
+pub indicesWith-most : (ms : List ℕ) (base b n : ℕ) → length (indicesWith ms base b n) ≤ n
+unfolding indicesWith
+indicesWith-most ms base b n = omega (arith, length-keep-le (has ms base b) (upFrom 0 n), length-upFrom 0 n)
+
+-- the numbers stay nets
+pub numbered-nets : {ms : List ℕ} {base b n first : ℕ} {before after : List ℕ} → Numbered ms base b n first before after
+    → first + n ≤ 1024 → Nets 1024 before → Nets 1024 after
+numbered-nets {ms} {base} {b} {n} {first} {before} {after} w h p k l =
+    ⊎-elim
+    (λ (t : ltb k base ≡ true). rw (w .leaves k (ltb-true k base t)) (p k l))
+    (λ (t : ltb k base ≡ false).
+    let q = ltb-false k base t in
+    let i = k - base in
+    let e : base + i ≡ k = omega arith in
+    let kept : (i < n → getD ms (base + i) 0 ≡ b → ⊥) → getD after k 0 < 1024 =
+    λ d. rw (ap (λ (x : ℕ). getD after x 0) (sym e) ∙ w .others i d ∙ ap (λ (x : ℕ). getD before x 0) e) (p k l) in
+    ⊎-elim
+    (λ (u : ltb i n ≡ true).
+    let v = ltb-true i n u in
+    ⊎-elim
+    (λ (m : eqb (getD ms (base + i) 0) b ≡ true).
+    rw (ap (λ (x : ℕ). getD after x 0) (sym e) ∙ w .numbers i v (eqb-true (getD ms (base + i) 0) b m))
+    (omega (arith, indicesWith-most ms base b i)))
+    (λ (m : eqb (getD ms (base + i) 0) b ≡ false). kept (λ x. eqb-false (getD ms (base + i) 0) b m))
+    (true-or-false (eqb (getD ms (base + i) 0) b)))
+    (λ (u : ltb i n ≡ false). kept (λ x. let f : ⊥ = omega (arith, ltb-false i n u) in absurd f))
+    (true-or-false (ltb i n)))
+    (true-or-false (ltb k base))
+
 -- the more gates, the more have the mark
-pub marked-le : (ms : List ℕ) (base b i n : ℕ) → i ≤ n → length (marked ms base b i) ≤ length (marked ms base b n)
-unfolding marked
-marked-le ms base b i n h =
+indicesWith-le : (ms : List ℕ) (base b i n : ℕ) → i ≤ n → length (indicesWith ms base b i) ≤ length (indicesWith ms base b n)
+unfolding indicesWith
+indicesWith-le ms base b i n h =
     let p = has ms base b in
     let m : i + (n - i) ≡ n = omega arith in
     let e : keep p (upFrom 0 n) ≡ keep p (upFrom 0 i) ++ keep p (upFrom (0 + i) (n - i)) =
@@ -161,164 +215,173 @@ slot-kept k l a b h = rw (lt-ltb k l h)
 pub slot-moved : (k l a b : ℕ) → l ≤ k → b ≡ cond (ltb k l) a b
 slot-moved k l a b h = rw (le-ltb k l h)
 
-good-kind : (net k a b : ℕ) → gateGood net (gateOf k a b) ≡ true → k < 10
-good-kind net k a b e =
-    ⊎-elim
-    (λ (t : ltb 9 k ≡ true). absurd (true≢false (sym e ∙ gateGood-high net k a b (ltb-true 9 k t))))
-    (λ (t : ltb 9 k ≡ false). let h = ltb-false 9 k t in omega arith)
-    (true-or-false (ltb 9 k))
+-- a slot is a net
+pub slot-net : (ns : List ℕ) → Nets 1024 ns → (k l s : ℕ) {r : ℕ} → r ≡ cond (ltb k l) (s % 1024) (getD ns (s % 1024) 0)
+    → r < 1024
+slot-net ns p k l s e =
+    let h : s % 1024 < 1024 = omega arith in
+    let q = p (s % 1024) h in
+    rw e
+    (⊎-elim
+    (λ (t : ltb k l ≡ true). rw t h)
+    (λ (t : ltb k l ≡ false). rw t q)
+    (true-or-false (ltb k l)))
 
-module _ (ns : List ℕ) (net k a b : ℕ) (e : gateGood net (gateOf k a b) ≡ true) where
-  moved-none : k < 2 → gateOf k (cond (ltb k 2) a (getD ns a 0)) (cond (ltb k 4) b (getD ns b 0)) ≡ moved ns (gateOf k a b)
-  unfolding moved gateOf operands unused netAt
-  moved-none h = rw (lt-ltb k 2 h, lt-ltb k 4 (omega arith), arity-low k h)
+-- what moved_slot gives for the two slots of the gate in c
+pub moved-in : (ns : List ℕ) (c : ℕ) {a b : ℕ} → c % 16 < 10
+    → a ≡ cond (ltb (c % 16) 2) (c / 131072 % 1024) (getD ns (c / 131072 % 1024) 0)
+    → b ≡ cond (ltb (c % 16) 4) (c / 131072 / 1024 % 1024) (getD ns (c / 131072 / 1024 % 1024) 0)
+    → gateOf (c % 16) a b ≡ moved ns (gateIn c)
+unfolding gateIn fields gateOf moved netAt
+moved-in ns c h e f = rw (e, f) (mapped-slots (netAt ns) (c % 16) (c / 131072 % 1024) (c / 131072 / 1024 % 1024) h)
 
-  moved-one : 2 ≤ k → k < 4 → gateOf k (cond (ltb k 2) a (getD ns a 0)) (cond (ltb k 4) b (getD ns b 0)) ≡ moved ns (gateOf k a b)
-  unfolding moved gateOf operands unused netAt
-  moved-one h l = rw (le-ltb k 2 h, lt-ltb k 4 l, arity-one k h l)
+-- ---- the loop that numbers and puts them
 
-  moved-two : 4 ≤ k → k < 10
-      → gateOf k (cond (ltb k 2) a (getD ns a 0)) (cond (ltb k 4) b (getD ns b 0)) ≡ moved ns (gateOf k a b)
-  unfolding moved gateOf operands unused netAt
-  moved-two h l = rw (le-ltb k 2 (omega arith), le-ltb k 4 h, arity-two k h l)
+module _ (o : OldSide) (h : OldHeld o) where
+  pub length-old : length (oldGates o) ≡ o .count
+  length-old =
+      length-map (take (o .count) (o .gates)) gateIn ∙ length-take-le (o .count) (o .gates) (omega (arith, h .count, h .long))
 
-  -- what moved_slot gives for the two slots of a good gate
-  pub moved-slots : gateOf k (cond (ltb k 2) a (getD ns a 0)) (cond (ltb k 4) b (getD ns b 0)) ≡ moved ns (gateOf k a b)
-  moved-slots =
-      ⊎-elim
-      (λ (t : ltb k 2 ≡ true). moved-none (ltb-true k 2 t))
-      (λ (t : ltb k 2 ≡ false).
-      ⊎-elim
-      (λ (u : ltb k 4 ≡ true). moved-one (ltb-false k 2 t) (ltb-true k 4 u))
-      (λ (u : ltb k 4 ≡ false). moved-two (ltb-false k 4 u) (good-kind net k a b e))
-      (true-or-false (ltb k 4)))
-      (true-or-false (ltb k 2))
+  pub gate-at : (i : ℕ) → i < o .count → getD (oldGates o) i (gateOf 0 0 0) ≡ gateIn (getD (o .gates) i 0)
+  unfolding gateIn fields gateOf
+  gate-at i l =
+      List·getD-map gateIn (take (o .count) (o .gates)) i 0 ∙ ap gateIn (getD-take (o .count) (o .gates) i 0 l)
 
--- the gates in places, each good at its net
-module _ (ks xs ys : List ℕ) (count : ℕ) where
-  gate-at : (i : ℕ) → i < count
-      → getD (gatesFrom count ks xs ys) i (gateOf 0 0 0) ≡ gateOf (getD ks i 0) (getD xs i 0) (getD ys i 0)
-  unfolding gatesFrom
-  gate-at i h = getD-tabulate count _ i (gateOf 0 0 0) h
-
-  pub place-good : (base : ℕ) → gatesGood base (gatesFrom count ks xs ys) ≡ true → (i : ℕ) → i < count
-      → gateGood (base + i) (gateOf (getD ks i 0) (getD xs i 0) (getD ys i 0)) ≡ true
-  place-good base g i h =
-      rw (gate-at i h) at (good-at base (gatesFrom count ks xs ys) g i (omega (arith, length-gates count ks xs ys)))
+  -- each of them has a kind
+  pub old-kind : (i : ℕ) → i < o .count → getD (o .gates) i 0 % 16 < 10
+  unfolding gateIn
+  old-kind i l =
+      kind-lt (oldBase o + i) (gateIn (getD (o .gates) i 0))
+      (rw (gate-at i l) at (good-at (oldBase o) (oldGates o) (h .good) i (omega (arith, length-old))))
 
 movedFrom-snoc : (gs : List Gate) (ns is : List ℕ) (i : ℕ)
     → movedFrom gs ns (is ++ (i ∷ [])) ≡ movedFrom gs ns is ++ (moved ns (getD gs i (gateOf 0 0 0)) ∷ [])
 unfolding movedFrom
 movedFrom-snoc gs ns is i = map-append (λ k. moved ns (getD gs k (gateOf 0 0 0))) is (i ∷ [])
 
--- ---- the loop that puts them behind count gates
+pub length-movedFrom : (gs : List Gate) (ns ks : List ℕ) → length (movedFrom gs ns ks) ≡ length ks
+unfolding movedFrom
+length-movedFrom gs ns ks = length-map ks _
 
-module _ (ks xs ys ms ns : List ℕ) (gates base b : ℕ) where
-  abbrev olds : List Gate
-  olds = gatesFrom gates ks xs ys
+-- numbers that agree on a gate's operands move it alike
+pub moved-agree : (ns ns′ : List ℕ) (g : Gate) → ((i : ℕ) → Mem i (operands g) → getD ns i 0 ≡ netAt ns′ i)
+    → moved ns g ≡ moved ns′ g
+unfolding moved netAt
+moved-agree ns ns′ g h =
+    ap (λ (l : List ℕ). record { kind = g .kind; slots = l ++ unused g }) (map-agree (netAt ns) (netAt ns′) (operands g) h)
 
-  pub putting-none : (count : ℕ) (ks₀ xs₀ ys₀ : List ℕ)
-      → GatesPut count ks₀ xs₀ ys₀ (movedFrom olds ns (marked ms base b 0)) count ks₀ xs₀ ys₀
-  unfolding movedFrom marked upFrom keep
-  putting-none count ks₀ xs₀ ys₀ =
+-- the gates with mark b among the first i of the old ones have their numbers in ns, and stand behind the first r₀ gates: r in all
+pub record Placing (ms codes : List ℕ) (base many n b : ℕ) (ns₀ cs₀ : List ℕ) (r₀ i : ℕ) (ns cs : List ℕ) (r : ℕ) : Type 0 where
+  pub most : i ≤ many
+  pub numbered : Numbered ms base b i (n + r₀) ns₀ ns
+  pub gates : GatesPut n r₀ cs₀ (movedFrom (unpacked many codes) ns (indicesWith ms base b i)) r cs
+
+module _ (o : OldSide) (b : ℕ) (new : NewSide) where
+  abbrev pub PlacingOf : ℕ → List ℕ → List ℕ → ℕ → Type 0
+  PlacingOf i ns cs r =
+      Placing (o .marks) (o .gates) (oldBase o) (o .count) (o .inputs) b (new .numbers) (new .gates) (new .count) i ns cs r
+
+  abbrev indices : ℕ → List ℕ
+  indices i = indicesWith (o .marks) (oldBase o) b i
+
+  pub placing-none : PlacingOf 0 (new .numbers) (new .gates) (new .count)
+  unfolding movedFrom indicesWith upFrom keep packedFrom
+  placing-none =
       record {
-        end = sym (add-zero count);
-        gates = sym (append-nil (gatesFrom count ks₀ xs₀ ys₀));
-        kinds = refl;
-        firsts = refl;
-        seconds = refl;
+        most = omega arith;
+        numbered = numbered-none _ _ _ _ _;
+        gates = record { end = sym (add-zero _); gates = sym (append-nil _); long = refl };
       }
 
-  module _ {count end : ℕ} {ks₀ xs₀ ys₀ ks₁ xs₁ ys₁ : List ℕ} (i : ℕ)
-      (w : GatesPut count ks₀ xs₀ ys₀ (movedFrom olds ns (marked ms base b i)) end ks₁ xs₁ ys₁) where
-    pub putting-next : i < gates → gatesGood base olds ≡ true → getD ms (base + i) 0 ≡ b → {x y r : ℕ} {ks₂ xs₂ ys₂ : List ℕ}
-        → x ≡ cond (ltb (getD ks i 0) 2) (getD xs i 0) (getD ns (getD xs i 0) 0)
-        → y ≡ cond (ltb (getD ks i 0) 4) (getD ys i 0) (getD ns (getD ys i 0) 0)
-        → GatesPut end ks₁ xs₁ ys₁ (gateOf (getD ks i 0) x y ∷ []) r ks₂ xs₂ ys₂
-        → GatesPut count ks₀ xs₀ ys₀ (movedFrom olds ns (marked ms base b (i + 1))) r ks₂ xs₂ ys₂
-    putting-next h g m {x} {y} e f p =
-        let k = getD ks i 0 in
-        let v : gateOf k x y ≡ moved ns (getD olds i (gateOf 0 0 0)) =
-        rw (e, f, gate-at ks xs ys gates i h)
-        (moved-slots ns (base + i) k (getD xs i 0) (getD ys i 0) (place-good ks xs ys gates base g i h)) in
-        let z : movedFrom olds ns (marked ms base b i) ++ (gateOf k x y ∷ []) ≡ movedFrom olds ns (marked ms base b (i + 1)) =
-        ap (λ (q : Gate). movedFrom olds ns (marked ms base b i) ++ (q ∷ [])) v
-        ∙ sym (movedFrom-snoc olds ns (marked ms base b i) i)
-        ∙ ap (movedFrom olds ns) (sym (marked-next ms base b i m)) in
-        rw z at (gates-put-append w p)
+  module _ {i r : ℕ} {ns cs : List ℕ} (w : PlacingOf i ns cs r) where
+    placing-count : r ≡ new .count + length (indices i)
+    placing-count = omega (arith, w .gates .end, length-movedFrom (oldGates o) ns (indices i))
 
-    pub putting-skip : (getD ms (base + i) 0 ≡ b → ⊥)
-        → GatesPut count ks₀ xs₀ ys₀ (movedFrom olds ns (marked ms base b (i + 1))) end ks₁ xs₁ ys₁
-    putting-skip m = rw (marked-skip ms base b i m) w
+    pub placing-skip : i < o .count → (getD (o .marks) (oldBase o + i) 0 ≡ b → ⊥) → PlacingOf (i + 1) ns cs r
+    placing-skip l m =
+        record {
+          most = omega arith;
+          numbered = numbered-skip _ _ _ _ _ _ _ (w .numbered) m;
+          gates = gates-put-same (w .gates) (ap (movedFrom (oldGates o) ns) (sym (indicesWith-skip (o .marks) (oldBase o) b i m)));
+        }
 
-    -- there is room for one more where there is room for all
-    pub putting-room : i < gates → getD ms (base + i) 0 ≡ b → GateRoom (count + length (marked ms base b gates)) ks₀ xs₀ ys₀
-        → GateRoom (end + 1) ks₁ xs₁ ys₁
-    unfolding movedFrom
-    putting-room h m r =
-        let is = marked ms base b i in
-        let n : length (movedFrom olds ns is) ≡ length is = length-map is _ in
-        let k = length-append (marked ms base b i) (i ∷ []) in
-        let l = ap length (marked-next ms base b i m) in
-        let u = marked-le ms base b (i + 1) gates (omega arith) in
-        room-less (room-kept r w) (omega (arith, w .end))
+    pub placing-all : o .count ≤ i → MarkedPlaced o b new (record { count = r; numbers = ns; gates = cs })
+    placing-all l =
+        let e : i ≡ o .count = omega (arith, w .most) in
+        record { numbered = rw e at (w .numbered); gates = rw e at (w .gates) }
 
--- ---- the first group and the last
+    module _ (h : OldHeld o) (l : i < o .count) (m : getD (o .marks) (oldBase o + i) 0 ≡ b) where
+      -- the number of gate i
+      abbrev put : List ℕ
+      put = set ns (oldBase o + i) (o .inputs + r)
 
-pub marked-most : (ms : List ℕ) (base b n : ℕ) → length (marked ms base b n) ≤ n
-unfolding marked
-marked-most ms base b n = omega (arith, length-keep-le (has ms base b) (upFrom 0 n), length-upFrom 0 n)
+      -- .. has no say in the gates before it
+      moved-kept : movedFrom (oldGates o) ns (indices i) ≡ movedFrom (oldGates o) put (indices i)
+      unfolding movedFrom indicesWith netAt
+      moved-kept =
+          map-agree _ _ (indices i)
+          (λ k t.
+          let p = mem-below i k .0 (mem-keep (has (o .marks) (oldBase o) b) (upFrom 0 i) k .0 t .0) in
+          let g = getD (oldGates o) k (gateOf 0 0 0) in
+          let e = good-at (oldBase o) (oldGates o) (h .good) k (omega (arith, length-old o h)) in
+          moved-agree ns put g
+          (λ x y.
+          let q =
+          ltb-true x (oldBase o + k)
+          (all-true (λ z. ltb z (oldBase o + k)) (operands g) (gateGood-parts (oldBase o + k) g e .0) x y) in
+          sym (getD-set-other ns (oldBase o + i) x (o .inputs + r) 0 (λ z. omega arith))))
 
-pub evaluable-same : {ks xs ys : List ℕ} {count base w v : ℕ} → Evaluable ks xs ys count base w → v ≡ w
-    → Evaluable ks xs ys count base v
-evaluable-same e q = rw q e
+      -- there is room for one more where there is room for all
+      pub placing-room : GateRoom (o .inputs) (new .count + length (withMark o b)) (new .gates) → GateRoom (o .inputs) (r + 1) cs
+      placing-room v =
+          let k = length-append (indices i) (i ∷ []) in
+          let n = ap length (indicesWith-next (o .marks) (oldBase o) b i m) in
+          let u = indicesWith-le (o .marks) (oldBase o) b (i + 1) (o .count) (omega arith) in
+          room-less (room-kept v (w .gates)) (omega (arith, placing-count))
 
-placed-start : (d xs : List ℕ) (i : ℕ) → i < length xs → getD (placed d 0 xs) i 0 ≡ getD xs i 0
-unfolding placed
-placed-start d xs i h = List·getD-append xs (drop (0 + length xs) d) 0 i h
+      placing-number : length (new .numbers) ≡ 1024
+          → Numbered (o .marks) (oldBase o) b (i + 1) (o .inputs + new .count) (new .numbers) put
+      placing-number v =
+          numbered-next _ _ _ _ _ _ _ (w .numbered) m (omega (arith, h .inputs, h .targets, h .count)) (omega (arith, placing-count))
 
--- the places for as many gates as have the mark
-pub free-room : (ms : List ℕ) (base b n : ℕ) {ks xs ys : List ℕ} → GateRoom n ks xs ys
-    → GateRoom (0 + length (marked ms base b n)) ks xs ys
-free-room ms base b n r = room-less r (omega (arith, marked-most ms base b n))
+      pub placing-nets : length (new .numbers) ≡ 1024 → new .count ≤ 400 → Nets 1024 (new .numbers) → Nets 1024 put
+      placing-nets v f p = numbered-nets (placing-number v) (omega (arith, h .inputs, h .count)) p
 
-pub free-placed : (gs : List Gate) (count n base : ℕ) (ms before : List ℕ) {named after : List ℕ} {many r : ℕ}
-    {ks xs ys ks′ xs′ ys′ : List ℕ}
-    → n ≤ base → n ≤ length before → named ≡ placed before 0 (tabulate n (λ i. i))
-    → Numbered ms base 0 count n named after many
-    → GatesPut 0 ks xs ys (movedFrom gs after (marked ms base 0 count)) r ks′ xs′ ys′
-    → FreePlaced gs count n base ms before after ks xs ys r ks′ xs′ ys′
-free-placed gs count n base ms before h l e w p =
-    record {
-      long = w .long ∙ ap length e ∙ length-placed before 0 (tabulate n (λ i. i)) (omega (arith, length-tabulate n (λ i. i)));
-      inputs =
-          λ i m.
-          w .leaves i (omega arith)
-          ∙ ap (λ (d : List ℕ). getD d i 0) e
-          ∙ placed-start before (tabulate n (λ i. i)) i (omega (arith, length-tabulate n (λ i. i)))
-          ∙ getD-tabulate n (λ i. i) i 0 m;
-      free = w .numbers;
-      gates = p;
-    }
+      pub placing-next : length (new .numbers) ≡ 1024 → GateRoom (o .inputs) (new .count + length (withMark o b)) (new .gates)
+          → {c : ℕ} → c ≡ packed (o .inputs + r) (moved put (gateIn (getD (o .gates) i 0))) → PlacingOf (i + 1) put (set cs r c) (r + 1)
+      placing-next v f {c} e =
+          let g = gateIn (getD (o .gates) i 0) in
+          let one : GatesPut (o .inputs) r cs (moved put g ∷ []) (r + 1) (set cs r c) =
+          rw e (gates-put-one (o .inputs) r cs (placing-room f) (moved put g)) in
+          let z : movedFrom (oldGates o) ns (indices i) ++ (moved put g ∷ []) ≡ movedFrom (oldGates o) put (indices (i + 1)) =
+          ap (λ (q : List Gate). q ++ (moved put g ∷ [])) moved-kept
+          ∙ ap (λ (q : Gate). movedFrom (oldGates o) put (indices i) ++ (moved put q ∷ [])) (sym (gate-at o h i l))
+          ∙ sym (movedFrom-snoc (oldGates o) put (indices i) i)
+          ∙ ap (movedFrom (oldGates o) put) (sym (indicesWith-next (o .marks) (oldBase o) b i m)) in
+          record {
+            most = omega arith;
+            numbered = placing-number v;
+            gates = gates-put-same (gates-put-append (w .gates) one) z;
+          }
 
 -- ---- the trees
 
--- the places from n on
-pub part-all : (n : ℕ) (d : List ℕ) → take (length d - n) (drop n d) ≡ drop n d
-part-all n d = take-all (length d - n) (drop n d) (omega (arith, length-drop n d))
+-- nets at their numbers are nets
+pub moved-nets : (k : ℕ) (ns is js : List ℕ) → k ≤ length is → take k js ≡ map (λ o. getD ns o 0) (take k is)
+    → Nets k is → Nets 1024 ns → Nets k js
+moved-nets k ns is js l e p q i h =
+    let f : ℕ → ℕ = λ o. getD ns o 0 in
+    let n : i < length (map f (take k is)) = omega (arith, length-map (take k is) f, length-take-le k is l) in
+    let x : getD js i 0 ≡ getD ns (getD is i 0) 0 =
+    sym (getD-take k js i 0 h)
+    ∙ ap (λ (xs : List ℕ). getD xs i 0) e
+    ∙ getD-defaults (map f (take k is)) i 0 (f 0) n
+    ∙ List·getD-map f (take k is) i 0
+    ∙ ap f (getD-take k is i 0 h) in
+    rw x (q (getD is i 0) (p i h))
 
-part-behind : (n : ℕ) (d : List ℕ) → drop (length d - n) (drop n d) ≡ []
-part-behind n d = drop-of-length-le (drop n d) {i = length d - n} (omega (arith, length-drop n d))
-
-pub trees-placed : (n m count k : ℕ) (nets d : List ℕ) {tb is es′ ks xs ys ks′ xs′ ys′ : List ℕ} {r : ℕ}
-    → take k is ≡ map (λ o. getD d o 0) (take k nets)
-    → TreesPut m k n is tb count ks xs ys (take (length d - n) (drop n d)) r ks′ xs′ ys′ es′
-    → TreesPlaced n m count (take k nets) (take (2 ^ k) tb) d (take n d ++ (es′ ++ drop (length d - n) (drop n d)))
-    ks xs ys r ks′ xs′ ys′
-trees-placed n m count k nets d {tb} {is} {es′} e w =
-    let ns : List ℕ = numberedTrees n m count d (take k nets) (take (2 ^ k) tb) .nets in
-    let f : es′ ≡ ns ++ drop m (drop n d) = rw (e, part-all n d) at (w .nets) in
-    record {
-      gates = rw e at (w .gates);
-      nets = rw (part-behind n d, f, append-nil (ns ++ drop m (drop n d)));
-    }
+pub trees-placed : (n m k : ℕ) (nets : List ℕ) (a b : NewSide) {tb is : List ℕ}
+    → take k is ≡ map (λ o. getD (a .numbers) o 0) (take k nets)
+    → TreesPut m k n is tb (a .count) (a .numbers) (a .gates) (b .count) (b .numbers) (b .gates)
+    → TreesPlaced n m (take k nets) (take (2 ^ k) tb) a b
+trees-placed n m k nets a b e w = record { gates = rw e at (w .gates); nets = rw e at (w .nets) }

@@ -29,7 +29,7 @@ use Rattle.engine.specs.Choice.{keep}
 use Rattle.engine.specs.Fit.{led, gateIndices, rank, newFreeGate, newFreeNet, trees, newGate, newNets, moved, movedGates, fitted}
 use Rattle.engine.proofs.Laws.Choice.{all-true, all-of-members, mem-keep, mem-below, keep-lt, true-or-false}
 use Rattle.engine.proofs.Laws.Eval.{Bits, bits-nil, bits-cons, bits-append, bits-map, netAt-lt, gateValue-lt}
-use Rattle.engine.proofs.Laws.Fanout.{leaf-target, length-leafMarks}
+use Rattle.engine.proofs.Laws.Marks.{leaf-target, length-leafMarks}
 use Rattle.engine.proofs.Laws.FitGates.{noGate, good-append, good-at, good-of-each, markOf-local, consistent-extended, netAt-extended, extended-bits}
 use Rattle.engine.proofs.Laws.FitTree.{length-nets, trees-good, trees-below}
 
@@ -40,12 +40,12 @@ getD-defaults [] i a b h = let f : ⊥ = omega arith in absurd f
 getD-defaults (x ∷ xs) zero a b h = refl
 getD-defaults (x ∷ xs) (suc i) a b h = getD-defaults xs i a b (omega arith)
 
-mem-at : (xs : List ℕ) (r : ℕ) → r < length xs → Mem (getD xs r 0) xs
+pub mem-at : (xs : List ℕ) (r : ℕ) → r < length xs → Mem (getD xs r 0) xs
 mem-at [] r h = let f : ⊥ = omega arith in absurd f
 mem-at (x ∷ xs) zero h = here refl
 mem-at (x ∷ xs) (suc r) h = there (mem-at xs r (omega arith))
 
-place-of : {k : ℕ} {xs : List ℕ} → Mem k xs → (r : ℕ) × (r < length xs) × (getD xs r 0 ≡ k)
+pub place-of : {k : ℕ} {xs : List ℕ} → Mem k xs → (r : ℕ) × (r < length xs) × (getD xs r 0 ≡ k)
 place-of (here {xs = xs} e) = (0, omega arith, sym e)
 place-of (there {x = x} {xs = xs} m) = let p = place-of m in (suc (p .0), omega (arith, p .1), p .2)
 
@@ -394,34 +394,39 @@ module _ (f : ℕ → ℕ) where
   drop-moved (suc n) [] = refl
   drop-moved (suc n) (x ∷ xs) = drop-moved n xs
 
-module _ (ns : List ℕ) (g : Gate) where
-  pub operands-moved : operands (moved ns g) ≡ map (netAt ns) (operands g)
-  unfolding operands unused moved
-  operands-moved = take-moved (netAt ns) (arity (g .kind)) (g .slots)
+-- a gate with its used operands renumbered by f
+abbrev pub renumbered : (ℕ → ℕ) → Gate → Gate
+renumbered f g = record { kind = g .kind; slots = map f (operands g) ++ unused g }
 
-  unused-moved : unused (moved ns g) ≡ unused g
-  unfolding operands unused moved
-  unused-moved = drop-moved (netAt ns) (arity (g .kind)) (g .slots)
+module _ (f : ℕ → ℕ) (g : Gate) where
+  pub operands-renumbered : operands (renumbered f g) ≡ map f (operands g)
+  unfolding operands unused
+  operands-renumbered = take-moved f (arity (g .kind)) (g .slots)
 
-  pub kind-moved : moved ns g .kind ≡ g .kind
-  unfolding moved
-  kind-moved = refl
+  unused-renumbered : unused (renumbered f g) ≡ unused g
+  unfolding operands unused
+  unused-renumbered = drop-moved f (arity (g .kind)) (g .slots)
 
-  -- a moved gate may drive a net above its operands' new numbers
-  moved-good : (net new : ℕ) → gateGood net g ≡ true → ((i : ℕ) → Mem i (operands g) → netAt ns i < new)
-      → gateGood new (moved ns g) ≡ true
+  -- a renumbered gate may drive a net above its operands' new numbers
+  pub renumbered-good : (net new : ℕ) → gateGood net g ≡ true → ((i : ℕ) → Mem i (operands g) → f i < new)
+      → gateGood new (renumbered f g) ≡ true
   unfolding gateGood
-  moved-good net new e h =
+  renumbered-good net new e h =
       let exists : Bool = ltb (g .kind) 10 in
       let used : Bool = all (λ i. ltb i net) (operands g) in
       rw (
-        operands-moved,
-        unused-moved,
-        kind-moved,
+        operands-renumbered,
+        unused-renumbered,
         and-left exists used (and-left (exists && used) (all (eqb 0) (unused g)) e),
-        all-mapped (netAt ns) new (operands g) h,
+        all-mapped f new (operands g) h,
         gateGood-parts net g e .1,
       )
+
+module _ (ns : List ℕ) (g : Gate) where
+  moved-good : (net new : ℕ) → gateGood net g ≡ true → ((i : ℕ) → Mem i (operands g) → netAt ns i < new)
+      → gateGood new (moved ns g) ≡ true
+  unfolding moved
+  moved-good = renumbered-good (netAt ns) g
 
 module _ (j : Job) (ns ks : List ℕ) where
   pub length-moved : length (movedGates j ns ks) ≡ length ks

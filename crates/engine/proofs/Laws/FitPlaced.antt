@@ -4,56 +4,43 @@ use Prim.Native.Nat.{ℕ, _+_, _-_, _^_, _≤_, _<_}
 use mathlib.Core.Path.{_≡_, refl, sym, _∙_, ap}
 use mathlib.Core.Logic.{_⊎_, inl, inr, ⊎-elim}
 use mathlib.Core.List.{List, [], _∷_, _++_, map, append-nil, List·Memᴰ as Mem, List·Memᴰ·head as here, List·Memᴰ·tail as there}
-use mathlib.Core.Bool.{Bool, true, false, cond}
+use mathlib.Core.Bool.{Bool, true, false}
+use native.Mathlib.Nat.{add-zero, zero-add}
 use native.Mathlib.Omega.{arith}
-use borrow.Author.Tests.{eq-eqb, ne-eqb, ltb-true, lt-ltb, le-ltb}
+use borrow.Author.Tests.{eq-eqb, ne-eqb, ltb-true, ltb-false, lt-ltb, le-ltb}
 use lib.Dec.{eqb, ltb}
-use lib.ListN.{length, getD, take, drop, length-map, List·getD-append}
+use lib.ListN.{length, getD, take, drop, length-append, length-map, List·getD-append}
 use lib.Seq.{length-take-le, getD-take, getD-drop, getD-append-add}
-use Rattle.records.specs.Bytes.{upFrom}
+use Rattle.records.specs.Bytes.{upFrom, placed}
 use Rattle.records.specs.Gate.{Gate, operands, unused}
 use Rattle.records.specs.Netlist.{netAt}
 use Rattle.records.specs.Job.{Job}
 use Rattle.records.specs.Refusal.{gatesGood, netlistsGood, oldNets}
-use Rattle.records.specs.Columns.{gatesFrom}
-use Rattle.records.specs.declared.job.Counts.{Counts}
 use Rattle.records.specs.declared.sheet.Support.{Support}
-use Rattle.records.proofs.Laws.Bytes.{and-both, length-upFrom}
+use Rattle.records.proofs.Laws.Bytes.{and-both, length-upFrom, length-placed}
 use Rattle.engine.specs.Choice.{keep}
-use Rattle.engine.specs.Inner.{Outputs}
-use Rattle.engine.specs.Walk.{FanoutMarks}
 use Rattle.engine.specs.Fit.{led, gateIndices, rank, Trees, trees, newFreeNet, newNets, moved, movedGates, fitted}
-use Rattle.engine.specs.Building.{GateRoom, NetRoom, treesSize}
-use Rattle.engine.specs.Fitting.{marked, movedFrom, oldJob, FreePlaced, numberedTrees, TreesPlaced, RestPlaced, GatesPlaced}
-use Rattle.engine.specs.Fitting.{patchedJob, Fittable, patchedCount}
-use Rattle.engine.proofs.Laws.Choice.{mem-keep, mem-below, mem-upFrom, map-agree, all-true, all-of-members}
-use Rattle.engine.proofs.Laws.EvalWords.{length-gates}
-use Rattle.engine.proofs.Laws.FitCode.{keep-append, upFrom-append}
+use Rattle.engine.specs.Inner.Packed.{packedFrom}
+use Rattle.engine.specs.Inner.Tree.{Nets, GateRoom, GatesPut, treesSize}
+use Rattle.engine.specs.Inner.Renumber.{oldGates, oldBase, withMark, InputsNumbered, Numbered, movedFrom, MarkedPlaced, indicesWith}
+use Rattle.engine.specs.Inner.Fitting.{numberedTrees, TreesPlaced, oldJob, sideJob, Fittable, patchedCount, GatesPlaced}
+use Rattle.engine.specs.declared.renumber.OldSide.{OldSide}
+use Rattle.engine.specs.declared.renumber.NewSide.{NewSide}
+use Rattle.engine.proofs.Laws.Choice.{mem-keep, mem-below, mem-upFrom, map-agree, true-or-false}
+use Rattle.engine.proofs.Laws.FitCode.{keep-append, upFrom-append, indicesWith-most, length-old, numbered-nets, length-movedFrom, moved-agree}
 use Rattle.engine.proofs.Laws.FitNets.{mark-cases, mark-target, oldNet, oldGate, operand-below, operand-unmarked}
-use Rattle.engine.proofs.Laws.FitNets.{NetCase, input, target, gate, net-case, mem-indices}
+use Rattle.engine.proofs.Laws.FitNets.{NetCase, input, target, gate, net-case, mem-indices, mem-at}
 use Rattle.engine.proofs.Laws.FitNets.{number-input, number-target, number-free, number-led, number-support}
-use Rattle.engine.proofs.Laws.FitTree.{length-nets}
-use Rattle.engine.proofs.Laws.Tree.{gates-put-append, room-kept, room-less, length-trees}
+use Rattle.engine.proofs.Laws.FitTree.{length-nets, trees-below}
+use Rattle.engine.proofs.Laws.Run.{keep-ext, keep-all}
+use Rattle.engine.proofs.Laws.Tree.{gates-put-append, gates-put-same, length-trees}
 
 -- ---- keep
 
-module _ {A : Type 0} where
-  keep-agree : (p q : A → Bool) (xs : List A) → ((x : A) → Mem x xs → p x ≡ q x) → keep p xs ≡ keep q xs
-  unfolding keep
-  keep-agree p q [] h = refl
-  keep-agree p q (x ∷ xs) h =
-      ap (λ (b : Bool). cond b (x ∷ keep p xs) (keep p xs)) (h x (here refl))
-      ∙ ap (λ (l : List A). cond (q x) (x ∷ l) l) (keep-agree p q xs (λ y m. h y (there m)))
-
-  keep-every : (p : A → Bool) (xs : List A) → ((x : A) → Mem x xs → p x ≡ true) → keep p xs ≡ xs
-  unfolding keep
-  keep-every p [] h = refl
-  keep-every p (x ∷ xs) h = rw (h x (here refl)) (ap (λ (l : List A). x ∷ l) (keep-every p xs (λ y m. h y (there m))))
-
-  keep-nothing : (p : A → Bool) (xs : List A) → ((x : A) → Mem x xs → p x ≡ false) → keep p xs ≡ []
-  unfolding keep
-  keep-nothing p [] h = refl
-  keep-nothing p (x ∷ xs) h = rw (h x (here refl)) (keep-nothing p xs (λ y m. h y (there m)))
+keep-nothing : {A : Type 0} (p : A → Bool) (xs : List A) → ((x : A) → Mem x xs → p x ≡ false) → keep p xs ≡ []
+unfolding keep
+keep-nothing p [] h = refl
+keep-nothing p (x ∷ xs) h = rw (h x (here refl)) (keep-nothing p xs (λ y m. h y (there m)))
 
 -- of the numbers below n with p, those below k are the numbers below k with p
 keep-below : (p : ℕ → Bool) (n k : ℕ) → k ≤ n → keep (λ x. ltb x k) (keep p (upFrom 0 n)) ≡ keep p (upFrom 0 k)
@@ -68,7 +55,7 @@ keep-below p n k h =
     ap (keep (λ x. ltb x k)) e
     ∙ keep-append (λ x. ltb x k) low high
     ∙ ap (λ (l : List ℕ). l ++ keep (λ x. ltb x k) high)
-    (keep-every (λ x. ltb x k) low (λ x i. lt-ltb x k (mem-below k x .0 (mem-keep p (upFrom 0 k) x .0 i .0))))
+    (keep-all (λ x. ltb x k) low (λ x i. lt-ltb x k (mem-below k x .0 (mem-keep p (upFrom 0 k) x .0 i .0))))
     ∙ ap (λ (l : List ℕ). low ++ l)
     (keep-nothing (λ x. ltb x k) high
     (λ x i. le-ltb x k (omega (arith, mem-upFrom (0 + k) (n - k) x .0 (mem-keep p (upFrom (0 + k) (n - k)) x .0 i .0) .0))))
@@ -76,31 +63,34 @@ keep-below p n k h =
 
 -- ---- marks, and the gates with a mark
 
-module _ (j : Job) (ms : List ℕ) (f : FanoutMarks (j .inputs) (j .targets) (j .old .gates) ms) where
-  mark-at : (i : ℕ) → i < j .inputs + j .targets + length (j .old .gates) → getD ms i 0 ≡ netAt (led j) i
-  unfolding led netAt
-  mark-at i h =
-      sym (getD-take (j .inputs + j .targets + length (j .old .gates)) ms i 0 h) ∙ ap (λ (l : List ℕ). getD l i 0) (f .marks)
+-- what marks say of the old nets
+abbrev pub MarksOf : Job → List ℕ → Type 0
+MarksOf j ms = (i : ℕ) → i < oldNets j → getD ms i 0 ≡ netAt (led j) i
 
-  marked-led : (b k : ℕ) → k ≤ length (j .old .gates)
-      → marked ms (j .inputs + j .targets) b k ≡ keep (λ i. eqb (netAt (led j) (oldNet j i)) b) (upFrom 0 k)
-  unfolding marked netAt
-  marked-led b k h =
-      keep-agree _ _ (upFrom 0 k)
+module _ (j : Job) (ms : List ℕ) (f : MarksOf j ms) where
+  mark-at : (k : ℕ) → k < length (j .old .gates) → getD ms (oldNet j k) 0 ≡ netAt (led j) (oldNet j k)
+  unfolding oldNets
+  mark-at k h = f (oldNet j k) (omega arith)
+
+  indicesWith-led : (b k : ℕ) → k ≤ length (j .old .gates)
+      → indicesWith ms (j .inputs + j .targets) b k ≡ keep (λ i. eqb (netAt (led j) (oldNet j i)) b) (upFrom 0 k)
+  unfolding indicesWith netAt
+  indicesWith-led b k h =
+      keep-ext _ _ (upFrom 0 k)
       (λ i m.
       let l = mem-below k i .0 m in
-      ap (λ (x : ℕ). eqb x b) (mark-at (oldNet j i) (omega arith)))
+      ap (λ (x : ℕ). eqb x b) (mark-at i (omega arith)))
 
-  pub marked-indices : (b : ℕ) → marked ms (j .inputs + j .targets) b (length (j .old .gates)) ≡ gateIndices j b
+  pub indicesWith-indices : (b : ℕ) → indicesWith ms (j .inputs + j .targets) b (length (j .old .gates)) ≡ gateIndices j b
   unfolding gateIndices
-  marked-indices b = marked-led b (length (j .old .gates)) (omega arith)
+  indicesWith-indices b = indicesWith-led b (length (j .old .gates)) (omega arith)
 
-  marked-rank : (b k : ℕ) → k ≤ length (j .old .gates)
-      → length (marked ms (j .inputs + j .targets) b k) ≡ rank (gateIndices j b) k
+  indicesWith-rank : (b k : ℕ) → k ≤ length (j .old .gates)
+      → length (indicesWith ms (j .inputs + j .targets) b k) ≡ rank (gateIndices j b) k
   unfolding rank gateIndices
-  marked-rank b k h =
+  indicesWith-rank b k h =
       ap length
-      (marked-led b k h ∙ sym (keep-below (λ i. eqb (netAt (led j) (oldNet j i)) b) (length (j .old .gates)) k h))
+      (indicesWith-led b k h ∙ sym (keep-below (λ i. eqb (netAt (led j) (oldNet j i)) b) (length (j .old .gates)) k h))
 
 -- each gate has one of the two marks
 keep-either : (p q : ℕ → Bool) → ((x : ℕ) → ((p x ≡ true) × (q x ≡ false)) ⊎ ((p x ≡ false) × (q x ≡ true))) → (xs : List ℕ)
@@ -126,11 +116,6 @@ indices-all j =
 
 -- ---- moved gates
 
-moved-agree : (ns ns′ : List ℕ) (g : Gate) → ((i : ℕ) → Mem i (operands g) → getD ns i 0 ≡ netAt ns′ i) → moved ns g ≡ moved ns′ g
-unfolding moved netAt
-moved-agree ns ns′ g h =
-    ap (λ (l : List ℕ). record { kind = g .kind; slots = l ++ unused g }) (map-agree (netAt ns) (netAt ns′) (operands g) h)
-
 -- the gates with mark b, at numbers that their operands have
 moved-indices : (j : Job) (ns ns′ : List ℕ) (b : ℕ)
     → ((k : ℕ) → k < length (j .old .gates) → netAt (led j) (oldNet j k) ≡ b → (i : ℕ) → Mem i (operands (oldGate j k))
@@ -141,132 +126,115 @@ moved-indices j ns ns′ b h =
     map-agree _ _ (gateIndices j b)
     (λ k m. let r = mem-indices j b k .0 m in moved-agree ns ns′ (oldGate j k) (h k (r .0) (r .1)))
 
-length-movedFrom : (gs : List Gate) (ns ks : List ℕ) → length (movedFrom gs ns ks) ≡ length ks
-unfolding movedFrom
-length-movedFrom gs ns ks = length-map ks _
-
 -- ---- the numbers after each group
 
-module _ (j : Job) (is t ms : List ℕ) (f : FanoutMarks (j .inputs) (j .targets) (j .old .gates) ms)
-    {d₀ d₁ ks₀ xs₀ ys₀ ks₁ xs₁ ys₁ : List ℕ} {a : ℕ}
-    (w₁ : FreePlaced (j .old .gates) (length (j .old .gates)) (j .inputs) (j .inputs + j .targets) ms d₀ d₁ ks₀ xs₀ ys₀
-    a ks₁ xs₁ ys₁)
-  where
-    free-case : {i : ℕ} → NetCase (j .inputs) (j .targets) (length (j .old .gates)) i → netAt (led j) i ≡ 0
-        → getD d₁ i 0 ≡ netAt (newNets j is t) i
-    free-case (input {i} h) e = w₁ .inputs i h ∙ sym (number-input j is t i h)
-    free-case (target {i} h) e = let z : ⊥ = omega (arith, mark-target j i h) in absurd z
-    free-case (gate {k} h) e =
-        w₁ .free k h (mark-at j ms f (oldNet j k) (omega arith) ∙ e)
-        ∙ ap (λ (x : ℕ). j .inputs + x) (marked-rank j ms f 0 k (omega arith))
-        ∙ sym (number-free j is t k h e)
+-- the inputs have their numbers in d₀, and the gates with mark 0 in d₁
+module _ (j : Job) (is t ms : List ℕ) (f : MarksOf j ms) {d₀ d₁ : List ℕ}
+    (s : (i : ℕ) → i < j .inputs → getD d₀ i 0 ≡ i)
+    (w₁ : Numbered ms (j .inputs + j .targets) 0 (length (j .old .gates)) (j .inputs) d₀ d₁) where
+  free-input : (i : ℕ) → i < j .inputs → getD d₁ i 0 ≡ i
+  free-input i h = w₁ .leaves i (omega arith) ∙ s i h
 
-    -- the nets that no target leads to have their numbers after the first group
-    free-number : (i : ℕ) → i < oldNets j → netAt (led j) i ≡ 0 → getD d₁ i 0 ≡ netAt (newNets j is t) i
-    unfolding oldNets
-    free-number i h e = free-case (net-case (j .inputs) (j .targets) (length (j .old .gates)) i h) e
+  free-case : {i : ℕ} → NetCase (j .inputs) (j .targets) (length (j .old .gates)) i → netAt (led j) i ≡ 0
+      → getD d₁ i 0 ≡ netAt (newNets j is t) i
+  free-case (input {i} h) e = free-input i h ∙ sym (number-input j is t i h)
+  free-case (target {i} h) e = let z : ⊥ = omega (arith, mark-target j i h) in absurd z
+  free-case (gate {k} h) e =
+      w₁ .numbers k h (mark-at j ms f k h ∙ e)
+      ∙ ap (λ (x : ℕ). j .inputs + x) (indicesWith-rank j ms f 0 k (omega arith))
+      ∙ sym (number-free j is t k h e)
 
-    pub free-count : a ≡ length (gateIndices j 0)
-    free-count =
-        omega (
-          arith,
-          w₁ .gates .end,
-          length-movedFrom (j .old .gates) d₁ (marked ms (j .inputs + j .targets) 0 (length (j .old .gates))),
-          ap length (marked-indices j ms f 0),
-        )
+  -- the nets that no target leads to have their numbers after the first group
+  free-number : (i : ℕ) → i < oldNets j → netAt (led j) i ≡ 0 → getD d₁ i 0 ≡ netAt (newNets j is t) i
+  unfolding oldNets
+  free-number i h e = free-case (net-case (j .inputs) (j .targets) (length (j .old .gates)) i h) e
 
-    trees-same : ((i : ℕ) → Mem i is → (i < oldNets j) × (netAt (led j) i ≡ 0))
-        → numberedTrees (j .inputs) (j .targets) a d₁ is t ≡ trees j is t
-    unfolding trees
-    trees-same free =
-        rw (
-          free-count,
-          map-agree (λ o. getD d₁ o 0) (newFreeNet j) is
-              (λ i m. let r = free i m in free-number i (r .0) (r .1) ∙ sym (number-support j is t i (r .0) (r .1))),
-        )
+  trees-same : (a : ℕ) → a ≡ length (gateIndices j 0) → ((i : ℕ) → Mem i is → (i < oldNets j) × (netAt (led j) i ≡ 0))
+      → numberedTrees (j .inputs) (j .targets) a d₁ is t ≡ trees j is t
+  unfolding trees
+  trees-same a e free =
+      rw (
+        e,
+        map-agree (λ o. getD d₁ o 0) (newFreeNet j) is
+            (λ i m. let r = free i m in free-number i (r .0) (r .1) ∙ sym (number-support j is t i (r .0) (r .1))),
+      )
 
--- nets put over the m places from n on
-module _ (n m : ℕ) (d ns : List ℕ) (e : length ns ≡ m) (r : n + m ≤ length d) where
-  abbrev over : List ℕ
-  over = take n d ++ (ns ++ drop m (drop n d))
+-- nets put over the places from n on
+module _ (n : ℕ) (d ns : List ℕ) (r : n + length ns ≤ length d) where
+  length-front : length (take n d ++ ns) ≡ n + length ns
+  length-front = length-append (take n d) ns ∙ omega (arith, length-take-le n d (omega arith))
 
-  over-before : (i : ℕ) → i < n → getD over i 0 ≡ getD d i 0
-  over-before i h =
-      List·getD-append (take n d) (ns ++ drop m (drop n d)) 0 i (omega (arith, length-take-le n d (omega arith)))
+  placed-before : (i : ℕ) → i < n → getD (placed d n ns) i 0 ≡ getD d i 0
+  unfolding placed
+  placed-before i h =
+      List·getD-append (take n d ++ ns) (drop (n + length ns) d) 0 i (omega (arith, length-front))
+      ∙ List·getD-append (take n d) ns 0 i (omega (arith, length-take-le n d (omega arith)))
       ∙ getD-take n d i 0 h
 
-  over-at : (i : ℕ) → i < m → getD over (n + i) 0 ≡ getD ns i 0
-  over-at i h =
-      ap (λ (k : ℕ). getD over (k + i) 0) (sym (length-take-le n d (omega arith)))
-      ∙ getD-append-add (take n d) (ns ++ drop m (drop n d)) i 0
-      ∙ List·getD-append ns (drop m (drop n d)) 0 i (omega arith)
+  placed-at : (i : ℕ) → i < length ns → getD (placed d n ns) (n + i) 0 ≡ getD ns i 0
+  unfolding placed
+  placed-at i h =
+      List·getD-append (take n d ++ ns) (drop (n + length ns) d) 0 (n + i) (omega (arith, length-front))
+      ∙ ap (λ (k : ℕ). getD (take n d ++ ns) (k + i) 0) (sym (length-take-le n d (omega arith)))
+      ∙ getD-append-add (take n d) ns i 0
 
-  over-behind : (k : ℕ) → getD over (n + m + k) 0 ≡ getD d (n + m + k) 0
-  over-behind k =
-      let p : n + m + k ≡ length (take n d) + (length ns + k) = omega (arith, length-take-le n d (omega arith)) in
-      let q : n + (m + k) ≡ n + m + k = omega arith in
-      ap (λ (i : ℕ). getD over i 0) p
-      ∙ getD-append-add (take n d) (ns ++ drop m (drop n d)) (length ns + k) 0
-      ∙ getD-append-add ns (drop m (drop n d)) k 0
-      ∙ getD-drop m (drop n d) k 0
-      ∙ getD-drop n d (m + k) 0
-      ∙ ap (λ (i : ℕ). getD d i 0) q
+  placed-behind : (k : ℕ) → getD (placed d n ns) (n + length ns + k) 0 ≡ getD d (n + length ns + k) 0
+  unfolding placed
+  placed-behind k =
+      ap (λ (i : ℕ). getD (take n d ++ ns ++ drop (n + length ns) d) (i + k) 0) (sym length-front)
+      ∙ getD-append-add (take n d ++ ns) (drop (n + length ns) d) k 0
+      ∙ getD-drop (n + length ns) d k 0
 
-module _ (j : Job) (is t ms : List ℕ) (f : FanoutMarks (j .inputs) (j .targets) (j .old .gates) ms)
-    {d₀ d₁ d₂ d₃ ks₀ xs₀ ys₀ ks₁ xs₁ ys₁ ks₂ xs₂ ys₂ ks₃ xs₃ ys₃ : List ℕ} {a b c : ℕ}
+module _ (j : Job) (is t ms : List ℕ) (f : MarksOf j ms) {d₀ d₁ d₂ d₃ : List ℕ} {a b : ℕ}
     (room : oldNets j ≤ length d₀) (free : (i : ℕ) → Mem i is → (i < oldNets j) × (netAt (led j) i ≡ 0))
-    (w₁ : FreePlaced (j .old .gates) (length (j .old .gates)) (j .inputs) (j .inputs + j .targets) ms d₀ d₁ ks₀ xs₀ ys₀
-    a ks₁ xs₁ ys₁)
-    (w₂ : TreesPlaced (j .inputs) (j .targets) a is t d₁ d₂ ks₁ xs₁ ys₁ b ks₂ xs₂ ys₂)
-    (w₃ : RestPlaced (j .old .gates) (length (j .old .gates)) (j .inputs) (j .inputs + j .targets) b ms d₂ d₃ ks₂ xs₂ ys₂
-    c ks₃ xs₃ ys₃)
+    (s : (i : ℕ) → i < j .inputs → getD d₀ i 0 ≡ i)
+    (w₁ : Numbered ms (j .inputs + j .targets) 0 (length (j .old .gates)) (j .inputs) d₀ d₁)
+    (e₁ : a ≡ length (gateIndices j 0))
+    (w₂ : d₂ ≡ placed d₁ (j .inputs) (numberedTrees (j .inputs) (j .targets) a d₁ is t .nets))
+    (e₂ : b ≡ a + length (trees j is t .gates))
+    (w₃ : Numbered ms (j .inputs + j .targets) 1 (length (j .old .gates)) (j .inputs + b) d₂ d₃)
   where
-    long : j .inputs + j .targets ≤ length d₁
-    unfolding oldNets
-    long = omega (arith, w₁ .long)
-
     nets-long : length (trees j is t .nets) ≡ j .targets
     unfolding trees
     nets-long = length-nets (j .targets) 0 (j .inputs + length (gateIndices j 0)) (map (newFreeNet j) is) t
 
-    second : d₂ ≡ over (j .inputs) (j .targets) d₁ (trees j is t .nets) nets-long long
-    second = rw (trees-same j is t ms f w₁ free) at (w₂ .nets)
+    long : j .inputs + length (trees j is t .nets) ≤ length d₁
+    unfolding oldNets
+    long = omega (arith, w₁ .long, nets-long)
 
-    second-at : (i : ℕ) → getD d₂ i 0 ≡ getD (over (j .inputs) (j .targets) d₁ (trees j is t .nets) nets-long long) i 0
-    second-at i = ap (λ (l : List ℕ). getD l i 0) second
-
-    tree-count : b ≡ a + length (trees j is t .gates)
-    tree-count = w₂ .gates .end ∙ ap (λ (x : Trees). a + length (x .gates)) (trees-same j is t ms f w₁ free)
+    second-at : (i : ℕ) → getD d₂ i 0 ≡ getD (placed d₁ (j .inputs) (trees j is t .nets)) i 0
+    second-at i =
+        ap (λ (l : List ℕ). getD l i 0) w₂
+        ∙ ap (λ (x : Trees). getD (placed d₁ (j .inputs) (x .nets)) i 0) (trees-same j is t ms f s w₁ a e₁ free)
 
     number-case : {i : ℕ} → NetCase (j .inputs) (j .targets) (length (j .old .gates)) i → getD d₃ i 0 ≡ netAt (newNets j is t) i
     number-case (input {i} h) =
-        w₃ .numbered .leaves i (omega arith)
+        w₃ .leaves i (omega arith)
         ∙ second-at i
-        ∙ over-before (j .inputs) (j .targets) d₁ (trees j is t .nets) nets-long long i h
-        ∙ w₁ .inputs i h
+        ∙ placed-before (j .inputs) d₁ (trees j is t .nets) long i h
+        ∙ free-input j is t ms f s w₁ i h
         ∙ sym (number-input j is t i h)
     number-case (target {i} h) =
-        w₃ .numbered .leaves (j .inputs + i) (omega arith)
+        w₃ .leaves (j .inputs + i) (omega arith)
         ∙ second-at (j .inputs + i)
-        ∙ over-at (j .inputs) (j .targets) d₁ (trees j is t .nets) nets-long long i h
+        ∙ placed-at (j .inputs) d₁ (trees j is t .nets) long i (omega (arith, nets-long))
         ∙ sym (number-target j is t i h)
     number-case (gate {k} h) =
-        let q = mark-at j ms f (oldNet j k) (omega arith) in
+        let q = mark-at j ms f k h in
+        let n : j .inputs + length (trees j is t .nets) + k ≡ oldNet j k = omega (arith, nets-long) in
         ⊎-elim
         (λ (e : netAt (led j) (oldNet j k) ≡ 0).
-        w₃ .numbered .others k (λ l z. let y : ⊥ = omega arith in y)
+        w₃ .others k (λ l z. let y : ⊥ = omega arith in y)
         ∙ second-at (oldNet j k)
-        ∙ over-behind (j .inputs) (j .targets) d₁ (trees j is t .nets) nets-long long k
-        ∙ free-case j is t ms f w₁ (gate h) e)
+        ∙ (rw n at (placed-behind (j .inputs) d₁ (trees j is t .nets) long k))
+        ∙ free-case j is t ms f s w₁ (gate h) e)
         (λ (e : netAt (led j) (oldNet j k) ≡ 1).
-        let r = marked-rank j ms f 1 k (omega arith) in
-        let g = free-count j is t ms f w₁ in
-        w₃ .numbered .numbers k h (q ∙ e)
-        ∙ omega (arith, number-led j is t k h e, tree-count))
+        let r = indicesWith-rank j ms f 1 k (omega arith) in
+        w₃ .numbers k h (q ∙ e) ∙ omega (arith, number-led j is t k h e))
         (mark-cases j (oldNet j k))
 
     -- all old nets have their numbers after the last
-    pub new-number : (i : ℕ) → i < oldNets j → getD d₃ i 0 ≡ netAt (newNets j is t) i
+    new-number : (i : ℕ) → i < oldNets j → getD d₃ i 0 ≡ netAt (newNets j is t) i
     unfolding oldNets
     new-number i h = number-case (net-case (j .inputs) (j .targets) (length (j .old .gates)) i h)
 
@@ -276,7 +244,7 @@ module _ (j : Job) (is t ms : List ℕ) (f : FanoutMarks (j .inputs) (j .targets
       free-moved =
           moved-indices j d₁ (newNets j is t) 0
           (λ k h e i m.
-          free-number j is t ms f w₁ i (omega (arith, operand-below j good k h i m)) (operand-unmarked j good k h e i m))
+          free-number j is t ms f s w₁ i (omega (arith, operand-below j good k h i m)) (operand-unmarked j good k h e i m))
 
       rest-moved : movedFrom (j .old .gates) d₃ (gateIndices j 1) ≡ movedGates j (newNets j is t) (gateIndices j 1)
       unfolding oldNets
@@ -284,113 +252,194 @@ module _ (j : Job) (is t ms : List ℕ) (f : FanoutMarks (j .inputs) (j .targets
           moved-indices j d₃ (newNets j is t) 1
           (λ k h e i m. new-number i (omega (arith, operand-below j good k h i m)))
 
-      pub gates-placed : GatesPlaced j is t d₃ ks₀ xs₀ ys₀ c ks₃ xs₃ ys₃
+      -- the three groups are the patched netlist's gates
+      all-put : {cs₀ cs₁ cs₂ cs₃ : List ℕ} {c : ℕ}
+          → GatesPut (j .inputs) 0 cs₀ (movedFrom (j .old .gates) d₁ (gateIndices j 0)) a cs₁
+          → GatesPut (j .inputs) a cs₁ (trees j is t .gates) b cs₂
+          → GatesPut (j .inputs) b cs₂ (movedFrom (j .old .gates) d₃ (gateIndices j 1)) c cs₃
+          → GatesPut (j .inputs) 0 cs₀ (fitted j is t .gates) c cs₃
       unfolding fitted
-      gates-placed =
-          let first = rw (marked-indices j ms f 0, free-moved) at (w₁ .gates) in
-          let next = rw (trees-same j is t ms f w₁ free) at (w₂ .gates) in
-          let last = rw (marked-indices j ms f 1, rest-moved) at (w₃ .gates) in
-          record {
-            gates = gates-put-append (gates-put-append first next) last;
-            numbers = new-number;
-          }
+      all-put p q r =
+          gates-put-append (gates-put-append (gates-put-same p free-moved) q) (gates-put-same r rest-moved)
 
--- ---- a job's old gates and a patch, in places
+-- ---- an old side and a patch
 
 oldJob-good : (n m : ℕ) (gs : List Gate) (os : List ℕ) → gatesGood (n + m) gs ≡ true → netlistsGood (oldJob n m gs os) ≡ true
 unfolding netlistsGood gatesGood
 oldJob-good n m gs os e = and-both (gatesGood (n + m) gs) true e refl
 
-module _ {c : Counts} {ks xs ys : List ℕ} {s : Support} {table : List ℕ} (h : Fittable c ks xs ys s table) where
+module _ {o : OldSide} {s : Support} {table : List ℕ} (h : Fittable o s table) where
   abbrev job : Job
-  job = patchedJob c ks xs ys []
+  job = sideJob o []
 
-  pub gate-count : length (job .old .gates) ≡ c .old .gates
-  gate-count = length-gates (c .old .gates) ks xs ys
+  abbrev support : List ℕ
+  support = take (s .len) (s .nets)
 
-  pub net-count : oldNets job ≡ c .inputs + c .targets + c .old .gates
+  abbrev entries : List ℕ
+  entries = take (2 ^ s .len) table
+
+  pub gate-count : length (job .old .gates) ≡ o .count
+  gate-count = length-old o (h .held)
+
+  pub net-count : oldNets job ≡ oldBase o + o .count
   unfolding oldNets
-  net-count = ap (λ (k : ℕ). c .inputs + c .targets + k) gate-count
+  net-count = ap (λ (k : ℕ). oldBase o + k) gate-count
 
-  net-most : c .inputs + c .targets + c .old .gates ≤ 424
-  net-most = h .evaluable .room
+  net-most : oldNets job ≤ 424
+  net-most = let w = h .held in omega (arith, net-count, w .inputs, w .targets, w .count)
 
-  pub marks-room : {ms : List ℕ} → FanoutMarks (c .inputs) (c .targets) (gatesFrom (c .old .gates) ks xs ys) ms
-      → c .inputs + c .targets + c .old .gates ≤ length ms
-  marks-room f = omega (arith, f .room, gate-count)
+  side-marks : MarksOf job (o .marks)
+  unfolding led
+  side-marks i l = h .held .marks i (omega (arith, net-count))
 
-  -- the support's nets have numbers
-  pub support-outputs : Outputs (s .nets) (s .len) 424
-  support-outputs =
-      record {
-        held = h .long;
-        below =
-            all-of-members (λ i. ltb i 424) (take (s .len) (s .nets))
-            (λ i m. lt-ltb i 424 (omega (arith, h .free i m .0, net-count, net-most)));
-      }
+  pub side-good : netlistsGood job ≡ true
+  side-good = oldJob-good (o .inputs) (o .targets) (oldGates o) [] (h .held .good)
 
-  pub trees-count : length (trees job (take (s .len) (s .nets)) (take (2 ^ s .len) table) .gates)
-      ≡ treesSize (c .targets) 0 (s .len) table
+  -- the support's nets are nets
+  pub support-nets : Nets (s .len) (s .nets)
+  support-nets i l =
+      let m = h .free (getD support i 0) (mem-at support i (omega (arith, length-take-le (s .len) (s .nets) (h .long)))) in
+      rw (getD-take (s .len) (s .nets) i 0 l) at (let p : getD support i 0 < 1024 = omega (arith, m .0, net-most) in p)
+
+  pub trees-count : length (trees job support entries .gates) ≡ treesSize (o .targets) 0 (s .len) table
   unfolding trees
   trees-count =
-      let is = take (s .len) (s .nets) in
-      length-trees (c .targets) 0 (s .len) _ (map (newFreeNet job) is) table
-      (length-map is (newFreeNet job) ∙ length-take-le (s .len) (s .nets) (h .long))
+      length-trees (o .targets) 0 (s .len) _ (map (newFreeNet job) support) table
+      (length-map support (newFreeNet job) ∙ length-take-le (s .len) (s .nets) (h .long))
 
-  module _ (ms : List ℕ) (f : FanoutMarks (c .inputs) (c .targets) (gatesFrom (c .old .gates) ks xs ys) ms)
-      (fit : patchedCount c s table ≤ 400)
-      {d₀ d₁ ks₀ xs₀ ys₀ ks₁ xs₁ ys₁ : List ℕ} {a : ℕ} (room : GateRoom 400 ks₀ xs₀ ys₀)
-      (w₁ : FreePlaced (gatesFrom (c .old .gates) ks xs ys) (c .old .gates) (c .inputs) (c .inputs + c .targets) ms d₀ d₁
-      ks₀ xs₀ ys₀ a ks₁ xs₁ ys₁) where
-    placed₁ : FreePlaced (job .old .gates) (length (job .old .gates)) (c .inputs) (c .inputs + c .targets) ms d₀ d₁ ks₀ xs₀ ys₀ a
-        ks₁ xs₁ ys₁
-    placed₁ = rw gate-count w₁
+  pub free-room : {cs : List ℕ} → length cs ≡ 400 → GateRoom (o .inputs) (0 + length (withMark o 0)) cs
+  free-room l =
+      let w = h .held in
+      let m = indicesWith-most (o .marks) (oldBase o) 0 (o .count) in
+      record { long = l; room = omega (arith, w .count); nets = omega (arith, w .inputs, w .count) }
 
-    free-most : a + length (gateIndices job 1) ≡ c .old .gates
-    free-most = omega (arith, free-count job [] [] ms f placed₁, indices-all job, gate-count)
+  module _ (fit : patchedCount o s table ≤ 400) {d₀ cs₀ : List ℕ} {n₁ : NewSide} (w₀ : InputsNumbered (o .inputs) d₀)
+      (room : length cs₀ ≡ 400) (w₁ : MarkedPlaced o 0 (record { count = 0; numbers = d₀; gates = cs₀ }) n₁) where
+    free-numbered : Numbered (o .marks) (oldBase o) 0 (length (job .old .gates)) (o .inputs) d₀ (n₁ .numbers)
+    free-numbered = rw gate-count (rw (add-zero (o .inputs)) at (w₁ .numbered))
 
-    pub trees-room : NetRoom (c .inputs) (a + treesSize (c .targets) 0 (s .len) table) ks₁ xs₁ ys₁
+    free-put : GatesPut (o .inputs) 0 cs₀ (movedFrom (oldGates o) (n₁ .numbers) (gateIndices job 0)) (n₁ .count) (n₁ .gates)
+    free-put =
+        gates-put-same (w₁ .gates)
+        (ap (movedFrom (oldGates o) (n₁ .numbers)) (rw gate-count at (indicesWith-indices job (o .marks) side-marks 0)))
+
+    free-count : n₁ .count ≡ length (gateIndices job 0)
+    free-count = omega (arith, free-put .end, length-movedFrom (oldGates o) (n₁ .numbers) (gateIndices job 0))
+
+    free-most : n₁ .count + length (gateIndices job 1) ≡ o .count
+    free-most = omega (arith, free-count, indices-all job, gate-count)
+
+    pub free-nets : Nets 1024 (n₁ .numbers)
+    free-nets = let w = h .held in numbered-nets (w₁ .numbered) (omega (arith, w .inputs, w .count)) (w₀ .nets)
+
+    pub trees-room : GateRoom (o .inputs) (n₁ .count + treesSize (o .targets) 0 (s .len) table) (n₁ .gates)
     trees-room =
         record {
-          room = room-less (room-kept room (w₁ .gates)) (omega (arith, free-most));
-          nets = omega (arith, free-most, h .within .inputs);
+          long = w₁ .gates .long ∙ room;
+          room = omega (arith, free-most);
+          nets = omega (arith, free-most, h .held .inputs);
         }
 
-    module _ {d₂ ks₂ xs₂ ys₂ : List ℕ} {b : ℕ}
-        (w₂ : TreesPlaced (c .inputs) (c .targets) a (take (s .len) (s .nets)) (take (2 ^ s .len) table) d₁ d₂ ks₁ xs₁ ys₁
-        b ks₂ xs₂ ys₂)
-      where
-        grown : b ≡ a + treesSize (c .targets) 0 (s .len) table
-        grown =
-            w₂ .gates .end
-            ∙ ap (λ (x : Trees). a + length (x .gates))
-            (trees-same job (take (s .len) (s .nets)) (take (2 ^ s .len) table) ms f placed₁ (h .free))
-            ∙ ap (λ (k : ℕ). a + k) trees-count
+    module _ {n₂ : NewSide} (w₂ : TreesPlaced (o .inputs) (o .targets) support entries n₁ n₂) where
+      same : numberedTrees (o .inputs) (o .targets) (n₁ .count) (n₁ .numbers) support entries ≡ trees job support entries
+      same = trees-same job support entries (o .marks) side-marks (w₀ .inputs) free-numbered (n₁ .count) free-count (h .free)
 
-        pub rest-small : c .inputs + b + c .old .gates < 65536
-        rest-small = omega (arith, grown, free-most, h .within .inputs, h .within .old .gates)
+      grown-put : GatesPut (o .inputs) (n₁ .count) (n₁ .gates) (trees job support entries .gates) (n₂ .count) (n₂ .gates)
+      grown-put = gates-put-same (w₂ .gates) (ap (λ (x : Trees). x .gates) same)
 
-        pub rest-room : GateRoom (b + length (marked ms (c .inputs + c .targets) 1 (c .old .gates))) ks₂ xs₂ ys₂
-        rest-room =
-            let e : length (marked ms (c .inputs + c .targets) 1 (c .old .gates)) ≡ length (gateIndices job 1) =
-            ap length (rw gate-count at (marked-indices job ms f 1)) in
-            room-less (room-kept (room-kept room (w₁ .gates)) (w₂ .gates)) (omega (arith, grown, free-most))
+      grown : n₂ .count ≡ n₁ .count + treesSize (o .targets) 0 (s .len) table
+      grown = grown-put .end ∙ ap (λ (k : ℕ). n₁ .count + k) trees-count
 
-        module _ {d₃ ks₃ xs₃ ys₃ : List ℕ} {r : ℕ} (l : length d₀ ≡ 424)
-            (w₃ : RestPlaced (gatesFrom (c .old .gates) ks xs ys) (c .old .gates) (c .inputs) (c .inputs + c .targets) b ms d₂ d₃
-            ks₂ xs₂ ys₂ r ks₃ xs₃ ys₃) where
-          pub patch-placed : GatesPlaced job (take (s .len) (s .nets)) (take (2 ^ s .len) table) d₃ ks₀ xs₀ ys₀ r ks₃ xs₃ ys₃
-          patch-placed =
-              gates-placed job (take (s .len) (s .nets)) (take (2 ^ s .len) table) ms f
-              (omega (arith, net-count, net-most)) (h .free)
-              placed₁ w₂ (rw gate-count w₃)
-              (oldJob-good (c .inputs) (c .targets) (gatesFrom (c .old .gates) ks xs ys) [] (h .evaluable .good))
+      pub rest-room : GateRoom (o .inputs) (n₂ .count + length (withMark o 1)) (n₂ .gates)
+      rest-room =
+          let e : length (withMark o 1) ≡ length (gateIndices job 1) =
+          ap length (rw gate-count at (indicesWith-indices job (o .marks) side-marks 1)) in
+          record {
+            long = w₂ .gates .long ∙ w₁ .gates .long ∙ room;
+            room = omega (arith, grown, free-most);
+            nets = omega (arith, grown, free-most, h .held .inputs);
+          }
 
-pub outputs-wider : {os : List ℕ} {count w v : ℕ} → Outputs os count w → w ≤ v → Outputs os count v
-outputs-wider {os} {count} {w} {v} o h =
-    record {
-      held = o .held;
-      below =
-          all-of-members (λ i. ltb i v) (take count os)
-          (λ i m. lt-ltb i v (omega (arith, ltb-true i w (all-true (λ k. ltb k w) (take count os) (o .below) i m))));
-    }
+      -- the trees' nets are nets
+      tree-net : (i : ℕ) → i < o .targets → getD (trees job support entries .nets) i 0 < 1024
+      unfolding trees
+      tree-net i l =
+          omega (
+            arith,
+            trees-below (o .targets) 0 (o .inputs + length (gateIndices job 0)) (map (newFreeNet job) support) entries i l,
+            grown-put .end,
+            free-count,
+            rest-room .nets,
+          )
+
+      tree-nets : length (trees job support entries .nets) ≡ o .targets
+      unfolding trees
+      tree-nets = length-nets (o .targets) 0 (o .inputs + length (gateIndices job 0)) (map (newFreeNet job) support) entries
+
+      tree-room : o .inputs + length (trees job support entries .nets) ≤ length (n₁ .numbers)
+      tree-room = let w = h .held in omega (arith, tree-nets, w₁ .numbered .long, w₀ .long, w .inputs, w .targets)
+
+      grown-numbers : n₂ .numbers ≡ placed (n₁ .numbers) (o .inputs) (trees job support entries .nets)
+      grown-numbers = w₂ .nets ∙ ap (λ (x : Trees). placed (n₁ .numbers) (o .inputs) (x .nets)) same
+
+      pub grown-long : length (n₂ .numbers) ≡ 1024
+      grown-long =
+          ap length grown-numbers
+          ∙ length-placed (n₁ .numbers) (o .inputs) (trees job support entries .nets) tree-room
+          ∙ w₁ .numbered .long
+          ∙ w₀ .long
+
+      pub grown-nets : Nets 1024 (n₂ .numbers)
+      grown-nets i l =
+          let ns = trees job support entries .nets in
+          rw grown-numbers
+          (⊎-elim
+          (λ (t : ltb i (o .inputs) ≡ true).
+          let p = ltb-true i (o .inputs) t in
+          rw (placed-before (o .inputs) (n₁ .numbers) ns tree-room i p) (free-nets i l))
+          (λ (t : ltb i (o .inputs) ≡ false).
+          let p = ltb-false i (o .inputs) t in
+          ⊎-elim
+          (λ (u : ltb i (o .inputs + length ns) ≡ true).
+          let q = ltb-true i (o .inputs + length ns) u in
+          let k : o .inputs + (i - o .inputs) ≡ i = omega arith in
+          rw (sym (ap (λ (x : ℕ). getD (placed (n₁ .numbers) (o .inputs) ns) x 0) k)
+          ∙ placed-at (o .inputs) (n₁ .numbers) ns tree-room (i - o .inputs) (omega arith))
+          (tree-net (i - o .inputs) (omega (arith, tree-nets))))
+          (λ (u : ltb i (o .inputs + length ns) ≡ false).
+          let q = ltb-false i (o .inputs + length ns) u in
+          let k : o .inputs + length ns + (i - (o .inputs + length ns)) ≡ i = omega arith in
+          rw (rw k at (placed-behind (o .inputs) (n₁ .numbers) ns tree-room (i - (o .inputs + length ns)))) (free-nets i l))
+          (true-or-false (ltb i (o .inputs + length ns))))
+          (true-or-false (ltb i (o .inputs))))
+
+      module _ {n₃ : NewSide} (w₃ : MarkedPlaced o 1 n₂ n₃) where
+        rest-numbered : Numbered (o .marks) (oldBase o) 1 (length (job .old .gates)) (o .inputs + n₂ .count) (n₂ .numbers)
+            (n₃ .numbers)
+        rest-numbered = rw gate-count (w₃ .numbered)
+
+        rest-put : GatesPut (o .inputs) (n₂ .count) (n₂ .gates) (movedFrom (oldGates o) (n₃ .numbers) (gateIndices job 1))
+            (n₃ .count) (n₃ .gates)
+        rest-put =
+            gates-put-same (w₃ .gates)
+            (ap (movedFrom (oldGates o) (n₃ .numbers)) (rw gate-count at (indicesWith-indices job (o .marks) side-marks 1)))
+
+        pub gates-placed : GatesPlaced job support entries n₃
+        gates-placed =
+            let l : oldNets job ≤ length d₀ = omega (arith, net-most, w₀ .long) in
+            let p =
+            all-put job support entries (o .marks) side-marks l (h .free) (w₀ .inputs) free-numbered free-count (w₂ .nets)
+            (grown-put .end)
+            rest-numbered
+            side-good
+            free-put
+            grown-put
+            rest-put in
+            record {
+              count = p .end ∙ zero-add (length (fitted job support entries .gates));
+              gates = p .gates ∙ ap (λ (k : ℕ). packedFrom k (fitted job support entries .gates)) (add-zero (o .inputs));
+              numbers =
+                  new-number job support entries (o .marks) side-marks l (h .free) (w₀ .inputs) free-numbered free-count (w₂ .nets)
+                  (grown-put .end)
+                  rest-numbered;
+            }

@@ -17,7 +17,7 @@ use Rattle.records.specs.Netlist.{netAt, valueOf, values}
 use Rattle.records.specs.Job.{Job, Candidate}
 use Rattle.records.specs.Refusal.{netlistsGood, outputsGood, oldNets, goldenNets, ascending, candidateGood, candidatesGood}
 use Rattle.records.specs.Sheet.{Patch, patchOf, sheetWhole, costOf, isCandidate, patchGood}
-use Rattle.records.proofs.Laws.Bytes.{and-left, and-right, row-at, all-cons, length-tabulate, getD-tabulate}
+use Rattle.records.proofs.Laws.Bytes.{and-left, and-right, row-at, length-tabulate, getD-tabulate}
 use Rattle.records.proofs.Laws.Shape.{length-netsOf}
 use Rattle.records.proofs.Laws.SheetShape.{sheetWhole-facts}
 use Rattle.engine.specs.Eval.{bit, bits, numberOf, oldValues, oldOutputs}
@@ -29,13 +29,18 @@ use Rattle.engine.proofs.Laws.Choice.{map-agree, all-true}
 use Rattle.engine.proofs.Laws.Eval.{values-bits, bits-bits}
 use Rattle.engine.proofs.Laws.FitGates.{valueOf-local, Consistent, consistent-left, consistent-right, netAt-extended, consistent-extended}
 use Rattle.engine.proofs.Laws.FitTree.{trees-value}
-use Rattle.engine.proofs.Laws.FitNets.{oldGate, oldNet, old-good, operand-below, operand-unmarked, mark-cases, mark-target, NetCase, input, target, gate, net-case, gate-rank, ledStart, Numbered, number-input, number-target, number-free, number-led, number-support, number-below, operands-moved, kind-moved, length-moved, moved-at, all-mapped, length-fitted, fitted-good}
+use Rattle.engine.proofs.Laws.FitNets.{oldGate, oldNet, old-good, operand-below, operand-unmarked, mark-cases, mark-target, NetCase, input, target, gate, net-case, gate-rank, ledStart, Numbered, number-input, number-target, number-free, number-led, number-support, number-below, renumbered, operands-renumbered, length-moved, moved-at, all-mapped, length-fitted, fitted-good}
 
--- the value of a moved gate, from what the new numbers of its operands have
+-- the value of a renumbered gate, from what the new numbers of its operands have
+pub valueOf-renumbered : (ws : List ℕ) (f : ℕ → ℕ) (g : Gate)
+    → valueOf ws (renumbered f g) ≡ gateValue (g .kind) (map (λ i. netAt ws (f i)) (operands g))
+unfolding valueOf
+valueOf-renumbered ws f g = rw (operands-renumbered f g, map-map (netAt ws) f (operands g))
+
 valueOf-moved : (ws ns : List ℕ) (g : Gate)
     → valueOf ws (moved ns g) ≡ gateValue (g .kind) (map (λ i. netAt ws (netAt ns i)) (operands g))
-unfolding valueOf
-valueOf-moved ws ns g = rw (operands-moved ns g, kind-moved ns g, map-map (netAt ws) (netAt ns) (operands g))
+unfolding moved
+valueOf-moved ws ns g = valueOf-renumbered ws (netAt ns) g
 
 -- ---- the same values
 

@@ -3,34 +3,27 @@
 use Prim.Native.Nat.{ℕ, zero, suc, _+_, _-_, _*_, _/_, _%_, _^_, min, _≤_, _<_}
 use mathlib.Core.Path.{_≡_, refl, sym, _∙_, ap}
 use mathlib.Core.Logic.{_⊎_, inl, inr, ⊎-elim}
-use mathlib.Core.List.{List, [], _∷_, _++_, map, append-nil}
+use mathlib.Core.List.{List, [], _∷_, _++_, map}
 use mathlib.Core.Bool.{Bool, true, false, _&&_}
-use native.Mathlib.Nat.{add-zero, zero-add, add-mul, eq-or-lt-of-le}
+use native.Mathlib.Nat.{zero-add, add-mul}
 use native.Mathlib.Omega.{arith}
 use borrow.Author.Tests.{lt-ltb, le-ltb, ltb-true, ltb-false}
 use lib.Dec.{ltb, eqb, lit≤}
-use lib.ListN.{length, getD, take, drop, set, length-append, length-set, List·getD-append}
+use lib.ListN.{length, getD, take, set, length-set, List·getD-append}
 use lib.Pow.{high, shr-shr}
-use lib.Seq.{length-take-le, getD-append-add, getD-at, getD-take, getD-set-same, getD-set-other}
+use lib.Seq.{length-take-le, getD-append-add, getD-take}
 use Rattle.records.specs.Bytes.{upFrom, tabulate, all, placed}
 use Rattle.records.specs.Gate.{Gate, gateOf, arity, operands, unused, gateValue}
-use Rattle.records.specs.Netlist.{netAt, extended, valueOf, values}
-use Rattle.records.specs.Job.{Job}
+use Rattle.records.specs.Netlist.{netAt, valueOf, values}
 use Rattle.records.specs.Refusal.{gateGood}
-use Rattle.records.specs.Columns.{SideColumns, gatesFrom, columnsNetlist, columnsJob}
-use Rattle.records.specs.declared.job.Counts.{Counts}
-use Rattle.records.proofs.Laws.Bytes.{and-left, and-right, length-tabulate, getD-tabulate, drop-tabulate, drop-tabulate-end, tabulate-snoc, placed-nil, length-placed, take-placed, set-placed}
+use Rattle.records.proofs.Laws.Bytes.{and-left, and-right, length-tabulate, getD-tabulate, tabulate-snoc, placed-nil, length-placed, take-placed, set-placed}
 use Rattle.records.proofs.Laws.Gate.{arity-two, gateGood-one, gateGood-two}
-use Rattle.engine.specs.Eval.{bit, bits, oldValues, oldOutputs, goldenOutputs}
-use Rattle.engine.specs.Inner.{Evaluable, Outputs}
+use Rattle.engine.specs.Eval.{bit, bits}
 use Rattle.engine.specs.Rectify.{rectifies}
 use Rattle.engine.specs.Ternary.{unknown, ternaryValue, ternaryTable, entry, Completes}
-use Rattle.engine.specs.Partial.{Completed, PartlyEvaluated, partialInput, InRange, RangeValues, Known, Settled}
-use Rattle.engine.specs.Walk.{circuits}
+use Rattle.engine.specs.Inner.Ranges.{Completed, partialInput, InRange}
 use Rattle.engine.proofs.Laws.Choice.{true-or-false}
 use Rattle.engine.proofs.Laws.Eval.{bit-lt}
-use Rattle.engine.proofs.Laws.Outputs.{output-below}
-use Rattle.engine.proofs.Laws.Support.{rectifies-iff-outputs}
 use Rattle.engine.proofs.Laws.Ternary.{entry-table, possible-completes}
 
 -- ---- a table's entry
@@ -45,7 +38,7 @@ completes-min a x c = record {
 some-completion : (x : ℕ) → Completes (x % 2) (min x unknown)
 some-completion x = record { bit = omega arith; kept = λ h. omega arith }
 
-entry-min : (k x y : ℕ) → entry (ternaryTable k) x y ≡ ternaryValue k (min x unknown) (min y unknown)
+pub entry-min : (k x y : ℕ) → entry (ternaryTable k) x y ≡ ternaryValue k (min x unknown) (min y unknown)
 unfolding entry
 entry-min k x y =
     let i : min x unknown ≡ min (min x unknown) unknown = omega arith in
@@ -64,7 +57,7 @@ entry-completes k x y a b c d =
 
 -- ---- a gate
 
-gateGood-kind : (net : ℕ) (g : Gate) → gateGood net g ≡ true → g .kind < 10
+pub gateGood-kind : (net : ℕ) (g : Gate) → gateGood net g ≡ true → g .kind < 10
 unfolding gateGood
 gateGood-kind net g e =
     let k : Bool = ltb (g .kind) 10 in
@@ -120,54 +113,6 @@ module _ (net : ℕ) (known nets : List ℕ) (c : Completed net known nets) wher
       (entry-completes k (getD nets a 0) (getD nets b 0) (netAt known a) (netAt known b)
       (operand a (ltb-true a net (and-left (ltb a net) (ltb b net) q)))
       (operand b (ltb-true b net (and-right (ltb a net) (ltb b net) q))))
-
--- ---- a turn of the loop
-
--- one more value and one more place
-completed-snoc : (k : ℕ) (vs ns : List ℕ) (v w : ℕ) → length vs ≡ k → k < length ns → Completed k vs ns → Completes v w
-    → Completed (k + 1) (vs ++ (v ∷ [])) (set ns k w)
-completed-snoc k vs ns v w e h c d i l =
-    ⊎-elim
-    (λ (q : i ≡ k). rw (q, getD-at vs v [] 0 k e, getD-set-same ns k w 0 h) d)
-    (λ (q : i < k). rw (List·getD-append vs (v ∷ []) 0 i (omega arith), getD-set-other ns k i w 0 (omega arith)) (c i q))
-    (eq-or-lt-of-le (last l))
-  where
-    last : i < k + 1 → i ≤ k
-    last q = omega arith
-
--- what is left: the values so far, which complete the places so far, and which the gates from i on extend to all values
-pub record Extends (gs : List Gate) (base i : ℕ) (leaves nets : List ℕ) : Type 0 where
-  pub known : List ℕ
-  pub long : length known ≡ base + i
-  pub completed : Completed (base + i) known nets
-  pub left : extended valueOf known (drop i gs) ≡ values leaves gs
-
-pub extends-none : (gs : List Gate) (base : ℕ) (leaves nets : List ℕ) → length leaves ≡ base → Completed base leaves nets
-    → Extends gs base 0 leaves nets
-unfolding values
-extends-none gs base leaves nets e c =
-    record { known = leaves; long = omega arith; completed = rw add-zero c; left = refl }
-
-pub extends-next : (n : ℕ) (g : ℕ → Gate) (i : ℕ) → i < n → (base w : ℕ) (leaves nets : List ℕ) → base + i < length nets
-    → ((known : List ℕ) → Completed (base + i) known nets → Completes (valueOf known (g i)) w)
-    → Extends (tabulate n g) base i leaves nets → Extends (tabulate n g) base (i + 1) leaves (set nets (base + i) w)
-unfolding extended
-extends-next n g i h base w leaves nets l f e =
-    let m : base + (i + 1) ≡ base + i + 1 = omega arith in
-    let v = valueOf (e .known) (g i) in
-    record {
-      known = e .known ++ (v ∷ []);
-      long = omega (arith, length-append (e .known) (v ∷ []), e .long);
-      completed = rw m (completed-snoc (base + i) (e .known) nets v w (e .long) l (e .completed) (f (e .known) (e .completed)));
-      left = rw (drop-tabulate n g i h) at (e .left);
-    }
-
-pub extends-all : (n : ℕ) (g : ℕ → Gate) (i : ℕ) → i ≡ n → (base : ℕ) (leaves nets : List ℕ)
-    → Extends (tabulate n g) base i leaves nets → Completed (base + n) (values leaves (tabulate n g)) nets
-unfolding extended
-extends-all n g i z base leaves nets e =
-    let k : e .known ≡ values leaves (tabulate n g) = rw (z, drop-tabulate-end n g) at (e .left) in
-    rw (← k, ← z) (e .completed)
 
 -- ---- leaves: n numbers so far from place at on
 
@@ -301,31 +246,18 @@ module _ (n m low prefix : ℕ) (d₀ : List ℕ) (h : n + m ≤ length d₀) wh
       (inputs-completed x r)
       (λ i l. rw (getD-tabulate m (λ k. bit k v) i 0 l) (completes-unknown (bit i v) (bit-lt i v)))
 
--- inputs and targets loaded, and the gates evaluated on them
-pub range-values : (gs : List Gate) (n m low prefix : ℕ) (d₀ d₁ d₂ d₃ : List ℕ) → n + m ≤ length d₀
+-- inputs and targets loaded: an input of the range and any vector complete their places
+pub leaves-loaded : (n m low prefix : ℕ) (d₀ d₁ d₂ : List ℕ) → n + m ≤ length d₀
     → d₁ ≡ placed d₀ 0 (tabulate n (partialInput low prefix)) → d₂ ≡ placed d₁ n (tabulate m (λ i. unknown))
-    → PartlyEvaluated gs (n + m) d₂ d₃ → RangeValues gs n m low prefix d₀ d₃
-unfolding bits targets-placed inputs-placed
-range-values gs n m low prefix d₀ d₁ d₂ d₃ h p q e =
+    → (length d₂ ≡ length d₀) × ((x v : ℕ) → InRange low prefix x → Completed (n + m) (bits n x ++ bits m v) d₂)
+unfolding targets-placed inputs-placed
+leaves-loaded n m low prefix d₀ d₁ d₂ h p q =
     let t : d₂ ≡ targets-placed n m low prefix d₀ h = rw p at q in
-    record {
-      long = e .long ∙ ap length t ∙ length-targets-placed n m low prefix d₀ h;
-      completed =
-          λ x v r.
-          e .completed (bits n x ++ bits m v)
-          (length-append (bits n x) (bits m v)
-          ∙ omega (arith, length-tabulate n (λ k. bit k x), length-tabulate m (λ k. bit k v)))
-          (rw t (leaves-completed n m low prefix d₀ h x v r));
-    }
-
--- a netlist with no targets
-pub evaluable-zero : (ks xs ys : List ℕ) (count base words : ℕ) → Evaluable ks xs ys count base words
-    → Evaluable ks xs ys count (base + 0) words
-evaluable-zero ks xs ys count base words e = rw add-zero e
+    (ap length t ∙ length-targets-placed n m low prefix d₀ h, λ x v r. rw t (leaves-completed n m low prefix d₀ h x v r))
 
 -- ---- outputs that are known
 
-map-take-agree : (f g : ℕ → ℕ) (k : ℕ) (xs ys : List ℕ) → k ≤ length xs → k ≤ length ys
+pub map-take-agree : (f g : ℕ → ℕ) (k : ℕ) (xs ys : List ℕ) → k ≤ length xs → k ≤ length ys
     → ((i : ℕ) → i < k → f (getD xs i 0) ≡ g (getD ys i 0)) → map f (take k xs) ≡ map g (take k ys)
 map-take-agree f g zero xs ys h l e = refl
 map-take-agree f g (suc k) [] ys h l e = let z : ⊥ = omega arith in absurd z
@@ -334,59 +266,3 @@ map-take-agree f g (suc k) (x ∷ xs) (y ∷ ys) h l e =
     let r = map-take-agree f g k xs ys (omega arith) (omega arith) (λ i t. e (suc i) (omega arith)) in
     let q : f x ≡ g y = e 0 (omega arith) in
     cc
-
--- outputs that are known in the places of two netlists, and equal there, are equal in the values that complete the places
-pub outputs-known : (a b : ℕ) (vs ws xs ys os ps : List ℕ) (count : ℕ) → Completed a vs xs → Completed b ws ys
-    → Outputs os count a → Outputs ps count b
-    → ((i : ℕ) → i < count → Known (getD xs (getD os i 0) 0) (getD ys (getD ps i 0) 0))
-    → map (netAt vs) (take count os) ≡ map (netAt ws) (take count ps)
-unfolding netAt
-outputs-known a b vs ws xs ys os ps count c d o p k =
-    map-take-agree (netAt vs) (netAt ws) count os ps (o .held) (p .held)
-    (λ i l.
-    let e = k i l in
-    let y : getD ys (getD ps i 0) 0 < 2 = omega (arith, e .below, e .equal) in
-    c (getD os i 0) (output-below os count a o i l) .kept (e .below)
-    ∙ e .equal
-    ∙ sym (d (getD ps i 0) (output-below ps count b p i l) .kept y))
-
--- both netlists evaluated on a range, and their outputs known and equal
-pub settled-known : (gs hs : List Gate) (os ps : List ℕ) (count n m low prefix j k : ℕ) (d₀ d e₀ e : List ℕ)
-    → length gs ≡ j → length hs ≡ k
-    → RangeValues gs n m low prefix d₀ d → RangeValues hs n 0 low prefix e₀ e
-    → Outputs os count (n + m + j) → Outputs ps count (n + k)
-    → ((i : ℕ) → i < count → Known (getD d (getD os i 0) 0) (getD e (getD ps i 0) 0))
-    → Settled gs (take count os) hs (take count ps) n m low prefix
-unfolding bits tabulate upFrom
-settled-known gs hs os ps count n m low prefix j k d₀ d e₀ e p q u w o r f x v t =
-    outputs-known (n + m + j) (n + k) (values (bits n x ++ bits m v) gs) (values (bits n x) hs) d e os ps count
-    (rw p at (u .completed x v t))
-    (rw (append-nil, add-zero, q) at (w .completed x v t))
-    o
-    r
-    f
-
--- ---- jobs
-
--- where the outputs of a job are settled on a range, every vector rectifies every input of it
-pub rectifies-settled : (j : Job) (low prefix : ℕ)
-    → Settled (j .old .gates) (j .old .outputs) (j .golden .gates) (j .golden .outputs) (j .inputs) (j .targets) low prefix
-    → (x v : ℕ) → InRange low prefix x → rectifies j x v ≡ true
-unfolding oldOutputs oldValues goldenOutputs
-rectifies-settled j low prefix s x v r = rectifies-iff-outputs j x v .1 (s x v r)
-
--- .. of the job whose parts stand in places, by as many outputs as its counts say
-pub rectifies-circuits : (c : Counts) (old golden : SideColumns) (nets : List ℕ) (low prefix : ℕ)
-    → c .golden .outputs ≡ c .old .outputs
-    → Settled
-    (gatesFrom (c .old .gates) (old .kinds) (old .firsts) (old .seconds))
-    (take (c .old .outputs) (old .outputs))
-    (gatesFrom (c .golden .gates) (golden .kinds) (golden .firsts) (golden .seconds))
-    (take (c .old .outputs) (golden .outputs))
-    (c .inputs)
-    (c .targets)
-    low
-    prefix
-    → (x v : ℕ) → InRange low prefix x → rectifies (circuits c old golden nets) x v ≡ true
-unfolding circuits columnsJob columnsNetlist
-rectifies-circuits c old golden nets low prefix e s = rectifies-settled (circuits c old golden nets) low prefix (rw e s)

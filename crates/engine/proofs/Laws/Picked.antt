@@ -1,32 +1,30 @@
--- Laws of sets of candidates as numbers: the picked lists are the subsets, the reading of picked nets is the narrowed reading of
--- all, and readings agree on a set where they are narrowed to the same. Assumes nothing.
+-- Laws of sets of candidates as numbers: the picked lists are the subsets, a set picks place by place, and of two sets that pick
+-- as many ascending nets the one with the lowest place in which they differ comes earlier. Assumes nothing.
 use Prim.Native.Nat.{ℕ, zero, suc, _+_, _-_, _*_, _/_, _%_, _^_, _≤_, _<_}
 use mathlib.Core.Path.{_≡_, refl, sym, _∙_, ap}
-use mathlib.Core.Logic.{_↔_, _⊎_, inl, inr, ⊎-elim}
+use mathlib.Core.Logic.{_⊎_, inl, inr, ⊎-elim}
 use mathlib.Core.Bool.{Bool, true, false, _&&_, _||_}
-use mathlib.Core.List.{List, [], _∷_, _++_, map, map-map, List·Memᴰ as Mem, List·Memᴰ·head as here, List·Memᴰ·tail as there, List·Memᴰ·not-nil as not-nil, List·Memᴰ·cases-cons as cases-cons, List·Memᴰ·append-cases as append-cases, List·Memᴰ·eq-of-singleton as eq-of-singleton, Memᴰ·append-left as mem-append-left, Memᴰ·append-right as mem-append-right, Memᴰ·map as mem-map, Memᴰ·of-map as mem-of-map}
+use mathlib.Core.List.{List, [], _∷_, _++_, map, map-map, append-nil, append-assoc, List·Memᴰ as Mem, List·Memᴰ·head as here, List·Memᴰ·tail as there, List·Memᴰ·not-nil as not-nil, List·Memᴰ·cases-cons as cases-cons, List·Memᴰ·append-cases as append-cases, List·Memᴰ·eq-of-singleton as eq-of-singleton, Memᴰ·append-left as mem-append-left, Memᴰ·append-right as mem-append-right, Memᴰ·map as mem-map, Memᴰ·of-map as mem-of-map}
 use native.Mathlib.Nat.{pow-suc, div-one}
 use native.Mathlib.Numerals.{add-one}
 use native.Mathlib.Omega.{arith}
 use borrow.Author.Tests.{ltb-true, eqb-true, lt-ltb, eq-eqb}
-use lib.Bits.{bitAnd, and-step}
-use lib.Pow.{pow-pos, pow-mono, shr-shr}
+use lib.Pow.{pow-pos, shr-shr}
 use lib.Dec.{ltb, eqb}
-use lib.ListN.{length, getD, take, drop, set, length-append, length-map, length-take, drop-of-length-le}
-use lib.Seq.{length-take-le, take-suc, take-suc-set, drop-cons, getD-take}
+use lib.ListN.{length, getD, take, drop, set, length-append}
+use lib.Seq.{length-take-le, take-length, drop-length, take-suc, take-suc-set, drop-cons}
 use Rattle.records.specs.Bytes.{upFrom, tabulate}
-use Rattle.records.specs.Netlist.{netAt}
-use Rattle.records.specs.Job.{Job, Candidate}
+use Rattle.records.specs.Job.{Candidate}
 use Rattle.records.specs.Refusal.{ascending}
 use Rattle.records.specs.Service.{candidatesFrom}
 use Rattle.records.specs.Sheet.{weightOf, costOf}
 use Rattle.records.proofs.Laws.Bytes.{and-left, and-right, false-of}
 use Rattle.records.proofs.Laws.Job.{tabulate-getD}
-use Rattle.engine.specs.Eval.{bit, bits, numberOf, oldValues}
-use Rattle.engine.specs.Support.{reading, subsets, cost, earlier, better}
-use Rattle.engine.specs.Sets.{picked, narrow, total, betterBy}
+use Rattle.engine.specs.Eval.{bit, bits, numberOf}
+use Rattle.engine.specs.Support.{subsets, earlier}
+use Rattle.engine.specs.Inner.Choose.{picked, total, lowFirst, openAt}
 use Rattle.engine.proofs.Laws.Choice.{map-agree}
-use Rattle.engine.proofs.Laws.Eval.{Bits, bits-nil, bits-cons, bits-map, bit-lt, netAt-lt, oldValues-bits}
+use Rattle.engine.proofs.Laws.Eval.{Bits, bits-nil, bits-cons, bit-lt}
 use Rattle.engine.proofs.Laws.Support.{subsets-among}
 
 -- ---- bits
@@ -84,15 +82,6 @@ in-or-out s = go (s % 2) (omega arith)
     go (suc zero) h = inl refl
     go (suc (suc b)) h = let f : ⊥ = omega arith in absurd f
 
-pub picked-map : {A B : Type 0} (f : A → B) (xs : List A) (s : ℕ) → map f (picked xs s) ≡ picked (map f xs) s
-unfolding picked
-picked-map f [] s = refl
-picked-map f (x ∷ xs) s =
-    ⊎-elim
-    (λ e. rw (picked-in x xs s e, picked-in (f x) (map f xs) s e, picked-map f xs (s / 2)))
-    (λ e. rw (picked-out x xs s e, picked-out (f x) (map f xs) s e, picked-map f xs (s / 2)))
-    (in-or-out s)
-
 pub length-picked-le : {A : Type 0} (xs : List A) (s : ℕ) → length (picked xs s) ≤ length xs
 unfolding picked
 length-picked-le [] s = omega arith
@@ -147,148 +136,73 @@ subset-picked (i ∷ is) ks m =
     (2 * s, omega arith, t .2 ∙ sym (picked-out i is (2 * s) u ∙ rw w)))
     (append-cases (map (λ (ls : List ℕ). i ∷ ls) (subsets is)) m)
 
--- ---- narrowed readings
-
-module _ (k s r : ℕ) where
-  pub narrow-in : s % 2 ≡ 1 → narrow (suc k) s r ≡ r % 2 + 2 * narrow k (s / 2) (r / 2)
-  unfolding narrow numberOf
-  narrow-in e = rw (bits-suc k r, picked-in (r % 2) (bits k (r / 2)) s e)
-
-  pub narrow-out : s % 2 ≡ 0 → narrow (suc k) s r ≡ narrow k (s / 2) (r / 2)
-  unfolding narrow
-  narrow-out e = rw (bits-suc k r, picked-out (r % 2) (bits k (r / 2)) s e)
-
-pub narrow-none : (s r : ℕ) → narrow 0 s r ≡ 0
-unfolding narrow bits tabulate upFrom picked numberOf
-narrow-none s r = refl
-
--- the reading of picked nets
-pub reading-picked : (j : Job) (is : List ℕ) (s x : ℕ) → reading j (picked is s) x ≡ narrow (length is) s (reading j is x)
-unfolding reading narrow
-reading-picked j is s x =
-    let f : ℕ → ℕ = netAt (oldValues j x 0) in
-    let b = bits-numberOf (bits-map f (netAt-lt (oldValues-bits j x 0)) is) in
-    ap numberOf (picked-map f is s) ∙ sym (ap (λ (l : List ℕ). numberOf (picked l s)) (rw (length-map is f) at b))
-
-half-lt : (k r : ℕ) → r < 2 ^ suc k → r / 2 < 2 ^ k
-half-lt k r h = let p = pow-suc 2 k in omega arith
-
--- two readings agree on a set where they are narrowed to the same
-pub and-narrow : (k s r q : ℕ) → r < 2 ^ k → q < 2 ^ k → (bitAnd r s ≡ bitAnd q s) ↔ (narrow k s r ≡ narrow k s q)
-and-narrow zero s r q h l =
-    let e : r ≡ q = omega arith in
-    (λ _. ap (narrow 0 s) e, λ _. ap (λ (y : ℕ). bitAnd y s) e)
-and-narrow (suc k) s r q h l =
-    let t = and-narrow k (s / 2) (r / 2) (q / 2) (half-lt k r h) (half-lt k q l) in
-    let a = and-step r s in
-    let b = and-step q s in
-    let c = bitAnd (r / 2) (s / 2) in
-    let d = bitAnd (q / 2) (s / 2) in
-    ⊎-elim
-    (λ e. (
-      λ g.
-          let u : c ≡ d = omega arith in
-          let w : r % 2 ≡ q % 2 = omega arith in
-          let v : narrow k (s / 2) (r / 2) ≡ narrow k (s / 2) (q / 2) = t .0 u in
-          narrow-in k s r e ∙ omega arith ∙ sym (narrow-in k s q e),
-      λ g.
-          let n : r % 2 + 2 * narrow k (s / 2) (r / 2) ≡ q % 2 + 2 * narrow k (s / 2) (q / 2) =
-          sym (narrow-in k s r e) ∙ g ∙ narrow-in k s q e in
-          let u = t .1 (omega arith) in
-          let w : r % 2 ≡ q % 2 = omega arith in
-          omega arith,
-    ))
-    (λ e. (
-      λ g. let u : c ≡ d = omega arith in narrow-out k s r e ∙ t .0 u ∙ sym (narrow-out k s q e),
-      λ g. let u = t .1 (sym (narrow-out k s r e) ∙ g ∙ narrow-out k s q e) in omega arith,
-    ))
-    (in-or-out s)
+-- ---- a set up to a place and from there on
 
 module _ {A : Type 0} where
-  pub narrow-lt : (xs : List A) (s r : ℕ) → narrow (length xs) s r < 2 ^ length (picked xs s)
+  pub picked-split : (i : ℕ) (xs : List A) (s : ℕ) → picked xs s ≡ picked (take i xs) s ++ picked (drop i xs) (s / 2 ^ i)
   unfolding picked
-  narrow-lt [] s r = rw (narrow-none s r) (omega arith)
-  narrow-lt (x ∷ xs) s r =
-      let h = narrow-lt xs (s / 2) (r / 2) in
+  picked-split zero xs s = rw (div-one s)
+  picked-split (suc i) [] s = refl
+  picked-split (suc i) (x ∷ xs) s =
+      let r = picked-split i xs (s / 2) in
+      let e : s / 2 / 2 ^ i ≡ s / 2 ^ suc i = let q : 1 + i ≡ suc i = omega arith in rw q at (shr-shr s 1 i) in
       ⊎-elim
-      (λ e. rw (picked-in x xs s e, narrow-in (length xs) s r e) (omega (arith, pow-suc 2 (length (picked xs (s / 2))))))
-      (λ e. rw (picked-out x xs s e, narrow-out (length xs) s r e) h)
+      (λ o. picked-in x xs s o ∙ rw (r, e, picked-in x (take i xs) s o))
+      (λ o. picked-out x xs s o ∙ rw (r, e, picked-out x (take i xs) s o))
       (in-or-out s)
 
-  -- every reading of the picked is narrowed from one of all
-  pub narrow-onto : (xs : List A) (s q : ℕ) → q < 2 ^ length (picked xs s)
-      → (r : ℕ) × (r < 2 ^ length xs) × (narrow (length xs) s r ≡ q)
-  unfolding picked
-  narrow-onto [] s q h = (0, omega arith, let z = narrow-none s 0 in omega arith)
-  narrow-onto (x ∷ xs) s q h =
-      let p = pow-suc 2 (length xs) in
+total-append : (xs ys : List ℕ) → total (xs ++ ys) ≡ total xs + total ys
+unfolding total
+total-append [] ys = omega arith
+total-append (x ∷ xs) ys = omega (arith, total-append xs ys)
+
+-- the places from i on cost no more than all
+pub total-from-le : (i : ℕ) (ws : List ℕ) (s : ℕ) → total (picked (drop i ws) (s / 2 ^ i)) ≤ total (picked ws s)
+total-from-le i ws s =
+    rw (picked-split i ws s, total-append (picked (take i ws) s) (picked (drop i ws) (s / 2 ^ i))) (omega arith)
+
+module _ (is : List ℕ) where
+  pub open-none : (s : ℕ) → openAt is 0 s ≡ picked is s
+  unfolding openAt
+  open-none s = refl
+
+  pub open-all : (s : ℕ) → openAt is (length is) s ≡ is
+  unfolding openAt picked
+  open-all s = rw (take-length is, drop-length is) (append-nil is)
+
+  -- a set that is s from place i on picks nets of the open support
+  pub open-among : (i s : ℕ) (n : ℕ) → Mem n (picked is s) → Mem n (openAt is i (s / 2 ^ i))
+  unfolding openAt
+  open-among i s n m =
       ⊎-elim
-      (λ e.
-      let l : q < 2 ^ suc (length (picked xs (s / 2))) = rw (picked-in x xs s e) at h in
-      let t = narrow-onto xs (s / 2) (q / 2) (half-lt (length (picked xs (s / 2))) q l) in
-      let r : ℕ = t .0 in
-      let b : r < 2 ^ length xs = t .1 in
-      let u : (q % 2 + 2 * r) / 2 ≡ r = omega arith in
-      let w : (q % 2 + 2 * r) % 2 ≡ q % 2 = omega arith in
-      let n : narrow (length xs) (s / 2) ((q % 2 + 2 * r) / 2) ≡ q / 2 = rw u (t .2) in
-      (q % 2 + 2 * r, omega arith, narrow-in (length xs) s (q % 2 + 2 * r) e ∙ omega arith))
-      (λ e.
-      let t = narrow-onto xs (s / 2) q (rw (picked-out x xs s e) at h) in
-      let r : ℕ = t .0 in
-      let b : r < 2 ^ length xs = t .1 in
-      let u : (2 * r) / 2 ≡ r = omega arith in
-      (2 * r, omega arith, narrow-out (length xs) s (2 * r) e ∙ rw u (t .2)))
-      (in-or-out s)
+      (λ (a : Mem n (picked (take i is) s)).
+      mem-append-left (picked (drop i is) (s / 2 ^ i)) (subsets-among (take i is) (picked (take i is) s) (picked-subset (take i is) s) n a))
+      (λ (b : Mem n (picked (drop i is) (s / 2 ^ i))). mem-append-right (take i is) b)
+      (append-cases (picked (take i is) s) (rw (picked-split i is s) at m))
 
-pub narrow-below : (k s r : ℕ) → narrow k s r < 2 ^ k
-narrow-below zero s r = rw (narrow-none s r) (omega arith)
-narrow-below (suc k) s r =
-    let h = narrow-below k (s / 2) (r / 2) in
-    let p = pow-suc 2 k in
-    ⊎-elim (λ e. rw (narrow-in k s r e) (omega arith)) (λ e. rw (narrow-out k s r e) (omega arith)) (in-or-out s)
+module _ (is : List ℕ) (i : ℕ) (h : i < length is) where
+  -- the net at place i is open, in, or out
+  pub open-suc : (s : ℕ) → openAt is (suc i) s ≡ take i is ++ (getD is i 0 ∷ picked (drop (suc i) is) s)
+  unfolding openAt
+  open-suc s = rw (take-suc is i 0 h) (append-assoc (take i is) (getD is i 0 ∷ []) (picked (drop (suc i) is) s))
 
--- ---- narrowing place by place
+  pub open-in : (s : ℕ) → s % 2 ≡ 1 → openAt is i s ≡ openAt is (suc i) (s / 2)
+  unfolding openAt
+  open-in s e = rw (drop-cons is i 0 h, picked-in (getD is i 0) (drop (suc i) is) s e) (sym (open-suc (s / 2)))
 
-module _ (k s r : ℕ) where
-  -- the reading of the places from i on
-  abbrev pub narrowFrom : ℕ → ℕ
-  narrowFrom i = narrow (k - i) (s / 2 ^ i) (r / 2 ^ i)
+  pub open-out : (s : ℕ) → s % 2 ≡ 0 → openAt is i s ≡ take i is ++ picked (drop (suc i) is) (s / 2)
+  unfolding openAt
+  open-out s e = rw (drop-cons is i 0 h, picked-out (getD is i 0) (drop (suc i) is) s e)
 
-  pub narrowFrom-none : narrowFrom k ≡ 0
-  narrowFrom-none =
-      let e : k - k ≡ 0 = omega arith in
-      rw e (narrow-none (s / 2 ^ k) (r / 2 ^ k))
+module _ (ws : List ℕ) (i : ℕ) (h : i < length ws) where
+  pub total-in : (s : ℕ) → s % 2 ≡ 1 → total (picked (drop i ws) s) ≡ getD ws i 0 + total (picked (drop (suc i) ws) (s / 2))
+  unfolding total
+  total-in s e = rw (drop-cons ws i 0 h, picked-in (getD ws i 0) (drop (suc i) ws) s e)
 
-  pub narrowFrom-all : narrowFrom 0 ≡ narrow k s r
-  narrowFrom-all =
-      let e : k - 0 ≡ k = omega arith in
-      rw (e, div-one s, div-one r)
-
-  pub narrowFrom-lt : (i : ℕ) → narrowFrom i < 2 ^ k
-  narrowFrom-lt i = let l : k - i ≤ k = omega arith in omega (arith, narrow-below (k - i) (s / 2 ^ i) (r / 2 ^ i), pow-mono l)
-
-  module _ (i : ℕ) (h : suc i ≤ k) where
-    half : (x : ℕ) → x / 2 ^ i / 2 ≡ x / 2 ^ suc i
-    half x = let e : i + 1 ≡ suc i = omega arith in rw e at (shr-shr x i 1)
-
-    left-over : k - i ≡ suc (k - suc i)
-    left-over = omega arith
-
-    pub narrowFrom-in : s / 2 ^ i % 2 ≡ 1 → narrowFrom i ≡ r / 2 ^ i % 2 + 2 * narrowFrom (suc i)
-    narrowFrom-in e =
-        rw (left-over, narrow-in (k - suc i) (s / 2 ^ i) (r / 2 ^ i) e, half s, half r)
-
-    pub narrowFrom-out : (s / 2 ^ i % 2 ≡ 1 → ⊥) → narrowFrom i ≡ narrowFrom (suc i)
-    narrowFrom-out e =
-        let z : s / 2 ^ i % 2 ≡ 0 = ⊎-elim (λ o. absurd (e o)) (λ o. o) (in-or-out (s / 2 ^ i)) in
-        rw (left-over, narrow-out (k - suc i) (s / 2 ^ i) (r / 2 ^ i) z, half s, half r)
+  pub total-out : (s : ℕ) → s % 2 ≡ 0 → total (picked (drop i ws) s) ≡ total (picked (drop (suc i) ws) (s / 2))
+  total-out s e = rw (drop-cons ws i 0 h, picked-out (getD ws i 0) (drop (suc i) ws) s e)
 
 -- ---- picking place by place
-
-total-snoc : (xs : List ℕ) (x : ℕ) → total (xs ++ (x ∷ [])) ≡ total xs + x
-unfolding total
-total-snoc [] x = omega arith
-total-snoc (y ∷ ys) x = omega (arith, total-snoc ys x)
 
 module _ {A : Type 0} where
   picked-snoc-in : (xs : List A) (x : A) (s : ℕ) → bit (length xs) s ≡ 1 → picked (xs ++ (x ∷ [])) s ≡ picked xs s ++ (x ∷ [])
@@ -326,8 +240,11 @@ module _ (xs : List ℕ) (s i : ℕ) (h : i < length xs) where
   pub length-picked-in : bit i s ≡ 1 → length (picked (take (i + 1) xs) s) ≡ length (picked (take i xs) s) + 1
   length-picked-in e = rw (picked-take-in e) (length-append (picked (take i xs) s) (getD xs i 0 ∷ []))
 
-  pub total-picked-in : bit i s ≡ 1 → total (picked (take (i + 1) xs) s) ≡ total (picked (take i xs) s) + getD xs i 0
-  total-picked-in e = rw (picked-take-in e) (total-snoc (picked (take i xs) s) (getD xs i 0))
+pub total-take : (xs : List ℕ) (i : ℕ) → i < length xs → total (take (i + 1) xs) ≡ total (take i xs) + getD xs i 0
+unfolding total
+total-take xs i h =
+    let e = total-append (take i xs) (getD xs i 0 ∷ []) in
+    rw (add-one i, take-suc xs i 0 h) (omega arith)
 
 -- the nets picked so far, and the next one
 module _ (xs ps : List ℕ) (s i len : ℕ) (h : i < length xs) (n : len ≡ length (picked (take i xs) s)) (room : len < length ps)
@@ -335,9 +252,7 @@ module _ (xs ps : List ℕ) (s i len : ℕ) (h : i < length xs) (n : len ≡ len
   pub picks-in : bit i s ≡ 1 → take (len + 1) (set ps len (getD xs i 0)) ≡ picked (take (i + 1) xs) s
   picks-in b = rw (add-one len) (take-suc-set ps len (getD xs i 0) room ∙ rw (e, picked-take-in xs s i h b))
 
--- ---- lists compared place by place
-
--- a number first, then another test
+-- ---- a number first, then another test
 module _ (a b : ℕ) (t : Bool) where
   pub below-first : a < b → (ltb a b || (eqb a b && t)) ≡ true
   below-first h = rw (lt-ltb a b h)
@@ -353,62 +268,45 @@ module _ (a b : ℕ) (t : Bool) where
   pub equal-first : a ≡ b → (ltb a b || (eqb a b && t)) ≡ t
   equal-first e = rw (not-below (omega arith), eq-eqb a b e)
 
-module _ (a b : List ℕ) (len i : ℕ) (la : len ≤ length a) (lb : len ≤ length b) (h : i < len) where
-  left : (xs : List ℕ) → len ≤ length xs → drop i (take len xs) ≡ getD xs i 0 ∷ drop (i + 1) (take len xs)
-  left xs l =
-      let n = length-take-le len xs l in
-      rw (add-one i, ← getD-take len xs i 0 h) (drop-cons (take len xs) i 0 (omega arith))
+-- ---- two sets of ascending nets
 
-  earlier-step : earlier (drop i (take len a)) (drop i (take len b))
-      ≡ (ltb (getD a i 0) (getD b i 0)
-      || (eqb (getD a i 0) (getD b i 0) && earlier (drop (i + 1) (take len a)) (drop (i + 1) (take len b))))
-  unfolding earlier
-  earlier-step = rw (left a la, left b lb)
+lowFirst-same : (n a b : ℕ) → a % 2 ≡ b % 2 → lowFirst (suc n) a b ≡ lowFirst n (a / 2) (b / 2)
+unfolding lowFirst
+lowFirst-same n a b e = rw (eq-eqb (a % 2) (b % 2) e)
 
-  pub earlier-here : getD a i 0 < getD b i 0 → earlier (drop i (take len a)) (drop i (take len b)) ≡ true
-  earlier-here l = earlier-step ∙ below-first (getD a i 0) (getD b i 0) _ l
+lowFirst-other : (n a b : ℕ) → (a % 2 ≡ b % 2 → ⊥) → lowFirst (suc n) a b ≡ eqb (a % 2) 1
+unfolding lowFirst
+lowFirst-other n a b d = rw (false-of (eqb (a % 2) (b % 2)) (λ e. d (eqb-true (a % 2) (b % 2) e)))
 
-  pub earlier-not : getD b i 0 < getD a i 0 → earlier (drop i (take len a)) (drop i (take len b)) ≡ false
-  earlier-not l = earlier-step ∙ above-first (getD a i 0) (getD b i 0) _ l
+lowFirst-equal : (n a : ℕ) → lowFirst n a a ≡ false
+unfolding lowFirst
+lowFirst-equal zero a = refl
+lowFirst-equal (suc n) a = lowFirst-same n a a refl ∙ lowFirst-equal n (a / 2)
 
-  pub earlier-next : getD a i 0 ≡ getD b i 0
-      → earlier (drop i (take len a)) (drop i (take len b)) ≡ earlier (drop (i + 1) (take len a)) (drop (i + 1) (take len b))
-  earlier-next e = earlier-step ∙ equal-first (getD a i 0) (getD b i 0) _ e
+-- place by place
+module _ (a b : ℕ) where
+  abbrev pub lowFrom : ℕ → Bool
+  lowFrom i = lowFirst (10 - i) (a / 2 ^ i) (b / 2 ^ i)
 
-pub earlier-end : (a : List ℕ) (len i : ℕ) (ks : List ℕ) → len ≤ i → earlier (drop i (take len a)) ks ≡ false
-unfolding earlier
-earlier-end a len i ks h =
-    let l : length (take len a) ≤ i = omega (arith, length-take len a) in
-    rw (drop-of-length-le (take len a) l)
+  pub lowFrom-all : lowFrom 0 ≡ lowFirst 10 a b
+  lowFrom-all = rw (div-one a, div-one b)
 
--- ---- the choice of two supports
+  pub lowFrom-end : (i : ℕ) → 10 ≤ i → lowFrom i ≡ false
+  unfolding lowFirst
+  lowFrom-end i h = let e : 10 - i ≡ 0 = omega arith in rw e
 
-module _ (c d : ℕ) (is ks : List ℕ) where
-  pub betterBy-cheaper : c < d → betterBy c is d ks ≡ true
-  unfolding betterBy
-  betterBy-cheaper h = below-first c d _ h
+  module _ (i : ℕ) (h : i < 10) where
+    left-over : 10 - i ≡ suc (10 - (i + 1))
+    left-over = omega arith
 
-  pub betterBy-dearer : d < c → betterBy c is d ks ≡ false
-  unfolding betterBy
-  betterBy-dearer h = above-first c d _ h
+    half : (x : ℕ) → x / 2 ^ i / 2 ≡ x / 2 ^ (i + 1)
+    half x = shr-shr x i 1
 
-  pub betterBy-fewer : c ≡ d → length is < length ks → betterBy c is d ks ≡ true
-  unfolding betterBy
-  betterBy-fewer e h = equal-first c d _ e ∙ below-first (length is) (length ks) _ h
+    pub lowFrom-same : a / 2 ^ i % 2 ≡ b / 2 ^ i % 2 → lowFrom i ≡ lowFrom (i + 1)
+    lowFrom-same e = rw (left-over, lowFirst-same (10 - (i + 1)) (a / 2 ^ i) (b / 2 ^ i) e, half a, half b)
 
-  pub betterBy-more : c ≡ d → length ks < length is → betterBy c is d ks ≡ false
-  unfolding betterBy
-  betterBy-more e h = equal-first c d _ e ∙ above-first (length is) (length ks) _ h
-
-  pub betterBy-earlier : c ≡ d → length is ≡ length ks → betterBy c is d ks ≡ earlier is ks
-  unfolding betterBy
-  betterBy-earlier e h = equal-first c d _ e ∙ equal-first (length is) (length ks) _ h
-
-pub better-by : (j : Job) (is ks : List ℕ) → better j is ks ≡ betterBy (cost j is) is (cost j ks) ks
-unfolding better betterBy
-better-by j is ks = refl
-
--- ---- costs
+    pub lowFrom-other : (a / 2 ^ i % 2 ≡ b / 2 ^ i % 2 → ⊥) → lowFrom i ≡ eqb (a / 2 ^ i % 2) 1
+    lowFrom-other d = rw left-over (lowFirst-other (10 - (i + 1)) (a / 2 ^ i) (b / 2 ^ i) d)
 
 ascending-tail : (x : ℕ) (xs : List ℕ) → ascending (x ∷ xs) ≡ true → ascending xs ≡ true
 unfolding ascending
@@ -424,6 +322,59 @@ ascending-below x (y ∷ ys) e i m =
     (λ (q : i ≡ y). omega arith)
     (λ (n : Mem i ys). omega (arith, ascending-below y ys (and-right (ltb x y) (ascending (y ∷ ys)) e) i n))
     (cases-cons m)
+
+-- x comes before the first of some nets that are all above it
+module _ (x : ℕ) (xs : List ℕ) where
+  earlier-below : (ys : List ℕ) → 0 < length ys → ((i : ℕ) → Mem i ys → x < i) → earlier (x ∷ xs) ys ≡ true
+  unfolding earlier
+  earlier-below [] h f = let z : ⊥ = omega arith in absurd z
+  earlier-below (y ∷ ys) h f = below-first x y _ (f y (here refl))
+
+  earlier-above : (ys : List ℕ) → 0 < length ys → ((i : ℕ) → Mem i ys → x < i) → earlier ys (x ∷ xs) ≡ false
+  unfolding earlier
+  earlier-above [] h f = let z : ⊥ = omega arith in absurd z
+  earlier-above (y ∷ ys) h f = above-first y x _ (f y (here refl))
+
+pub low-earlier : (n : ℕ) (is : List ℕ) (a b : ℕ) → length is ≤ n → ascending is ≡ true → a < 2 ^ length is → b < 2 ^ length is
+    → length (picked is a) ≡ length (picked is b) → lowFirst n a b ≡ earlier (picked is a) (picked is b)
+unfolding picked earlier
+low-earlier n [] a b h s p q e =
+    let z : a ≡ b = omega arith in
+    rw z (lowFirst-equal n b)
+low-earlier zero (i ∷ is) a b h s p q e = let z : ⊥ = omega arith in absurd z
+low-earlier (suc n) (i ∷ is) a b h s p q e =
+    let x = picked is (a / 2) in
+    let y = picked is (b / 2) in
+    let w = pow-suc 2 (length is) in
+    let r : length x ≡ length y → lowFirst n (a / 2) (b / 2) ≡ earlier x y =
+    low-earlier n is (a / 2) (b / 2) (omega arith) (ascending-tail i is s) (omega arith) (omega arith) in
+    let above : (c k : ℕ) → Mem k (picked is c) → i < k =
+    λ c k m. ascending-below i is s k (subsets-among is (picked is c) (picked-subset is c) k m) in
+    ⊎-elim
+    (λ o.
+    ⊎-elim
+    (λ u.
+    let l : length x ≡ length y = omega (arith, rw (picked-in i is a o, picked-in i is b u) at e) in
+    lowFirst-same n a b (omega arith) ∙ r l ∙ rw (picked-in i is a o, picked-in i is b u) (sym (equal-first i i (earlier x y) refl)))
+    (λ u.
+    let l : suc (length x) ≡ length y = rw (picked-in i is a o, picked-out i is b u) at e in
+    lowFirst-other n a b (λ z. let f : ⊥ = omega arith in f) ∙ eq-eqb (a % 2) 1 o
+    ∙ rw (picked-in i is a o, picked-out i is b u) (sym (earlier-below i x y (omega arith) (above (b / 2)))))
+    (in-or-out b))
+    (λ o.
+    ⊎-elim
+    (λ u.
+    let l : length x ≡ suc (length y) = rw (picked-out i is a o, picked-in i is b u) at e in
+    lowFirst-other n a b (λ z. let f : ⊥ = omega arith in f)
+    ∙ false-of (eqb (a % 2) 1) (λ z. let f : ⊥ = omega (arith, eqb-true (a % 2) 1 z) in f)
+    ∙ rw (picked-out i is a o, picked-in i is b u) (sym (earlier-above i y x (omega arith) (above (a / 2)))))
+    (λ u.
+    let l : length x ≡ length y = rw (picked-out i is a o, picked-out i is b u) at e in
+    lowFirst-same n a b (omega arith) ∙ r l ∙ rw (picked-out i is a o, picked-out i is b u))
+    (in-or-out b))
+    (in-or-out a)
+
+-- ---- costs
 
 -- a candidate below all of the nets has no say in their cost
 cost-skip : (c : Candidate) (cs : List Candidate) (is : List ℕ) → ((i : ℕ) → Mem i is → c .net < i)

@@ -1,43 +1,45 @@
 -- Laws of decide's replies: the verdict and the sheet that the vector list, the sets and the choice give are those of the
 -- definitions. Assumes nothing.
 use Prim.Native.Nat.{ℕ, _+_, _^_, _≤_, _<_}
-use mathlib.Core.Path.{_≡_, refl, sym, _∙_, ap, subst}
-use mathlib.Core.List.{List, [], _∷_, _++_, map}
-use mathlib.Core.Bool.{Bool, true, false, cond}
-use mathlib.Core.Option.{Option, none, some}
+use mathlib.Core.Path.{_≡_, refl, sym, _∙_, ap}
+use mathlib.Core.List.{List, _++_, map}
+use mathlib.Core.Bool.{true, false}
+use mathlib.Core.Option.{none, some}
 use native.Mathlib.Nat.{zero-add}
 use native.Mathlib.Omega.{arith}
 use lib.Pow.{pow-mono}
-use lib.ListN.{length, getD, take}
-use Rattle.records.specs.Bytes.{flat, bytePair, placed, field}
+use lib.ListN.{length, take, length-map}
+use Rattle.records.specs.Bytes.{all, placed, field}
 use Rattle.records.specs.Job.{Job, Candidate}
 use Rattle.engine.specs.Rectify.{Listed, vectorLoop}
 use Rattle.engine.specs.Support.{sound, tableOf, candidateNets, cost, chosen}
-use Rattle.engine.specs.Verdict.{Ruling, patch, unfixable, blind, blindReading, ruling, fourBytes, rulingFields, sheetOf}
+use Rattle.engine.specs.Verdict.{Ruling, patch, unfixable, blind, blindReading, ruling, rulingFields, sheetOf}
 use Rattle.engine.specs.Reply.{verdictFrom, verdictOf}
-use Rattle.engine.specs.Inner.{patchBytes, unfixableBytes, blindBytes, BytesPut}
-use Rattle.engine.specs.Walk.{circuits, Ready, listedOf, Progress}
-use Rattle.engine.specs.Sets.{picked, SetsFor, FirstEmpty, Choosable, ChosenOf}
-use Rattle.engine.specs.Rule.{Decided, Ruleable}
+use Rattle.engine.specs.Inner.Sheet.{patchBytes, unfixableBytes, blindBytes, BytesPut}
+use Rattle.engine.specs.Inner.List.{listedOf}
+use Rattle.engine.specs.Inner.Search.{Progress}
+use Rattle.engine.specs.Inner.Choose.{SetsOf, FirstEmpty, Choosable, ChosenOf}
+use Rattle.engine.specs.Inner.Table.{TableFilled}
+use Rattle.engine.specs.Inner.Deciding.{Decided, Ruleable}
 use Rattle.engine.specs.declared.choose.Chosen.{Chosen}
-use Rattle.engine.specs.declared.deciding.DecideReply.{DecideReply}
 use Rattle.engine.specs.declared.deciding.Verdict.{Verdict}
 use Rattle.engine.specs.declared.deciding.Verdict.the-variants as Verdict
 use Rattle.engine.specs.declared.list.Vectors.{Vectors}
-use Rattle.records.proofs.Laws.Bytes.{false-of}
+use Rattle.records.specs.Refusal.{ascending, candidateGood, candidatesGood}
+use Rattle.records.proofs.Laws.Bytes.{false-of, and-left}
 use lib.Seq.{length-take-le}
 use Rattle.engine.proofs.Laws.Picked.{nets-from}
 use Rattle.engine.proofs.Laws.Sets.{sound-iff-full, blind-of-empty}
-use Rattle.records.specs.Service.{candidatesFrom}
-use Rattle.records.specs.Columns.{SideColumns, columns, columnsJob}
+use Rattle.records.specs.Service.{candidatesFrom, countsOf}
+use Rattle.records.specs.Inner.{Within}
+use Rattle.records.specs.Parts.{PartsOf}
+use Rattle.records.specs.declared.loading.JobParts.{JobParts}
 use Rattle.records.specs.declared.job.Counts.{Counts}
 use Rattle.engine.proofs.Laws.Loop.{stuck-iff}
-use Rattle.engine.proofs.Laws.Ready.{ready-within, ready-targets, ready-ascending, ready-candidate-count}
-use Rattle.engine.proofs.Laws.Visit.{inputs-small}
-use Rattle.engine.proofs.Laws.WalkList.{walk-list}
-use Rattle.engine.proofs.Laws.WalkSets.{walk-reading-sets}
-use Rattle.engine.proofs.Laws.Weights.{loop-weights, nets-weights, sets-weights}
-use Rattle.engine.proofs.Laws.Search.{progress-at, listed-stuck, listed-free}
+use Rattle.engine.proofs.Laws.Miter.{job-within}
+use Rattle.engine.proofs.Laws.ListLoop.{walk-list}
+use Rattle.engine.proofs.Laws.ReadingSets.{walk-reading-sets}
+use Rattle.engine.proofs.Laws.Search.{listed-stuck, listed-free}
 use Rattle.engine.proofs.Laws.Sheet.{patchBytes-ruling, unfixableBytes-ruling, blindBytes-ruling, sheet-ruling}
 use Rattle.engine.proofs.Laws.Verdict.{ruling-unfixable, ruling-patch, ruling-blind}
 
@@ -101,13 +103,8 @@ module _ {j : Job} {c : Chosen} (h : ChosenOf j c) where
   abbrev nets : List ℕ
   nets = take (c .support .len) (c .support .nets)
 
-  pub table-of-chosen : (t : List ℕ)
-      → take (2 ^ length (picked (candidateNets j) (c .set))) t ≡ tableOf j (picked (candidateNets j) (c .set))
-      → take (2 ^ c .support .len) t ≡ tableOf j nets
-  table-of-chosen t e =
-      ap (λ (n : ℕ). take (2 ^ n) t) (h .len ∙ ap length (sym (h .picked)))
-      ∙ e
-      ∙ ap (tableOf j) (h .picked ∙ sym (h .support))
+  pub table-of-chosen : {t : List ℕ} → TableFilled (c .sets) (c .support .len) t → take (2 ^ c .support .len) t ≡ tableOf j nets
+  table-of-chosen f = f .table j (chosen j) (h .sets) (sym (h .len)) ∙ ap (tableOf j) (sym (h .support))
 
   pub cost-of-chosen : c .cost ≡ cost j nets
   cost-of-chosen = h .cost ∙ ap (cost j) (sym (h .support))
@@ -117,77 +114,80 @@ module _ {j : Job} {c : Chosen} (h : ChosenOf j c) where
 pub readings-many : {k : ℕ} → k ≤ 10 → 2 ^ k ≤ 1024
 readings-many h = pow-mono {j = 10} h
 
-module _ {j : Job} {k : ℕ} {is ws ss : List ℕ} {v : Vectors} (ni : k ≤ length is) (nw : k ≤ length ws)
-    (q : Ruleable j k is ws v ss) (s : v .stuck ≡ false) {n r : ℕ} (e : n ≡ 2 ^ k) (f : FirstEmpty ss n r) where
-  sets-for : SetsFor j k ss
+module _ {j : Job} {k : ℕ} {is ws ss : List ℕ} {v : Vectors} (ni : k ≤ length is) (q : Ruleable j k is ws v ss)
+    (s : v .stuck ≡ false) {n r : ℕ} (e : n ≡ 2 ^ k) (f : FirstEmpty ss n r) where
+  many : 2 ^ length (candidateNets j) ≡ n
   unfolding candidateNets
-  sets-for = record { candidates = ap length (ap (map (λ (c : Candidate). c .net)) (q .candidates) ∙ nets-from k is ws ni) ∙ length-take-le k is ni; targets = q .targets; sets = q .sets s }
+  many =
+      ap (λ (l : List ℕ). 2 ^ length l) (ap (map (λ (c : Candidate). c .net)) (q .candidates) ∙ nets-from k is ws ni)
+      ∙ ap (λ (l : ℕ). 2 ^ l) (length-take-le k is ni)
+      ∙ sym e
 
-  empty : FirstEmpty ss (2 ^ k) r
-  empty = subst (λ (i : ℕ). FirstEmpty ss i r) e f
+  all-sets : SetsOf j (candidateNets j) ss
+  all-sets = record { targets = q .targets; sets = q .sets s .sets }
+
+  empty : FirstEmpty ss (2 ^ length (candidateNets j)) r
+  empty = rw many f
 
   pub rule-blind : r < n → (sound j (candidateNets j) ≡ false) × (r ≡ blindReading j)
   rule-blind l =
       let u : sound j (candidateNets j) ≡ false =
       false-of (sound j (candidateNets j)) (λ t.
-      let z = sound-iff-full j k ss sets-for r empty .1 t in let b : ⊥ = omega arith in b) in
-      (u, blind-of-empty j k ss sets-for r empty u)
+      let z = sound-iff-full j ss all-sets r empty .1 t ∙ many in let b : ⊥ = omega arith in b) in
+      (u, blind-of-empty j ss all-sets r empty u)
 
   pub rule-sound : n ≤ r → Choosable j k is ws ss
   rule-sound l =
       let m = f .most in
+      let o : r ≡ n = omega arith in
       record {
         candidates = q .candidates;
         ascends = q .ascends;
         targets = q .targets;
         sets = q .sets s;
-        sound = sound-iff-full j k ss sets-for r empty .0 (omega arith);
+        sound = sound-iff-full j ss all-sets r empty .0 (o ∙ sym many);
       }
 
--- ---- after the walk
+-- ---- a job's parts
 
-module _ {c : Counts} {old golden : SideColumns} {nets : List ℕ} (weights : List ℕ) {v : Vectors} {ss : List ℕ}
-    (r : Ready c old golden nets) (p : Progress (circuits c old golden nets) (2 ^ c .inputs) v ss) where
-  abbrev priced : Job
-  priced = columnsJob c (columns old golden nets weights)
+module _ {j : Job} {p : JobParts} (r : PartsOf j p) where
+  pub parts-few : p .counts .candidates ≤ 10
+  unfolding countsOf
+  parts-few = rw (r .counts) (job-within j (r .good) .candidates)
 
-  abbrev bare : Job
-  bare = circuits c old golden nets
+  pub parts-nets : take (p .counts .candidates) (p .nets) ≡ candidateNets j
+  unfolding countsOf candidateNets
+  parts-nets =
+      let k = length (j .candidates) in
+      ap (λ (c : Counts). take (c .candidates) (p .nets)) (r .counts)
+      ∙ sym (nets-from k (p .nets) (p .weights) (omega (arith, r .nets-long, job-within j (r .good) .candidates)))
+      ∙ ap (map (λ (c : Candidate). c .net)) (r .candidates)
 
-  inputs-of : bare .inputs ≡ c .inputs
-  unfolding circuits columnsJob
-  inputs-of = refl
+-- ---- after the search
 
-  at-end : Progress bare (2 ^ bare .inputs) v ss
-  at-end = progress-at p (ap (λ (n : ℕ). 2 ^ n) (sym inputs-of))
+module _ {j : Job} {p : JobParts} {v : Vectors} {ss : List ℕ} (r : PartsOf j p) (g : Progress j (2 ^ j .inputs) v ss) where
+  few : Within (countsOf j)
+  few = job-within j (r .good)
 
-  walk-loop : listedOf v ≡ vectorLoop bare
-  walk-loop = at-end .listed ∙ walk-list bare (ready-targets r)
+  search-loop : listedOf v ≡ vectorLoop j
+  unfolding countsOf
+  search-loop = g .listed ∙ walk-list j (few .targets)
 
-  candidates-of : priced .candidates ≡ candidatesFrom (c .candidates) nets weights
-  unfolding columnsJob
-  candidates-of = refl
-
-  targets-of : priced .targets ≡ bare .targets
-  unfolding circuits columnsJob
-  targets-of = refl
-
-  pub ruleable : Ruleable priced (c .candidates) nets weights v ss
+  pub ruleable : Ruleable j (p .counts .candidates) (p .nets) (p .weights) v ss
+  unfolding countsOf candidateNets candidatesGood
   ruleable =
       record {
-        list = walk-loop ∙ sym (loop-weights c old golden nets weights);
-        candidates = candidates-of;
-        ascends = rw (nets-weights c old golden nets weights) (ready-ascending r);
-        targets = rw targets-of (ready-targets r);
-        sets = λ s.
-            sets-weights c old golden nets weights ss
-            (rw (at-end .sets s)
-            (walk-reading-sets bare (omega (arith, ready-candidate-count r, ready-within r .candidates))));
+        list = search-loop;
+        candidates = sym (r .candidates) ∙ ap (λ (c : Counts). candidatesFrom (c .candidates) (p .nets) (p .weights)) (sym (r .counts));
+        ascends = and-left (ascending (candidateNets j)) (all (λ (c : Candidate). candidateGood j (c .net)) (j .candidates)) (r .good .candidates);
+        targets = few .targets;
+        sets = λ s. rw (g .sets s) (walk-reading-sets j (omega (arith, length-map (j .candidates) (λ (c : Candidate). c .net), few .candidates)));
       }
 
   -- where the list is stuck, it is at an input
   pub stuck-small : v .stuck ≡ true → v .input < 4294967296
+  unfolding countsOf
   stuck-small s =
-      let l = stuck-iff bare (v .input) .0 (ap (λ (k : Listed). k .stuck) (sym walk-loop) ∙ listed-stuck v s) .0 in
-      let m : 2 ^ bare .inputs ≤ 1048576 = subst (λ (n : ℕ). 2 ^ n ≤ 1048576) (sym inputs-of) (inputs-small r) in
+      let l = stuck-iff j (v .input) .0 (ap (λ (k : Listed). k .stuck) (sym search-loop) ∙ listed-stuck v s) .0 in
+      let m : 2 ^ j .inputs ≤ 1048576 = pow-mono {j = 20} (few .inputs) in
       omega arith

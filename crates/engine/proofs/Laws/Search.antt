@@ -5,15 +5,22 @@ use mathlib.Core.List.{List}
 use mathlib.Core.Bool.{Bool, true, false, cond, true≢false}
 use mathlib.Core.Option.{none, some}
 use native.Mathlib.Omega.{arith}
-use mathlib.Core.Logic.{⊎-elim}
+use mathlib.Core.Logic.{inl, inr, ⊎-elim}
 use native.Mathlib.Nat.{mul-assoc, mul-comm, mul-le-mul-left, mul-le-mul-right, le-trans, eq-or-lt-of-le, one-mul, zero-mul, add-mul, zero-add}
-use lib.ListN.{length, take}
+use lib.ListN.{length, getD, replicate, length-replicate}
 use lib.Pow.{pow-add, pow-pos, pow-mono}
 use Rattle.records.specs.Job.{Job}
+use Rattle.records.proofs.Laws.Bytes.{tabulate-ext}
+use Rattle.engine.specs.Eval.{bit, bits, oldValues, oldOutputs, goldenOutputs}
 use Rattle.engine.specs.Rectify.{rectifies, Listed}
 use Rattle.engine.specs.Support.{reading, candidateNets}
-use Rattle.engine.specs.Walk.{rectifiers, listedOf, listedFrom, setsFrom, startList, startSets, Noted, Progress, Aligned, Masks, ReadingWords}
-use Rattle.engine.proofs.Laws.Walk.{listedFrom-append, setsFrom-append, stuck-stays, walk-skip-list, walk-skip-sets}
+use Rattle.engine.specs.Inner.Masks.{rectifiers}
+use Rattle.engine.specs.Inner.List.{listedOf, listedFrom, startList, Held}
+use Rattle.engine.specs.Inner.Note.{setsFrom, startSets, gathered, BlockNoted}
+use Rattle.engine.specs.Inner.Search.{Progress, Aligned, BlockRange}
+use Rattle.engine.proofs.Laws.Shift.{bit-mod}
+use Rattle.engine.proofs.Laws.Rows.{setsFrom-agree, setsFrom-repeats, block-sets, setsFrom-length}
+use Rattle.engine.proofs.Laws.List.{listedFrom-append, setsFrom-append, stuck-stays, walk-skip-list, walk-skip-sets}
 use Rattle.engine.specs.declared.list.Vectors.{Vectors}
 
 -- ---- halves of a range
@@ -38,14 +45,14 @@ pub range-le : (p k : ℕ) → p * 2 ^ k ≤ (p + 1) * 2 ^ k
 range-le p k = mul-le-mul-right (2 ^ k) (omega arith)
 
 module _ {n k p : ℕ} (a : Aligned n k p) where
-  pub aligned-high : 6 < k → Aligned n (k - 1) (2 * p + 1)
+  pub aligned-high : 10 < k → Aligned n (k - 1) (2 * p + 1)
   aligned-high h =
       let e = half-end p k (omega arith) in
       let w = a .within in
       let l = a .among in
       record { among = omega arith; within = rw e w; blocks = λ b. let f : ⊥ = omega arith in absurd f }
 
-  pub aligned-low : 6 < k → Aligned n (k - 1) (2 * p)
+  pub aligned-low : 10 < k → Aligned n (k - 1) (2 * p)
   aligned-low h =
       let w = aligned-high h .within in
       let l = a .among in
@@ -63,62 +70,124 @@ module _ {n k p : ℕ} (a : Aligned n k p) where
 
   -- ---- blocks
 
-  pub block-start : k < 7 → 64 * p ≡ p * 2 ^ k
+  pub block-start : k < 11 → 1024 * p ≡ p * 2 ^ k
   block-start h =
-      let l : k ≤ 6 = omega arith in
+      let l : k ≤ 10 = omega arith in
       ⊎-elim
-      (λ e. mul-comm 64 p ∙ ap (λ (i : ℕ). p * 2 ^ i) (sym e))
-      (λ b. ap (λ (i : ℕ). 64 * i) (a .blocks b) ∙ sym (zero-mul (2 ^ k)) ∙ ap (λ (i : ℕ). i * 2 ^ k) (sym (a .blocks b)))
+      (λ e. mul-comm 1024 p ∙ ap (λ (i : ℕ). p * 2 ^ i) (sym e))
+      (λ b. ap (λ (i : ℕ). 1024 * i) (a .blocks b .0) ∙ sym (zero-mul (2 ^ k)) ∙ ap (λ (i : ℕ). i * 2 ^ k) (sym (a .blocks b .0)))
       (eq-or-lt-of-le l)
 
-  pub block-end : k < 7 → 64 * p + 2 ^ k ≡ (p + 1) * 2 ^ k
+  pub block-end : k < 11 → 1024 * p + 2 ^ k ≡ (p + 1) * 2 ^ k
   block-end h =
       let s = block-start h in
       ap (λ (i : ℕ). i + 2 ^ k) s ∙ ap (λ (i : ℕ). p * 2 ^ k + i) (sym (one-mul (2 ^ k))) ∙ sym (add-mul p 1 (2 ^ k))
 
   -- a shift by the lower inputs is a power of two
-  pub shifted : k < 7 → 1 * 2 ^ k % 18446744073709551616 ≡ 2 ^ k
-  shifted h = let q : 2 ^ k ≤ 64 = pow-mono {j = 6} (omega arith) in omega arith
+  pub shifted : k < 11 → 1 * 2 ^ k % 18446744073709551616 ≡ 2 ^ k
+  shifted h = let q : 2 ^ k ≤ 1024 = pow-mono {j = 10} (omega arith) in omega arith
 
-  pub block-room : k < 7
-      → (1 * 2 ^ k % 18446744073709551616 ≤ 64) × (64 * p + 1 * 2 ^ k % 18446744073709551616 ≤ 2 ^ n)
+  pub block-room : k < 11
+      → (1 * 2 ^ k % 18446744073709551616 ≤ 1024) × (1024 * p + 1 * 2 ^ k % 18446744073709551616 ≤ 2 ^ n)
   block-room h =
-      let q : 2 ^ k ≤ 64 = pow-mono {j = 6} (omega arith) in
+      let q : 2 ^ k ≤ 1024 = pow-mono {j = 10} (omega arith) in
       let e = block-end h in
       let w = a .within in
       let m = shifted h in
       (omega arith, omega arith)
 
-  pub block-next : k < 7 → 64 * p + 1 * 2 ^ k % 18446744073709551616 ≡ (p + 1) * 2 ^ k
-  block-next h = ap (λ (i : ℕ). 64 * p + i) (shifted h) ∙ block-end h
+  pub block-next : k < 11 → 1024 * p + 1 * 2 ^ k % 18446744073709551616 ≡ (p + 1) * 2 ^ k
+  block-next h = ap (λ (i : ℕ). 1024 * p + i) (shifted h) ∙ block-end h
 
-pub descends : {t : ℕ} (k : ℕ) → k ≡ t → 6 < k → k - 1 < t
+short : {k : ℕ} → k < 11 → k ≤ 10
+short h = omega arith
+
+-- the block that a short range is
+pub block-range : {n k p : ℕ} → Aligned n k p → k < 11 → BlockRange n p (1 * 2 ^ k % 18446744073709551616)
+block-range {n} {k} {p} a h =
+    let r = block-room a h in
+    let s = shifted a h in
+    record {
+      few = r .0;
+      within = r .1;
+      whole =
+          ⊎-elim
+          (λ (e : k ≡ 10). inl (s ∙ ap (λ (i : ℕ). 2 ^ i) e))
+          (λ (b : k < 10). inr (a .blocks b .0, s ∙ ap (λ (i : ℕ). 2 ^ i) (a .blocks b .1)))
+          (eq-or-lt-of-le (short h));
+    }
+
+pub descends : {t : ℕ} (k : ℕ) → k ≡ t → 10 < k → k - 1 < t
 descends k e h = omega arith
 
 -- ---- the inputs of a block
 
-pub progress-noted : {j : Job} (b count : ℕ) (masks words : List ℕ) {v after : Vectors} {ss ss′ : List ℕ}
-    → Progress j (64 * b) v ss → v .stuck ≡ false → count ≤ 64 → Masks j b masks → ReadingWords j b words
-    → Noted (take (2 ^ j .targets) masks) (take (length (candidateNets j)) words) (64 * b) count v ss after ss′
-    → Progress j (64 * b + count) after ss′
-progress-noted {j} b count masks words {v} {after} {ss} {ss′} p s l m w n =
+-- the vectors and the reading of an input depend on its lowest n bits alone
+module _ (j : Job) (x : ℕ) where
+  bits-low : bits (j .inputs) (x % 2 ^ j .inputs) ≡ bits (j .inputs) x
+  unfolding bits
+  bits-low = tabulate-ext (j .inputs) (λ i. bit i (x % 2 ^ j .inputs)) (λ i. bit i x) (λ i h. bit-mod (j .inputs) i x h)
+
+  rectifiers-low : rectifiers j x ≡ rectifiers j (x % 2 ^ j .inputs)
+  unfolding rectifiers rectifies oldOutputs goldenOutputs oldValues
+  rectifiers-low = rw bits-low
+
+  reading-low : (is : List ℕ) → reading j is x ≡ reading j is (x % 2 ^ j .inputs)
+  unfolding reading oldValues
+  reading-low is = rw bits-low
+
+-- the sets after a block: a whole one, or one that repeats the inputs of a job with fewer
+noted-sets : (j : Job) (b count : ℕ) (masks readings ss : List ℕ) → BlockRange (j .inputs) b count
+    → ((y : ℕ) → y < 1024 → gathered masks y ≡ rectifiers j (1024 * b + y))
+    → ((y : ℕ) → y < 1024 → gathered readings y ≡ reading j (candidateNets j) (1024 * b + y))
+    → ((x : ℕ) → reading j (candidateNets j) x < 1024)
+    → setsFrom (gathered masks) (λ y. gathered readings y % 1024) ss 0 1024
+    ≡ setsFrom (rectifiers j) (reading j (candidateNets j)) ss (1024 * b) count
+noted-sets j b count masks readings ss r m g l =
+    let f = rectifiers j in
+    let h = reading j (candidateNets j) in
+    let whole : setsFrom (gathered masks) (λ y. gathered readings y % 1024) ss 0 1024 ≡ setsFrom f h ss (1024 * b) 1024 =
+    block-sets masks readings ss f h (1024 * b) m (λ y u. (g y u, l (1024 * b + y))) in
+    ⊎-elim
+    (λ (e : count ≡ 1024). whole ∙ ap (setsFrom f h ss (1024 * b)) (sym e))
+    (λ (e : (b ≡ 0) × (count ≡ 2 ^ j .inputs)).
+    let z : 1024 * b ≡ 0 = omega (arith, e .0) in
+    let c = 2 ^ j .inputs in
+    let few : c ≤ 1024 = omega (arith, e .1, r .few) in
+    whole
+    ∙ ap (λ (x : ℕ). setsFrom f h ss x 1024) z
+    ∙ setsFrom-agree f h (λ y. f (y % c)) (λ y. h (y % c)) ss 0 0 1024 (λ i u. (rectifiers-low j (0 + i), reading-low j (0 + i) (candidateNets j)))
+    ∙ setsFrom-repeats f h ss c 1024 (pow-pos (j .inputs)) few
+    ∙ ap (λ (x : ℕ). setsFrom f h ss x c) (sym z)
+    ∙ ap (setsFrom f h ss (1024 * b)) (sym (e .1)))
+    (r .whole)
+
+pub progress-noted : {j : Job} (b count : ℕ) (masks readings : List ℕ) {v after : Vectors} {ss ss′ : List ℕ}
+    → Progress j (1024 * b) v ss → v .stuck ≡ false → BlockRange (j .inputs) b count
+    → ((y : ℕ) → y < 1024 → gathered masks y ≡ rectifiers j (1024 * b + y))
+    → ((y : ℕ) → y < 1024 → gathered readings y ≡ reading j (candidateNets j) (1024 * b + y))
+    → ((x : ℕ) → reading j (candidateNets j) x < 1024)
+    → BlockNoted masks readings (1024 * b) count v ss after ss′
+    → Progress j (1024 * b + count) after ss′
+progress-noted {j} b count masks readings {v} {after} {ss} {ss′} p s r m w l n =
     let f = rectifiers j in
     let g = reading j (candidateNets j) in
     record {
-      held = n .held;
-      long = n .long ∙ p .long;
+      held = n .list .held;
+      long = ap length (n .sets) ∙ setsFrom-length (gathered masks) (λ y. gathered readings y % 1024) ss 0 1024 ∙ p .long;
       listed =
-          n .listed f (λ i h. m i (omega arith))
-          ∙ ap (λ (k : Listed). listedFrom f k (64 * b) count) (p .listed)
+          n .list .listed f (λ y h. m y (omega (arith, r .few)))
+          ∙ ap (λ (k : Listed). listedFrom f k (1024 * b) count) (p .listed)
           ∙ sym
-          (listedFrom-append f startList 0 (64 * b) count
-          ∙ ap (λ (z : ℕ). listedFrom f (listedFrom f startList 0 (64 * b)) z count) (zero-add (64 * b)));
+          (listedFrom-append f startList 0 (1024 * b) count
+          ∙ ap (λ (z : ℕ). listedFrom f (listedFrom f startList 0 (1024 * b)) z count) (zero-add (1024 * b)));
       sets = λ e.
-          n .sets f g (λ i h. m i (omega arith)) (λ i h. w i (omega arith))
-          ∙ ap (λ (k : List ℕ). setsFrom f g k (64 * b) count) (p .sets s)
+          n .sets
+          ∙ noted-sets j b count masks readings ss r m w l
+          ∙ ap (λ (k : List ℕ). setsFrom f g k (1024 * b) count) (p .sets s)
           ∙ sym
-          (setsFrom-append f g (startSets (j .targets)) 0 (64 * b) count
-          ∙ ap (λ (z : ℕ). setsFrom f g (setsFrom f g (startSets (j .targets)) 0 (64 * b)) z count) (zero-add (64 * b)));
+          (setsFrom-append f g (startSets (j .targets)) 0 (1024 * b) count
+          ∙ ap (λ (z : ℕ). setsFrom f g (setsFrom f g (startSets (j .targets)) 0 (1024 * b)) z count) (zero-add (1024 * b)));
     }
 
 -- ---- ranges that change nothing
@@ -168,3 +237,36 @@ progress-skip {j} {x} {y} {v} {ss} p h r =
       sets = λ e. p .sets e ∙ sym (walk-skip-sets j x (y - x) a g);
     })
     (upTo h)
+
+-- ---- the start
+
+-- all inputs are a range that the search takes
+pub aligned-all : (n : ℕ) → Aligned n n 0
+aligned-all n = record { among = omega arith; within = omega (arith, one-mul (2 ^ n)); blocks = λ h. (refl, refl) }
+
+zeros-below : (n i : ℕ) → getD {A = ℕ} (replicate n 0) i 0 < 16
+zeros-below zero i = omega arith
+zeros-below (suc n) zero = omega arith
+zeros-below (suc n) (suc i) = zeros-below n i
+
+pub start-held : (b : Bool) → Held (record { list = replicate 16 0; len = 1; stuck = b; input = 0 })
+start-held b = record { long = omega arith; below = zeros-below 16 }
+
+pub progress-start : (j : Job) (n all : ℕ) → all ≡ 2 ^ 2 ^ j .targets - 1
+    → Progress j (0 * 2 ^ n) (record { list = replicate 16 0; len = 1; stuck = false; input = 0 }) (replicate 1024 all)
+unfolding listedOf listedFrom setsFrom startSets
+progress-start j n all f =
+    progress-at
+    (record {
+      held = start-held false;
+      long = length-replicate 1024 all;
+      listed = refl;
+      sets = λ h. ap (replicate 1024) f;
+    })
+    (sym (zero-mul (2 ^ n)))
+
+-- all inputs are passed at the end
+pub progress-end : {j : Job} {n : ℕ} {v : Vectors} {ss : List ℕ} → n ≡ j .inputs → Progress j ((0 + 1) * 2 ^ n) v ss
+    → Progress j (2 ^ j .inputs) v ss
+progress-end {j} {n} {v} {ss} e p =
+    progress-at p (one-mul (2 ^ n) ∙ ap (λ (i : ℕ). 2 ^ i) e)

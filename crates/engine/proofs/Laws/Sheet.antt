@@ -16,7 +16,7 @@ use Rattle.records.proofs.Laws.Put.{FieldPut, put-field-put}
 use Rattle.engine.specs.Rectify.{vectorLoop}
 use Rattle.engine.specs.Support.{tableOf, cost}
 use Rattle.engine.specs.Verdict.{Ruling, patch, unfixable, blind, ruling, fourBytes, rulingFields, sheetOf, longestSheet}
-use Rattle.engine.specs.Inner.{BytesPut, patchBytes, unfixableBytes, blindBytes}
+use Rattle.engine.specs.Inner.Sheet.{BytesPut, patchBytes, unfixableBytes, blindBytes}
 
 -- ---- numbers as bytes
 

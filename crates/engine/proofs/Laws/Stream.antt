@@ -1,27 +1,25 @@
 -- Laws of the code that walks over the inputs: a set of vectors and a reading gathered from a block's words, bit by bit, and a
 -- step of the vector list on the places that hold it. Assumes nothing.
-use Prim.Native.Nat.{ℕ, suc, _+_, _-_, _*_, _/_, _%_, _^_, _≤_, _<_}
-use mathlib.Core.Path.{_≡_, refl, sym, _∙_, ap}
+use Prim.Native.Nat.{ℕ, suc, _+_, _-_, _/_, _%_, _^_, _≤_, _<_}
+use mathlib.Core.Path.{_≡_, sym, _∙_, ap}
 use mathlib.Core.List.{List, [], _∷_, _++_, map}
 use mathlib.Core.Bool.{Bool, true, false, _||_}
 use mathlib.Core.Option.{none, some}
 use native.Mathlib.Numerals.{add-one}
 use native.Mathlib.Omega.{arith}
 use borrow.Author.Tests.{eq-eqb, ne-eqb}
-use lib.Bits.{bitAnd}
-use lib.ListN.{length, getD, take, drop, set, length-set, length-take, length-drop, length-map, drop-of-length-le}
+use lib.ListN.{length, getD, take, drop, set, length-take, length-map}
 use lib.Pow.{pow-mono}
-use lib.Seq.{drop-cons, getD-take, take-suc-set}
+use lib.Seq.{drop-cons, take-suc-set}
 use Rattle.records.specs.Bytes.{upFrom}
 use Rattle.engine.specs.Choice.{any, first, orZero}
 use Rattle.engine.specs.Eval.{bit, numberOf}
-use Rattle.engine.specs.Rectify.{Listed}
-use Rattle.engine.specs.Walk.{lowest, listStep, listedFrom, listedOf, narrowed, setsFrom, Held, Appended, Stepped, Noted}
+use Rattle.engine.specs.Inner.List.{lowest, listedOf, Held, Appended, Stepped}
 use Rattle.engine.specs.declared.list.Vectors.{Vectors}
 use Rattle.engine.proofs.Laws.Choice.{first-here, first-there}
 use Rattle.engine.proofs.Laws.Eval.{bit-lt, bits-map, numberOf-lt}
 use Rattle.engine.proofs.Laws.VectorSets.{inSet, lowest-zero, lowest-some}
-use Rattle.engine.proofs.Laws.Walk.{set-below, listStep-stuck, listStep-listed, listStep-none, listStep-full, listStep-append, listedFrom-snoc, setsFrom-snoc}
+use Rattle.engine.proofs.Laws.List.{set-below, listStep-stuck, listStep-listed, listStep-none, listStep-full, listStep-append}
 
 -- ---- gathered bits
 
@@ -32,31 +30,6 @@ numberOf-bits-lt j k ws h =
 
 pub gathered-lt : (j count k : ℕ) (ws : List ℕ) → count ≤ k → numberOf (map (bit j) (take count ws)) < 2 ^ k
 gathered-lt j count k ws h = numberOf-bits-lt j k (take count ws) (omega (arith, length-take count ws))
-
-module _ (ws : List ℕ) (count j : ℕ) where
-  -- the bits gathered from word i on, below count
-  abbrev pub gatheredFrom : ℕ → ℕ
-  gatheredFrom i = numberOf (map (bit j) (drop i (take count ws)))
-
-  pub gatheredFrom-lt : (i : ℕ) → count ≤ 16 → gatheredFrom i < 65536
-  gatheredFrom-lt i h =
-      numberOf-bits-lt j 16 (drop i (take count ws)) (omega (arith, length-drop i (take count ws), length-take count ws))
-
-  pub gatheredFrom-end : gatheredFrom count ≡ 0
-  unfolding numberOf
-  gatheredFrom-end =
-      ap (λ (l : List ℕ). numberOf (map (bit j) l))
-      (drop-of-length-le (take count ws) {i = count} (omega (arith, length-take count ws)))
-
-  -- a turn: one word before those done
-  pub gatheredFrom-turn : (i : ℕ) → suc i ≤ count → count ≤ length ws
-      → 2 * gatheredFrom (suc i) + getD ws i 0 / 2 ^ j % 2 ≡ gatheredFrom i
-  unfolding numberOf bit
-  gatheredFrom-turn i h l =
-      let e : drop i (take count ws) ≡ getD ws i 0 ∷ drop (suc i) (take count ws) =
-      drop-cons (take count ws) i 0 (omega (arith, length-take count ws))
-      ∙ ap (λ (v : ℕ). v ∷ drop (suc i) (take count ws)) (getD-take count ws i 0 h) in
-      omega (arith, ap (λ (l : List ℕ). numberOf (map (bit j) l)) e)
 
 -- ---- the vectors of a set
 
@@ -154,34 +127,3 @@ module _ (v : Vectors) (s x : ℕ) (h : Held v) where
           let q = listStep-append (listedOf v) s x going a (orZero (lowest s)) (lowest-some s l n)
           (omega (arith, length-take (v .len) (v .list))) in
           record { held = p .held; listed = p .listed ∙ (rw going) ∙ sym q }
-
--- ---- a block's inputs, one after the other
-
-module _ (masks words : List ℕ) (first : ℕ) (v : Vectors) (ss : List ℕ) where
-  pub noted-none : Held v → Noted masks words first 0 v ss v ss
-  unfolding listedFrom setsFrom
-  noted-none h = record { held = h; long = refl; listed = λ f m. refl; sets = λ f g m w. refl }
-
-  pub noted-next : (i : ℕ) (u : Vectors) (ts : List ℕ) (s r : ℕ) (u′ : Vectors) → Noted masks words first i v ss u ts
-      → s ≡ numberOf (map (bit i) masks) → r ≡ numberOf (map (bit i) words) → Stepped u s (first + i) u′
-      → Noted masks words first (i + 1) v ss u′ (set ts r (bitAnd (getD ts r 0) s))
-  unfolding narrowed
-  noted-next i u ts s r u′ p m w t =
-      record {
-        held = t .held;
-        long = length-set ts r (bitAnd (getD ts r 0) s) ∙ p .long;
-        listed = λ f a.
-            let e : s ≡ f (first + i) = m ∙ a i (omega arith) in
-            t .listed
-            ∙ ap (λ (k : ℕ). listStep (listedOf u) k (first + i)) e
-            ∙ ap (λ (l : Listed). listStep l (f (first + i)) (first + i)) (p .listed f (λ k l. a k (omega arith)))
-            ∙ sym (listedFrom-snoc f (listedOf v) first i);
-        sets = λ f g a b.
-            let e : s ≡ f (first + i) = m ∙ a i (omega arith) in
-            let d : r ≡ g (first + i) = w ∙ b i (omega arith) in
-            ap (λ (k : ℕ). narrowed ts r k) e
-            ∙ ap (λ (k : ℕ). narrowed ts k (f (first + i))) d
-            ∙ ap (λ (l : List ℕ). narrowed l (g (first + i)) (f (first + i)))
-            (p .sets f g (λ k l. a k (omega arith)) (λ k l. b k (omega arith)))
-            ∙ sym (setsFrom-snoc f g ss first i);
-      }

@@ -22,7 +22,7 @@ use Rattle.engine.specs.Choice.{found, orZero}
 use Rattle.engine.specs.Eval.{numberOf, allInputs, allVectors, oldValues, oldOutputs, goldenOutputs}
 use Rattle.engine.specs.Rectify.{rectifies, rectifiable}
 use Rattle.engine.specs.Support.{reading, giving, drivenBy, equalsGolden, Carries, shared, sound, tableOf, subsets, candidateNets}
-use Rattle.engine.specs.Sets.{RectifiesAll}
+use Rattle.engine.specs.Inner.Choose.{RectifiesAll}
 use Rattle.engine.proofs.Laws.Eval.{bits-map, netAt-lt, oldValues-bits, numberOf-lt, numberOf-agree, oldValues-agree}
 use Rattle.engine.proofs.Laws.Choice.{any-of-member, all-iff-below, all-true, all-of-members, all-false, mem-keep, mem-below, first-least, first-none-below, found-some, found-none, found-first, same-iff-equal, map-agree, not-both, true-or-false, or-left, or-right, or-cases}
 
@@ -189,9 +189,6 @@ module _ (j : Job) (is : List ℕ) where
       (λ r h.
       found-shared j is r (getD (c .table) r 0) (c .below r (omega (arith, c .entries)))
       (λ x l q. golden-iff-readings j is (c .table) .0 (c .equal) r x l q x l q))
-
-  pub carries-iff-sound : Carries j is ↔ (sound j is ≡ true)
-  carries-iff-sound = (sound-of-carries, carries-of-sound)
 
 -- more nets are sound where some of them are
 pub sound-mono : (j : Job) (is ks : List ℕ) → ((i : ℕ) → Mem i is → Mem i ks) → sound j is ≡ true → sound j ks ≡ true

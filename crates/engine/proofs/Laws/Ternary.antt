@@ -95,16 +95,6 @@ differing-of-agreed (v ∷ vs) u m h e =
     (λ t. let r = all-false (eqb v) vs t in (v, r .0, here refl, there (r .1), eqb-false v (r .0) (r .2)))
     (true-or-false (all (eqb v) vs))
 
--- what 0 and 1 agree on is 0, 1 or unknown
-agreed-le : (vs : List ℕ) → ((w : ℕ) → Mem w vs → w < 2) → agreed vs ≤ 2
-unfolding agreed
-agreed-le [] h = omega arith
-agreed-le (v ∷ vs) h =
-    ⊎-elim
-    (λ t. omega (arith, agreed-same v vs t, h v (here refl)))
-    (λ t. omega (arith, agreed-differ v vs t))
-    (true-or-false (all (eqb v) vs))
-
 -- ---- members
 
 mem-map : (f : ℕ → ℕ) {xs : List ℕ} {x : ℕ} → Mem x xs → Mem (f x) (map f xs)
@@ -184,11 +174,6 @@ gateValue-bit k a b h l =
     a
     h
 
--- on known operands the table has the gate's value
-pub ternaryValue-known : (k a b : ℕ) → a < 2 → b < 2 → ternaryValue k a b ≡ gateValue k (a ∷ b ∷ [])
-unfolding ternaryValue agreed flat all
-ternaryValue-known k a b h l = rw (completions-known a h, completions-known b l)
-
 -- the list of which ternaryValue is the agreed value; its members are the possible values
 values : ℕ → ℕ → ℕ → List ℕ
 values k x y = flat (λ a. map (λ b. gateValue k (a ∷ b ∷ [])) (completions y)) (completions x)
@@ -232,10 +217,6 @@ module _ (k x y : ℕ) (h : x ≤ 2) (l : y ≤ 2) where
 
   values-bit : (v : ℕ) → Mem v (values k x y) → v < 2
   values-bit v m = possible-bit v (mem-values v .0 m)
-
-  pub ternaryValue-le : ternaryValue k x y ≤ 2
-  unfolding ternaryValue values
-  ternaryValue-le = agreed-le (values k x y) values-bit
 
   -- Each possible value completes the table's: it is that one where that one is known.
   pub possible-completes : (v : ℕ) → Possible k x y v → Completes v (ternaryValue k x y)

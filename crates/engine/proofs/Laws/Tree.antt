@@ -1,4 +1,4 @@
--- Laws of specs/Tree and specs/Building: gates put into places, and multiplexer trees. Assumes nothing.
+-- Laws of specs/Tree and specs/Building: packed gates put into places, and multiplexer trees. Assumes nothing.
 use Prim.Native.Nat.{ℕ, zero, suc, _+_, _-_, _*_, _/_, _^_, _≤_, _<_}
 use mathlib.Core.Path.{_≡_, refl, sym, _∙_, ap, subst}
 use mathlib.Core.List.{List, [], _∷_, _++_, map, append-assoc, append-nil}
@@ -11,88 +11,102 @@ use lib.Dec.{eqb, lit≤, lit<}
 use lib.ListN.{length, getD, take, drop, set, length-set, length-append, length-take, length-drop, length-map}
 use lib.ListN.{drop-of-length-le, take-append-drop, List·getD-map}
 use lib.Seq.{append-snoc, drop-cons, drop-drop, drop-set-lt, take-nil, take-suc-set, take-take, length-take-le}
-use lib.Seq.{getD-take, getD-drop, getD-set-same, getD-set-other}
+use lib.Seq.{getD-take, getD-drop}
 use lib.Pow.{pow-pos, pow-mono}
-use Rattle.records.specs.Bytes.{tabulate, all}
+use Rattle.records.specs.Bytes.{all, placed}
 use Rattle.records.specs.Gate.{Gate, gateOf}
-use Rattle.records.specs.Columns.{gatesFrom}
-use Rattle.records.proofs.Laws.Bytes.{and-both, tabulate-ext, tabulate-snoc}
+use Rattle.records.proofs.Laws.Bytes.{and-both}
 use Rattle.engine.specs.Choice.{same}
 use Rattle.engine.specs.Eval.{bit}
 use Rattle.engine.specs.Tree.{column, tree, treeSize}
+use Rattle.engine.specs.Inner.Packed.{packed, packedFrom}
 use Rattle.engine.specs.Fit.{Trees, treesFrom}
-use Rattle.engine.specs.Building.{GateRoom, NetRoom, GatesPut, TablePart, columnPart, shapeBy, shapeOf, mux}
-use Rattle.engine.specs.Building.{treesSize, supportTrees, TreesPut}
-use Rattle.engine.specs.declared.tree.Shape.{Shape}
-use Rattle.engine.specs.declared.tree.Shape.the-variants as Shape
+use Rattle.engine.specs.Inner.Tree.{GateRoom, GatesPut, TablePart, columnPart, startBy, treeStart, mux, treesSize, supportTrees, TreesPut}
+use Rattle.engine.specs.declared.tree.TreeStart.{TreeStart}
+use Rattle.engine.specs.declared.tree.TreeStart.the-variants as TreeStart
 use Rattle.engine.proofs.Laws.Choice.{not-both}
 use Rattle.engine.proofs.Laws.Eval.{bit-lt}
 use Rattle.engine.proofs.Laws.EvalWords.{map-take}
+use Rattle.engine.proofs.Laws.MiterCode.{packedFrom-append}
+use Rattle.engine.proofs.Laws.FitTree.{length-nets}
 use Rattle.engine.proofs.Laws.Word.{bit-zero}
 
 -- ---- gates in places
 
 -- a gate stored behind the first k
-pub gatesFrom-set : (k : ℕ) (ks xs ys : List ℕ) → GateRoom (k + 1) ks xs ys → (g a b : ℕ)
-    → gatesFrom (k + 1) (set ks k g) (set xs k a) (set ys k b) ≡ gatesFrom k ks xs ys ++ (gateOf g a b ∷ [])
-unfolding gatesFrom
-gatesFrom-set k ks xs ys r g a b =
-    let after : ℕ → Gate = λ i. gateOf (getD (set ks k g) i 0) (getD (set xs k a) i 0) (getD (set ys k b) i 0) in
-    let before : ℕ → Gate = λ i. gateOf (getD ks i 0) (getD xs i 0) (getD ys i 0) in
-    let last : after k ≡ gateOf g a b =
-    rw (getD-set-same ks k g 0 (omega arith), getD-set-same xs k a 0 (omega arith), getD-set-same ys k b 0 (omega arith)) in
-    let others : (i : ℕ) → i < k → after i ≡ before i =
-    λ i h.
-    let n : i ≡ k → ⊥ = λ e. omega arith in
-    rw (getD-set-other ks k i g 0 n, getD-set-other xs k i a 0 n, getD-set-other ys k i b 0 n) in
-    tabulate-snoc k after
-    ∙ ap (λ (l : List Gate). l ++ (after k ∷ [])) (tabulate-ext k after before others)
-    ∙ ap (λ (x : Gate). tabulate k before ++ (x ∷ [])) last
-
-pub gates-put-one : (k : ℕ) (ks xs ys : List ℕ) → GateRoom (k + 1) ks xs ys → (g a b : ℕ)
-    → GatesPut k ks xs ys (gateOf g a b ∷ []) (k + 1) (set ks k g) (set xs k a) (set ys k b)
-gates-put-one k ks xs ys r g a b =
+pub gates-put-one : (base k : ℕ) (cs : List ℕ) → GateRoom base (k + 1) cs → (g : Gate)
+    → GatesPut base k cs (g ∷ []) (k + 1) (set cs k (packed (base + k) g))
+unfolding packedFrom
+gates-put-one base k cs r g =
     record {
       end = refl;
-      gates = gatesFrom-set k ks xs ys r g a b;
-      kinds = length-set ks k g;
-      firsts = length-set xs k a;
-      seconds = length-set ys k b;
+      gates =
+          ap (λ (n : ℕ). take n (set cs k (packed (base + k) g))) (add-one k)
+          ∙ take-suc-set cs k (packed (base + k) g) (omega arith);
+      long = length-set cs k (packed (base + k) g);
     }
 
 -- gates put behind gates
-pub gates-put-append : {count r s : ℕ} {ks xs ys ks′ xs′ ys′ ks″ xs″ ys″ : List ℕ} {gs hs : List Gate}
-    → GatesPut count ks xs ys gs r ks′ xs′ ys′ → GatesPut r ks′ xs′ ys′ hs s ks″ xs″ ys″
-    → GatesPut count ks xs ys (gs ++ hs) s ks″ xs″ ys″
-gates-put-append {count} {r} {s} {ks} {xs} {ys} {ks′} {xs′} {ys′} {ks″} {xs″} {ys″} {gs} {hs} p q =
+pub gates-put-append : {base count r s : ℕ} {cs cs′ cs″ : List ℕ} {gs hs : List Gate} → GatesPut base count cs gs r cs′
+    → GatesPut base r cs′ hs s cs″ → GatesPut base count cs (gs ++ hs) s cs″
+gates-put-append {base} {count} {r} {s} {cs} {cs′} {cs″} {gs} {hs} p q =
+    let e : base + r ≡ base + count + length gs = omega (arith, p .end) in
     record {
       end = omega (arith, p .end, q .end, length-append gs hs);
-      gates = q .gates ∙ ap (λ (l : List Gate). l ++ hs) (p .gates) ∙ append-assoc (gatesFrom count ks xs ys) gs hs;
-      kinds = q .kinds ∙ p .kinds;
-      firsts = q .firsts ∙ p .firsts;
-      seconds = q .seconds ∙ p .seconds;
+      gates =
+          q .gates
+          ∙ ap (λ (l : List ℕ). l ++ packedFrom (base + r) hs) (p .gates)
+          ∙ append-assoc (take count cs) (packedFrom (base + count) gs) (packedFrom (base + r) hs)
+          ∙ ap (λ (n : ℕ). take count cs ++ (packedFrom (base + count) gs ++ packedFrom n hs)) e
+          ∙ ap (λ (l : List ℕ). take count cs ++ l) (sym (packedFrom-append (base + count) gs hs));
+      long = q .long ∙ p .long;
     }
 
 -- the places for gates stay
-pub room-kept : {n count r : ℕ} {ks xs ys ks′ xs′ ys′ : List ℕ} {gs : List Gate}
-    → GateRoom n ks xs ys → GatesPut count ks xs ys gs r ks′ xs′ ys′ → GateRoom n ks′ xs′ ys′
-room-kept h p = record { kinds = omega arith; firsts = omega arith; seconds = omega arith }
+pub room-kept : {base n count r : ℕ} {cs cs′ : List ℕ} {gs : List Gate} → GateRoom base n cs → GatesPut base count cs gs r cs′
+    → GateRoom base n cs′
+room-kept h p = record { long = p .long ∙ h .long; room = h .room; nets = h .nets }
 
-pub room-less : {m n : ℕ} {ks xs ys : List ℕ} → GateRoom n ks xs ys → m ≤ n → GateRoom m ks xs ys
-room-less h l = record { kinds = omega arith; firsts = omega arith; seconds = omega arith }
-
-pub net-less : {base m n : ℕ} {ks xs ys : List ℕ} → NetRoom base n ks xs ys → m ≤ n → NetRoom base m ks xs ys
-net-less h l = record { room = room-less (h .room) l; nets = omega (arith, h .nets) }
-
-pub net-kept : {base n count r : ℕ} {ks xs ys ks′ xs′ ys′ : List ℕ} {gs : List Gate}
-    → NetRoom base n ks xs ys → GatesPut count ks xs ys gs r ks′ xs′ ys′ → NetRoom base n ks′ xs′ ys′
-net-kept h p = record { room = room-kept (h .room) p; nets = h .nets }
+pub room-less : {base m n : ℕ} {cs : List ℕ} → GateRoom base n cs → m ≤ n → GateRoom base m cs
+room-less h l = record { long = h .long; room = omega arith; nets = omega arith }
 
 -- the same gates
-pub gates-put-same : {count r : ℕ} {ks xs ys ks′ xs′ ys′ : List ℕ} {gs hs : List Gate}
-    → GatesPut count ks xs ys gs r ks′ xs′ ys′ → gs ≡ hs → GatesPut count ks xs ys hs r ks′ xs′ ys′
-gates-put-same {count} {r} {ks} {xs} {ys} {ks′} {xs′} {ys′} p e =
-    subst (λ (l : List Gate). GatesPut count ks xs ys l r ks′ xs′ ys′) e p
+pub gates-put-same : {base count r : ℕ} {cs cs′ : List ℕ} {gs hs : List Gate} → GatesPut base count cs gs r cs′ → gs ≡ hs
+    → GatesPut base count cs hs r cs′
+gates-put-same {base} {count} {r} {cs} {cs′} p e = subst (λ (l : List Gate). GatesPut base count cs l r cs′) e p
+
+-- the four stores of a multiplexer
+pub mux-put : (base count s l h : ℕ) (cs : List ℕ) → GateRoom base (count + 4) cs → h + 1 ≡ base + count → {w x y z : ℕ}
+    → w ≡ packed (h + 1) (gateOf 3 s 0) → x ≡ packed (h + 1 + 1) (gateOf 4 (h + 1) l)
+    → y ≡ packed (h + 1 + 2) (gateOf 4 s h) → z ≡ packed (h + 1 + 3) (gateOf 6 (h + 1 + 1) (h + 1 + 2))
+    → GatesPut base count cs (mux s l h) (count + 4) (set (set (set (set cs count w) (count + 1) x) (count + 2) y) (count + 3) z)
+unfolding mux
+mux-put base count s l h cs r e {w} {x} {y} {z} p q u v =
+    let a = count + 1 in
+    let b = a + 1 in
+    let d = b + 1 in
+    let i₂ : count + 2 ≡ b = omega arith in
+    let i₃ : count + 3 ≡ d = omega arith in
+    let i₄ : count + 4 ≡ d + 1 = omega arith in
+    let n₁ : h + 1 + 1 ≡ base + a = omega arith in
+    let n₂ : h + 1 + 2 ≡ base + b = omega arith in
+    let n₃ : h + 1 + 3 ≡ base + d = omega arith in
+    let g₀ = gateOf 3 s 0 in
+    let g₁ = gateOf 4 (h + 1) l in
+    let g₂ = gateOf 4 s h in
+    let g₃ = gateOf 6 (h + 1 + 1) (h + 1 + 2) in
+    let w′ : w ≡ packed (base + count) g₀ = p ∙ ap (λ (n : ℕ). packed n g₀) e in
+    let x′ : x ≡ packed (base + a) g₁ = q ∙ ap (λ (n : ℕ). packed n g₁) n₁ in
+    let y′ : y ≡ packed (base + b) g₂ = u ∙ ap (λ (n : ℕ). packed n g₂) n₂ in
+    let z′ : z ≡ packed (base + d) g₃ = v ∙ ap (λ (n : ℕ). packed n g₃) n₃ in
+    let r₁ : GateRoom base a cs = room-less r (omega arith) in
+    let p₁ = gates-put-one base count cs r₁ g₀ in
+    let p₂ = gates-put-one base a _ (room-kept (room-less r (omega arith)) p₁) g₁ in
+    let p₁₂ = gates-put-append p₁ p₂ in
+    let p₃ = gates-put-one base b _ (room-kept (room-less r (omega arith)) p₁₂) g₂ in
+    let p₁₂₃ = gates-put-append p₁₂ p₃ in
+    let p₄ = gates-put-one base d _ (room-kept (room-less r (omega arith)) p₁₂₃) g₃ in
+    rw (w′, x′, y′, z′, i₂, i₃, i₄) (gates-put-append p₁₂₃ p₄)
 
 -- ---- columns
 
@@ -184,17 +198,17 @@ module _ (tb : List ℕ) (at t k : ℕ) where
       ∙ ap (λ (n : ℕ). map (bit t) (drop (2 ^ k) (take n (drop at tb)))) (two-pow-succ k)
       ∙ ap (map (bit t)) (drop-take (2 ^ k) (2 ^ k) (drop at tb) ∙ ap (take (2 ^ k)) (drop-drop (2 ^ k) at tb))
 
--- ---- shapes
+-- ---- how a tree starts
 
-pub shape-zero : (k : ℕ) (col : List ℕ) → all (eqb 0) col ≡ true → shapeOf k col ≡ Shape.Constant 0
-unfolding shapeOf shapeBy
-shape-zero zero col z = rw z
-shape-zero (suc k) col z = rw z
+pub start-zero : (k : ℕ) (col : List ℕ) → all (eqb 0) col ≡ true → treeStart k col ≡ TreeStart.Constant 0
+unfolding treeStart startBy
+start-zero zero col z = rw z
+start-zero (suc k) col z = rw z
 
-pub shape-one : (k : ℕ) (col : List ℕ) → all (eqb 0) col ≡ false → all (eqb 1) col ≡ true → shapeOf k col ≡ Shape.Constant 1
-unfolding shapeOf shapeBy
-shape-one zero col z o = rw z
-shape-one (suc k) col z o = rw (z, o)
+pub start-one : (k : ℕ) (col : List ℕ) → all (eqb 0) col ≡ false → all (eqb 1) col ≡ true → treeStart k col ≡ TreeStart.Constant 1
+unfolding treeStart startBy
+start-one zero col z o = rw z
+start-one (suc k) col z o = rw (z, o)
 
 -- a test of m entries that gave b, where m is n
 pub column-tested : (tb : List ℕ) (at t x : ℕ) {m n : ℕ} {r b : Bool} → m ≡ n
@@ -213,17 +227,17 @@ single-bit tb at t h z =
     let e : 1 ≡ b = omega (arith, bit-lt t (getD tb (at + 0) 0)) in
     all-turn tb at 1 t h 1 0 (omega arith) ∙ and-both _ _ (eq-eqb 1 b e) (all-end tb at 1 t h 1 1 (omega arith))
 
-pub shape-halves : (tb : List ℕ) (at k t half : ℕ) → at + 2 ^ k ≤ length tb → half ≡ 2 ^ k / 2
+pub start-halves : (tb : List ℕ) (at k t half : ℕ) → at + 2 ^ k ≤ length tb → half ≡ 2 ^ k / 2
     → all (eqb 0) (columnPart tb at k t) ≡ false → all (eqb 1) (columnPart tb at k t) ≡ false
-    → shapeOf k (columnPart tb at k t)
-    ≡ cond (same (column (take half (drop at tb)) t) (column (take half (drop (at + half) tb)) t)) Shape.Equal Shape.Split
-unfolding shapeOf shapeBy
-shape-halves tb at zero t half h e z o = absurd (not-both (single-bit tb at t h z) o)
-shape-halves tb at (suc k) t half h e z o =
+    → treeStart k (columnPart tb at k t)
+    ≡ cond (same (column (take half (drop at tb)) t) (column (take half (drop (at + half) tb)) t)) TreeStart.Equal TreeStart.Split
+unfolding treeStart startBy
+start-halves tb at zero t half h e z o = absurd (not-both (single-bit tb at t h z) o)
+start-halves tb at (suc k) t half h e z o =
     let n : half ≡ 2 ^ k = omega (arith, two-pow-succ k) in
     rw (z, o, n, column-low tb at t k, column-high tb at t k)
 
--- ---- the tree by its shape
+-- ---- the tree by its start
 
 -- one of four by the three tests: all 0, all 1, equal halves
 unfoldable branch : {A : Type 0} → Bool → Bool → Bool → A → A → A → A → A
@@ -288,32 +302,32 @@ treeSize-bounds (suc k) col =
     (λ z o e. rw (treeSize-branch k col, z, o, e) (omega arith, omega arith))
     (λ z o e. rw (treeSize-branch k col, z, o, e) (omega arith, omega arith))
 
--- what a shape tells of the three tests
-by-constant : (z o e : Bool) (x : ℕ) {Q : Type 0} → shapeBy z o e ≡ Shape.Constant x → (z ≡ true → x ≡ 0 → Q)
+-- what a start tells of the three tests
+by-constant : (z o e : Bool) (x : ℕ) {Q : Type 0} → startBy z o e ≡ TreeStart.Constant x → (z ≡ true → x ≡ 0 → Q)
     → (z ≡ false → o ≡ true → x ≡ 1 → Q) → Q
-unfolding shapeBy
+unfolding startBy
 by-constant true o e x q p r = p refl cc
 by-constant false true e x q p r = r refl refl cc
 by-constant false false true x q p r = let f : _≡_ {A = ℕ} 0 1 = cc in let n : ⊥ = omega arith in absurd n
 by-constant false false false x q p r = let f : _≡_ {A = ℕ} 0 1 = cc in let n : ⊥ = omega arith in absurd n
 
-by-equal : (z o e : Bool) → shapeBy z o e ≡ Shape.Equal → (z ≡ false) × (o ≡ false) × (e ≡ true)
-unfolding shapeBy
+by-equal : (z o e : Bool) → startBy z o e ≡ TreeStart.Equal → (z ≡ false) × (o ≡ false) × (e ≡ true)
+unfolding startBy
 by-equal true o e q = let f : _≡_ {A = ℕ} 0 1 = cc in let n : ⊥ = omega arith in absurd n
 by-equal false true e q = let f : _≡_ {A = ℕ} 0 1 = cc in let n : ⊥ = omega arith in absurd n
 by-equal false false true q = (refl, refl, refl)
 by-equal false false false q = let f : _≡_ {A = ℕ} 0 1 = cc in let n : ⊥ = omega arith in absurd n
 
-by-split : (z o e : Bool) → shapeBy z o e ≡ Shape.Split → (z ≡ false) × (o ≡ false) × (e ≡ false)
-unfolding shapeBy
+by-split : (z o e : Bool) → startBy z o e ≡ TreeStart.Split → (z ≡ false) × (o ≡ false) × (e ≡ false)
+unfolding startBy
 by-split true o e q = let f : _≡_ {A = ℕ} 0 1 = cc in let n : ⊥ = omega arith in absurd n
 by-split false true e q = let f : _≡_ {A = ℕ} 0 1 = cc in let n : ⊥ = omega arith in absurd n
 by-split false false true q = let f : _≡_ {A = ℕ} 0 1 = cc in let n : ⊥ = omega arith in absurd n
 by-split false false false q = (refl, refl, refl)
 
-pub tree-constant : (k next : ℕ) (is col : List ℕ) (x : ℕ) → shapeOf k col ≡ Shape.Constant x
+pub tree-constant : (k next : ℕ) (is col : List ℕ) (x : ℕ) → treeStart k col ≡ TreeStart.Constant x
     → tree k next is col ≡ gateOf x 0 0 ∷ []
-unfolding tree branch shapeOf shapeBy
+unfolding tree branch treeStart startBy
 tree-constant zero next is col x q =
     by-constant (all (eqb 0) col) true true x q
     (λ z n. rw (z, n))
@@ -323,43 +337,43 @@ tree-constant (suc k) next is col x q =
     (λ z n. rw (tree-branch k next is col, z, n))
     (λ z o n. rw (tree-branch k next is col, z, o, n))
 
-pub size-constant : (k : ℕ) (col : List ℕ) (x : ℕ) → shapeOf k col ≡ Shape.Constant x → treeSize k col ≡ 1
+pub size-constant : (k : ℕ) (col : List ℕ) (x : ℕ) → treeStart k col ≡ TreeStart.Constant x → treeSize k col ≡ 1
 size-constant k col x q = sym (length-tree k 0 [] col) ∙ ap length (tree-constant k 0 [] col x q)
 
 -- the tree over no nets is a constant
-pub deep-equal : (k : ℕ) (col : List ℕ) → shapeOf k col ≡ Shape.Equal → 0 < k
-unfolding shapeOf shapeBy
+pub deep-equal : (k : ℕ) (col : List ℕ) → treeStart k col ≡ TreeStart.Equal → 0 < k
+unfolding treeStart startBy
 deep-equal zero col q = absurd (true≢false (by-equal (all (eqb 0) col) true true q .1))
 deep-equal (suc k) col q = omega arith
 
-pub deep-split : (k : ℕ) (col : List ℕ) → shapeOf k col ≡ Shape.Split → 0 < k
-unfolding shapeOf shapeBy
+pub deep-split : (k : ℕ) (col : List ℕ) → treeStart k col ≡ TreeStart.Split → 0 < k
+unfolding treeStart startBy
 deep-split zero col q = absurd (true≢false (by-split (all (eqb 0) col) true true q .1))
 deep-split (suc k) col q = omega arith
 
 module _ (tb : List ℕ) (at : ℕ) where
-  pub tree-equal : (k t next : ℕ) (is : List ℕ) → shapeOf k (columnPart tb at k t) ≡ Shape.Equal
+  pub tree-equal : (k t next : ℕ) (is : List ℕ) → treeStart k (columnPart tb at k t) ≡ TreeStart.Equal
       → tree k next is (columnPart tb at k t) ≡ tree (k - 1) next is (columnPart tb at (k - 1) t)
-  unfolding shapeOf branch
+  unfolding treeStart branch
   tree-equal zero t next is q = let f : ⊥ = omega (arith, deep-equal zero (columnPart tb at zero t) q) in absurd f
   tree-equal (suc k) t next is q =
       let col = columnPart tb at (suc k) t in
       let p = by-equal (all (eqb 0) col) (all (eqb 1) col) (same (take (2 ^ k) col) (drop (2 ^ k) col)) q in
       rw (sub-one (suc k), tree-branch k next is col, p .0, p .1, p .2, column-low tb at t k)
 
-  pub size-equal : (k t : ℕ) → shapeOf k (columnPart tb at k t) ≡ Shape.Equal
+  pub size-equal : (k t : ℕ) → treeStart k (columnPart tb at k t) ≡ TreeStart.Equal
       → treeSize k (columnPart tb at k t) ≡ treeSize (k - 1) (columnPart tb at (k - 1) t)
   size-equal k t q =
       sym (length-tree k 0 [] (columnPart tb at k t))
       ∙ ap length (tree-equal k t 0 [] q)
       ∙ length-tree (k - 1) 0 [] (columnPart tb at (k - 1) t)
 
-  pub tree-split : (k t next : ℕ) (is : List ℕ) → shapeOf k (columnPart tb at k t) ≡ Shape.Split
+  pub tree-split : (k t next : ℕ) (is : List ℕ) → treeStart k (columnPart tb at k t) ≡ TreeStart.Split
       → let ls = tree (k - 1) next is (columnPart tb at (k - 1) t) in
       let hs = tree (k - 1) (next + length ls) is (columnPart tb (at + 2 ^ (k - 1)) (k - 1) t) in
       tree k next is (columnPart tb at k t)
       ≡ ls ++ hs ++ mux (getD is (k - 1) 0) (next + length ls - 1) (next + length ls + length hs - 1)
-  unfolding shapeOf branch
+  unfolding treeStart branch
   tree-split zero t next is q = let f : ⊥ = omega (arith, deep-split zero (columnPart tb at zero t) q) in absurd f
   tree-split (suc k) t next is q =
       let col = columnPart tb at (suc k) t in
@@ -367,7 +381,7 @@ module _ (tb : List ℕ) (at : ℕ) where
       rw (sub-one (suc k), tree-branch k next is col, p .0, p .1, p .2, column-low tb at t k, column-high tb at t k)
 
   -- by the sizes of both halves
-  pub size-split : (k t half x y : ℕ) → shapeOf k (columnPart tb at k t) ≡ Shape.Split → half ≡ 2 ^ (k - 1)
+  pub size-split : (k t half x y : ℕ) → treeStart k (columnPart tb at k t) ≡ TreeStart.Split → half ≡ 2 ^ (k - 1)
       → x ≡ treeSize (k - 1) (columnPart tb at (k - 1) t) → y ≡ treeSize (k - 1) (columnPart tb (at + half) (k - 1) t)
       → treeSize k (columnPart tb at k t) ≡ x + y + 4
   unfolding mux
@@ -405,70 +419,77 @@ part-high {tb} {at} {k} {t} {half} p h e =
 
 -- ---- trees put
 
--- the nets that a multiplexer is over, those before nets base + low and base + high: each is one, and a number of two bytes
+-- the nets that a multiplexer is over, those before nets base + low and base + high
 pub record MuxNets (base low high : ℕ) : Type 0 where
   pub low-fits : base + low < 2 ^ 64
   pub low-one : 1 ≤ base + low
-  pub low-small : base + low - 1 < 65536
   pub high-fits : base + high < 2 ^ 64
   pub high-one : 1 ≤ base + high
-  pub high-small : base + high - 1 + 3 < 65536
+  pub order : base + low - 1 ≤ base + high - 1
+  pub last : base + high - 1 + 1 ≡ base + high
 
-mux-nets : (base low high : ℕ) → base + (high + 4) ≤ 65536 → 0 < low → low < high → MuxNets base low high
+mux-nets : (base low high : ℕ) → base + (high + 4) ≤ 1024 → 0 < low → low < high → MuxNets base low high
 mux-nets base low high p q r =
     record {
       low-fits = omega arith;
       low-one = omega arith;
-      low-small = omega arith;
       high-fits = omega arith;
       high-one = omega arith;
-      high-small = omega arith;
+      order = omega arith;
+      last = omega arith;
     }
 
+-- a constant is one of the first two kinds
+pub kind-constant : (k : ℕ) (col : List ℕ) (x : ℕ) → treeStart k col ≡ TreeStart.Constant x → x < 10
+unfolding treeStart startBy
+kind-constant zero col x q = by-constant (all (eqb 0) col) true true x q (λ z n. omega arith) (λ z o n. omega arith)
+kind-constant (suc k) col x q =
+    by-constant (all (eqb 0) col) (all (eqb 1) col) (same (take (2 ^ k) col) (drop (2 ^ k) col)) x q
+    (λ z n. omega arith)
+    (λ z o n. omega arith)
+
 -- the position behind a tree
-pub tree-end : {count r : ℕ} {ks xs ys ks′ xs′ ys′ : List ℕ} (k next : ℕ) (is col : List ℕ)
-    → GatesPut count ks xs ys (tree k next is col) r ks′ xs′ ys′ → r ≡ count + treeSize k col
-tree-end {count} k next is col p = p .end ∙ ap (λ (n : ℕ). count + n) (length-tree k next is col)
+pub tree-end : {base count r : ℕ} {cs cs′ : List ℕ} (k next : ℕ) (is col : List ℕ)
+    → GatesPut base count cs (tree k next is col) r cs′ → r ≡ count + treeSize k col
+tree-end {count = count} k next is col p = p .end ∙ ap (λ (n : ℕ). count + n) (length-tree k next is col)
 
-pub room-constant : {base : ℕ} {ks xs ys : List ℕ} (count k : ℕ) (col : List ℕ) (x : ℕ) → shapeOf k col ≡ Shape.Constant x
-    → NetRoom base (count + treeSize k col) ks xs ys → GateRoom (count + 1) ks xs ys
-room-constant count k col x q n = room-less (n .room) (omega (arith, size-constant k col x q))
+pub room-constant : {base : ℕ} {cs : List ℕ} (count k : ℕ) (col : List ℕ) (x : ℕ) → treeStart k col ≡ TreeStart.Constant x
+    → GateRoom base (count + treeSize k col) cs → GateRoom base (count + 1) cs
+room-constant count k col x q n = room-less n (omega (arith, size-constant k col x q))
 
-pub room-equal : {base : ℕ} {ks xs ys : List ℕ} (tb : List ℕ) (at k t count : ℕ)
-    → shapeOf k (columnPart tb at k t) ≡ Shape.Equal → NetRoom base (count + treeSize k (columnPart tb at k t)) ks xs ys
-    → NetRoom base (count + treeSize (k - 1) (columnPart tb at (k - 1) t)) ks xs ys
-room-equal tb at k t count q n = net-less n (omega (arith, size-equal tb at k t q))
+pub room-equal : {base : ℕ} {cs : List ℕ} (tb : List ℕ) (at k t count : ℕ)
+    → treeStart k (columnPart tb at k t) ≡ TreeStart.Equal → GateRoom base (count + treeSize k (columnPart tb at k t)) cs
+    → GateRoom base (count + treeSize (k - 1) (columnPart tb at (k - 1) t)) cs
+room-equal tb at k t count q n = room-less n (omega (arith, size-equal tb at k t q))
 
-module _ (tb : List ℕ) (at k t half base : ℕ) (is : List ℕ) (q : shapeOf k (columnPart tb at k t) ≡ Shape.Split)
+module _ (tb : List ℕ) (at k t half base : ℕ) (is : List ℕ) (q : treeStart k (columnPart tb at k t) ≡ TreeStart.Split)
     (e : half ≡ 2 ^ (k - 1)) where
   split-size : treeSize k (columnPart tb at k t)
       ≡ treeSize (k - 1) (columnPart tb at (k - 1) t) + treeSize (k - 1) (columnPart tb (at + half) (k - 1) t) + 4
   split-size = size-split tb at k t half _ _ q e refl refl
 
   -- room for the tree is room for each half's, and for the multiplexer
-  pub room-low : (count : ℕ) {ks xs ys : List ℕ} → NetRoom base (count + treeSize k (columnPart tb at k t)) ks xs ys
-      → NetRoom base (count + treeSize (k - 1) (columnPart tb at (k - 1) t)) ks xs ys
-  room-low count n = net-less n (omega (arith, split-size))
+  pub room-low : (count : ℕ) {cs : List ℕ} → GateRoom base (count + treeSize k (columnPart tb at k t)) cs
+      → GateRoom base (count + treeSize (k - 1) (columnPart tb at (k - 1) t)) cs
+  room-low count n = room-less n (omega (arith, split-size))
 
-  pub room-high : {count low : ℕ} {ks xs ys ks₁ xs₁ ys₁ : List ℕ}
-      → NetRoom base (count + treeSize k (columnPart tb at k t)) ks xs ys
-      → GatesPut count ks xs ys (tree (k - 1) (base + count) is (columnPart tb at (k - 1) t)) low ks₁ xs₁ ys₁
-      → NetRoom base (low + treeSize (k - 1) (columnPart tb (at + half) (k - 1) t)) ks₁ xs₁ ys₁
+  pub room-high : {count low : ℕ} {cs cs₁ : List ℕ} → GateRoom base (count + treeSize k (columnPart tb at k t)) cs
+      → GatesPut base count cs (tree (k - 1) (base + count) is (columnPart tb at (k - 1) t)) low cs₁
+      → GateRoom base (low + treeSize (k - 1) (columnPart tb (at + half) (k - 1) t)) cs₁
   room-high n p =
-      net-less (net-kept n p) (omega (arith, split-size, tree-end (k - 1) _ is (columnPart tb at (k - 1) t) p))
+      room-less (room-kept n p) (omega (arith, split-size, tree-end (k - 1) _ is (columnPart tb at (k - 1) t) p))
 
-  module _ {count low high : ℕ} {ks xs ys ks₁ xs₁ ys₁ ks₂ xs₂ ys₂ : List ℕ}
-      (n : NetRoom base (count + treeSize k (columnPart tb at k t)) ks xs ys)
-      (p : GatesPut count ks xs ys (tree (k - 1) (base + count) is (columnPart tb at (k - 1) t)) low ks₁ xs₁ ys₁)
-      (r : GatesPut low ks₁ xs₁ ys₁ (tree (k - 1) (base + low) is (columnPart tb (at + half) (k - 1) t)) high ks₂ xs₂ ys₂) where
+  module _ {count low high : ℕ} {cs cs₁ cs₂ : List ℕ} (n : GateRoom base (count + treeSize k (columnPart tb at k t)) cs)
+      (p : GatesPut base count cs (tree (k - 1) (base + count) is (columnPart tb at (k - 1) t)) low cs₁)
+      (r : GatesPut base low cs₁ (tree (k - 1) (base + low) is (columnPart tb (at + half) (k - 1) t)) high cs₂) where
     high-end : high + 4 ≡ count + treeSize k (columnPart tb at k t)
     high-end =
         let l = tree-end (k - 1) _ is (columnPart tb at (k - 1) t) p in
         let h = tree-end (k - 1) _ is (columnPart tb (at + half) (k - 1) t) r in
         omega (arith, split-size)
 
-    pub room-mux : GateRoom (high + 4) ks₂ xs₂ ys₂
-    room-mux = room-less (room-kept (room-kept (n .room) p) r) (omega (arith, high-end))
+    pub room-mux : GateRoom base (high + 4) cs₂
+    room-mux = room-less (room-kept (room-kept n p) r) (omega (arith, high-end))
 
     pub nets-mux : MuxNets base low high
     nets-mux =
@@ -480,11 +501,11 @@ module _ (tb : List ℕ) (at k t half base : ℕ) (is : List ℕ) (q : shapeOf k
         (omega (arith, treeSize-bounds (k - 1) h))
 
   -- the halves' trees and the multiplexer are the tree
-  pub put-split : {count low high r : ℕ} {ks xs ys ks₁ xs₁ ys₁ ks₂ xs₂ ys₂ ks₃ xs₃ ys₃ : List ℕ}
-      → GatesPut count ks xs ys (tree (k - 1) (base + count) is (columnPart tb at (k - 1) t)) low ks₁ xs₁ ys₁
-      → GatesPut low ks₁ xs₁ ys₁ (tree (k - 1) (base + low) is (columnPart tb (at + half) (k - 1) t)) high ks₂ xs₂ ys₂
-      → GatesPut high ks₂ xs₂ ys₂ (mux (getD is (k - 1) 0) (base + low - 1) (base + high - 1)) r ks₃ xs₃ ys₃
-      → GatesPut count ks xs ys (tree k (base + count) is (columnPart tb at k t)) r ks₃ xs₃ ys₃
+  pub put-split : {count low high r : ℕ} {cs cs₁ cs₂ cs₃ : List ℕ}
+      → GatesPut base count cs (tree (k - 1) (base + count) is (columnPart tb at (k - 1) t)) low cs₁
+      → GatesPut base low cs₁ (tree (k - 1) (base + low) is (columnPart tb (at + half) (k - 1) t)) high cs₂
+      → GatesPut base high cs₂ (mux (getD is (k - 1) 0) (base + low - 1) (base + high - 1)) r cs₃
+      → GatesPut base count cs (tree k (base + count) is (columnPart tb at k t)) r cs₃
   put-split {count} {low} {high} p v m =
       let s = getD is (k - 1) 0 in
       let ls = tree (k - 1) (base + count) is (columnPart tb at (k - 1) t) in
@@ -526,12 +547,6 @@ length-trees (suc m) j k next is tb e =
     length-append gs (treesFrom m (suc j) (next + length gs) is (take (2 ^ k) tb) .gates)
     ∙ omega (arith, length-trees m (suc j) k (next + length gs) is tb e)
 
-pub length-nets : (m j next : ℕ) (is tb : List ℕ) → length (treesFrom m j next is tb .nets) ≡ m
-unfolding treesFrom
-length-nets zero j next is tb = refl
-length-nets (suc m) j next is tb =
-    ap suc (length-nets m (suc j) (next + length (tree (length is) next is (column tb j))) is tb)
-
 pub treesSize-le : (m j k : ℕ) (tb : List ℕ) → k ≤ 10 → treesSize m j k tb ≤ 5120 * m
 unfolding treesSize
 treesSize-le zero j k tb h = omega arith
@@ -567,109 +582,110 @@ trees-turn m j k next is tb h l =
     ∙ ap (onto (m - (j + 1)) (suc j) next js tb′) g
     ∙ ap (λ (i : ℕ). onto (m - (j + 1)) i next js tb′ (tree k next is (columnPart tb 0 k j))) (sym (add-one j))
 
--- the trees of the first t targets are put, r gates stand in the places, and the net of each tree in es
-pub record Growing (m k base : ℕ) (is tb : List ℕ) (count : ℕ) (ks₀ xs₀ ys₀ es₀ ks xs ys es : List ℕ) (r t : ℕ) : Type 0 where
+-- the trees of the first t targets are put, r gates stand in the places, and the net of each tree among the numbers ns, from
+-- base on
+pub record Growing (m k base : ℕ) (is tb : List ℕ) (count : ℕ) (ns₀ cs₀ ns cs : List ℕ) (r t : ℕ) : Type 0 where
   pub most : t ≤ m
-  pub gates : gatesFrom r ks xs ys ++ treesFrom (m - t) t (base + r) (take k is) (take (2 ^ k) tb) .gates
-      ≡ gatesFrom count ks₀ xs₀ ys₀ ++ supportTrees m k (base + count) is tb .gates
-  pub nets : take t es ++ treesFrom (m - t) t (base + r) (take k is) (take (2 ^ k) tb) .nets
-      ≡ supportTrees m k (base + count) is tb .nets
+  pub gates : take r cs ++ packedFrom (base + r) (treesFrom (m - t) t (base + r) (take k is) (take (2 ^ k) tb) .gates)
+      ≡ take count cs₀ ++ packedFrom (base + count) (supportTrees m k (base + count) is tb .gates)
+  pub nets : take (base + t) ns ++ treesFrom (m - t) t (base + r) (take k is) (take (2 ^ k) tb) .nets
+      ≡ take base ns₀ ++ supportTrees m k (base + count) is tb .nets
   pub end : r + treesSize (m - t) t k tb ≡ count + treesSize m 0 k tb
-  pub behind : drop t es ≡ drop t es₀
-  pub kinds : length ks ≡ length ks₀
-  pub firsts : length xs ≡ length xs₀
-  pub seconds : length ys ≡ length ys₀
-  pub ends : length es ≡ length es₀
+  pub behind : drop (base + t) ns ≡ drop (base + t) ns₀
+  pub long : length cs ≡ length cs₀
+  pub numbers : length ns ≡ length ns₀
 
-module _ (m k base : ℕ) (is tb : List ℕ) (count : ℕ) (ks₀ xs₀ ys₀ es₀ : List ℕ) where
-  pub growing-none : Growing m k base is tb count ks₀ xs₀ ys₀ es₀ ks₀ xs₀ ys₀ es₀ count 0
+module _ (m k base : ℕ) (is tb : List ℕ) (count : ℕ) (ns₀ cs₀ : List ℕ) where
+  pub growing-none : Growing m k base is tb count ns₀ cs₀ ns₀ cs₀ count 0
   growing-none =
       let e : m - 0 ≡ m = omega arith in
+      let f : base + 0 ≡ base = omega arith in
       record {
         most = omega arith;
         gates = rw e;
-        nets = rw e;
+        nets = rw (e, f);
         end = rw e;
         behind = refl;
-        kinds = refl;
-        firsts = refl;
-        seconds = refl;
-        ends = refl;
+        long = refl;
+        numbers = refl;
       }
 
-module _ {m k base : ℕ} {is tb : List ℕ} {count : ℕ} {ks₀ xs₀ ys₀ es₀ ks xs ys es : List ℕ} {r t : ℕ}
-    (g : Growing m k base is tb count ks₀ xs₀ ys₀ es₀ ks xs ys es r t) where
-  pub growing-room : t < m → NetRoom base (count + treesSize m 0 k tb) ks₀ xs₀ ys₀
-      → NetRoom base (r + treeSize k (columnPart tb 0 k t)) ks xs ys
+module _ {m k base : ℕ} {is tb : List ℕ} {count : ℕ} {ns₀ cs₀ ns cs : List ℕ} {r t : ℕ}
+    (g : Growing m k base is tb count ns₀ cs₀ ns cs r t) where
+  pub growing-room : t < m → GateRoom base (count + treesSize m 0 k tb) cs₀
+      → GateRoom base (r + treeSize k (columnPart tb 0 k t)) cs
   growing-room h n =
       let e = treesSize-turn m t k tb h in
-      record {
-        room = record { kinds = omega (arith, n .room); firsts = omega (arith, n .room); seconds = omega (arith, n .room) };
-        nets = omega (arith, n .nets);
-      }
+      record { long = g .long ∙ n .long; room = omega arith; nets = omega arith }
 
-  pub growing-net : {r′ : ℕ} {ks′ xs′ ys′ : List ℕ} → t < m → NetRoom base (count + treesSize m 0 k tb) ks₀ xs₀ ys₀
-      → GatesPut r ks xs ys (tree k (base + r) is (columnPart tb 0 k t)) r′ ks′ xs′ ys′ → (0 < r′) × (base + r′ ≤ 65536)
+  pub growing-net : {r′ : ℕ} {cs′ : List ℕ} → t < m → GateRoom base (count + treesSize m 0 k tb) cs₀
+      → GatesPut base r cs (tree k (base + r) is (columnPart tb 0 k t)) r′ cs′ → (0 < r′) × (base + r′ ≤ 1024)
   growing-net h n p =
       let e = tree-end k (base + r) is (columnPart tb 0 k t) p in
       (omega (arith, treeSize-bounds k (columnPart tb 0 k t)), omega (arith, growing-room h n .nets))
 
-  pub growing-next : {r′ : ℕ} {ks′ xs′ ys′ : List ℕ} → t < m → k ≤ length is → m ≤ length es₀
-      → GatesPut r ks xs ys (tree k (base + r) is (columnPart tb 0 k t)) r′ ks′ xs′ ys′
-      → Growing m k base is tb count ks₀ xs₀ ys₀ es₀ ks′ xs′ ys′ (set es t (base + r′ - 1)) r′ (t + 1)
-  growing-next {r′} {ks′} {xs′} {ys′} h l b p =
+  pub growing-next : {r′ : ℕ} {cs′ : List ℕ} → t < m → k ≤ length is → base + m ≤ length ns₀
+      → GatesPut base r cs (tree k (base + r) is (columnPart tb 0 k t)) r′ cs′
+      → Growing m k base is tb count ns₀ cs₀ (set ns (base + t) (base + r′ - 1)) cs′ r′ (t + 1)
+  growing-next {r′} {cs′} h l b p =
       let js = take k is in
       let tb′ = take (2 ^ k) tb in
       let gs = tree k (base + r) is (columnPart tb 0 k t) in
       let left : ℕ → Trees = λ i. treesFrom (m - (t + 1)) (t + 1) i js tb′ in
       let i : base + r′ ≡ base + r + length gs = omega (arith, p .end) in
       let turn = trees-turn m t k (base + r) is tb h l in
-      let long : t < length es = omega (arith, g .ends) in
+      let at = base + t in
+      let v = base + r′ - 1 in
+      let j : base + (t + 1) ≡ suc at = omega arith in
+      let w : base + (t + 1) ≡ at + 1 = omega arith in
+      let long : at < length ns = omega (arith, g .numbers) in
       record {
         most = omega arith;
         gates =
-            ap (λ (z : ℕ). gatesFrom r′ ks′ xs′ ys′ ++ left z .gates) i
-            ∙ ap (λ (z : List Gate). z ++ left (base + r + length gs) .gates) (p .gates)
-            ∙ append-assoc (gatesFrom r ks xs ys) gs (left (base + r + length gs) .gates)
-            ∙ ap (λ (z : Trees). gatesFrom r ks xs ys ++ z .gates) (sym turn)
+            ap (λ (z : ℕ). take r′ cs′ ++ packedFrom z (left z .gates)) i
+            ∙ ap (λ (z : List ℕ). z ++ packedFrom (base + r + length gs) (left (base + r + length gs) .gates)) (p .gates)
+            ∙ append-assoc (take r cs) (packedFrom (base + r) gs)
+            (packedFrom (base + r + length gs) (left (base + r + length gs) .gates))
+            ∙ ap (λ (z : List ℕ). take r cs ++ z) (sym (packedFrom-append (base + r) gs (left (base + r + length gs) .gates)))
+            ∙ ap (λ (z : Trees). take r cs ++ packedFrom (base + r) (z .gates)) (sym turn)
             ∙ g .gates;
         nets =
-            ap (λ (z : ℕ). take z (set es t (base + r′ - 1)) ++ left (base + r′) .nets) (add-one t)
-            ∙ ap (λ (z : List ℕ). z ++ left (base + r′) .nets) (take-suc-set es t (base + r′ - 1) long)
-            ∙ append-snoc (take t es) (base + r′ - 1) (left (base + r′) .nets)
-            ∙ ap (λ (z : ℕ). take t es ++ ((z - 1) ∷ left z .nets)) i
-            ∙ ap (λ (z : Trees). take t es ++ z .nets) (sym turn)
+            ap (λ (z : ℕ). take z (set ns at v) ++ left (base + r′) .nets) j
+            ∙ ap (λ (z : List ℕ). z ++ left (base + r′) .nets) (take-suc-set ns at v long)
+            ∙ append-snoc (take at ns) v (left (base + r′) .nets)
+            ∙ ap (λ (z : ℕ). take at ns ++ ((z - 1) ∷ left z .nets)) i
+            ∙ ap (λ (z : Trees). take at ns ++ z .nets) (sym turn)
             ∙ g .nets;
         end = omega (arith, g .end, treesSize-turn m t k tb h, tree-end k (base + r) is (columnPart tb 0 k t) p);
         behind =
-            drop-set-lt (t + 1) es t (base + r′ - 1) (omega arith)
-            ∙ sym (drop-drop 1 t es)
+            drop-set-lt (base + (t + 1)) ns at v (omega arith)
+            ∙ ap (λ (z : ℕ). drop z ns) w
+            ∙ sym (drop-drop 1 at ns)
             ∙ ap (drop 1) (g .behind)
-            ∙ drop-drop 1 t es₀;
-        kinds = p .kinds ∙ g .kinds;
-        firsts = p .firsts ∙ g .firsts;
-        seconds = p .seconds ∙ g .seconds;
-        ends = length-set es t (base + r′ - 1) ∙ g .ends;
+            ∙ drop-drop 1 at ns₀
+            ∙ ap (λ (z : ℕ). drop z ns₀) (sym w);
+        long = p .long ∙ g .long;
+        numbers = length-set ns at v ∙ g .numbers;
       }
 
-  pub growing-all : m ≤ t → k ≤ length is → TreesPut m k base is tb count ks₀ xs₀ ys₀ es₀ r ks xs ys es
-  unfolding treesFrom treesSize
+  pub growing-all : m ≤ t → k ≤ length is → TreesPut m k base is tb count ns₀ cs₀ r ns cs
+  unfolding treesFrom treesSize placed packedFrom
   growing-all h l =
       let e : m - t ≡ 0 = omega (arith, g .most) in
       let f : t ≡ m = omega (arith, g .most) in
       let n = length-trees m 0 k (base + count) (take k is) tb (length-take-le k is l) in
+      let ys = supportTrees m k (base + count) is tb .nets in
+      let q : base + t ≡ base + length ys = omega (arith, length-nets m 0 (base + count) (take k is) (take (2 ^ k) tb)) in
       record {
         gates =
             record {
               end = omega (arith, g .end, ap (λ (i : ℕ). treesSize i t k tb) e);
-              gates = sym (append-nil (gatesFrom r ks xs ys)) ∙ (rw e at (g .gates));
-              kinds = g .kinds;
-              firsts = g .firsts;
-              seconds = g .seconds;
+              gates = sym (append-nil (take r cs)) ∙ (rw e at (g .gates));
+              long = g .long;
             };
         nets =
-            sym (take-append-drop t es)
-            ∙ ap (λ (z : List ℕ). z ++ drop t es) (sym (append-nil (take t es)) ∙ (rw e at (g .nets)))
-            ∙ ap (λ (z : List ℕ). supportTrees m k (base + count) is tb .nets ++ z) (g .behind)
-            ∙ ap (λ (z : ℕ). supportTrees m k (base + count) is tb .nets ++ drop z es₀) f;
+            sym (take-append-drop (base + t) ns)
+            ∙ ap (λ (z : List ℕ). z ++ drop (base + t) ns) (sym (append-nil (take (base + t) ns)) ∙ (rw e at (g .nets)))
+            ∙ ap (λ (z : List ℕ). take base ns₀ ++ ys ++ z) (g .behind)
+            ∙ ap (λ (z : ℕ). take base ns₀ ++ ys ++ drop z ns₀) q;
       }

@@ -19,7 +19,8 @@ use Rattle.records.proofs.Laws.Bytes.{length-tabulate, getD-tabulate, tabulate-
 use Rattle.engine.specs.Choice.{first, orZero}
 use Rattle.engine.specs.Eval.{bit, numberOf, allVectors}
 use Rattle.engine.specs.Rectify.{rectifies}
-use Rattle.engine.specs.Walk.{rectifiers, lowest}
+use Rattle.engine.specs.Inner.Masks.{rectifiers}
+use Rattle.engine.specs.Inner.List.{lowest}
 use Rattle.engine.proofs.Laws.Choice.{true-or-false, none-or-some, first-here, first-there, first-least, first-none-below}
 use Rattle.engine.proofs.Laws.Eval.{Bits, bits-nil, bits-cons, bits-map, bit-lt, numberOf-lt}
 
@@ -160,10 +161,6 @@ module _ (j : Job) (x : ℕ) where
   pub rectifiers-beyond : (v : ℕ) → 2 ^ j .targets ≤ v → bit v (rectifiers j x) ≡ 0
   rectifiers-beyond v l =
       ap (bit v) rectifiers-tabulate ∙ bit-beyond (2 ^ j .targets) member (λ i. cond-lt (rectifies j x i)) v l
-
-  pub rectifiers-lt : rectifiers j x < 2 ^ 2 ^ j .targets
-  rectifiers-lt =
-      rw rectifiers-tabulate (tabulate-lt (2 ^ j .targets) member (λ i. cond-lt (rectifies j x i)))
 
   -- where every vector rectifies the input, the set is full
   pub rectifiers-full : ((v : ℕ) → v < 2 ^ j .targets → rectifies j x v ≡ true) → rectifiers j x ≡ 2 ^ 2 ^ j .targets - 1

@@ -1,6 +1,6 @@
 -- Laws of the bits of words: and, or, xor and complement bit by bit. Assumes nothing.
 use Prim.Native.Nat.{ℕ, zero, suc, _+_, _-_, _*_, _/_, _%_, _^_, min, max, _<_}
-use mathlib.Core.Path.{_≡_, refl, _∙_, ap}
+use mathlib.Core.Path.{_≡_, _∙_, ap}
 use native.Mathlib.Omega.{arith}
 use lib.Arith.{digits-div}
 use lib.Bits.{bitAnd, bitOr, bitXor, differ, and-step, or-step, xor-step, and-shr, or-shr, xor-shr}
@@ -9,7 +9,7 @@ use native.Mathlib.Nat.{add-mul, mod-lt, zero-div, div-one}
 use mathlib.Core.List.{[], _∷_}
 use mathlib.Core.Logic.{_⊎_, inl, inr}
 use lib.ListN.{take}
-use Rattle.records.specs.Gate.{arity, gateValue, conj, disj, parity, inverted}
+use Rattle.records.specs.Gate.{arity, gateValue, inverted}
 use Rattle.engine.specs.Eval.{bit}
 
 -- the lowest bit of a number made of a number and a bit
@@ -77,14 +77,16 @@ bit-not i x h l =
     let n : 1 + (63 - i) + i ≡ 64 = omega arith in
     rw n at (bit-complement (63 - i) i x (rw n l))
 
--- the lowest bit after a shift
-pub bit-shift : (i x : ℕ) → bit 0 (x / 2 ^ i) ≡ bit i x
+pub bit-lowest : (x : ℕ) → bit 0 x ≡ x % 2
 unfolding bit
-bit-shift i x = ap (λ (y : ℕ). y % 2) (div-one (x / 2 ^ i))
+bit-lowest x = ap (λ (y : ℕ). y % 2) (div-one x)
 
 pub bit-zero : (i : ℕ) → bit i 0 ≡ 0
 unfolding bit
 bit-zero i = ap (λ (x : ℕ). x % 2) (zero-div (2 ^ i))
+
+pub bit-ones : (i : ℕ) → i < 64 → bit i (2 ^ 64 - 1) ≡ 1
+bit-ones i h = bit-not i 0 h (omega arith) ∙ ap (λ (v : ℕ). 1 - v) (bit-zero i)
 
 -- ---- bits as the gates' values
 
@@ -94,24 +96,6 @@ applied k x y = gateValue k (take (arity k) (x ∷ y ∷ []))
 
 pub at-kind : (x y : ℕ) {k n v : ℕ} → k ≡ n → v ≡ applied n x y → v ≡ applied k x y
 at-kind x y e p = rw e p
-
-pub and-bits : (x y : ℕ) → y < 2 → min x y ≡ applied 4 x y
-unfolding gateValue arity conj
-and-bits x y h = omega arith
-
-pub or-bits : (x y : ℕ) → max x y ≡ applied 6 x y
-unfolding gateValue arity disj
-or-bits x y = omega arith
-
-pub xor-bits : (x y : ℕ) → x < 2 → y < 2 → differ x y ≡ applied 8 x y
-unfolding gateValue arity parity
-xor-bits zero zero h k = refl
-xor-bits zero (suc zero) h k = refl
-xor-bits (suc zero) zero h k = refl
-xor-bits (suc zero) (suc zero) h k = refl
-xor-bits zero (suc (suc y)) h k = let f : ⊥ = omega arith in absurd f
-xor-bits (suc zero) (suc (suc y)) h k = let f : ⊥ = omega arith in absurd f
-xor-bits (suc (suc x)) y h k = let f : ⊥ = omega arith in absurd f
 
 -- nand, nor and xnor invert the value of the kind before
 pub inverts : (k x y v : ℕ) → (k ≡ 4) ⊎ ((k ≡ 6) ⊎ (k ≡ 8)) → v ≡ applied k x y → 1 - v ≡ applied (k + 1) x y

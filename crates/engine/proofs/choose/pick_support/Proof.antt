@@ -5,10 +5,9 @@ use mathlib.Core.Path.{_≡_, refl, sym, _∙_, ap}
 use mathlib.Core.Logic.{⊎-elim}
 use mathlib.Core.List.{List}
 use native.Mathlib.Omega.{arith}
-use denote.Ref.{now}
 use lib.ListN.{length, getD, take, set, length-set}
 use Rattle.engine.specs.Eval.{bit}
-use Rattle.engine.specs.Sets.{picked}
+use Rattle.engine.specs.Inner.Choose.{picked}
 use Rattle.engine.proofs.Laws.Picked.{picks-in, length-picked-in, picked-take-out}
 use Rattle.engine.proofs.choose.pick_support.Statement.{statement}
 use Rattle.engine.proofs.choose.pick_support.Tie as tie
@@ -42,50 +41,27 @@ module _ (is : List ℕ) (s i : ℕ) (ps : List ℕ) (len : ℕ) (ps′ : List �
       }
 
 abbrev Inv-loop : tie.InvT-loop
-Inv-loop nets count set picks₀ len₀ i₀ picks len i = (i ≤ count) × Picking nets set i picks len
+Inv-loop count set nets picks₀ len₀ i₀ picks len i = (i ≤ count) × Picking nets set i picks len
 
 abbrev μ-loop : tie.MeasureT-loop
-μ-loop nets count set picks₀ len₀ i₀ picks len i = count - i
+μ-loop count set nets picks₀ len₀ i₀ picks len i = count - i
 
 loop-holds : tie.Need-loop-holds Inv-loop μ-loop
 unfolding picked
 loop-holds c = (omega arith, record { places = refl; most = omega arith; long = refl; nets = refl })
 
-shr-if1 : tie.Need-shr-if1 Inv-loop μ-loop
-shr-if1 c = omega arith
-
-mul-picks : tie.Need-mul-picks Inv-loop μ-loop
-mul-picks c = omega arith
-
-shared-slice-read-picks : tie.Need-shared-slice-read-picks Inv-loop μ-loop
-shared-slice-read-picks c = omega arith
-
-mul-picks-2 : tie.Need-mul-picks-2 Inv-loop μ-loop
-mul-picks-2 c = omega arith
-
-array-write-picks : tie.Need-array-write-picks Inv-loop μ-loop
-array-write-picks c = omega arith
-
-add-len : tie.Need-add-len Inv-loop μ-loop
-add-len c = omega arith
-
-add-i : tie.Need-add-i Inv-loop μ-loop
-add-i c = omega arith
-
-loop-less : tie.Need-loop-less Inv-loop μ-loop
-loop-less c = omega arith
-
 loop-again : tie.Need-loop-again Inv-loop μ-loop
 unfolding bit
 loop-again c =
-    let a = c .before .before .before .args in
+    let s = c .before .before .before in
+    let a = s .args in
     let l = c .before .before .loop in
-    let is = now (a .nets) in
-    let h : l .i < length is = omega arith in
+    let is = a .t1 in
+    let h : l .i < length is = omega (arith, s .good .0 .1 .0 .1) in
     let k : l .i < 10 = omega arith in (
       omega arith,
       ⊎-elim
-          (λ w. turn-in is (a .set) (l .i) (l .picks) (l .len) (c .if1 .picks) (c .if1 .len) h k (l .inv .1) (w .0 .taken) (w .2) (w .3))
+          (λ w. turn-in is (a .set) (l .i) (l .picks) (l .len) (c .if1 .picks) (c .if1 .len) h k (l .inv .1) (w .0 .taken) (w .1) (w .2))
           (λ w. turn-out is (a .set) (l .i) (l .picks) (l .len) (c .if1 .picks) (c .if1 .len) h k (l .inv .1) (w .0 .left) (w .1) (w .2))
           (c .if1 .came),
     )
@@ -100,17 +76,5 @@ returns c =
 pub pick-support-spec : {M : Type 1} → statement M
 pick-support-spec =
     tie.close
-    (tie.spec
-    Inv-loop
-    μ-loop
-    loop-holds
-    shr-if1
-    mul-picks
-    shared-slice-read-picks
-    mul-picks-2
-    array-write-picks
-    add-len
-    add-i
-    loop-less
-    loop-again
-    returns)
+    (tie.spec Inv-loop μ-loop loop-holds (λ c. omega arith) (λ c. omega arith) (λ c. omega arith) (λ c. omega arith)
+    (λ c. omega arith) (λ c. omega arith) (λ c. omega arith) (λ c. omega arith) loop-again returns)

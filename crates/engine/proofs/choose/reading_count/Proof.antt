@@ -7,11 +7,8 @@ use borrow.Author.Needs.{needs}
 use Rattle.engine.proofs.choose.reading_count.Statement.{statement}
 use Rattle.engine.proofs.choose.reading_count.Tie as tie
 
-shl-result : tie.Need-shl-result
-shl-result c = search needs
-
 returns : tie.Need-returns
 returns c = shl-exact {a = 1} 1 (c .args .k) 64 (omega arith) (omega arith) ∙ one-mul _
 
 pub reading-count-spec : {M : Type 1} → statement M
-reading-count-spec = tie.close (tie.spec shl-result returns)
+reading-count-spec = tie.close (tie.spec (λ c. search needs) returns)

@@ -1,96 +1,83 @@
--- `engine::comparing::compare_sheet` meets its contract: the support of an accepted sheet is of candidates, and the table stands
--- where the reply says. Assumes nothing.
-use Prim.Native.Nat.{_+_, _≤_}
-use borrow.Author.Needs.{needs}
+-- `engine::comparing::compare_sheet` meets its contract: the support of an accepted sheet is of candidates, which are old nets, and
+-- the table stands where the reply says. Assumes nothing.
+use Prim.Native.Nat.{_^_, _≤_}
+use mathlib.Core.Path.{refl, sym}
 use native.Mathlib.Omega.{arith}
-use denote.Ref.{now}
-use lib.ListN.{length}
-use Rattle.engine.proofs.Laws.Compare.{declined-sheet, accepted-sheet, support-few, drivable, compared-sheet}
-use Rattle.engine.proofs.Laws.Ready.{ready-evaluable}
+use lib.Pow.{pow-mono}
+use Rattle.engine.proofs.Laws.Compare.{declined-sheet, compared-sheet}
+use Rattle.engine.proofs.Laws.PartsSheet.{parts-sheet, parts-few, parts-old, parts-read}
 use Rattle.engine.proofs.comparing.compare_sheet.Statement.{statement}
 use Rattle.engine.proofs.comparing.compare_sheet.Tie as tie
 
-read-sheet-requires : tie.Need-read-sheet-requires
-read-sheet-requires c κs = tt
+slice-aggregate-read-sheet : tie.Need-slice-aggregate-read-sheet
+slice-aggregate-read-sheet c = sym (c .before .before .before .before .before .pre .parts .nets-long)
+
+slice-aggregate-read-sheet-2 : tie.Need-slice-aggregate-read-sheet-2
+slice-aggregate-read-sheet-2 c = sym (c .before .before .before .before .before .before .pre .parts .weights-long)
 
 returns : tie.Need-returns
-returns c =
-    let s = c .before .before .before .before .before .before .before .before .before .before .before .before .before .before in
-    declined-sheet (s .pre .0) _ _ (s .pre .1) (c .before .before .read-sheet .ensures) (c .if1 .taken)
+returns c j q = declined-sheet q _ (c .before .before .read-sheet .ensures) (c .if1 .taken)
 
 reading-count-requires : tie.Need-reading-count-requires
 reading-count-requires c κs =
     let u = c .before .before .before in
-    let s = u .before .before .before .before .before .before .before .before .before .before .before .before in
-    support-few (s .pre .0) _ _ (s .pre .1) (u .read-sheet .ensures) (c .before .if1 .left)
+    let s = u .before .before .before .before .before .before .before in
+    parts-few (s .pre .parts) _ (u .read-sheet .ensures) (c .before .if1 .left)
 
--- the table's end
-ended : (c : tie.After-reading-count)
-    → let u = c .before .before .before .before in
-    let s = u .before .before .before .before .before .before .before .before .before .before .before .before in
-    u .read-sheet .result .table + c .reading-count .result ≤ length (now (s .args .sheet))
-ended c =
+table-of-requires : tie.Need-table-of-requires
+table-of-requires c κs =
     let u = c .before .before .before .before in
-    let s = u .before .before .before .before .before .before .before .before .before .before .before .before in
-    let a = accepted-sheet (s .pre .0) _ _ (s .pre .1) (u .read-sheet .ensures) (c .before .before .if1 .left) .end in
-    omega (arith, a, c .reading-count .ensures)
+    let s = u .before .before .before .before .before .before .before in
+    let z = c .before .before .if1 .left in
+    let n : 2 ^ u .read-sheet .result .support .len ≤ 1024 =
+    pow-mono {j = 10} (parts-few (s .pre .parts) _ (u .read-sheet .ensures) z) in
+    let e = parts-sheet (s .pre .parts) _ (u .read-sheet .ensures) z .end in
+    let k = c .reading-count .ensures in
+    (omega arith, omega arith)
 
-add-end : tie.Need-add-end
-add-end c =
-    let u = c .before .before .before .before in
-    let s = u .before .before .before .before .before .before .before .before .before .before .before .before in
-    let g = s .good .1 .1 .1 .1 .1 .1 .1 .1 .1 .1 .1 .0 in
-    omega (arith, ended c)
-
-slice-aggregate-mark-fanout : tie.Need-slice-aggregate-mark-fanout
-slice-aggregate-mark-fanout c = search needs
-
-mark-fanout-requires : tie.Need-mark-fanout-requires
-mark-fanout-requires c κs =
+miter-of-requires : tie.Need-miter-of-requires
+miter-of-requires c κs =
     let u = c .before .before .before .before .before .before in
-    ready-evaluable (u .before .before .before .before .before .before .before .before .before .before .before .before .pre .0)
+    u .before .before .before .before .before .before .before .pre
 
-sub-first-difference : tie.Need-sub-first-difference
-sub-first-difference c = omega arith
-
-part-first-difference-start : tie.Need-part-first-difference-start
-part-first-difference-start c = omega arith
-
-part-first-difference-end : tie.Need-part-first-difference-end
-part-first-difference-end c = ended (c .before .before .before .before)
+plan-of-requires : tie.Need-plan-of-requires
+plan-of-requires c κs =
+    let r = c .before .before .before .before in
+    let u = r .before .before .before .before in
+    let s = u .before .before .before .before .before .before .before in
+    let z = r .before .before .if1 .left in
+    (c .before .miter-of .ensures .0, parts-read (s .pre .parts) _ (u .read-sheet .ensures) z, refl)
 
 slice-aggregate-first-difference : tie.Need-slice-aggregate-first-difference
-slice-aggregate-first-difference c = search needs
+slice-aggregate-first-difference c = sym (c .before .plan-of .ensures .0 .long)
+
+slice-aggregate-first-difference-2 : tie.Need-slice-aggregate-first-difference-2
+slice-aggregate-first-difference-2 c = sym (c .before .before .before .before .before .before .table-of .ensures .long)
 
 first-difference-requires : tie.Need-first-difference-requires
 first-difference-requires c κs =
-    let v = c .before .before .before .before .before .before in
-    let u = v .before .before .before .before in
-    let s = u .before .before .before .before .before .before .before .before .before .before .before .before in
-    drivable (s .pre .0) _ _ (s .pre .1) (u .read-sheet .ensures) (v .before .before .if1 .left)
-    _ (v .reading-count .ensures) (c .before .before .before .mark-fanout .ensures)
+    let p = c .before .before in
+    (p .plan-of .ensures .0, omega (arith, p .before .before .before .before .table-of .ensures .long))
 
 returns-2 : tie.Need-returns-2
-returns-2 c =
-    let v = c .before .before .before .before .before .before .before in
-    let u = v .before .before .before .before in
-    let s = u .before .before .before .before .before .before .before .before .before .before .before .before in
-    compared-sheet (s .pre .0) _ _ (s .pre .1) (u .read-sheet .ensures) (v .before .before .if1 .left)
-    _ (v .reading-count .ensures) (c .first-difference .ensures)
+returns-2 c j q =
+    let p = c .before .before .before in
+    let m = p .before .before in
+    let t = m .before .before in
+    let r = t .before in
+    let u = r .before .before .before .before in
+    let z = r .before .before .if1 .left in
+    let e = u .read-sheet .ensures in
+    compared-sheet q _ e z _ (r .reading-count .ensures) (t .table-of .ensures)
+    (c .first-difference .ensures j _
+    (record {
+      planned = p .plan-of .ensures .1 j _ (m .miter-of .ensures .1 j q) (parts-sheet q _ e z .nets) (parts-old q _ e z);
+      old = parts-old q _ e z;
+    }))
 
 pub compare-sheet-spec : {M : Type 1} → statement M
 compare-sheet-spec =
     tie.close
-    (tie.spec
-    read-sheet-requires
-    returns
-    reading-count-requires
-    add-end
-    slice-aggregate-mark-fanout
-    mark-fanout-requires
-    sub-first-difference
-    part-first-difference-start
-    part-first-difference-end
-    slice-aggregate-first-difference
-    first-difference-requires
-    returns-2)
+    (tie.spec slice-aggregate-read-sheet slice-aggregate-read-sheet-2 (λ c κs. tt) returns reading-count-requires
+    table-of-requires miter-of-requires plan-of-requires slice-aggregate-first-difference
+    slice-aggregate-first-difference-2 first-difference-requires returns-2)

@@ -25,20 +25,11 @@ returns c =
 loop-holds : tie.Need-loop-holds Inv-loop μ-loop
 loop-holds c = (omega arith, λ k h. let f : ⊥ = omega arith in absurd f)
 
-shr-if2 : tie.Need-shr-if2 Inv-loop μ-loop
-shr-if2 c = omega arith
-
 returns-2 : tie.Need-returns-2 Inv-loop μ-loop
 unfolding bit
 returns-2 c =
     let l = c .before .before .loop in
     record { most = l .inv .0; clear = l .inv .1; set = λ h. c .if2 .taken }
-
-add-i : tie.Need-add-i Inv-loop μ-loop
-add-i c = omega arith
-
-loop-less : tie.Need-loop-less Inv-loop μ-loop
-loop-less c = omega arith
 
 loop-again : tie.Need-loop-again Inv-loop μ-loop
 unfolding bit
@@ -59,4 +50,5 @@ returns-3 c =
 pub lowest-bit-spec : {M : Type 1} → statement M
 lowest-bit-spec =
     tie.close
-    (tie.spec Inv-loop μ-loop returns loop-holds shr-if2 returns-2 add-i loop-less loop-again returns-3)
+    (tie.spec Inv-loop μ-loop returns loop-holds (λ c. omega arith) returns-2 (λ c. omega arith) (λ c. omega arith)
+    loop-again returns-3)

@@ -1,6 +1,4 @@
 -- `engine::deciding::declined` meets its contract by computing. Assumes nothing.
-use native.Mathlib.Omega.{arith}
-use borrow.Author.Needs.{needs}
 use mathlib.Core.Path.{refl}
 use Rattle.engine.specs.Reply.{declinedReply}
 use Rattle.engine.proofs.deciding.declined.Statement.{statement}

@@ -1,44 +1,25 @@
--- `engine::fitting::fit` meets its contract: the job is read into places, and the sheet fitted to it there. Assumes nothing.
-use Prim.Native.Nat.{_≤_}
-use mathlib.Core.Path.{_≡_, refl, sym, _∙_}
+-- `engine::fitting::fit` meets its contract: the job's parts are loaded, and the sheet fitted to them. Assumes nothing.
+use borrow.Author.Needs.{needs}
 use denote.Ref.{now}
-use lib.ListN.{length}
-use Rattle.records.specs.Columns.{Columns}
-use Rattle.records.specs.Refusal.{jobRefusal}
-use Rattle.engine.specs.Fit.{longestFit}
-use Rattle.engine.proofs.Laws.Decide.{lentPlaces, readPlaces, lent-refusal, read-number}
-use Rattle.engine.proofs.Laws.FitSheet.{fit-gives, fit-short, fit-refused, fit-accepted, fit-ready}
-use Rattle.engine.proofs.Laws.Read.{ReadJob, read-job}
+use Rattle.records.specs.Job.{jobOf}
+use Rattle.records.specs.Parts.{PartsOf}
+use Rattle.engine.proofs.Laws.FitSheet.{fit-gives, fit-short, fit-refused, fit-accepted}
+use Rattle.engine.proofs.Laws.Loaded.{accepted-parts}
 use Rattle.engine.proofs.fitting.fit.Statement.{statement}
 use Rattle.engine.proofs.fitting.fit.Tie as tie
 
--- the places of read, and what is known there
-abbrev start : tie.After-read-columns → tie.Start
-start t =
-    t .before .before .before .before .before .before .before .before .before .before .before .before .before .before .before
+-- the loading, and the function's entry
+abbrev start : tie.After-load → tie.Start
+start t = t .before .before .before .before .before
 
-long : (t : tie.After-read-columns) → longestFit ≤ length (now (start t .args .reply))
-long t = t .before .before .before .before .before .before .before .before .before .before .before .if1 .left
+abbrev loading : tie.After-enum-told → tie.After-load
+loading u = u .before .before
 
-number : (t : tie.After-read-columns) → jobRefusal (now (start t .args .job)) ≡ t .read-columns .result .number
-number t = read-number (now (start t .args .job)) (t .read-columns .ensures .0)
-
--- an accepted job: what read left in the places
-abbrev reading : tie.Else2 → tie.After-read-columns
-reading e = e .before .before .before .before .before .before .before .before .before .before .before .before
-
-abbrev places : tie.After-read-columns → Columns
-places t = readPlaces (t .read-columns .last .1)
-
-accepted : (e : tie.Else2) → jobRefusal (now (start (reading e) .args .job)) ≡ 0
-accepted e = number (reading e) ∙ e .if2 .left
-
-read : (e : tie.Else2) → let t = reading e in
-    ReadJob (now (start t .args .job)) (t .read-columns .result .counts) (places t)
-read e =
-    let t = reading e in
-    let job = now (start t .args .job) in
-    read-job lentPlaces job {q = places t} (t .read-columns .ensures .0) (t .read-columns .ensures .1) (lent-refusal job ∙ accepted e)
+-- an accepted job's parts
+parts : (u : tie.After-enum-told) → PartsOf (jobOf (now (start (loading u) .args .job))) (loading u .load .result)
+parts u =
+    let t = loading u in
+    accepted-parts (now (start t .args .job)) (t .load .ensures) (u .enum-told .given .1)
 
 returns : tie.Need-returns
 returns c =
@@ -46,106 +27,45 @@ returns c =
     fit-gives (now (a .reply)) (now (a .job)) (now (a .sheet))
     (fit-short (now (a .reply)) (now (a .job)) (now (a .sheet)) (c .if1 .taken))
 
-slice-aggregate-read-columns : tie.Need-slice-aggregate-read-columns
-slice-aggregate-read-columns c = refl
-
-slice-aggregate-read-columns-2 : tie.Need-slice-aggregate-read-columns-2
-slice-aggregate-read-columns-2 c = refl
-
-slice-aggregate-read-columns-3 : tie.Need-slice-aggregate-read-columns-3
-slice-aggregate-read-columns-3 c = refl
-
-slice-aggregate-read-columns-4 : tie.Need-slice-aggregate-read-columns-4
-slice-aggregate-read-columns-4 c = refl
-
-slice-aggregate-read-columns-5 : tie.Need-slice-aggregate-read-columns-5
-slice-aggregate-read-columns-5 c = refl
-
-slice-aggregate-read-columns-6 : tie.Need-slice-aggregate-read-columns-6
-slice-aggregate-read-columns-6 c = refl
-
-slice-aggregate-read-columns-7 : tie.Need-slice-aggregate-read-columns-7
-slice-aggregate-read-columns-7 c = refl
-
-slice-aggregate-read-columns-8 : tie.Need-slice-aggregate-read-columns-8
-slice-aggregate-read-columns-8 c = refl
-
-slice-aggregate-read-columns-9 : tie.Need-slice-aggregate-read-columns-9
-slice-aggregate-read-columns-9 c = refl
-
-slice-aggregate-read-columns-10 : tie.Need-slice-aggregate-read-columns-10
-slice-aggregate-read-columns-10 c = refl
-
-read-columns-requires : tie.Need-read-columns-requires
-read-columns-requires c κs = tt
-
 returns-2 : tie.Need-returns-2
 returns-2 c =
-    let t =
-    c .before .before .before .before .before .before .before .before .before .before .before .before in
+    let t = c .before .before in
     let a = start t .args in
     fit-gives (now (a .reply)) (now (a .job)) (now (a .sheet))
-    (fit-refused (now (a .reply)) (now (a .job)) (now (a .sheet)) (long t) (t .read-columns .result .number) (number t) (c .if2 .taken))
+    (fit-refused (now (a .reply)) (now (a .job)) (now (a .sheet)) (t .before .if1 .left) (t .load .ensures)
+    (c .enum-told2 .given .1))
 
-slice-aggregate-fit-sheet : tie.Need-slice-aggregate-fit-sheet
-slice-aggregate-fit-sheet c = sym (reading (c .before .before) .read-columns .kept .1 .0)
-
-slice-aggregate-fit-sheet-2 : tie.Need-slice-aggregate-fit-sheet-2
-slice-aggregate-fit-sheet-2 c = sym (reading (c .before .before .before) .read-columns .kept .1 .1 .0)
-
-slice-aggregate-fit-sheet-3 : tie.Need-slice-aggregate-fit-sheet-3
-slice-aggregate-fit-sheet-3 c = sym (reading (c .before .before .before .before) .read-columns .kept .1 .1 .1 .0)
-
-slice-aggregate-fit-sheet-4 : tie.Need-slice-aggregate-fit-sheet-4
-slice-aggregate-fit-sheet-4 c = sym (reading (c .before .before .before .before .before) .read-columns .kept .1 .1 .1 .1 .0)
-
-slice-aggregate-fit-sheet-5 : tie.Need-slice-aggregate-fit-sheet-5
-slice-aggregate-fit-sheet-5 c = sym (reading (c .before .before .before .before .before .before) .read-columns .kept .1 .1 .1 .1 .1 .1 .1 .1 .1 .0)
-
-slice-aggregate-fit-sheet-6 : tie.Need-slice-aggregate-fit-sheet-6
-slice-aggregate-fit-sheet-6 c = sym (reading (c .before .before .before .before .before .before .before) .read-columns .kept .1 .1 .1 .1 .1 .1 .1 .1 .1 .1 .0)
+old-side-requires : tie.Need-old-side-requires
+old-side-requires c κs = record { job = jobOf (now (start (loading c) .args .job)); parts = parts c }
 
 fit-sheet-requires : tie.Need-fit-sheet-requires
 fit-sheet-requires c κs =
-    let e = c .before .before .before .before .before .before .before .before in
-    (fit-ready (read e), long (reading e))
+    let o = c .before in
+    let u = o .before in
+    let s = start (loading u) in
+    let q = parts u in (
+      record { job = jobOf (now (s .args .job)); parts = q; old = o .old-side .ensures (jobOf (now (s .args .job))) q },
+      loading u .before .if1 .left,
+    )
 
 same-length : tie.Need-same-length
-same-length c = c .before .before .fit-sheet .kept .1 .1 .1 .1 .1 .1 .1 .1 .0
+same-length c = c .before .before .fit-sheet .kept .1 .1 .1 .0
 
 returns-3 : tie.Need-returns-3
 returns-3 c =
-    let e = c .before .before .before .before .before .before .before .before .before .before .before in
-    let t = reading e in
+    let f = c .before .before in
+    let o = f .before .before in
+    let u = o .before in
+    let t = loading u in
     let a = start t .args in
-    let p = places t in
+    let j = jobOf (now (a .job)) in
     fit-gives (now (a .reply)) (now (a .job)) (now (a .sheet))
-    (fit-accepted (now (a .reply)) (now (a .job)) (now (a .sheet)) (long t) (accepted e) (t .read-columns .result .counts)
-    (p .old) (p .golden) (p .nets) (p .weights) (read e .job) (c .before .before .fit-sheet .ensures))
+    (fit-accepted (now (a .reply)) (now (a .job)) (now (a .sheet)) (t .before .if1 .left) (t .load .ensures)
+    (u .enum-told .given .1)
+    (f .fit-sheet .ensures j (parts u) (o .old-side .ensures j (parts u))))
 
 pub fit-spec : {M : Type 1} → statement M
 fit-spec =
     tie.close
-    (tie.spec
-    returns
-    slice-aggregate-read-columns
-    slice-aggregate-read-columns-2
-    slice-aggregate-read-columns-3
-    slice-aggregate-read-columns-4
-    slice-aggregate-read-columns-5
-    slice-aggregate-read-columns-6
-    slice-aggregate-read-columns-7
-    slice-aggregate-read-columns-8
-    slice-aggregate-read-columns-9
-    slice-aggregate-read-columns-10
-    read-columns-requires
-    returns-2
-    slice-aggregate-fit-sheet
-    slice-aggregate-fit-sheet-2
-    slice-aggregate-fit-sheet-3
-    slice-aggregate-fit-sheet-4
-    slice-aggregate-fit-sheet-5
-    slice-aggregate-fit-sheet-6
-    fit-sheet-requires
-    same-length
-    returns-3)
+    (tie.spec returns (λ c κs. tt) (λ c. search needs) (λ c. search needs) returns-2 old-side-requires
+    fit-sheet-requires same-length returns-3)

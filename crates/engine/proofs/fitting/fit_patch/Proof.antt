@@ -4,147 +4,91 @@ use mathlib.Core.Path.{refl}
 use native.Mathlib.Omega.{arith}
 use borrow.Author.Needs.{needs}
 use denote.Ref.{now}
-use lib.ListN.{take}
-use Rattle.engine.specs.Fitting.{patchedCount}
-use Rattle.engine.proofs.Laws.FitSheet.{gates-few, gates-held, patch-refused, patch-accepted}
-use Rattle.engine.proofs.Laws.FitPlaced.{outputs-wider}
+use lib.ListN.{length, take}
+use Rattle.engine.specs.Inner.Fitting.{patchedCount}
+use Rattle.engine.proofs.Laws.FitSheet.{gates-few, patch-refused, patch-accepted}
 use Rattle.engine.proofs.Laws.Tree.{treesSize-le}
 use Rattle.engine.proofs.fitting.fit_patch.Statement.{statement}
 use Rattle.engine.proofs.fitting.fit_patch.Tie as tie
 
 abbrev start : tie.After-trees-size → tie.Start
-start u = u .before .before .before .before .before .before .before .before
+start u = u .before .before .before
 
 abbrev sizing : tie.After-place-gates → tie.After-trees-size
-sizing t = t .before .before .before .before .before .before .before
-
--- how many gates the trees have
-size-small : (u : tie.After-trees-size) → u .trees-size .result ≤ 20480
-size-small u =
-    let a = start u .args in
-    let h = start u .pre .0 in
-    omega (
-      arith,
-      u .trees-size .ensures,
-      treesSize-le (a .counts .targets) 0 (a .support .len) (now (a .table)) (h .few),
-      h .within .targets,
-    )
+sizing t = t .before .before .before
 
 -- the patched netlist has at most 400 gates
 fitting : (t : tie.After-place-gates)
-    → patchedCount (start (sizing t) .args .counts) (start (sizing t) .args .support) (now (start (sizing t) .args .table)) ≤ 400
-fitting t = omega (arith, t .before .before .before .before .before .if1 .left, sizing t .trees-size .ensures)
+    → patchedCount (start (sizing t) .args .old) (start (sizing t) .args .support) (now (start (sizing t) .args .table)) ≤ 400
+fitting t = omega (arith, t .before .if1 .left, sizing t .trees-size .ensures)
+
+-- the outputs stand in their places
+held : (s : tie.Start) → s .args .count ≤ length (s .args .t2)
+held s = omega (arith, s .pre .1 .0, s .good .1 .0)
 
 trees-size-requires : tie.Need-trees-size-requires
-trees-size-requires c κs =
-    let h = c .before .before .before .before .before .before .before .pre .0 in
-    (h .few, h .entries, h .within .targets)
+trees-size-requires c κs = let h = c .before .before .pre .0 .0 in (h .few, h .entries, h .held .targets)
 
 add-if1 : tie.Need-add-if1
-add-if1 c = omega (arith, size-small (c .before), start (c .before) .pre .0 .within .old .gates)
+add-if1 c =
+    let u = c .before in
+    let a = start u .args in
+    let h = start u .pre .0 .0 in
+    omega (
+      arith,
+      u .trees-size .ensures,
+      treesSize-le (a .old .targets) 0 (a .support .len) (now (a .table)) (h .few),
+      h .held .targets,
+      h .held .count,
+    )
 
 returns : tie.Need-returns
 returns c =
     let u = c .before .before in
-    let a = start u .args in
-    patch-refused (start u .pre .0) (take (a .counts .old .outputs) (now (a .outputs))) (now (a .reply))
+    let s = start u in
+    let a = s .args in
+    patch-refused (s .pre .0 .0) (take (a .count) (a .t2)) (now (a .reply))
     (omega (arith, c .if1 .taken, u .trees-size .ensures))
-
-slice-aggregate-place-gates : tie.Need-slice-aggregate-place-gates
-slice-aggregate-place-gates c = search needs
-
-slice-aggregate-place-gates-2 : tie.Need-slice-aggregate-place-gates-2
-slice-aggregate-place-gates-2 c = search needs
-
-slice-aggregate-place-gates-3 : tie.Need-slice-aggregate-place-gates-3
-slice-aggregate-place-gates-3 c = search needs
-
-slice-aggregate-place-gates-4 : tie.Need-slice-aggregate-place-gates-4
-slice-aggregate-place-gates-4 c = search needs
 
 place-gates-requires : tie.Need-place-gates-requires
 place-gates-requires c κs =
-    let u = c .before .before .before .before .before .before in
-    let s = start u in (
-      s .pre .0,
-      (
-        (refl, omega (arith, c .before .before .before .before .if1 .left, u .trees-size .ensures)),
-        record { kinds = omega arith; firsts = omega arith; seconds = omega arith },
-      ),
-    )
-
-slice-aggregate-move-nets : tie.Need-slice-aggregate-move-nets
-slice-aggregate-move-nets c = search needs
-
-slice-aggregate-move-nets-2 : tie.Need-slice-aggregate-move-nets-2
-slice-aggregate-move-nets-2 c = search needs
+    let u = c .before .before in
+    (start u .pre .0 .0, omega (arith, c .if1 .left, u .trees-size .ensures))
 
 move-nets-requires : tie.Need-move-nets-requires
 move-nets-requires c κs =
-    let t = c .before .before .before .before .before .before in
+    let t = c .before .before .before .before .before in
     let s = start (sizing t) in
-    let l = t .place-gates .kept .1 .1 .1 .1 .1 .1 .0 in
-    (outputs-wider (s .pre .1 .0) (omega (arith, s .pre .0 .evaluable .room)), s .pre .0 .within .old .outputs)
-
-slice-aggregate-put-netlist : tie.Need-slice-aggregate-put-netlist
-slice-aggregate-put-netlist c = search needs
-
-slice-aggregate-put-netlist-2 : tie.Need-slice-aggregate-put-netlist-2
-slice-aggregate-put-netlist-2 c = search needs
-
-slice-aggregate-put-netlist-3 : tie.Need-slice-aggregate-put-netlist-3
-slice-aggregate-put-netlist-3 c = search needs
-
-slice-aggregate-put-netlist-4 : tie.Need-slice-aggregate-put-netlist-4
-slice-aggregate-put-netlist-4 c = search needs
+    let h = s .pre .0 .0 .held in (
+      held s,
+      s .pre .1 .0,
+      λ i l. omega (arith, s .pre .1 .1 i l, h .inputs, h .targets, h .count),
+    )
 
 put-netlist-requires : tie.Need-put-netlist-requires
 put-netlist-requires c κs =
-    let t = c .before .before .before .before .before .before .before .before .before .before .before .before .before in
+    let t = c .before .before .before .before .before .before .before .before in
     let s = start (sizing t) in
-    let h = s .pre .0 in
-    let w = h .within in
-    let l = c .before .before .before .before .before .before .move-nets .kept .1 .1 .1 .0 in (
-      (s .pre .1 .1, omega (arith, w .inputs), gates-few h (fitting t) (t .place-gates .ensures), w .old .outputs),
-      (
-        gates-held h (fitting t) (t .place-gates .ensures)
-            (record { kinds = omega arith; firsts = omega arith; seconds = omega arith }),
-        omega (arith, w .old .outputs),
-      ),
-    )
+    let h = s .pre .0 .0 in
+    (s .pre .0 .1, omega (arith, h .held .inputs), gates-few h (fitting t) (t .place-gates .ensures), s .pre .1 .0)
 
 same-length : tie.Need-same-length
-same-length c = search needs
+same-length c = c .before .before .put-netlist .kept .0
 
 returns-2 : tie.Need-returns-2
 returns-2 c =
-    let t = c .before .before .before .before .before .before .before .before .before .before .before .before .before .before .before .before in
+    let p = c .before .before in
+    let m = p .before .before .before in
+    let t = m .before .before .before .before .before .before in
     let s = start (sizing t) in
     let a = s .args in
-    patch-accepted (s .pre .0) (fitting t) (t .place-gates .ensures) (now (a .outputs)) _ (now (a .reply))
-    (a .counts .old .outputs) _
-    (s .pre .1 .0) (c .before .before .before .before .before .before .before .before .before .move-nets .ensures)
-    (c .before .before .put-netlist .ensures)
+    patch-accepted (s .pre .0 .0) (fitting t) (t .place-gates .ensures) (a .t2) _ (now (a .reply)) (a .count) _ (held s)
+    (s .pre .1 .1)
+    (m .move-nets .ensures)
+    (p .put-netlist .ensures)
 
 pub fit-patch-spec : {M : Type 1} → statement M
 fit-patch-spec =
     tie.close
-    (tie.spec
-    trees-size-requires
-    add-if1
-    returns
-    slice-aggregate-place-gates
-    slice-aggregate-place-gates-2
-    slice-aggregate-place-gates-3
-    slice-aggregate-place-gates-4
-    place-gates-requires
-    slice-aggregate-move-nets
-    slice-aggregate-move-nets-2
-    move-nets-requires
-    slice-aggregate-put-netlist
-    slice-aggregate-put-netlist-2
-    slice-aggregate-put-netlist-3
-    slice-aggregate-put-netlist-4
-    put-netlist-requires
-    same-length
-    returns-2)
+    (tie.spec trees-size-requires add-if1 returns place-gates-requires (λ c. search needs) (λ c. refl)
+    move-nets-requires put-netlist-requires same-length returns-2)

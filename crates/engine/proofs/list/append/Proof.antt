@@ -4,15 +4,6 @@ use borrow.Author.Needs.{needs}
 use Rattle.engine.proofs.list.append.Statement.{statement}
 use Rattle.engine.proofs.list.append.Tie as tie
 
-cast-list : tie.Need-cast-list
-cast-list c = search needs
-
-array-write-list : tie.Need-array-write-list
-array-write-list c = search needs
-
-add-t9 : tie.Need-add-t9
-add-t9 c = search needs
-
 returns : tie.Need-returns
 returns c =
     let a = c .before .args in
@@ -21,4 +12,4 @@ returns c =
     vector-appended (a .v) (a .x) n (p .0) (p .1) (p .2)
 
 pub append-spec : {M : Type 1} → statement M
-append-spec = tie.close (tie.spec cast-list array-write-list add-t9 returns)
+append-spec = tie.close (tie.spec (λ c. search needs) (λ c. search needs) (λ c. search needs) returns)

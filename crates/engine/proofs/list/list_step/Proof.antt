@@ -46,9 +46,6 @@ returns-4 c =
     (places (a .v .list) 16 (b .good .0 .1 .1 .0 .1 .0 .1))
     (c .if4 .taken)
 
-lowest-of-requires : tie.Need-lowest-of-requires
-lowest-of-requires c κs = tt
-
 append-requires : tie.Need-append-requires
 append-requires c κs =
     let b = c .before .before .before .before .before .before .before .before in
@@ -69,12 +66,4 @@ returns-5 c =
 pub list-step-spec : {M : Type 1} → statement M
 list-step-spec =
     tie.close
-    (tie.spec
-    returns
-    rectifies-any-requires
-    returns-2
-    returns-3
-    returns-4
-    lowest-of-requires
-    append-requires
-    returns-5)
+    (tie.spec returns rectifies-any-requires returns-2 returns-3 returns-4 (λ c κs. tt) append-requires returns-5)

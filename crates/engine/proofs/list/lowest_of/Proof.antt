@@ -5,7 +5,7 @@ use mathlib.Core.Path.{_≡_, refl, sym, _∙_, ap}
 use native.Mathlib.Omega.{arith}
 use Rattle.records.specs.Bytes.{upFrom}
 use Rattle.engine.specs.Choice.{first, orZero}
-use Rattle.engine.specs.Walk.{lowest}
+use Rattle.engine.specs.Inner.List.{lowest}
 use Rattle.engine.proofs.Laws.VectorSets.{inSet}
 use Rattle.engine.proofs.Laws.Stream.{inSet-true, inSet-false, first-from-here, first-from-there}
 use Rattle.engine.proofs.list.lowest_of.Statement.{statement}
@@ -21,9 +21,6 @@ loop-holds : tie.Need-loop-holds Inv-loop μ-loop
 unfolding lowest
 loop-holds c = (omega arith, refl)
 
-shr-if1 : tie.Need-shr-if1 Inv-loop μ-loop
-shr-if1 c = omega arith
-
 returns : tie.Need-returns Inv-loop μ-loop
 unfolding orZero
 returns c =
@@ -31,12 +28,6 @@ returns c =
     let s = c .before .before .before .args .set in
     let e = first-from-here (inSet s) (l .v) 16 (c .before .loop-test .taken) (inSet-true s (l .v) (c .if1 .taken)) in
     ap orZero (sym e ∙ l .inv .1)
-
-add-v : tie.Need-add-v Inv-loop μ-loop
-add-v c = omega arith
-
-loop-less : tie.Need-loop-less Inv-loop μ-loop
-loop-less c = omega arith
 
 loop-again : tie.Need-loop-again Inv-loop μ-loop
 loop-again c =
@@ -56,4 +47,5 @@ returns-2 c =
 pub lowest-of-spec : {M : Type 1} → statement M
 lowest-of-spec =
     tie.close
-    (tie.spec Inv-loop μ-loop loop-holds shr-if1 returns add-v loop-less loop-again returns-2)
+    (tie.spec Inv-loop μ-loop loop-holds (λ c. omega arith) returns (λ c. omega arith) (λ c. omega arith) loop-again
+    returns-2)

@@ -21,9 +21,6 @@ abbrev μ-loop : tie.MeasureT-loop
 loop-holds : tie.Need-loop-holds Inv-loop μ-loop
 loop-holds c = (omega arith, refl)
 
-array-read-v : tie.Need-array-read-v Inv-loop μ-loop
-array-read-v c = omega arith
-
 cast-v : tie.Need-cast-v Inv-loop μ-loop
 cast-v c = omega (arith, c .before .before .pre .1 (c .before .loop .i))
 
@@ -47,12 +44,6 @@ turn c =
 returns : tie.Need-returns Inv-loop μ-loop
 returns c = let t = turn (c .before) in sym (rw (inSet-true _ _ (c .if1 .taken)) at t)
 
-add-i : tie.Need-add-i Inv-loop μ-loop
-add-i c = omega arith
-
-loop-less : tie.Need-loop-less Inv-loop μ-loop
-loop-less c = omega arith
-
 loop-again : tie.Need-loop-again Inv-loop μ-loop
 loop-again c =
     let t = turn (c .before) in
@@ -69,15 +60,5 @@ returns-2 c =
 pub rectifies-any-spec : {M : Type 1} → statement M
 rectifies-any-spec =
     tie.close
-    (tie.spec
-    Inv-loop
-    μ-loop
-    loop-holds
-    array-read-v
-    cast-v
-    shr-if1
-    returns
-    add-i
-    loop-less
-    loop-again
-    returns-2)
+    (tie.spec Inv-loop μ-loop loop-holds (λ c. omega arith) cast-v shr-if1 returns (λ c. omega arith)
+    (λ c. omega arith) loop-again returns-2)

@@ -8,18 +8,6 @@ use Rattle.engine.proofs.Laws.Sheet.{field-bytes}
 use Rattle.engine.proofs.netlist.put_inputs.Statement.{statement}
 use Rattle.engine.proofs.netlist.put_inputs.Tie as tie
 
-cast-t4 : tie.Need-cast-t4
-cast-t4 c = search needs
-
-slice-aggregate-put-field : tie.Need-slice-aggregate-put-field
-slice-aggregate-put-field c = search needs
-
-put-field-requires : tie.Need-put-field-requires
-put-field-requires c κs = search needs
-
-same-length : tie.Need-same-length
-same-length c = search needs
-
 returns : tie.Need-returns
 returns c =
     let a = c .before .before .before .before .before .before .args in
@@ -27,10 +15,4 @@ returns c =
 
 pub put-inputs-spec : {M : Type 1} → statement M
 put-inputs-spec =
-    tie.close
-    (tie.spec
-    cast-t4
-    slice-aggregate-put-field
-    put-field-requires
-    same-length
-    returns)
+    tie.close (tie.spec (λ c. search needs) (λ c. search needs) (λ c κs. search needs) (λ c. search needs) returns)

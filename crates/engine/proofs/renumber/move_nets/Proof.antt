@@ -6,7 +6,7 @@ use mathlib.Core.List.{map}
 use native.Mathlib.Omega.{arith}
 use denote.Ref.{now}
 use lib.ListN.{length, getD, take, length-set}
-use Rattle.engine.proofs.Laws.Outputs.{output-below, select-turn}
+use Rattle.engine.proofs.Laws.Outputs.{select-turn}
 use Rattle.engine.proofs.renumber.move_nets.Statement.{statement}
 use Rattle.engine.proofs.renumber.move_nets.Tie as tie
 
@@ -20,37 +20,19 @@ abbrev μ-loop : tie.MeasureT-loop
 loop-holds : tie.Need-loop-holds Inv-loop μ-loop
 loop-holds c = (omega arith, refl, refl)
 
-mul-a : tie.Need-mul-a Inv-loop μ-loop
-mul-a c = omega arith
-
-shared-slice-read-a : tie.Need-shared-slice-read-a Inv-loop μ-loop
-shared-slice-read-a c = omega arith
+-- a net is one of 1,024
+below : (c : tie.In-loop Inv-loop μ-loop) → let a = c .before .before .args in
+    getD (now (a .nets)) (c .before .loop .i) 0 < 1024
+below c = c .before .before .pre .2 (c .before .loop .i) (c .loop-test .taken)
 
 cast-a : tie.Need-cast-a Inv-loop μ-loop
-cast-a c = omega (arith, c .shared-slice-known .given (c .before .before .loop .i))
-
--- a net has its number
-below : (c : tie.In-loop Inv-loop μ-loop) → let a = c .before .before .args in
-    getD (now (a .nets)) (c .before .loop .i) 0 < length (now (a .numbers))
-below c = output-below _ _ _ (c .before .before .pre .0) _ (c .loop-test .taken)
+cast-a c = let b = below (c .before) in omega arith
 
 mul-out : tie.Need-mul-out Inv-loop μ-loop
 mul-out c = let b = below (c .before) in omega arith
 
-shared-slice-read-out : tie.Need-shared-slice-read-out Inv-loop μ-loop
-shared-slice-read-out c = below (c .before .before)
-
-mul-out-2 : tie.Need-mul-out-2 Inv-loop μ-loop
-mul-out-2 c = omega arith
-
-slice-write-out : tie.Need-slice-write-out Inv-loop μ-loop
-slice-write-out c = omega arith
-
-add-i : tie.Need-add-i Inv-loop μ-loop
-add-i c = omega arith
-
-loop-less : tie.Need-loop-less Inv-loop μ-loop
-loop-less c = omega arith
+element-copy-out-out : tie.Need-element-copy-out-out Inv-loop μ-loop
+element-copy-out-out c = below (c .before)
 
 loop-again : tie.Need-loop-again Inv-loop μ-loop
 loop-again c =
@@ -73,19 +55,5 @@ returns c =
 pub move-nets-spec : {M : Type 1} → statement M
 move-nets-spec =
     tie.close
-    (tie.spec
-    Inv-loop
-    μ-loop
-    loop-holds
-    mul-a
-    shared-slice-read-a
-    cast-a
-    mul-out
-    shared-slice-read-out
-    mul-out-2
-    slice-write-out
-    add-i
-    loop-less
-    loop-again
-    same-length
-    returns)
+    (tie.spec Inv-loop μ-loop loop-holds (λ c. omega arith) (λ c. omega arith) cast-a mul-out element-copy-out-out
+    (λ c. omega arith) (λ c. omega arith) (λ c. omega arith) (λ c. omega arith) loop-again same-length returns)

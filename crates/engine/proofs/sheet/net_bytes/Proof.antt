@@ -22,39 +22,6 @@ loop-holds c =
     let a = c .before .args .support in
     (omega arith, put-none bytePair (λ k. getD (a .nets) k 0) _ 0)
 
-mul-two-bytes : tie.Need-mul-two-bytes Inv-loop μ-loop
-mul-two-bytes c = search needs
-
-array-read-two-bytes : tie.Need-array-read-two-bytes Inv-loop μ-loop
-array-read-two-bytes c = search needs
-
-two-bytes-requires : tie.Need-two-bytes-requires Inv-loop μ-loop
-two-bytes-requires c κs = search needs
-
-mul-at : tie.Need-mul-at Inv-loop μ-loop
-mul-at c = search needs
-
-array-read-bytes : tie.Need-array-read-bytes Inv-loop μ-loop
-array-read-bytes c = search needs
-
-array-write-bytes : tie.Need-array-write-bytes Inv-loop μ-loop
-array-write-bytes c = search needs
-
-array-read-bytes-2 : tie.Need-array-read-bytes-2 Inv-loop μ-loop
-array-read-bytes-2 c = search needs
-
-add-bytes : tie.Need-add-bytes Inv-loop μ-loop
-add-bytes c = search needs
-
-array-write-bytes-2 : tie.Need-array-write-bytes-2 Inv-loop μ-loop
-array-write-bytes-2 c = search needs
-
-add-i : tie.Need-add-i Inv-loop μ-loop
-add-i c = search needs
-
-loop-less : tie.Need-loop-less Inv-loop μ-loop
-loop-less c = search needs
-
 loop-again : tie.Need-loop-again Inv-loop μ-loop
 loop-again c =
     let l = c .before .before .loop in
@@ -75,20 +42,6 @@ returns c =
 pub net-bytes-spec : {M : Type 1} → statement M
 net-bytes-spec =
     tie.close
-    (tie.spec
-    Inv-loop
-    μ-loop
-    loop-holds
-    mul-two-bytes
-    array-read-two-bytes
-    two-bytes-requires
-    mul-at
-    array-read-bytes
-    array-write-bytes
-    array-read-bytes-2
-    add-bytes
-    array-write-bytes-2
-    add-i
-    loop-less
-    loop-again
-    returns)
+    (tie.spec Inv-loop μ-loop loop-holds (λ c. search needs) (λ c. search needs) (λ c κs. search needs)
+    (λ c. search needs) (λ c. search needs) (λ c. search needs) (λ c. search needs) (λ c. search needs)
+    (λ c. search needs) (λ c. search needs) (λ c. search needs) loop-again returns)

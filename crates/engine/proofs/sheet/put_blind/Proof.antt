@@ -6,7 +6,7 @@ use lib.ListN.{take}
 use lib.Seq.{length-take-le}
 use Rattle.records.specs.Bytes.{bytePair, field}
 use Rattle.records.proofs.Laws.Job.{length-bytePair}
-use Rattle.engine.specs.Inner.{BytesPut}
+use Rattle.engine.specs.Inner.Sheet.{BytesPut}
 use Rattle.engine.proofs.Laws.Sheet.{field-bytes, pair-end, blind-put}
 use Rattle.engine.proofs.sheet.put_blind.Statement.{statement}
 use Rattle.engine.proofs.sheet.put_blind.Tie as tie
@@ -23,27 +23,12 @@ first u =
     let n = length-bytePair (a .reading) in
     field-bytes (now (a .reply)) 0 21 (f .result) (f .ensures) (omega arith) (omega arith) (u .put-field .ensures)
 
-cast-two-bytes : tie.Need-cast-two-bytes
-cast-two-bytes c = search needs
-
-two-bytes-requires : tie.Need-two-bytes-requires
-two-bytes-requires c κs = search needs
-
-slice-aggregate-put-field : tie.Need-slice-aggregate-put-field
-slice-aggregate-put-field c = search needs
-
-put-field-requires : tie.Need-put-field-requires
-put-field-requires c κs = search needs
-
 put-vectors-requires : tie.Need-put-vectors-requires
 put-vectors-requires c κs =
     let u = c .before .before .before in
     let s = start u in
     let e = pair-end 21 (s .args .reading) (first u) in
     omega arith
-
-same-length : tie.Need-same-length
-same-length c = search needs
 
 returns : tie.Need-returns
 returns c =
@@ -57,11 +42,5 @@ returns c =
 pub put-blind-spec : {M : Type 1} → statement M
 put-blind-spec =
     tie.close
-    (tie.spec
-    cast-two-bytes
-    two-bytes-requires
-    slice-aggregate-put-field
-    put-field-requires
-    put-vectors-requires
-    same-length
-    returns)
+    (tie.spec (λ c. search needs) (λ c κs. search needs) (λ c. search needs) (λ c κs. search needs)
+    put-vectors-requires (λ c. search needs) returns)

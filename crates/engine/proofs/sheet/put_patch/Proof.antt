@@ -54,9 +54,6 @@ past-table t =
     let e = list-end 17 (now (a .table)) (2 ^ a .support .len) (z .held) (t .put-table .ensures) in
     omega (arith, past-support (support t))
 
-put-support-requires : tie.Need-put-support-requires
-put-support-requires c κs = search needs
-
 put-table-requires : tie.Need-put-table-requires
 put-table-requires c κs =
     let u = c .before .before .before in
@@ -77,9 +74,6 @@ put-vectors-requires c κs =
     let z = sizes s in
     omega (arith, past-table t, number-end 18 (s .args .cost) (v .put-number .ensures))
 
-same-length : tie.Need-same-length
-same-length c = search needs
-
 returns : tie.Need-returns
 returns c =
     let w = c .before .before in
@@ -98,10 +92,5 @@ returns c =
 pub put-patch-spec : {M : Type 1} → statement M
 put-patch-spec =
     tie.close
-    (tie.spec
-    put-support-requires
-    put-table-requires
-    put-number-requires
-    put-vectors-requires
-    same-length
+    (tie.spec (λ c κs. search needs) put-table-requires put-number-requires put-vectors-requires (λ c. search needs)
     returns)

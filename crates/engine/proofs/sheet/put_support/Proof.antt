@@ -10,23 +10,8 @@ use Rattle.engine.proofs.Laws.Sheet.{ten, field-bytes, length-nets}
 use Rattle.engine.proofs.sheet.put_support.Statement.{statement}
 use Rattle.engine.proofs.sheet.put_support.Tie as tie
 
-net-bytes-requires : tie.Need-net-bytes-requires
-net-bytes-requires c κs = search needs
-
-mul-count : tie.Need-mul-count
-mul-count c = search needs
-
-array-share-prefix-bytes : tie.Need-array-share-prefix-bytes
-array-share-prefix-bytes c = search needs
-
 slice-aggregate-put-field : tie.Need-slice-aggregate-put-field
 slice-aggregate-put-field c = sym (length-take-le _ _ (omega arith))
-
-put-field-requires : tie.Need-put-field-requires
-put-field-requires c κs = search needs
-
-same-length : tie.Need-same-length
-same-length c = search needs
 
 returns : tie.Need-returns
 returns c =
@@ -41,11 +26,5 @@ returns c =
 pub put-support-spec : {M : Type 1} → statement M
 put-support-spec =
     tie.close
-    (tie.spec
-    net-bytes-requires
-    mul-count
-    array-share-prefix-bytes
-    slice-aggregate-put-field
-    put-field-requires
-    same-length
-    returns)
+    (tie.spec (λ c κs. search needs) (λ c. search needs) (λ c. search needs) slice-aggregate-put-field
+    (λ c κs. search needs) (λ c. search needs) returns)

@@ -10,19 +10,10 @@ use Rattle.engine.proofs.Laws.Sheet.{field-bytes, shl-pow, pow-table}
 use Rattle.engine.proofs.sheet.put_table.Statement.{statement}
 use Rattle.engine.proofs.sheet.put_table.Tie as tie
 
-shl-count : tie.Need-shl-count
-shl-count c = search needs
-
 slice-aggregate-put-field : tie.Need-slice-aggregate-put-field
 slice-aggregate-put-field c =
     let a = c .before .before .before .before .args in
     sym (length-take-le _ _ (rw (shl-pow (a .len) (omega arith)) (omega arith)))
-
-put-field-requires : tie.Need-put-field-requires
-put-field-requires c κs = search needs
-
-same-length : tie.Need-same-length
-same-length c = search needs
 
 returns : tie.Need-returns
 returns c =
@@ -36,9 +27,4 @@ returns c =
 pub put-table-spec : {M : Type 1} → statement M
 put-table-spec =
     tie.close
-    (tie.spec
-    shl-count
-    slice-aggregate-put-field
-    put-field-requires
-    same-length
-    returns)
+    (tie.spec (λ c. search needs) slice-aggregate-put-field (λ c κs. search needs) (λ c. search needs) returns)

@@ -7,20 +7,11 @@ use Rattle.engine.proofs.Laws.Sheet.{number-end, unfixable-put}
 use Rattle.engine.proofs.sheet.put_unfixable.Statement.{statement}
 use Rattle.engine.proofs.sheet.put_unfixable.Tie as tie
 
-cast-put-number : tie.Need-cast-put-number
-cast-put-number c = search needs
-
-put-number-requires : tie.Need-put-number-requires
-put-number-requires c κs = search needs
-
 put-vectors-requires : tie.Need-put-vectors-requires
 put-vectors-requires c κs =
     let a = c .before .before .before .before .before .before .args in
     let e = number-end 20 (a .input) (c .before .before .before .put-number .ensures) in
     omega arith
-
-same-length : tie.Need-same-length
-same-length c = search needs
 
 returns : tie.Need-returns
 returns c =
@@ -33,10 +24,4 @@ returns c =
 
 pub put-unfixable-spec : {M : Type 1} → statement M
 put-unfixable-spec =
-    tie.close
-    (tie.spec
-    cast-put-number
-    put-number-requires
-    put-vectors-requires
-    same-length
-    returns)
+    tie.close (tie.spec (λ c. search needs) (λ c κs. search needs) put-vectors-requires (λ c. search needs) returns)

@@ -9,17 +9,8 @@ use Rattle.engine.proofs.Laws.Sheet.{field-bytes}
 use Rattle.engine.proofs.sheet.put_vectors.Statement.{statement}
 use Rattle.engine.proofs.sheet.put_vectors.Tie as tie
 
-array-share-prefix-list : tie.Need-array-share-prefix-list
-array-share-prefix-list c = search needs
-
 slice-aggregate-put-field : tie.Need-slice-aggregate-put-field
 slice-aggregate-put-field c = sym (length-take-le _ _ (omega arith))
-
-put-field-requires : tie.Need-put-field-requires
-put-field-requires c κs = search needs
-
-same-length : tie.Need-same-length
-same-length c = search needs
 
 returns : tie.Need-returns
 returns c =
@@ -31,9 +22,4 @@ returns c =
 pub put-vectors-spec : {M : Type 1} → statement M
 put-vectors-spec =
     tie.close
-    (tie.spec
-    array-share-prefix-list
-    slice-aggregate-put-field
-    put-field-requires
-    same-length
-    returns)
+    (tie.spec (λ c. search needs) slice-aggregate-put-field (λ c κs. search needs) (λ c. search needs) returns)

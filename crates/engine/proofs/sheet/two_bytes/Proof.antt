@@ -5,20 +5,10 @@ use Rattle.records.specs.Bytes.{bytePair}
 use Rattle.engine.proofs.sheet.two_bytes.Statement.{statement}
 use Rattle.engine.proofs.sheet.two_bytes.Tie as tie
 
-cast-t3 : tie.Need-cast-t3
-cast-t3 c = search needs
-
-cast-t5 : tie.Need-cast-t5
-cast-t5 c = search needs
-
 returns : tie.Need-returns
 unfolding bytePair
 returns c = refl
 
 pub two-bytes-spec : {M : Type 1} → statement M
 two-bytes-spec =
-    tie.close
-    (tie.spec
-    cast-t3
-    cast-t5
-    returns)
+    tie.close (tie.spec (λ c. search needs) (λ c. search needs) returns)

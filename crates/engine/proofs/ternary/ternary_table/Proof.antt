@@ -11,12 +11,6 @@ use Rattle.engine.proofs.Laws.Ternary.{ternaryTable-high}
 use Rattle.engine.proofs.ternary.ternary_table.Statement.{statement}
 use Rattle.engine.proofs.ternary.ternary_table.Tie as tie
 
-mul-result : tie.Need-mul-result
-mul-result c = search needs
-
-array-copy-out-result : tie.Need-array-copy-out-result
-array-copy-out-result c = search needs
-
 returns : tie.Need-returns
 unfolding tabulate upFrom ternaryTable ternaryValue agreed completions flat all gateValue conj disj parity inverted
 returns c = getD-tabulate 10 ternaryTable (c .before .before .args .kind) [] (c .before .if1 .taken)
@@ -25,4 +19,4 @@ returns-2 : tie.Need-returns-2
 returns-2 c = sym (ternaryTable-high (c .before .args .kind) (c .if1 .left))
 
 pub ternary-table-spec : {M : Type 1} → statement M
-ternary-table-spec = tie.close (tie.spec mul-result array-copy-out-result returns returns-2)
+ternary-table-spec = tie.close (tie.spec (λ c. search needs) (λ c. search needs) returns returns-2)

@@ -5,8 +5,8 @@ use mathlib.Core.List.{List}
 use native.Mathlib.Omega.{arith}
 use borrow.Author.Needs.{needs}
 use denote.Ref.{now}
-use Rattle.engine.specs.Building.{columnPart, shapeOf}
-use Rattle.engine.specs.declared.tree.Shape.the-variants as Shape
+use Rattle.engine.specs.Inner.Tree.{columnPart, treeStart}
+use Rattle.engine.specs.declared.tree.TreeStart.the-variants as TreeStart
 use Rattle.engine.proofs.Laws.Tree.{size-constant, size-equal, size-split, deep-equal, deep-split}
 use Rattle.engine.proofs.Laws.Tree.{part-low, part-high, treeSize-small}
 use borrow.Fn.Kinds.{In}
@@ -15,7 +15,7 @@ use Rattle.engine.proofs.tree.tree_size.Reads as tree-size
 use Rattle.engine.proofs.tree.tree_size.Kinds as tree-size-kinds
 use Rattle.engine.proofs.tree.+tree_size.Lts-tree_size as tree-size-lts
 use Rattle.engine.proofs.choose.reading_count.Reads as reading-count-reads
-use Rattle.engine.proofs.tree.shape_of.Reads as shape-of-reads
+use Rattle.engine.proofs.tree.tree_start.Reads as tree-start-reads
 use Rattle.engine.proofs.tree.+tree_size.{statement}
 use Rattle.engine.proofs.tree.+tree_size.Tie.{close}
 
@@ -32,8 +32,8 @@ tree-size-below t =
 -- what the calls ask and give
 abbrev calls : ℕ → tree-size-lts.Claims
 calls t = (
-  shape-of-reads.Asked,
-  shape-of-reads.Learnt,
+  tree-start-reads.Asked,
+  tree-start-reads.Learnt,
   tree-size-below t,
   tree-size.Post,
   reading-count-reads.Asked,
@@ -47,22 +47,22 @@ columnAt t s = let a = s .args in columnPart (now (a .table)) (a .at) (a .k) (a 
 -- where its halves are equal, and where they are not
 equal : (t : ℕ) (c : tree-size-lts.After-enum-told2 (calls t) (tree-size-at t) tree-size.Post)
     → let s = c .before .before .before .before in
-    (shapeOf (s .args .k) (columnAt t s) ≡ Shape.Equal) × (0 < s .args .k)
+    (treeStart (s .args .k) (columnAt t s) ≡ TreeStart.Equal) × (0 < s .args .k)
 equal t c =
     let s = c .before .before .before .before in
-    let q = sym (c .before .before .shape-of .ensures) ∙ c .enum-told2 .given .1 in
+    let q = sym (c .before .before .tree-start .ensures) ∙ c .enum-told2 .given .1 in
     (q, deep-equal (s .args .k) (columnAt t s) q)
 
 split : (t : ℕ) (c : tree-size-lts.After-enum-told3 (calls t) (tree-size-at t) tree-size.Post)
     → let s = c .before .before .before .before in
-    (shapeOf (s .args .k) (columnAt t s) ≡ Shape.Split) × (0 < s .args .k)
+    (treeStart (s .args .k) (columnAt t s) ≡ TreeStart.Split) × (0 < s .args .k)
 split t c =
     let s = c .before .before .before .before in
-    let q = sym (c .before .before .shape-of .ensures) ∙ c .enum-told3 .given .1 in
+    let q = sym (c .before .before .tree-start .ensures) ∙ c .enum-told3 .given .1 in
     (q, deep-split (s .args .k) (columnAt t s) q)
 
-tree-size-shape-of-requires : (t : ℕ) → tree-size-lts.Need-shape-of-requires (calls t) (tree-size-at t) tree-size.Post
-tree-size-shape-of-requires t c κs = search needs
+tree-size-tree-start-requires : (t : ℕ) → tree-size-lts.Need-tree-start-requires (calls t) (tree-size-at t) tree-size.Post
+tree-size-tree-start-requires t c κs = search needs
 
 tree-size-enum-told : (t : ℕ) → tree-size-lts.Need-enum-told (calls t) (tree-size-at t) tree-size.Post
 tree-size-enum-told t c = search needs
@@ -134,7 +134,7 @@ tree-size-add-result-2 t c =
 tree-size-returns : (t : ℕ) → tree-size-lts.Need-returns (calls t) (tree-size-at t) tree-size.Post
 tree-size-returns t c =
     let s = c .before .before .before .before in
-    sym (size-constant (s .args .k) (columnAt t s) _ (sym (c .before .before .shape-of .ensures) ∙ c .enum-told .given .1))
+    sym (size-constant (s .args .k) (columnAt t s) _ (sym (c .before .before .tree-start .ensures) ∙ c .enum-told .given .1))
 
 tree-size-returns-2 : (t : ℕ) → tree-size-lts.Need-returns-2 (calls t) (tree-size-at t) tree-size.Post
 tree-size-returns-2 t c =
@@ -154,7 +154,7 @@ pub +tree-size-spec : {M : Type 1} → statement M
 +tree-size-spec = close μ-tree-size λ t. tree-size-lts.spec (calls t)
     (tree-size-at t)
     tree-size.Post
-    (tree-size-shape-of-requires t)
+    (tree-size-tree-start-requires t)
     (tree-size-enum-told t)
     (tree-size-enum-told-2 t)
     (tree-size-sub-tree-size t)

@@ -26,12 +26,6 @@ abbrev μ-loop : tie.MeasureT-loop
 loop-holds : tie.Need-loop-holds Inv-loop μ-loop
 loop-holds c = (omega arith, refl)
 
-add-table-bit : tie.Need-add-table-bit Inv-loop μ-loop
-add-table-bit c = search needs
-
-table-bit-requires : tie.Need-table-bit-requires Inv-loop μ-loop
-table-bit-requires c κs = search needs
-
 -- what the entry at place i decides
 turn : (c : tie.In-loop Inv-loop μ-loop) → let a = c .before .before .before .args in
     let i = c .before .loop .i in
@@ -47,12 +41,6 @@ returns c =
     let l = c .before .before .before .loop in
     let e = c .before .table-bit .ensures in
     test-stops _ _ (l .inv .1) (turn (c .before .before)) (ne-eqb _ _ (λ q. c .if1 .taken (e ∙ sym q)))
-
-add-i : tie.Need-add-i Inv-loop μ-loop
-add-i c = search needs
-
-loop-less : tie.Need-loop-less Inv-loop μ-loop
-loop-less c = search needs
 
 loop-again : tie.Need-loop-again Inv-loop μ-loop
 loop-again c =
@@ -70,14 +58,5 @@ returns-2 c =
 pub column-is-spec : {M : Type 1} → statement M
 column-is-spec =
     tie.close
-    (tie.spec
-    Inv-loop
-    μ-loop
-    loop-holds
-    add-table-bit
-    table-bit-requires
-    returns
-    add-i
-    loop-less
-    loop-again
-    returns-2)
+    (tie.spec Inv-loop μ-loop loop-holds (λ c. search needs) (λ c κs. search needs) returns (λ c. search needs)
+    (λ c. search needs) loop-again returns-2)

@@ -24,23 +24,8 @@ Inv-loop table at half t high i₀ i =
 abbrev μ-loop : tie.MeasureT-loop
 μ-loop table at half t high i₀ i = half - i
 
-add-high : tie.Need-add-high Inv-loop μ-loop
-add-high c = search needs
-
 loop-holds : tie.Need-loop-holds Inv-loop μ-loop
 loop-holds c = (omega arith, refl)
-
-add-table-bit : tie.Need-add-table-bit Inv-loop μ-loop
-add-table-bit c = search needs
-
-table-bit-requires : tie.Need-table-bit-requires Inv-loop μ-loop
-table-bit-requires c κs = search needs
-
-add-table-bit-2 : tie.Need-add-table-bit-2 Inv-loop μ-loop
-add-table-bit-2 c = search needs
-
-table-bit-requires-2 : tie.Need-table-bit-requires-2 Inv-loop μ-loop
-table-bit-requires-2 c κs = search needs
 
 -- what the entries at place i of both halves decide
 turn : (c : tie.In-loop Inv-loop μ-loop) → let a = c .before .before .before .args in
@@ -62,12 +47,6 @@ returns c =
     test-stops _ _ (l .inv .1) (turn w)
     (ne-eqb _ _ (λ q. c .if1 .taken (c .before .before .table-bit .ensures ∙ q ∙ sym (c .before .table-bit2 .ensures))))
 
-add-i : tie.Need-add-i Inv-loop μ-loop
-add-i c = search needs
-
-loop-less : tie.Need-loop-less Inv-loop μ-loop
-loop-less c = search needs
-
 loop-again : tie.Need-loop-again Inv-loop μ-loop
 loop-again c =
     let w = c .before .before .before in
@@ -88,17 +67,5 @@ returns-2 c =
 pub halves-equal-spec : {M : Type 1} → statement M
 halves-equal-spec =
     tie.close
-    (tie.spec
-    Inv-loop
-    μ-loop
-    add-high
-    loop-holds
-    add-table-bit
-    table-bit-requires
-    add-table-bit-2
-    table-bit-requires-2
-    returns
-    add-i
-    loop-less
-    loop-again
-    returns-2)
+    (tie.spec Inv-loop μ-loop (λ c. search needs) loop-holds (λ c. search needs) (λ c κs. search needs)
+    (λ c. search needs) (λ c κs. search needs) returns (λ c. search needs) (λ c. search needs) loop-again returns-2)

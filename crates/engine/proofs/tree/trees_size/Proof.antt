@@ -6,7 +6,7 @@ use native.Mathlib.Nat.{zero-add}
 use native.Mathlib.Omega.{arith}
 use borrow.Author.Needs.{needs}
 use denote.Ref.{now}
-use Rattle.engine.specs.Building.{treesSize}
+use Rattle.engine.specs.Inner.Tree.{treesSize}
 use Rattle.engine.proofs.Laws.Tree.{treesSize-le, treesSize-turn}
 use Rattle.engine.proofs.tree.trees_size.Statement.{statement}
 use Rattle.engine.proofs.tree.trees_size.Tie as tie
@@ -46,12 +46,6 @@ small c =
 add-sum : tie.Need-add-sum Inv-loop μ-loop
 add-sum c = let s = small c in omega arith
 
-add-t : tie.Need-add-t Inv-loop μ-loop
-add-t c = search needs
-
-loop-less : tie.Need-loop-less Inv-loop μ-loop
-loop-less c = search needs
-
 loop-again : tie.Need-loop-again Inv-loop μ-loop
 loop-again c = (omega arith, small c .0)
 
@@ -66,13 +60,5 @@ returns c =
 pub trees-size-spec : {M : Type 1} → statement M
 trees-size-spec =
     tie.close
-    (tie.spec
-    Inv-loop
-    μ-loop
-    loop-holds
-    tree-size-requires
-    add-sum
-    add-t
-    loop-less
-    loop-again
+    (tie.spec Inv-loop μ-loop loop-holds tree-size-requires add-sum (λ c. search needs) (λ c. search needs) loop-again
     returns)

@@ -11,22 +11,10 @@ use borrow.Author.Needs.{needs}
 use Rattle.report.proofs.text.blind_text.Statement.{statement}
 use Rattle.report.proofs.text.blind_text.Tie as tie
 
-slice-aggregate-value-lines : tie.Need-slice-aggregate-value-lines
-slice-aggregate-value-lines c = search needs
-
-sub-word-at : tie.Need-sub-word-at
-sub-word-at c = search needs
-
-part-word-at-start : tie.Need-part-word-at-start
-part-word-at-start c = search needs
-
 part-word-at-end : tie.Need-part-word-at-end
 part-word-at-end c =
     let s = c .before .before .before .before in
     omega (arith, value-length 21 2 (s .args .sheet .now) (s .pre .0))
-
-word-at-requires : tie.Need-word-at-requires
-word-at-requires c κs = search needs
 
 sub-value-lines : tie.Need-sub-value-lines
 sub-value-lines c =
@@ -38,9 +26,6 @@ part-value-lines-start c =
     let s = c .before .before .before .before .before .before in
     omega (arith, value-length 21 2 (s .args .sheet .now) (s .pre .0))
 
-part-value-lines-end : tie.Need-part-value-lines-end
-part-value-lines-end c = search needs
-
 value-lines-requires : tie.Need-value-lines-requires
 value-lines-requires c κs =
     let t = c .before .before .before .before .before .before in
@@ -50,9 +35,6 @@ value-lines-requires c κs =
     let e : c .before .word-at .result ≡ word (nth 0 a) 0 = rw (value-part 21 2 a v) at (c .before .word-at .ensures) in
     let l = word-quad-lt (nth 0 a) (value-bytes 21 2 a v bytes) in
     omega (arith, value-room 21 2 a v bytes blindWord (omega arith) l e (value-vectors 21 2 a v 8 (omega arith)))
-
-same-length : tie.Need-same-length
-same-length c = search needs
 
 returns : tie.Need-returns
 returns c =
@@ -67,15 +49,5 @@ returns c =
 pub blind-text-spec : {M : Type 1} → statement M
 blind-text-spec =
     tie.close
-    (tie.spec
-    slice-aggregate-value-lines
-    sub-word-at
-    part-word-at-start
-    part-word-at-end
-    word-at-requires
-    sub-value-lines
-    part-value-lines-start
-    part-value-lines-end
-    value-lines-requires
-    same-length
-    returns)
+    (tie.spec (λ c. search needs) (λ c. search needs) (λ c. search needs) part-word-at-end (λ c κs. search needs)
+    sub-value-lines part-value-lines-start (λ c. search needs) value-lines-requires (λ c. search needs) returns)

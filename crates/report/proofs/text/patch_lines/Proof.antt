@@ -17,40 +17,25 @@ second w = w .before .before .before .before .before
 abbrev third : tie.After-put-bytes-line → tie.After-put-nets-line
 third w = w .before .before .before .before .before
 
-slice-aggregate-put-number-line : tie.Need-slice-aggregate-put-number-line
-slice-aggregate-put-number-line c = search needs
-
 put-number-line-requires : tie.Need-put-number-line-requires
 put-number-line-requires c κs =
     let a = c .before .before .before .before .before .before .args in
     omega (arith, length-patchText (a .cost) (netsOf (a .support .now)) (a .table .now) (a .vectors .now))
-
-slice-aggregate-put-nets-line : tie.Need-slice-aggregate-put-nets-line
-slice-aggregate-put-nets-line c = search needs
 
 put-nets-line-requires : tie.Need-put-nets-line-requires
 put-nets-line-requires c κs =
     let a = start (c .before .before .before .before) .args in
     omega (arith, length-patchText (a .cost) (netsOf (a .support .now)) (a .table .now) (a .vectors .now))
 
-slice-aggregate-put-bytes-line : tie.Need-slice-aggregate-put-bytes-line
-slice-aggregate-put-bytes-line c = search needs
-
 put-bytes-line-requires : tie.Need-put-bytes-line-requires
 put-bytes-line-requires c κs =
     let a = start (second (c .before .before .before .before)) .args in
     omega (arith, length-patchText (a .cost) (netsOf (a .support .now)) (a .table .now) (a .vectors .now))
 
-slice-aggregate-put-bytes-line-2 : tie.Need-slice-aggregate-put-bytes-line-2
-slice-aggregate-put-bytes-line-2 c = search needs
-
 put-bytes-line-requires-2 : tie.Need-put-bytes-line-requires-2
 put-bytes-line-requires-2 c κs =
     let a = start (second (third (c .before .before .before .before))) .args in
     omega (arith, length-patchText (a .cost) (netsOf (a .support .now)) (a .table .now) (a .vectors .now))
-
-same-length : tie.Need-same-length
-same-length c = search needs
 
 returns : tie.Need-returns
 returns c =
@@ -69,14 +54,6 @@ returns c =
 pub patch-lines-spec : {M : Type 1} → statement M
 patch-lines-spec =
     tie.close
-    (tie.spec
-    slice-aggregate-put-number-line
-    put-number-line-requires
-    slice-aggregate-put-nets-line
-    put-nets-line-requires
-    slice-aggregate-put-bytes-line
-    put-bytes-line-requires
-    slice-aggregate-put-bytes-line-2
-    put-bytes-line-requires-2
-    same-length
+    (tie.spec (λ c. search needs) put-number-line-requires (λ c. search needs) put-nets-line-requires
+    (λ c. search needs) put-bytes-line-requires (λ c. search needs) put-bytes-line-requires-2 (λ c. search needs)
     returns)

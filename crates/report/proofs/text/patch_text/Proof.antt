@@ -51,41 +51,11 @@ add-cost c = let p = spans c in omega arith
 add-vectors : tie.Need-add-vectors
 add-vectors c = let p = spans c in omega arith
 
-sub-quad-at : tie.Need-sub-quad-at
-sub-quad-at c = search needs
-
-sub-quad-at-2 : tie.Need-sub-quad-at-2
-sub-quad-at-2 c = search needs
-
-part-quad-at-start : tie.Need-part-quad-at-start
-part-quad-at-start c = search needs
-
 part-quad-at-end : tie.Need-part-quad-at-end
 part-quad-at-end c = let p = spans c in omega arith
 
-quad-at-requires : tie.Need-quad-at-requires
-quad-at-requires c κs = search needs
-
-sub-patch-lines : tie.Need-sub-patch-lines
-sub-patch-lines c = search needs
-
-sub-patch-lines-2 : tie.Need-sub-patch-lines-2
-sub-patch-lines-2 c = search needs
-
-part-patch-lines-start : tie.Need-part-patch-lines-start
-part-patch-lines-start c = search needs
-
 part-patch-lines-end : tie.Need-part-patch-lines-end
 part-patch-lines-end c = let p = spans (c .before .before .before) in omega arith
-
-sub-patch-lines-3 : tie.Need-sub-patch-lines-3
-sub-patch-lines-3 c = search needs
-
-sub-patch-lines-4 : tie.Need-sub-patch-lines-4
-sub-patch-lines-4 c = search needs
-
-part-patch-lines-start-2 : tie.Need-part-patch-lines-start-2
-part-patch-lines-start-2 c = search needs
 
 part-patch-lines-end-2 : tie.Need-part-patch-lines-end-2
 part-patch-lines-end-2 c = let p = spans (c .before .before .before .before) in omega arith
@@ -95,9 +65,6 @@ sub-patch-lines-5 c = let p = spans (c .before .before .before .before .before) 
 
 part-patch-lines-start-3 : tie.Need-part-patch-lines-start-3
 part-patch-lines-start-3 c = let p = spans (c .before .before .before .before .before) in omega arith
-
-part-patch-lines-end-3 : tie.Need-part-patch-lines-end-3
-part-patch-lines-end-3 c = search needs
 
 patch-lines-requires : tie.Need-patch-lines-requires
 patch-lines-requires c κs =
@@ -109,9 +76,6 @@ patch-lines-requires c κs =
     let bytes : Below 256 a = λ i. f .before .before .before .shared-slice-known .given i .fits in
     let e = patch-same a (paid q) (p .nets) (p .table) (p .vectors) in
     omega (arith, ap length e, patch-room a (s .pre .0) bytes)
-
-same-length : tie.Need-same-length
-same-length c = search needs
 
 returns : tie.Need-returns
 returns c =
@@ -125,28 +89,8 @@ returns c =
 pub patch-text-spec : {M : Type 1} → statement M
 patch-text-spec =
     tie.close
-    (tie.spec
-    field-end-requires
-    add-table
-    field-end-requires-2
-    add-cost
-    add-vectors
-    sub-quad-at
-    sub-quad-at-2
-    part-quad-at-start
-    part-quad-at-end
-    quad-at-requires
-    sub-patch-lines
-    sub-patch-lines-2
-    part-patch-lines-start
-    part-patch-lines-end
-    sub-patch-lines-3
-    sub-patch-lines-4
-    part-patch-lines-start-2
-    part-patch-lines-end-2
-    sub-patch-lines-5
-    part-patch-lines-start-3
-    part-patch-lines-end-3
-    patch-lines-requires
-    same-length
-    returns)
+    (tie.spec field-end-requires add-table field-end-requires-2 add-cost add-vectors (λ c. search needs)
+    (λ c. search needs) (λ c. search needs) part-quad-at-end (λ c κs. search needs) (λ c. search needs)
+    (λ c. search needs) (λ c. search needs) part-patch-lines-end (λ c. search needs) (λ c. search needs)
+    (λ c. search needs) part-patch-lines-end-2 sub-patch-lines-5 part-patch-lines-start-3 (λ c. search needs)
+    patch-lines-requires (λ c. search needs) returns)

@@ -21,12 +21,6 @@ loop-holds c =
     let a = c .before .before .args in
     (omega arith, printing-none number (a .bytes .now) (a .text .now) (a .at) (c .before .before .pre))
 
-shared-slice-read-wide : tie.Need-shared-slice-read-wide Inv-loop μ-loop
-shared-slice-read-wide c = omega arith
-
-wide-requires : tie.Need-wide-requires Inv-loop μ-loop
-wide-requires c κs = search needs
-
 put-number-requires : tie.Need-put-number-requires Inv-loop μ-loop
 unfolding numbers
 put-number-requires c κs =
@@ -35,12 +29,6 @@ put-number-requires c κs =
     let s = t .before .before .before in
     let a = s .args in
     printing-room number (a .bytes .now) (a .text .now) (a .at) (s .pre) (omega arith) (l .inv .1) (c .wide .ensures)
-
-add-i : tie.Need-add-i Inv-loop μ-loop
-add-i c = omega arith
-
-loop-less : tie.Need-loop-less Inv-loop μ-loop
-loop-less c = omega arith
 
 loop-again : tie.Need-loop-again Inv-loop μ-loop
 unfolding numbers
@@ -69,15 +57,5 @@ returns c =
 pub put-bytes-spec : {M : Type 1} → statement M
 put-bytes-spec =
     tie.close
-    (tie.spec
-    Inv-loop
-    μ-loop
-    loop-holds
-    shared-slice-read-wide
-    wide-requires
-    put-number-requires
-    add-i
-    loop-less
-    loop-again
-    same-length
-    returns)
+    (tie.spec Inv-loop μ-loop loop-holds (λ c. omega arith) (λ c κs. search needs) put-number-requires
+    (λ c. omega arith) (λ c. omega arith) loop-again same-length returns)

@@ -23,12 +23,6 @@ loop-holds c =
     let a = c .before .before .args in
     (omega arith, printing-none number (netsOf (a .nets .now)) (a .text .now) (a .at) (c .before .before .pre))
 
-mul-word-at : tie.Need-mul-word-at Inv-loop μ-loop
-mul-word-at c = omega arith
-
-word-at-requires : tie.Need-word-at-requires Inv-loop μ-loop
-word-at-requires c κs = omega arith
-
 put-number-requires : tie.Need-put-number-requires Inv-loop μ-loop
 unfolding numbers
 put-number-requires c κs =
@@ -39,12 +33,6 @@ put-number-requires c κs =
     let n = length-netsOf (a .nets .now) in
     let e = c .word-at .ensures ∙ sym (net-at (a .nets .now) (l .i) (omega arith)) in
     printing-room number (netsOf (a .nets .now)) (a .text .now) (a .at) (s .pre) (omega arith) (l .inv .1) e
-
-add-i : tie.Need-add-i Inv-loop μ-loop
-add-i c = omega arith
-
-loop-less : tie.Need-loop-less Inv-loop μ-loop
-loop-less c = omega arith
 
 loop-again : tie.Need-loop-again Inv-loop μ-loop
 unfolding numbers
@@ -75,15 +63,5 @@ returns c =
 pub put-nets-spec : {M : Type 1} → statement M
 put-nets-spec =
     tie.close
-    (tie.spec
-    Inv-loop
-    μ-loop
-    loop-holds
-    mul-word-at
-    word-at-requires
-    put-number-requires
-    add-i
-    loop-less
-    loop-again
-    same-length
-    returns)
+    (tie.spec Inv-loop μ-loop loop-holds (λ c. omega arith) (λ c κs. omega arith) put-number-requires
+    (λ c. omega arith) (λ c. omega arith) loop-again same-length returns)

@@ -12,9 +12,6 @@ slice-write-text c =
     let a = c .before .args in
     omega (arith, number-room (a .text .now) (a .at) (a .x) (c .before .pre))
 
-add-put-digits : tie.Need-add-put-digits
-add-put-digits c = search needs
-
 put-digits-requires : tie.Need-put-digits-requires
 put-digits-requires c κs =
     let a = c .before .before .args in
@@ -31,4 +28,4 @@ same-length c =
 
 pub put-number-spec : {M : Type 1} → statement M
 put-number-spec =
-    tie.close (tie.spec slice-write-text add-put-digits put-digits-requires same-length returns)
+    tie.close (tie.spec slice-write-text (λ c. search needs) put-digits-requires same-length returns)

@@ -7,17 +7,11 @@ use borrow.Author.Needs.{needs}
 use Rattle.report.proofs.text.quad_at.Statement.{statement}
 use Rattle.report.proofs.text.quad_at.Tie as tie
 
-word-at-requires : tie.Need-word-at-requires
-word-at-requires c κs = search needs
-
 mul-result : tie.Need-mul-result
 mul-result c =
     let s = c .before .before .args .s .now in
     let byte = c .before .shared-slice-known .given in
     omega (arith, c .word-at .ensures, word-lt s 0 (byte 0 .fits) (byte 1 .fits))
-
-word-at-requires-2 : tie.Need-word-at-requires-2
-word-at-requires-2 c κs = search needs
 
 add-result : tie.Need-add-result
 add-result c =
@@ -37,4 +31,4 @@ returns c = rw (c .before .word-at .ensures, c .word-at2 .ensures)
 
 pub quad-at-spec : {M : Type 1} → statement M
 quad-at-spec =
-    tie.close (tie.spec word-at-requires mul-result word-at-requires-2 add-result returns)
+    tie.close (tie.spec (λ c κs. search needs) mul-result (λ c κs. search needs) add-result returns)

@@ -13,28 +13,10 @@ use Rattle.report.proofs.text.rectify_text.Tie as tie
 returns : tie.Need-returns
 returns c = let a = c .before .before .before .args in printed-short (now (a .text)) (now (a .job)) (c .if1 .taken)
 
-refused-text-requires : tie.Need-refused-text-requires
-refused-text-requires c κs = search needs
-
-same-length : tie.Need-same-length
-same-length c = search needs
-
 returns-2 : tie.Need-returns-2
 returns-2 c =
     let a = c .before .before .before .before .before .before .before .before .args in
     printed-long (now (a .text)) (now (a .job)) (c .before .before .before .before .before .if1 .left) (c .before .before .before .before .if2 .taken) (c .before .before .refused-text .ensures)
-
-slice-aggregate-decide : tie.Need-slice-aggregate-decide
-slice-aggregate-decide c = search needs
-
-decide-requires : tie.Need-decide-requires
-decide-requires c κs = search needs
-
-refused-text-requires-2 : tie.Need-refused-text-requires-2
-refused-text-requires-2 c κs = search needs
-
-same-length-2 : tie.Need-same-length-2
-same-length-2 c = search needs
 
 returns-3 : tie.Need-returns-3
 returns-3 c =
@@ -61,9 +43,6 @@ sheet-text-requires c κs =
       c .before .before .before .before .before .before .before .before .if1 .left,
     )
 
-same-length-3 : tie.Need-same-length-3
-same-length-3 c = search needs
-
 returns-4 : tie.Need-returns-4
 returns-4 c =
     let a = c .before .before .before .before .before .before .before .before .before .before .before .before .before .before .args in
@@ -74,18 +53,6 @@ returns-4 c =
 pub rectify-text-spec : {M : Type 1} → statement M
 rectify-text-spec =
     tie.close
-    (tie.spec
-    returns
-    refused-text-requires
-    same-length
-    returns-2
-    slice-aggregate-decide
-    decide-requires
-    refused-text-requires-2
-    same-length-2
-    returns-3
-    array-share-prefix-sheet
-    slice-aggregate-sheet-text
-    sheet-text-requires
-    same-length-3
-    returns-4)
+    (tie.spec returns (λ c κs. search needs) (λ c. search needs) returns-2 (λ c. search needs) (λ c κs. search needs)
+    (λ c κs. search needs) (λ c. search needs) returns-3 array-share-prefix-sheet slice-aggregate-sheet-text
+    sheet-text-requires (λ c. search needs) returns-4)

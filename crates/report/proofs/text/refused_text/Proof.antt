@@ -8,19 +8,10 @@ use borrow.Author.Needs.{needs}
 use Rattle.report.proofs.text.refused_text.Statement.{statement}
 use Rattle.report.proofs.text.refused_text.Tie as tie
 
-slice-aggregate-put-number-line : tie.Need-slice-aggregate-put-number-line
-slice-aggregate-put-number-line c = search needs
-
-wide-requires : tie.Need-wide-requires
-wide-requires c κs = search needs
-
 put-number-line-requires : tie.Need-put-number-line-requires
 put-number-line-requires c κs =
     let e = c .wide .ensures in
     omega (arith, length-number-line refusedWord (c .wide .result) (omega arith))
-
-same-length : tie.Need-same-length
-same-length c = search needs
 
 returns : tie.Need-returns
 returns c =
@@ -30,9 +21,4 @@ returns c =
 pub refused-text-spec : {M : Type 1} → statement M
 refused-text-spec =
     tie.close
-    (tie.spec
-    slice-aggregate-put-number-line
-    wide-requires
-    put-number-line-requires
-    same-length
-    returns)
+    (tie.spec (λ c. search needs) (λ c κs. search needs) put-number-line-requires (λ c. search needs) returns)

@@ -15,9 +15,6 @@ patch-text-requires c κs =
     let s = c .before .before .before .before .before in
     (sheet-patch (s .args .sheet .now) (s .pre .0) (omega arith), omega arith)
 
-same-length : tie.Need-same-length
-same-length c = search needs
-
 returns : tie.Need-returns
 returns c =
     let w = c .before .before in
@@ -28,9 +25,6 @@ unfixable-text-requires : tie.Need-unfixable-text-requires
 unfixable-text-requires c κs =
     let s = c .before .before .before .before .before .before in
     (sheet-unfixable (s .args .sheet .now) (s .pre .0) (omega arith), omega arith)
-
-same-length-2 : tie.Need-same-length-2
-same-length-2 c = search needs
 
 returns-2 : tie.Need-returns-2
 returns-2 c =
@@ -43,9 +37,6 @@ blind-text-requires c κs =
     let s = c .before .before .before .before .before .before in
     (sheet-blind (s .args .sheet .now) (s .pre .0) (omega arith) (omega arith), omega arith)
 
-same-length-3 : tie.Need-same-length-3
-same-length-3 c = search needs
-
 returns-3 : tie.Need-returns-3
 returns-3 c =
     let w = c .before .before in
@@ -55,14 +46,5 @@ returns-3 c =
 pub sheet-text-spec : {M : Type 1} → statement M
 sheet-text-spec =
     tie.close
-    (tie.spec
-    shared-slice-read-tag
-    patch-text-requires
-    same-length
-    returns
-    unfixable-text-requires
-    same-length-2
-    returns-2
-    blind-text-requires
-    same-length-3
-    returns-3)
+    (tie.spec shared-slice-read-tag patch-text-requires (λ c. search needs) returns unfixable-text-requires
+    (λ c. search needs) returns-2 blind-text-requires (λ c. search needs) returns-3)

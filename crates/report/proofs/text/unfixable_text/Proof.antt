@@ -12,22 +12,10 @@ use borrow.Author.Needs.{needs}
 use Rattle.report.proofs.text.unfixable_text.Statement.{statement}
 use Rattle.report.proofs.text.unfixable_text.Tie as tie
 
-slice-aggregate-value-lines : tie.Need-slice-aggregate-value-lines
-slice-aggregate-value-lines c = search needs
-
-sub-quad-at : tie.Need-sub-quad-at
-sub-quad-at c = search needs
-
-part-quad-at-start : tie.Need-part-quad-at-start
-part-quad-at-start c = search needs
-
 part-quad-at-end : tie.Need-part-quad-at-end
 part-quad-at-end c =
     let s = c .before .before .before .before in
     omega (arith, value-length 20 4 (s .args .sheet .now) (s .pre .0))
-
-quad-at-requires : tie.Need-quad-at-requires
-quad-at-requires c κs = search needs
 
 sub-value-lines : tie.Need-sub-value-lines
 sub-value-lines c =
@@ -39,9 +27,6 @@ part-value-lines-start c =
     let s = c .before .before .before .before .before .before in
     omega (arith, value-length 20 4 (s .args .sheet .now) (s .pre .0))
 
-part-value-lines-end : tie.Need-part-value-lines-end
-part-value-lines-end c = search needs
-
 value-lines-requires : tie.Need-value-lines-requires
 value-lines-requires c κs =
     let t = c .before .before .before .before .before .before in
@@ -51,9 +36,6 @@ value-lines-requires c κs =
     let e : c .before .quad-at .result ≡ quad (nth 0 a) = rw (value-part 20 4 a v) at (c .before .quad-at .ensures) in
     let l = quad-lt (nth 0 a) (value-bytes 20 4 a v bytes) in
     omega (arith, value-room 20 4 a v bytes unfixableWord (omega arith) l e (value-vectors 20 4 a v 10 (omega arith)))
-
-same-length : tie.Need-same-length
-same-length c = search needs
 
 returns : tie.Need-returns
 returns c =
@@ -68,15 +50,5 @@ returns c =
 pub unfixable-text-spec : {M : Type 1} → statement M
 unfixable-text-spec =
     tie.close
-    (tie.spec
-    slice-aggregate-value-lines
-    sub-quad-at
-    part-quad-at-start
-    part-quad-at-end
-    quad-at-requires
-    sub-value-lines
-    part-value-lines-start
-    part-value-lines-end
-    value-lines-requires
-    same-length
-    returns)
+    (tie.spec (λ c. search needs) (λ c. search needs) (λ c. search needs) part-quad-at-end (λ c κs. search needs)
+    sub-value-lines part-value-lines-start (λ c. search needs) value-lines-requires (λ c. search needs) returns)

@@ -11,16 +11,10 @@ put-number-line-requires c κs =
     let a = c .before .before .before .before .args in
     omega (arith, length-valueText (a .word .now) (a .x) (a .vectors .now))
 
-slice-aggregate-put-bytes-line : tie.Need-slice-aggregate-put-bytes-line
-slice-aggregate-put-bytes-line c = search needs
-
 put-bytes-line-requires : tie.Need-put-bytes-line-requires
 put-bytes-line-requires c κs =
     let a = c .before .before .before .before .before .before .before .before .before .args in
     omega (arith, length-valueText (a .word .now) (a .x) (a .vectors .now))
-
-same-length : tie.Need-same-length
-same-length c = search needs
 
 returns : tie.Need-returns
 returns c =
@@ -34,9 +28,4 @@ returns c =
 pub value-lines-spec : {M : Type 1} → statement M
 value-lines-spec =
     tie.close
-    (tie.spec
-    put-number-line-requires
-    slice-aggregate-put-bytes-line
-    put-bytes-line-requires
-    same-length
-    returns)
+    (tie.spec put-number-line-requires (λ c. search needs) put-bytes-line-requires (λ c. search needs) returns)

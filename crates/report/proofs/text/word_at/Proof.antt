@@ -6,23 +6,8 @@ use Rattle.records.specs.Bytes.{word}
 use Rattle.report.proofs.text.word_at.Statement.{statement}
 use Rattle.report.proofs.text.word_at.Tie as tie
 
-shared-slice-read-wide : tie.Need-shared-slice-read-wide
-shared-slice-read-wide c = search needs
-
-wide-requires : tie.Need-wide-requires
-wide-requires c κs = search needs
-
 mul-result : tie.Need-mul-result
 mul-result c = omega (arith, c .before .shared-slice-known2 .given (c .before .before .before .args .at))
-
-add-wide : tie.Need-add-wide
-add-wide c = search needs
-
-shared-slice-read-wide-2 : tie.Need-shared-slice-read-wide-2
-shared-slice-read-wide-2 c = search needs
-
-wide-requires-2 : tie.Need-wide-requires-2
-wide-requires-2 c κs = search needs
 
 add-result : tie.Need-add-result
 add-result c =
@@ -36,12 +21,5 @@ returns c = rw (c .before .before .wide .ensures, c .wide2 .ensures)
 pub word-at-spec : {M : Type 1} → statement M
 word-at-spec =
     tie.close
-    (tie.spec
-    shared-slice-read-wide
-    wide-requires
-    mul-result
-    add-wide
-    shared-slice-read-wide-2
-    wide-requires-2
-    add-result
-    returns)
+    (tie.spec (λ c. search needs) (λ c κs. search needs) mul-result (λ c. search needs) (λ c. search needs)
+    (λ c κs. search needs) add-result returns)

@@ -1,0 +1,261 @@
+-- Laws of the walk over the inputs (specs/Walk): a step of the list, steps one after the other, and steps that change nothing.
+-- Assumes nothing.
+use Prim.Native.Nat.{ℕ, zero, suc, _+_, _-_, _^_, _≤_, _<_}
+use mathlib.Core.Path.{_≡_, refl, _∙_, ap}
+use mathlib.Core.Logic.{_⊎_, ⊎-elim}
+use mathlib.Core.List.{List, [], _∷_, _++_, List·Memᴰ as Mem, List·Memᴰ·head as here, Memᴰ·append-left as append-left}
+use mathlib.Core.Bool.{Bool, true, false, cond}
+use mathlib.Core.Option.{Option, none, some}
+use native.Mathlib.Nat.{zero-add, add-zero, suc-add, mod-eq-of-lt, eq-or-lt-of-le}
+use native.Mathlib.Numerals.{add-one}
+use native.Mathlib.Omega.{arith}
+use borrow.Author.Tests.{eq-eqb, ltb-true, ltb-false, lt-ltb, le-ltb}
+use lib.Dec.{ltb}
+use lib.ListN.{length, getD, set, replicate, length-replicate, getD-replicate, List·getD-eq-default}
+use lib.Seq.{set-getD}
+use lib.Bits.{bitAnd, and-le-l, and-mask}
+use lib.Pow.{pow-pos}
+use Rattle.records.specs.Job.{Job}
+use Rattle.engine.specs.Choice.{any}
+use Rattle.engine.specs.Eval.{bit}
+use Rattle.engine.specs.Rectify.{rectifies, Listed}
+use Rattle.engine.specs.Inner.Masks.{rectifiers}
+use Rattle.engine.specs.Inner.List.{lowest, listStep, listedFrom, startList}
+use Rattle.engine.specs.Inner.Note.{narrowed, setsFrom, startSets}
+use Rattle.engine.proofs.Laws.Choice.{true-or-false, none-or-some, any-of-member}
+use Rattle.engine.proofs.Laws.VectorSets.{inSet, rectifiers-bit, rectifiers-full}
+
+-- ---- k steps from x on
+
+unfoldable pub walked : {A : Type 0} → (A → ℕ → A) → A → ℕ → ℕ → A
+walked step a x zero = a
+walked step a x (suc k) = walked step (step a x) (suc x) k
+
+module _ {A : Type 0} (step : A → ℕ → A) where
+  pub walked-append : (a : A) (x k i : ℕ) → walked step a x (k + i) ≡ walked step (walked step a x k) (x + k) i
+  unfolding walked
+  walked-append a x zero i = rw (zero-add i, add-zero x)
+  walked-append a x (suc k) i =
+      let e : suc x + k ≡ x + suc k = omega arith in
+      rw (suc-add k i)
+      (walked-append (step a x) (suc x) k i ∙ ap (λ (n : ℕ). walked step (walked step (step a x) (suc x) k) n i) e)
+
+  pub walked-snoc : (a : A) (x k : ℕ) → walked step a x (k + 1) ≡ step (walked step a x k) (x + k)
+  unfolding walked
+  walked-snoc a x k = walked-append a x k 1
+
+  -- what each step keeps holds at the end
+  pub walked-holds : (P : ℕ → A → Type 0) (a : A) (x k : ℕ) → P x a
+      → ((y : ℕ) → x ≤ y → y < x + k → (b : A) → P y b → P (y + 1) (step b y)) → P (x + k) (walked step a x k)
+  unfolding walked
+  walked-holds P a x zero p h = rw (add-zero x) p
+  walked-holds P a x (suc k) p h =
+      let e : x + 1 + k ≡ x + suc k = omega arith in
+      let q : P (x + 1) (step a x) = h x (omega arith) (omega arith) a p in
+      rw (← e, ← add-one x) (walked-holds P (step a x) (x + 1) k q (λ y l u b r. h y (omega arith) (omega arith) b r))
+
+  -- steps that change nothing
+  pub walked-still : (a : A) (x k : ℕ) → ((y : ℕ) → x ≤ y → y < x + k → step a y ≡ a) → walked step a x k ≡ a
+  unfolding walked
+  walked-still a x zero h = refl
+  walked-still a x (suc k) h =
+      rw (h x (omega arith) (omega arith)) (walked-still a (suc x) k (λ y l u. h y (omega arith) (omega arith)))
+
+-- ---- lists
+
+-- a store keeps a bound of all elements
+pub set-below : (xs : List ℕ) (i x n : ℕ) → ((k : ℕ) → getD xs k 0 < n) → x < n → (k : ℕ) → getD (set xs i x) k 0 < n
+set-below [] i x n b h k = b k
+set-below (y ∷ ys) zero x n b h zero = h
+set-below (y ∷ ys) zero x n b h (suc k) = b (suc k)
+set-below (y ∷ ys) (suc i) x n b h zero = b zero
+set-below (y ∷ ys) (suc i) x n b h (suc k) = set-below ys i x n (λ m. b (suc m)) h k
+
+pub eq-or-below : (x y : ℕ) → x < y + 1 → (x ≡ y) ⊎ (x < y)
+eq-or-below x y h = eq-or-lt-of-le (omega arith)
+
+-- ---- a step of the list
+
+pub listed-eta : (l : Listed) (o : Option ℕ) → l .stuck ≡ o → l ≡ record { vectors = l .vectors; stuck = o }
+listed-eta l o e = ap (λ (q : Option ℕ). record { vectors = l .vectors; stuck = q }) e
+
+module _ (l : Listed) (s x : ℕ) where
+  pub listStep-stuck : (y : ℕ) → l .stuck ≡ some y → listStep l s x ≡ l
+  unfolding listStep
+  listStep-stuck y e = rw (e, listStep) (listed-eta l (some y) e)
+
+  pub listStep-listed : any (inSet s) (l .vectors) ≡ true → listStep l s x ≡ l
+  unfolding listStep
+  listStep-listed a =
+      ⊎-elim
+      (λ (e : l .stuck ≡ none). rw (e, a, listStep) (listed-eta l none e))
+      (λ r. listStep-stuck (r .0) (r .1))
+      (none-or-some (l .stuck))
+
+  module _ (e : l .stuck ≡ none) (a : any (inSet s) (l .vectors) ≡ false) where
+    pub listStep-none : lowest s ≡ none → listStep l s x ≡ record { vectors = l .vectors; stuck = some x }
+    unfolding listStep
+    listStep-none n = rw (e, a, n, listStep)
+
+    pub listStep-append : (v : ℕ) → lowest s ≡ some v → length (l .vectors) < 16
+        → listStep l s x ≡ record { vectors = l .vectors ++ (v ∷ []); stuck = none }
+    unfolding listStep
+    listStep-append v n h = rw (e, a, n, lt-ltb (length (l .vectors)) 16 h, listStep)
+
+    pub listStep-full : (v : ℕ) → lowest s ≡ some v → 16 ≤ length (l .vectors) → listStep l s x ≡ l
+    unfolding listStep
+    listStep-full v n h = rw (e, a, n, le-ltb (length (l .vectors)) 16 h, listStep) (listed-eta l none e)
+
+-- ---- the list after several steps
+
+module _ (f : ℕ → ℕ) where
+  abbrev pub listing : Listed → ℕ → Listed
+  listing l y = listStep l (f y) y
+
+  pub listedFrom-walked : (l : Listed) (x k : ℕ) → listedFrom f l x k ≡ walked listing l x k
+  unfolding listedFrom walked
+  listedFrom-walked l x zero = refl
+  listedFrom-walked l x (suc k) = listedFrom-walked (listStep l (f x) x) (suc x) k
+
+  pub listedFrom-append : (l : Listed) (x k i : ℕ) → listedFrom f l x (k + i) ≡ listedFrom f (listedFrom f l x k) (x + k) i
+  listedFrom-append l x k i =
+      rw (listedFrom-walked l x (k + i), listedFrom-walked l x k, listedFrom-walked (walked listing l x k) (x + k) i)
+      (walked-append listing l x k i)
+
+  pub listedFrom-snoc : (l : Listed) (x k : ℕ)
+      → listedFrom f l x (k + 1) ≡ listStep (listedFrom f l x k) (f (x + k)) (x + k)
+  listedFrom-snoc l x k = rw (listedFrom-walked l x (k + 1), listedFrom-walked l x k) (walked-snoc listing l x k)
+
+-- ---- the sets after several steps
+
+module _ (f g : ℕ → ℕ) where
+  abbrev pub narrowing : List ℕ → ℕ → List ℕ
+  narrowing ss y = narrowed ss (g y) (f y)
+
+  pub setsFrom-walked : (ss : List ℕ) (x k : ℕ) → setsFrom f g ss x k ≡ walked narrowing ss x k
+  unfolding setsFrom walked
+  setsFrom-walked ss x zero = refl
+  setsFrom-walked ss x (suc k) = setsFrom-walked (narrowed ss (g x) (f x)) (suc x) k
+
+  pub setsFrom-append : (ss : List ℕ) (x k i : ℕ) → setsFrom f g ss x (k + i) ≡ setsFrom f g (setsFrom f g ss x k) (x + k) i
+  setsFrom-append ss x k i =
+      rw (setsFrom-walked ss x (k + i), setsFrom-walked ss x k, setsFrom-walked (walked narrowing ss x k) (x + k) i)
+      (walked-append narrowing ss x k i)
+
+  pub setsFrom-snoc : (ss : List ℕ) (x k : ℕ)
+      → setsFrom f g ss x (k + 1) ≡ narrowed (setsFrom f g ss x k) (g (x + k)) (f (x + k))
+  setsFrom-snoc ss x k = rw (setsFrom-walked ss x (k + 1), setsFrom-walked ss x k) (walked-snoc narrowing ss x k)
+
+-- ---- once stuck, the list stays
+
+module _ (f : ℕ → ℕ) (l : Listed) (x k y : ℕ) (e : l .stuck ≡ some y) where
+  pub listedFrom-stuck : listedFrom f l x k ≡ l
+  listedFrom-stuck =
+      listedFrom-walked f l x k ∙ walked-still (listing f) l x k (λ z a b. listStep-stuck l (f z) z y e)
+
+pub stuck-stays : (f : ℕ → ℕ) (l : Listed) (x k y : ℕ) → listedFrom f l 0 x .stuck ≡ some y
+    → listedFrom f l 0 (x + k) ≡ listedFrom f l 0 x
+stuck-stays f l x k y e =
+    listedFrom-append f l 0 x k ∙ listedFrom-stuck f (listedFrom f l 0 x) (0 + x) k y e
+
+-- ---- steps that change nothing
+
+-- a step keeps the listed vectors
+listStep-keeps : (l : Listed) (s x v : ℕ) → Mem v (l .vectors) → Mem v (listStep l s x .vectors)
+listStep-keeps l s x v m =
+    ⊎-elim
+    (λ (n : l .stuck ≡ none).
+    ⊎-elim
+    (λ (a : any (inSet s) (l .vectors) ≡ true). rw (listStep-listed l s x a) m)
+    (λ (a : any (inSet s) (l .vectors) ≡ false).
+    ⊎-elim
+    (λ (e : lowest s ≡ none). rw (listStep-none l s x n a e) m)
+    (λ r.
+    ⊎-elim
+    (λ (t : ltb (length (l .vectors)) 16 ≡ true).
+    rw (listStep-append l s x n a (r .0) (r .1) (ltb-true (length (l .vectors)) 16 t)) (append-left (r .0 ∷ []) m))
+    (λ (t : ltb (length (l .vectors)) 16 ≡ false).
+    rw (listStep-full l s x n a (r .0) (r .1) (ltb-false (length (l .vectors)) 16 t)) m)
+    (true-or-false (ltb (length (l .vectors)) 16)))
+    (none-or-some (lowest s)))
+    (true-or-false (any (inSet s) (l .vectors))))
+    (λ r. rw (listStep-stuck l s x (r .0) (r .1)) m)
+    (none-or-some (l .stuck))
+
+module _ (f : ℕ → ℕ) where
+  -- vector 0 stays listed
+  zero-listed : (x : ℕ) → Mem 0 (listedFrom f startList 0 x .vectors)
+  zero-listed x =
+      rw (listedFrom-walked f startList 0 x)
+      (walked-holds (listing f) (λ y l. Mem 0 (l .vectors)) startList 0 x (here refl)
+      (λ y a b l m. listStep-keeps l (f y) y 0 m))
+
+  -- inputs that vector 0 rectifies add nothing to the list
+  pub listedFrom-skip : (x k : ℕ) → ((y : ℕ) → x ≤ y → y < x + k → bit 0 (f y) ≡ 1)
+      → listedFrom f startList 0 (x + k) ≡ listedFrom f startList 0 x
+  listedFrom-skip x k h =
+      let l : Listed = listedFrom f startList 0 x in
+      let o : 0 + x ≡ x = zero-add x in
+      listedFrom-append f startList 0 x k
+      ∙ ap (λ (z : ℕ). listedFrom f l z k) o
+      ∙ listedFrom-walked f l x k
+      ∙ walked-still (listing f) l x k
+      (λ y a b.
+      listStep-listed l (f y) y
+      (any-of-member (inSet (f y)) (l .vectors) 0 (zero-listed x) (eq-eqb (bit 0 (f y)) 1 (h y a b))))
+
+module _ (f g : ℕ → ℕ) (n : ℕ) where
+  -- no set grows
+  sets-lt : (ss : List ℕ) (x : ℕ) → ((r : ℕ) → getD ss r 0 < n) → (r : ℕ) → getD (setsFrom f g ss 0 x) r 0 < n
+  unfolding narrowed
+  sets-lt ss x h =
+      rw (setsFrom-walked f g ss 0 x)
+      (walked-holds (narrowing f g) (λ y ts. (r : ℕ) → getD ts r 0 < n) ss 0 x h
+      (λ y a b ts t. set-below ts (g y) (bitAnd (getD ts (g y) 0) (f y)) n t
+      (omega (arith, and-le-l (getD ts (g y) 0) (f y), t (g y)))))
+
+-- inputs that every vector rectifies narrow no set
+pub setsFrom-skip : (f g : ℕ → ℕ) (n : ℕ) (ss : List ℕ) (x k : ℕ) → ((r : ℕ) → getD ss r 0 < 2 ^ n)
+    → ((y : ℕ) → x ≤ y → y < x + k → f y ≡ 2 ^ n - 1) → setsFrom f g ss 0 (x + k) ≡ setsFrom f g ss 0 x
+unfolding narrowed
+setsFrom-skip f g n ss x k b h =
+    let ts : List ℕ = setsFrom f g ss 0 x in
+    let o : 0 + x ≡ x = zero-add x in
+    setsFrom-append f g ss 0 x k
+    ∙ ap (λ (z : ℕ). setsFrom f g ts z k) o
+    ∙ setsFrom-walked f g ts x k
+    ∙ walked-still (narrowing f g) ts x k
+    (λ y a l.
+    let r : ℕ = g y in
+    let t : ℕ = getD ts r 0 in
+    ap (λ (s : ℕ). set ts r (bitAnd t s)) (h y a l)
+    ∙ ap (λ (s : ℕ). set ts r s) (and-mask t n ∙ mod-eq-of-lt (sets-lt f g (2 ^ n) ss x b r))
+    ∙ set-getD ts r 0)
+
+startSets-lt : (m r : ℕ) → getD (startSets m) r 0 < 2 ^ 2 ^ m
+unfolding startSets
+startSets-lt m r =
+    ⊎-elim
+    (λ (t : ltb r 1024 ≡ true).
+    omega (arith, getD-replicate 1024 r (2 ^ 2 ^ m - 1) 0 (ltb-true r 1024 t), pow-pos (2 ^ m)))
+    (λ (t : ltb r 1024 ≡ false).
+    omega (
+      arith,
+      List·getD-eq-default (replicate 1024 (2 ^ 2 ^ m - 1)) 0 {n = r}
+          (omega (arith, length-replicate 1024 (2 ^ 2 ^ m - 1), ltb-false r 1024 t)),
+      pow-pos (2 ^ m),
+    ))
+    (true-or-false (ltb r 1024))
+
+module _ (j : Job) (x k : ℕ) (h : (y : ℕ) → x ≤ y → y < x + k → (v : ℕ) → v < 2 ^ j .targets → rectifies j y v ≡ true) where
+  pub walk-skip-list : listedFrom (rectifiers j) startList 0 (x + k) ≡ listedFrom (rectifiers j) startList 0 x
+  walk-skip-list =
+      listedFrom-skip (rectifiers j) x k
+      (λ y a b.
+      rectifiers-bit j y 0 (pow-pos (j .targets)) ∙ ap (λ (c : Bool). cond c 1 0) (h y a b 0 (pow-pos (j .targets))))
+
+  pub walk-skip-sets : (g : ℕ → ℕ)
+      → setsFrom (rectifiers j) g (startSets (j .targets)) 0 (x + k) ≡ setsFrom (rectifiers j) g (startSets (j .targets)) 0 x
+  walk-skip-sets g =
+      setsFrom-skip (rectifiers j) g (2 ^ j .targets) (startSets (j .targets)) x k (startSets-lt (j .targets))
+      (λ y a b. rectifiers-full j y (h y a b))

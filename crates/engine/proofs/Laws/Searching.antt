@@ -1,0 +1,186 @@
+-- Laws of the steps of the search over a job's inputs (specs/Inner/Search). Assumes nothing.
+use Prim.Native.Nat.{ℕ, _+_, _-_, _*_, _/_, _%_, _^_, _≤_, _<_}
+use mathlib.Core.Path.{_≡_, refl, sym, _∙_, ap, subst}
+use mathlib.Core.Logic.{_⊎_, inl, ⊎-elim}
+use mathlib.Core.List.{List, map}
+use mathlib.Core.Bool.{Bool, true, false, cond}
+use native.Mathlib.Nat.{zero-add, div-one}
+use native.Mathlib.Omega.{arith}
+use lib.ListN.{length, getD, take, replicate, length-take}
+use lib.Pow.{pow-mono}
+use lib.Seq.{slice}
+use Rattle.records.specs.Job.{Job}
+use Rattle.engine.specs.Eval.{bit, numberOf}
+use Rattle.engine.specs.Choice.{same}
+use Rattle.engine.specs.Rectify.{rectifies}
+use Rattle.engine.specs.Inner.Kernel.{Ran, NetSet, NetsSet, valueIn, rowValue}
+use Rattle.engine.specs.Inner.Masks.{ordered, turns, Among}
+use Rattle.engine.specs.Inner.Plan.{BlockAt, PlannedOf}
+use Rattle.engine.specs.Inner.Search.{BlockEvaluated, TargetTurned, BlockMasks, BlockRange, Searched}
+use Rattle.engine.specs.Inner.Note.{gathered, BlockNoted}
+use Rattle.engine.specs.Support.{candidateNets}
+use Rattle.engine.specs.Inner.List.{Held}
+use Rattle.engine.specs.declared.list.Vectors.{Vectors}
+use Rattle.engine.specs.declared.plan.Plan.{Plan}
+use Rattle.engine.proofs.Laws.BlockRows.{equal-rectifies, read-values, MasksTo, masks-none, masks-next, masks-gathered}
+use Rattle.engine.proofs.Laws.Gray.{ordered-none, turns-among, ordered-kept}
+use Rattle.engine.proofs.Laws.Miter.{candidates-below}
+use Rattle.engine.proofs.Laws.Plan.{block-based, block-target}
+use Rattle.engine.proofs.Laws.Rows.{setsFrom-length}
+use Rattle.engine.proofs.Laws.Search.{progress-noted, progress-at, progress-stuck, progress-skip}
+use Rattle.engine.proofs.Laws.Support.{reading-lt}
+
+module _ (p : Plan) (gates : List ℕ) where
+  -- leaves loaded and all gates run
+  pub block-evaluated : (b : ℕ) {w₀ w₁ w₂ w₃ : List ℕ} → length w₀ ≡ 16384 → NetsSet 0 (p .inputs) (λ y k. bit k (1024 * b + y)) w₀ w₁
+      → NetsSet (p .inputs) (p .targets) (λ y k. 0) w₁ w₂ → Ran (slice 0 (getD (p .ends) 0 0) gates) w₂ w₃
+      → BlockEvaluated p gates b w₃
+  block-evaluated b {w₀} {w₁} {w₂} {w₃} l s t r =
+      record {
+        long = r .long ∙ t .long ∙ s .long ∙ l;
+        values = λ j is q.
+            block-based q b w₂ w₃
+            (λ y k h e.
+            t .kept y k h (inl (omega (arith, q .inputs))) ∙ (rw zero-add at (s .put y k h (omega (arith, q .inputs)))))
+            (λ y k h e. subst (λ (n : ℕ). valueIn w₂ y (n + k) ≡ 0) (q .inputs) (t .put y k h (omega (arith, q .targets))))
+            r;
+      }
+
+  -- one target set, and the gates that it leads to run
+  pub target-turned : (t x : ℕ) {w w₁ w₂ : List ℕ} → NetSet (p .inputs + t) (λ y. bit 0 x) w w₁
+      → Ran (slice (getD (p .ends) t 0) (getD (p .ends) (t + 1) 0) gates) w₁ w₂ → TargetTurned p gates t x w w₂
+  target-turned t x {w} {w₁} {w₂} s r =
+      record {
+        long = r .long ∙ s .long;
+        turned = λ j is q b v u h e k a.
+            let n : NetSet (j .inputs + t) (λ y. bit t u) w w₁ =
+            subst (λ (i : ℕ). NetSet (i + t) (λ y. bit t u) w w₁) (q .inputs)
+            (record { long = s .long; put = λ y l. s .put y l ∙ sym e; kept = s .kept }) in
+            block-target q b t (λ y. u) (λ y. v) w w₁ w₂ h a n (λ y i l. k i) r;
+      }
+
+-- ---- the rows of the vectors, one after the other
+
+-- a row says where the outputs of both circuits have the same values
+abbrev pub RowEqual : Plan → List ℕ → List ℕ → Type 0
+RowEqual p words r =
+    (y : ℕ) → y < 1024
+    → rowValue r y
+    ≡ cond (same (map (valueIn words y) (take (p .outs) (p .outputs))) (map (valueIn words y) (take (p .outs) (p .goldens)))) 1 0
+
+-- from the words w₀ at vector 0: the words w at the vector of the step before s, and the rows ms of the steps below s
+abbrev pub MasksDone : Plan → List ℕ → ℕ → List ℕ → ℕ → List ℕ → List ℕ → Type 0
+MasksDone p gates u w₀ s w ms =
+    (j : Job) (is : List ℕ) (q : PlannedOf j is p gates) (b : ℕ) → BlockAt j (q .live) b (λ y. 0) w₀
+    → BlockAt j (q .live) b (λ y. ordered u (s - 1)) w × MasksTo j b u s ms
+
+bit-shifted : (t v : ℕ) → bit t v ≡ bit 0 (v / 2 ^ t)
+unfolding bit
+bit-shifted t v = ap (λ (x : ℕ). x % 2) (sym (div-one (v / 2 ^ t)))
+
+module _ (p : Plan) (gates : List ℕ) where
+  mask-row : {j : Job} {is : List ℕ} (q : PlannedOf j is p gates) (b v : ℕ) {w : List ℕ} (r : List ℕ) → BlockAt j (q .live) b (λ y. v) w
+      → RowEqual p w r → (y : ℕ) → y < 1024 → rowValue r y ≡ cond (rectifies j (1024 * b + y) v) 1 0
+  mask-row {j} {is} q b v {w} r a e y h =
+      e y h
+      ∙ ap (λ (os : List ℕ). cond (same (map (valueIn w y) os) (map (valueIn w y) (take (p .outs) (p .goldens)))) 1 0) (q .outputs)
+      ∙ ap (λ (os : List ℕ). cond (same (map (valueIn w y) (j .old .outputs)) (map (valueIn w y) os)) 1 0) (q .goldens)
+      ∙ ap (λ (t : Bool). cond t 1 0) (equal-rectifies q a y h)
+
+  module _ (u : ℕ) (o : u < 4) where
+    pub masks-first : (w r : List ℕ) {ms : List ℕ} → RowEqual p w r → NetSet 0 (rowValue r) (replicate 256 0) ms
+        → MasksDone p gates u w 1 w ms
+    masks-first w r {ms} e n j is q b a =
+        let z : 0 ≡ ordered u 0 = sym (ordered-none u o) in
+        let d : BlockAt j (q .live) b (λ y. ordered u 0) w = subst (λ (v : ℕ). BlockAt j (q .live) b (λ y. v) w) z a in
+        (d, masks-next j b u o 0 r (masks-none j b u o 0) (omega arith) (subst (λ (v : ℕ). NetSet v (rowValue r) (replicate 256 0) ms) z n) (mask-row q b (ordered u 0) r d e))
+
+    pub masks-turned : (s : ℕ) {w₀ w w′ ms ms′ : List ℕ} (r : List ℕ) → p .targets ≤ 4 → Among (p .targets) u → 0 < s → s < 2 ^ p .targets
+        → MasksDone p gates u w₀ s w ms → TargetTurned p gates (turns u s) (ordered u s / 2 ^ turns u s) w w′ → RowEqual p w′ r
+        → NetSet (ordered u s) (rowValue r) ms ms′ → MasksDone p gates u w₀ (s + 1) w′ ms′
+    masks-turned s {w₀} {w} {w′} {ms} {ms′} r m f z l d t e n j is q b a =
+        let few : 2 ^ p .targets ≤ 16 = pow-mono {j = 4} m in
+        let k : s < 16 = omega arith in
+        let g = d j is q b a in
+        let back : s - 1 + 1 ≡ s = omega arith in
+        let here : s + 1 - 1 ≡ s = omega arith in
+        let turned : BlockAt j (q .live) b (λ y. ordered u s) w′ =
+        t .turned j is q b (ordered u (s - 1)) (ordered u s)
+        (omega (arith, turns-among u o (p .targets) (omega arith) f s z l k, q .targets))
+        (bit-shifted (turns u s) (ordered u s))
+        (λ i h c.
+        subst (λ (x : ℕ). bit i (ordered u x) ≡ bit i (ordered u (s - 1))) back
+        (ordered-kept u o (s - 1) i (omega arith) (omega (arith, q .targets))
+        (λ y.
+        let y′ : i ≡ turns u s = y ∙ ap (turns u) back in
+        ⊎-elim (λ (v : i < turns u s). let x : ⊥ = omega arith in x) (λ (v : turns u s < i). let x : ⊥ = omega arith in x) c)))
+        (g .0) in (
+          subst (λ (x : ℕ). BlockAt j (q .live) b (λ y. ordered u x) w′) (sym here) turned,
+          masks-next j b u o s r (g .1) k n (mask-row q b (ordered u s) r turned e),
+        )
+
+    pub masks-all : {w₀ w ms : List ℕ} → p .targets ≤ 4 → Among (p .targets) u → length ms ≡ 256
+        → MasksDone p gates u w₀ (2 ^ p .targets) w ms → BlockMasks p gates w₀ ms
+    masks-all {w₀} {w} {ms} m f l d =
+        record {
+          long = l;
+          sets = λ j is q b a y h.
+              masks-gathered j b u ms (omega (arith, q .targets)) o (subst (λ (k : ℕ). Among k u) (q .targets) f)
+              (subst (λ (k : ℕ). MasksTo j b u (2 ^ k) ms) (q .targets) (d j is q b a .1))
+              y
+              h;
+        }
+
+-- ---- the list and the sets
+
+module _ {p : Plan} {gates : List ℕ} where
+  pub searched-stuck : {x z : ℕ} {v : Vectors} {ss : List ℕ} → Held v → x ≤ z → v .stuck ≡ true → Searched p gates x z v ss v ss
+  searched-stuck h l s = record { held = h; long = refl; progress = λ j q g. progress-stuck g l s }
+
+  -- inputs that every vector rectifies
+  pub searched-skip : {x z : ℕ} {v : Vectors} {ss : List ℕ} → Held v → x ≤ z
+      → ((j : Job) (is : List ℕ) → PlannedOf j is p gates → (y u : ℕ) → x ≤ y → y < z → rectifies j y u ≡ true)
+      → Searched p gates x z v ss v ss
+  searched-skip h l r =
+      record { held = h; long = refl; progress = λ j q g. progress-skip g l (λ y a b u c. r j (candidateNets j) q y u a b) }
+
+  pub searched-at : {x y z w : ℕ} {v v′ : Vectors} {ss ss′ : List ℕ} → x ≡ y → z ≡ w → Searched p gates x z v ss v′ ss′
+      → Searched p gates y w v ss v′ ss′
+  searched-at d e s =
+      record { held = s .held; long = s .long; progress = λ j q g. progress-at (s .progress j q (progress-at g (sym d))) e }
+
+  pub searched-then : {x y z : ℕ} {v v′ v″ : Vectors} {ss ss′ ss″ : List ℕ} → Searched p gates x y v ss v′ ss′
+      → Searched p gates y z v′ ss′ v″ ss″ → Searched p gates x z v ss v″ ss″
+  searched-then s t =
+      record { held = t .held; long = t .long ∙ s .long; progress = λ j q g. t .progress j q (s .progress j q g) }
+
+  -- a block
+  pub searched-block : (b count : ℕ) (masks readings words : List ℕ) {v v′ : Vectors} {ss ss′ : List ℕ} → v .stuck ≡ false
+      → p .reads ≤ 10 → BlockRange (p .inputs) b count → BlockEvaluated p gates b words
+      → ((y : ℕ) → y < 1024 → gathered readings y ≡ numberOf (map (valueIn words y) (take (p .reads) (p .nets))))
+      → BlockMasks p gates words masks → BlockNoted masks readings (1024 * b) count v ss v′ ss′
+      → Searched p gates (1024 * b) (1024 * b + count) v ss v′ ss′
+  searched-block b count masks readings words {v} {v′} {ss} {ss′} s k r e g m n =
+      record {
+        held = n .list .held;
+        long = ap length (n .sets) ∙ setsFrom-length (gathered masks) (λ y. gathered readings y % 1024) ss 0 1024;
+        progress = λ j q h.
+            let is = candidateNets j in
+            let a = e .values j is q in
+            let below = candidates-below j (q .good) in
+            let few : length is ≤ 10 = omega (arith, ap length (sym (q .nets)), length-take (p .reads) (p .nets)) in
+            progress-noted b count masks readings h s
+            (subst (λ (i : ℕ). BlockRange i b count) (q .inputs) r)
+            (m .sets j is q b a)
+            (λ y l. g y l ∙ ap (λ (os : List ℕ). numberOf (map (valueIn words y) os)) (q .nets) ∙ read-values q a below y l)
+            (λ x. omega (arith, reading-lt j is x, pow-mono {j = 10} few))
+            n;
+      }
+
+-- a block's number is small
+pub block-small : {n b count : ℕ} → BlockRange n b count → n ≤ 20 → b < 65536
+block-small {n} {b} {count} r h = omega (arith, r .within, pow-mono {j = 20} h)
+
+-- four targets have sixteen vectors at most
+pub vectors-many : {m : ℕ} → m ≤ 4 → 2 ^ m ≤ 16
+vectors-many h = pow-mono {j = 4} h

@@ -1,0 +1,58 @@
+-- Laws of a table's entries for the readings of a block (src/drive.rt): quarter by quarter in the transposed rows. Assumes nothing.
+use Prim.Native.Nat.{ℕ, zero, suc, _+_, _*_, _/_, _%_, _^_, _<_}
+use mathlib.Core.Path.{_≡_, sym, _∙_, ap}
+use mathlib.Core.List.{List}
+use native.Mathlib.Nat.{div-one}
+use native.Mathlib.Omega.{arith}
+use lib.ListN.{getD}
+use Rattle.engine.specs.Inner.Note.{gathered}
+use Rattle.engine.specs.Inner.Turn.{AllTurned, Looked}
+use Rattle.engine.proofs.Laws.Rows.{part, part-small, turnOf, turnOf-lt, gathered-part, turned-back}
+
+-- ---- four numbers in a word
+
+module _ (a b c d : ℕ) (h : a < 256) (i : b < 256) (j : c < 256) (k : d < 256) where
+  abbrev four : ℕ
+  four = a + b * 65536 + c * 4294967296 + d * 281474976710656
+
+  four-first : four % 65536 ≡ a
+  four-first = omega arith
+
+  four-second : four / 65536 % 65536 ≡ b
+  four-second = omega arith
+
+  four-third : four / 4294967296 % 65536 ≡ c
+  four-third = omega arith
+
+  four-fourth : four / 281474976710656 % 65536 ≡ d
+  four-fourth = omega arith
+
+  -- as the code makes it
+  pub four-word : a + b * 2 ^ 16 % 2 ^ 64 + c * 2 ^ 32 % 2 ^ 64 + d * 2 ^ 48 % 2 ^ 64 ≡ four
+  four-word = omega arith
+
+pub looked-four : (t : List ℕ) (x a b c d : ℕ) → a < 256 → b < 256 → c < 256 → d < 256 → a ≡ getD t (x % 1024) 0
+    → b ≡ getD t (x / 2 ^ 16 % 1024) 0 → c ≡ getD t (x / 2 ^ 32 % 1024) 0 → d ≡ getD t (x / 2 ^ 48 % 1024) 0
+    → Looked t x (a + b * 2 ^ 16 % 2 ^ 64 + c * 2 ^ 32 % 2 ^ 64 + d * 2 ^ 48 % 2 ^ 64)
+looked-four t x a b c d h i j k p q r s zero l =
+    rw (four-word a b c d h i j k, div-one x) (ap (λ (n : ℕ). n % 65536) (div-one _) ∙ four-first a b c d h i j k ∙ p)
+looked-four t x a b c d h i j k p q r s (suc zero) l = rw (four-word a b c d h i j k) (four-second a b c d h i j k ∙ q)
+looked-four t x a b c d h i j k p q r s (suc (suc zero)) l = rw (four-word a b c d h i j k) (four-third a b c d h i j k ∙ r)
+looked-four t x a b c d h i j k p q r s (suc (suc (suc zero))) l =
+    rw (four-word a b c d h i j k) (four-fourth a b c d h i j k ∙ s)
+looked-four t x a b c d h i j k p q r s (suc (suc (suc (suc n)))) l = let f : ⊥ = omega arith in absurd f
+
+-- ---- all the words
+
+module _ (t x read found r : List ℕ) (p : AllTurned x read) (q : AllTurned found r)
+    (l : (i : ℕ) → i < 256 → Looked t (getD read i 0) (getD found i 0)) where
+  looked-part : (n : ℕ) → n < 1024 → part 65536 found n ≡ getD t (part 1024 read n) 0
+  unfolding part
+  looked-part n h = l (n / 4) (omega arith) (n % 4) (omega arith)
+
+  pub looked-rows : (y : ℕ) → y < 1024 → gathered r y ≡ getD t (gathered x y % 1024) 0
+  looked-rows y h =
+      let n = turnOf y in
+      gathered-part r found (turned-back found r q) y h
+      ∙ looked-part n (turnOf-lt y h)
+      ∙ ap (λ (m : ℕ). getD t m 0) (part-small read n ∙ ap (λ (z : ℕ). z % 1024) (sym (gathered-part x read p y h)))

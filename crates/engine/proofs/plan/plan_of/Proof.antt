@@ -1,0 +1,49 @@
+-- `engine::plan::plan_of` meets its contract: the lists of the miter's live gates are a plan of its job. Assumes nothing.
+use native.Mathlib.Omega.{arith}
+use Rattle.engine.proofs.Laws.PlanLists.{planned}
+use Rattle.engine.proofs.plan.plan_of.Statement.{statement}
+use Rattle.engine.proofs.plan.plan_of.Tie as tie
+
+live-marks-requires : tie.Need-live-marks-requires
+live-marks-requires c κs =
+    let s = c .before .before .before .before .before in
+    let p = s .pre .0 in (
+      (omega (arith, p .gates, p .count), p .outs, s .pre .1),
+      (p .outputs, λ i. p .below i .0, p .goldens, λ i. p .below i .1),
+    )
+
+lists-of-requires : tie.Need-lists-of-requires
+lists-of-requires c κs =
+    let s = c .before .before .before .before .before .before .before .before .before .before in
+    let p = s .pre .0 in
+    (omega (arith, p .gates, p .count), p .inputs, p .targets, s .pre .2)
+
+returns : tie.Need-returns
+returns c =
+    let m = c .before .before .before .before .before in
+    let s = m .before .before .before .before .before .before in
+    let a = s .args in
+    let p = s .pre .0 in
+    let q = s .pre .1 in
+    let u = c .lists-of .ensures in (
+      record {
+        long = u .long;
+        ends = u .six;
+        outputs = p .outputs;
+        goldens = p .goldens;
+        nets = q .long;
+        within = u .within;
+        outputs-below = λ i. p .below i .0;
+        goldens-below = λ i. p .below i .1;
+        nets-below = q .below;
+        inputs = p .inputs;
+        targets = p .targets;
+        outs = p .outs;
+        reads = q .few;
+      },
+      λ j is o e h.
+          planned j is (a .t1) o (a .nets) (a .reads) e h (m .live-marks .result) (m .live-marks .ensures) (c .lists-of .result) _ u,
+    )
+
+pub plan-of-spec : {M : Type 1} → statement M
+plan-of-spec = tie.close (tie.spec live-marks-requires lists-of-requires returns)

@@ -1,0 +1,41 @@
+-- `engine::turn::transpose` meets its contract. The invariant: the columns below w are turned. Assumes nothing.
+use Prim.Native.Nat.{_-_, _≤_}
+use native.Mathlib.Omega.{arith}
+use Rattle.engine.proofs.Laws.Turn.{TurnedTo, turned-none, turned-next}
+use Rattle.engine.proofs.turn.transpose.Statement.{statement}
+use Rattle.engine.proofs.turn.transpose.Tie as tie
+
+abbrev Inv-loop : tie.InvT-loop
+Inv-loop y₀ w₀ y w = (w ≤ 16) × TurnedTo w y₀ y
+
+abbrev μ-loop : tie.MeasureT-loop
+μ-loop y₀ w₀ y w = 16 - w
+
+loop-holds : tie.Need-loop-holds Inv-loop μ-loop
+loop-holds c = (omega arith, turned-none (c .args .x) (c .pre))
+
+loop-again : tie.Need-loop-again Inv-loop μ-loop
+loop-again c =
+    let t = c .before .before in
+    let d = t .before in
+    let o = d .before .before .before in
+    let l = o .loop in (
+      omega arith,
+      turned-next (l .w) (o .before .args .x) (l .y) (c .put-column .last .1 .1 .0) (d .column .result) (t .turn .result)
+          (omega arith)
+          (l .inv .1)
+          (d .column .ensures)
+          (t .turn .ensures)
+          (c .put-column .ensures),
+    )
+
+returns : tie.Need-returns Inv-loop μ-loop
+returns c =
+    let l = c .before .loop in
+    (l .inv .1 .long, λ w h. l .inv .1 .done w (omega arith))
+
+pub transpose-spec : {M : Type 1} → statement M
+transpose-spec =
+    tie.close
+    (tie.spec Inv-loop μ-loop loop-holds (λ c κs. omega arith) (λ c κs. tt) (λ c κs. omega arith) (λ c. omega arith)
+    (λ c. omega arith) loop-again returns)

@@ -1,0 +1,57 @@
+-- What a block of 1,024 inputs does to the vector list and to the sets of all readings (src/note.rt): 16 rows of 16 words, word w of row i
+-- at 16 * i + w; what row i says of input y of the block is its value in scenario y. No public contract cites this file. Assumes nothing.
+--
+--   narrowed ss r s              the sets ss with the one of reading r cut down to its part in s
+--   setsFrom f g ss x k          .. after the k inputs from x on, where g says the reading of each
+--   gathered x y     the number whose bit i is what row i of x says of scenario y
+--   Covered ..       a listed vector is in the set of each scenario
+--   BlockNoted ..    the list and the sets after a block's inputs
+use Prim.Native.Nat.{ℕ, zero, suc, _+_, _-_, _*_, _^_, _<_, _%_}
+use mathlib.Core.Path.{_≡_}
+use mathlib.Core.List.{List}
+use mathlib.Core.Bool.{true}
+use lib.Bits.{bitAnd}
+use lib.Dec.{eqb}
+use lib.ListN.{getD, set, replicate}
+use Rattle.records.specs.Bytes.{tabulate}
+use Rattle.engine.specs.Choice.{any, first}
+use Rattle.engine.specs.Eval.{bit, numberOf}
+use Rattle.engine.specs.Support.{reading}
+use Rattle.engine.specs.declared.list.Vectors.{Vectors}
+use Rattle.engine.specs.Inner.List.{listedOf, listedFrom, Held}
+use Rattle.engine.specs.Inner.Kernel.{valueIn}
+
+abbrev pub maxReadings : ℕ
+maxReadings = 1024
+
+-- ---- the sets of all readings
+
+unfoldable pub narrowed : List ℕ → ℕ → ℕ → List ℕ
+narrowed ss r s = set ss r (bitAnd (getD ss r 0) s)
+
+unfoldable pub setsFrom : (ℕ → ℕ) → (ℕ → ℕ) → List ℕ → ℕ → ℕ → List ℕ
+setsFrom f g ss x zero = ss
+setsFrom f g ss x (suc k) = setsFrom f g (narrowed ss (g x) (f x)) (suc x) k
+
+unfoldable pub startSets : ℕ → List ℕ
+startSets m = replicate maxReadings (2 ^ 2 ^ m - 1)
+
+unfoldable pub gathered : List ℕ → ℕ → ℕ
+gathered x y = numberOf (tabulate 16 (valueIn x y))
+
+abbrev pub Covered : List ℕ → List ℕ → Type 0
+Covered masks vs = (y : ℕ) → y < 1024 → any (λ v. eqb (bit v (gathered masks y)) 1) vs ≡ true
+
+-- what f says of the count inputs from first on is what the masks say of the first count scenarios
+abbrev pub Gathers : List ℕ → ℕ → ℕ → (ℕ → ℕ) → Type 0
+Gathers masks first count f = (y : ℕ) → y < count → gathered masks y ≡ f (first + y)
+
+-- the list w after the count inputs from first on, from the list v
+pub record ListNoted (masks : List ℕ) (first count : ℕ) (v w : Vectors) : Type 0 where
+  pub held : Held w
+  pub listed : (f : ℕ → ℕ) → Gathers masks first count f → listedOf w ≡ listedFrom f (listedOf v) first count
+
+-- .. and the sets ts after all 1,024 scenarios, from the sets ss
+pub record BlockNoted (masks readings : List ℕ) (first count : ℕ) (v : Vectors) (ss : List ℕ) (w : Vectors) (ts : List ℕ) : Type 0 where
+  pub list : ListNoted masks first count v w
+  pub sets : ts ≡ setsFrom (gathered masks) (λ y. gathered readings y % 1024) ss 0 1024

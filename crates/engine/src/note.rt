@@ -1,0 +1,158 @@
+// What a block of 1,024 inputs adds to the walk: its rows of masks say which vectors rectify each input, its rows of readings what the
+// candidates give there. The sets of vectors are narrowed by all of its inputs; the vector list is stepped only where the listed vectors
+// do not cover the block.
+ghost use mathlib.Core.Path.{_≡_};
+ghost use mathlib.Core.Bool.{true};
+ghost use Prim.Native.Nat.{ℕ, _+_, _-_, _*_, _/_, _%_, _^_, _≤_, _<_};
+ghost use lib.Bits.{bitOr};
+ghost use lib.ListN.{length, getD, take};
+ghost use Rattle.engine.specs.Inner.Note.{narrowed, setsFrom, gathered, Covered, ListNoted, BlockNoted};
+ghost use Rattle.engine.specs.Inner.List.{Held};
+use super::limits::READINGS;
+use super::limits::ROW;
+use super::limits::ROWS;
+use super::limits::VECTORS;
+use super::list::Vectors;
+use super::list::list_step;
+use super::turn::transpose;
+
+// The sets with the one of a reading cut down to its part in a set of vectors.
+fn meet(reading: u64, set: u64, sets: &mut [u16; READINGS])
+    ensures { λ r. ⌜ now (sets .exit) ≡ narrowed (now (sets .entry)) (reading % 1024) (set % 65536) ⌝ }
+{
+    let at = (reading % 1024) as usize;
+    let was = sets[at];
+    let now = was & ((set % 65536) as u16);
+    if now != was {
+        sets[at] = now;
+    }
+}
+
+// .. for the four readings and sets that two words hold
+fn meet_four(readings: u64, masks: u64, sets: &mut [u16; READINGS])
+    ensures { λ r. ⌜ now (sets .exit) ≡ narrowed (narrowed (narrowed (narrowed (now (sets .entry))
+        (readings % 1024) (masks % 65536)) (readings / 2 ^ 16 % 1024) (masks / 2 ^ 16 % 65536))
+        (readings / 2 ^ 32 % 1024) (masks / 2 ^ 32 % 65536)) (readings / 2 ^ 48 % 1024) (masks / 2 ^ 48 % 65536) ⌝ }
+{
+    meet(readings, masks, sets);
+    meet(readings >> 16, masks >> 16, sets);
+    meet(readings >> 32, masks >> 32, sets);
+    meet(readings >> 48, masks >> 48, sets);
+}
+
+// The sets after the 1,024 inputs of a block. Transposed, a word has the sets, or the readings, of four of them.
+pub(super) fn meet_block(masks: [u64; ROWS], readings: [u64; ROWS], sets: &mut [u16; READINGS])
+    requires { ⌜ (length masks ≡ 256) × (length readings ≡ 256) ⌝ }
+    ensures { λ r. ⌜ now (sets .exit) ≡ setsFrom (gathered masks) (λ y. gathered readings y % 1024) (now (sets .entry)) 0 1024 ⌝ }
+{
+    let turned = transpose(masks);
+    let read = transpose(readings);
+    let mut i = 0usize;
+    while i < 256 {
+        meet_four(read[i], turned[i], sets);
+        i += 1;
+    }
+}
+
+// The set of the vectors that rectify input y of the block.
+fn gather_rows(masks: &[u64; ROWS], y: usize) -> usize
+    requires { ⌜ y < 1024 ⌝ }
+    ensures { λ r. ⌜ (r ≡ gathered (now (masks .entry)) y) × (r < 65536) ⌝ }
+{
+    let w = y / 64;
+    let b = y % 64;
+    let mut r = 0usize;
+    let mut i = 16usize;
+    while 0 < i {
+        i -= 1;
+        r = 2 * r + ((masks[16 * i + w] >> b) % 2) as usize;
+    }
+    r
+}
+
+// The list after the first count inputs of a block, one after the other.
+fn list_block(masks: [u64; ROWS], first: usize, count: usize, list: Vectors) -> Vectors
+    requires { ⌜ (count ≤ 1024) × (first < 2 ^ 32) × Held list ⌝ }
+    ensures { λ r. ⌜ ListNoted masks first count list r ⌝ }
+{
+    let mut list = list;
+    let mut y = 0usize;
+    while y < count {
+        let set = gather_rows(&masks, y);
+        list = list_step(list, set, first + y);
+        y += 1;
+    }
+    list
+}
+
+// The words joined with those of row v.
+fn join_row(v: usize, masks: &[u64; ROWS], words: [u64; ROW]) -> [u64; ROW]
+    requires { ⌜ v < 16 ⌝ }
+    ensures { λ r. ⌜ ((w : ℕ) → w < 16 → getD r w 0 ≡ bitOr (getD words w 0) (getD (now (masks .entry)) (16 * v + w) 0)) ⌝ }
+{
+    let mut r = [0u64; ROW];
+    let mut w = 0usize;
+    while w < 16 {
+        r[w] = words[w] | masks[16 * v + w];
+        w += 1;
+    }
+    r
+}
+
+// Whether each of 1,024 bits is 1.
+fn all_ones(words: [u64; ROW]) -> bool
+    ensures { λ r. ⌜ (r ≡ true → (w : ℕ) → w < 16 → getD words w 0 ≡ 2 ^ 64 - 1) ⌝ }
+{
+    let mut w = 0usize;
+    while w < 16 {
+        if words[w] != 0xffff_ffff_ffff_ffff {
+            return false;
+        }
+        w += 1;
+    }
+    true
+}
+
+// Whether a listed vector rectifies each input of the block.
+fn covered(masks: [u64; ROWS], list: [u8; VECTORS], len: usize) -> bool
+    requires { ⌜ (len ≤ 16) × ((i : ℕ) → getD list i 0 < 16) ⌝ }
+    ensures { λ r. ⌜ (r ≡ true → Covered masks (take len list)) ⌝ }
+{
+    let mut words = [0u64; ROW];
+    let mut i = 0usize;
+    while i < len {
+        let next = join_row(list[i] as usize, &masks, words);
+        words = next;
+        i += 1;
+    }
+    all_ones(words)
+}
+
+// The list after the first count inputs of a block; as it is where it covers the block.
+fn list_uncovered(masks: [u64; ROWS], first: usize, count: usize, list: Vectors) -> Vectors
+    requires { ⌜ (count ≤ 1024) × (first < 2 ^ 32) × Held list ⌝ }
+    ensures { λ r. ⌜ ListNoted masks first count list r ⌝ }
+{
+    let vectors = list.list;
+    if covered(masks, vectors, list.len) {
+        return list;
+    }
+    list_block(masks, first, count, list)
+}
+
+// The list after the first count inputs of a block, which are those from first on, and the sets after all 1,024.
+pub(super) fn note_block(
+    masks: [u64; ROWS],
+    readings: [u64; ROWS],
+    first: usize,
+    count: usize,
+    list: Vectors,
+    sets: &mut [u16; READINGS],
+) -> Vectors
+    requires { ⌜ (count ≤ 1024) × (first < 2 ^ 32) × Held list × (length masks ≡ 256) × (length readings ≡ 256)
+        × (length (now sets) ≡ 1024) ⌝ }
+    ensures { λ r. ⌜ BlockNoted masks readings first count list (now (sets .entry)) r (now (sets .exit)) ⌝ }
+{
+    meet_block(masks, readings, sets);
+    list_uncovered(masks, first, count, list)
+}

@@ -1,0 +1,126 @@
+// Partial evaluation of packed gates: one evaluation on 0, 1 and not yet known (2) speaks for a whole range of inputs, which the
+// walk then need not look at one by one.
+ghost use mathlib.Core.Path.{_≡_};
+ghost use mathlib.Core.Logic.{_↔_};
+ghost use mathlib.Core.Bool.{true};
+ghost use mathlib.Core.List.{List};
+ghost use Prim.Native.Nat.{ℕ, _+_, _≤_, _<_};
+ghost use lib.ListN.{length, getD};
+ghost use lib.Seq.{slice};
+ghost use Rattle.records.specs.Bytes.{tabulate, placed};
+ghost use Rattle.records.specs.Claims.{Below};
+ghost use Rattle.records.specs.Job.{Job};
+ghost use Rattle.engine.specs.Rectify.{rectifies};
+ghost use Rattle.engine.specs.Ternary.{unknown};
+ghost use Rattle.engine.specs.Inner.Packed.{evaluated};
+ghost use Rattle.engine.specs.Inner.Plan.{PlanHeld, PlannedOf};
+ghost use Rattle.engine.specs.Inner.Ranges.{codeTernary, partialInput, InRange, Known};
+use super::limits::NETS;
+use super::plan::Plan;
+use super::ternary::ternary_entry;
+use super::ternary::ternary_table;
+use records::OUTPUTS;
+use records::wide;
+
+// What is known of a packed gate's net, by its kind's table. A kind of one operand looks at the first alone, a constant at none,
+// so what stands in a slot that is not used plays no part.
+fn ternary_gate(c: u64, known: &[u8; NETS]) -> u8
+    ensures { λ r. ⌜ r ≡ codeTernary (now (known .entry)) c ⌝ }
+{
+    let a = (c / 131072 % 1024) as usize;
+    let b = (c / 134217728 % 1024) as usize;
+    let table = ternary_table((c % 16) as u8);
+    ternary_entry(table, wide(known[a]), wide(known[b]))
+}
+
+// Each of the first count gates, one after the other, sets what is known of its own net.
+fn eval_partial(gates: &[u64], count: usize, known: &mut [u8; NETS])
+    requires { ⌜ (count ≤ length (now gates)) × (length (now known) ≡ 1024) ⌝ }
+    ensures { λ _. ⌜ now (known .exit) ≡ evaluated codeTernary (now (known .entry)) (slice 0 count (now (gates .entry))) ⌝ }
+{
+    let mut i = 0usize;
+    while i < count {
+        let c = gates[i];
+        known[(c / 128 % 1024) as usize] = ternary_gate(c, known);
+        i += 1;
+    }
+}
+
+// What is known of input i where the inputs from low on are the bits of prefix.
+fn partial_input(i: usize, low: usize, prefix: usize) -> u8
+    requires { ⌜ i < 64 ⌝ }
+    ensures { λ r. ⌜ r ≡ partialInput low prefix i ⌝ }
+{
+    if i < low {
+        return 2;
+    }
+    ((prefix >> (i - low)) % 2) as u8
+}
+
+// What is known of the inputs, from net 0 on: those from low on are the bits of prefix, the others not yet known.
+fn load_partial(inputs: usize, low: usize, prefix: usize, known: &mut [u8; NETS])
+    requires { ⌜ (inputs < 64) × (length (now known) ≡ 1024) ⌝ }
+    ensures { λ _. ⌜ now (known .exit) ≡ placed (now (known .entry)) 0 (tabulate inputs (partialInput low prefix)) ⌝ }
+{
+    let mut i = 0usize;
+    while i < inputs {
+        known[i] = partial_input(i, low, prefix);
+        i += 1;
+    }
+}
+
+// Not yet known, on count known from net at on: the targets.
+fn load_unknown(at: usize, count: usize, known: &mut [u8; NETS])
+    requires { ⌜ (at + count ≤ 1024) × (length (now known) ≡ 1024) ⌝ }
+    ensures { λ _. ⌜ now (known .exit) ≡ placed (now (known .entry)) at (tabulate count (λ i. unknown)) ⌝ }
+{
+    let mut i = 0usize;
+    while i < count {
+        known[at + i] = 2;
+        i += 1;
+    }
+}
+
+// Whether each of the first count outputs has one known value in both circuits.
+fn known_equal(
+    known: &[u8; NETS],
+    outputs: [u16; OUTPUTS],
+    goldens: [u16; OUTPUTS],
+    count: usize,
+) -> bool
+    requires { ⌜ (count ≤ 32) × Below 1024 outputs × Below 1024 goldens ⌝ }
+    ensures { λ r. ⌜ (r ≡ true) ↔ ((i : ℕ) → i < count → Known
+        (getD (now (known .entry)) (getD outputs i 0) 0) (getD (now (known .entry)) (getD goldens i 0) 0)) ⌝ }
+{
+    let mut i = 0usize;
+    while i < count {
+        let a = outputs[i] as usize;
+        let b = goldens[i] as usize;
+        let x = known[a];
+        if 2 <= x {
+            return false;
+        }
+        if x != known[b] {
+            return false;
+        }
+        i += 1;
+    }
+    true
+}
+
+// Whether it is settled that every vector rectifies every input whose bits from bit low on are prefix: each output has one known
+// value in both circuits. It costs one gate evaluation a live gate for the whole range.
+pub(super) fn settled(gates: &[u64], plan: Plan, low: usize, prefix: usize) -> bool
+    requires { ⌜ PlanHeld plan (now gates) ⌝ }
+    ensures { λ r. ⌜ (r ≡ true → (j : Job) (is : List ℕ) → PlannedOf j is plan (now (gates .entry))
+        → (x v : ℕ) → InRange low prefix x → rectifies j x v ≡ true) ⌝ }
+{
+    let mut known = [0u8; NETS];
+    let ends = plan.ends;
+    let outputs = plan.outputs;
+    let goldens = plan.goldens;
+    load_partial(plan.inputs, low, prefix, &mut known);
+    load_unknown(plan.inputs, plan.targets, &mut known);
+    eval_partial(gates, ends[0], &mut known);
+    known_equal(&known, outputs, goldens, plan.outs)
+}
