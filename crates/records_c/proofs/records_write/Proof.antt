@@ -7,36 +7,6 @@ use borrow.Author.Needs.{needs}
 use Rattle.records_c.proofs.records_write.Statement.{statement}
 use Rattle.records_c.proofs.records_write.Tie as tie
 
-element-copy-out-t18 : tie.Need-element-copy-out-t18
-element-copy-out-t18 c = search needs
-
-element-copy-out-t21 : tie.Need-element-copy-out-t21
-element-copy-out-t21 c = search needs
-
-element-copy-out-t24 : tie.Need-element-copy-out-t24
-element-copy-out-t24 c = search needs
-
-element-copy-out-t27 : tie.Need-element-copy-out-t27
-element-copy-out-t27 c = search needs
-
-element-copy-out-t31 : tie.Need-element-copy-out-t31
-element-copy-out-t31 c = search needs
-
-element-copy-out-t34 : tie.Need-element-copy-out-t34
-element-copy-out-t34 c = search needs
-
-element-copy-out-t38 : tie.Need-element-copy-out-t38
-element-copy-out-t38 c = search needs
-
-write-columns-requires : tie.Need-write-columns-requires
-write-columns-requires c κs = search needs
-
-cast-number : tie.Need-cast-number
-cast-number c = search needs
-
-same-length : tie.Need-same-length
-same-length c = search needs
-
 returns : tie.Need-returns
 unfolding rowCounts
 returns c =
@@ -46,15 +16,5 @@ returns c =
 pub records-write-spec : {M : Type 1} → statement M
 records-write-spec =
     tie.close
-    (tie.spec
-    element-copy-out-t18
-    element-copy-out-t21
-    element-copy-out-t24
-    element-copy-out-t27
-    element-copy-out-t31
-    element-copy-out-t34
-    element-copy-out-t38
-    write-columns-requires
-    cast-number
-    same-length
-    returns)
+    (tie.spec (λ c. search needs) (λ c. search needs) (λ c. search needs) (λ c. search needs) (λ c. search needs)
+    (λ c. search needs) (λ c. search needs) (λ c κs. search needs) (λ c. search needs) (λ c. search needs) returns)

@@ -5,17 +5,8 @@ use borrow.Author.Needs.{needs}
 use Rattle.run_records.proofs.lists.lent_bytes.Statement.{statement}
 use Rattle.run_records.proofs.lists.lent_bytes.Tie as tie
 
-mul-least : tie.Need-mul-least
-mul-least c = search needs
-
-array-read-least : tie.Need-array-read-least
-array-read-least c = search needs
-
-least-requires : tie.Need-least-requires
-least-requires c κs = search needs
-
 returns : tie.Need-returns
 returns c = counts _ _ (omega arith)
 
 pub lent-bytes-spec : {M : Type 1} → statement M
-lent-bytes-spec = tie.close (tie.spec mul-least array-read-least least-requires returns)
+lent-bytes-spec = tie.close (tie.spec (λ c. search needs) (λ c. search needs) (λ c κs. search needs) returns)

@@ -5,11 +5,8 @@ use borrow.Author.Needs.{needs}
 use Rattle.samples.proofs.buffer.lent.Statement.{statement}
 use Rattle.samples.proofs.buffer.lent.Tie as tie
 
-least-requires : tie.Need-least-requires
-least-requires c κs = search needs
-
 returns : tie.Need-returns
 returns c = (search needs, counts _ _ (omega arith))
 
 pub lent-spec : {M : Type 1} → statement M
-lent-spec = tie.close (tie.spec least-requires returns)
+lent-spec = tie.close (tie.spec (λ c κs. search needs) returns)
