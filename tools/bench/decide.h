@@ -9,14 +9,20 @@ enum { INPUTS = 20, VECTORS = 16, READINGS = 1024, LONGEST_SHEET = 1076 };
 /* The number that decide gives; an accepted job's sheet is written at the reply's start, and its length into len. */
 int plain_decide(const uint8_t *job, size_t job_len, uint8_t *reply, size_t reply_len, size_t *len);
 int words_decide(const uint8_t *job, size_t job_len, uint8_t *reply, size_t reply_len, size_t *len);
+int blocks_decide(const uint8_t *job, size_t job_len, uint8_t *reply, size_t reply_len, size_t *len);
+
+/* The number that compare gives; whether the outputs of an accepted job and sheet differ, and the smallest input at which
+ * they do. */
+int blocks_compare(
+    const uint8_t *job, size_t job_len, const uint8_t *sheet, size_t sheet_len, uint32_t *differs, uint32_t *input);
 
 /* What a walk over all inputs finds. A set of vectors has bit v for vector v. */
 struct walk {
-    uint8_t list[VECTORS];    /* the vector list */
+    uint8_t list[VECTORS]; /* the vector list */
     size_t listed;
-    int unfixable;            /* whether the walk stopped at an unfixable input, and which */
+    int unfixable; /* whether the walk stopped at an unfixable input, and which */
     uint32_t input;
-    uint8_t given[READINGS];  /* whether some input gives this reading of all priced nets */
+    uint8_t given[READINGS];   /* whether some input gives this reading of all priced nets */
     uint16_t shared[READINGS]; /* the vectors that fix every input that gives it */
 };
 
@@ -126,8 +132,8 @@ static inline size_t put_sheet(const struct job *j, const struct walk *w, uint8_
 }
 
 /* The whole of decide, with one of the two walks. */
-static inline int decide_by(void (*walk_inputs)(const struct job *, struct walk *), const uint8_t *data, size_t n, uint8_t *reply,
-    size_t room, size_t *len) {
+static inline int decide_by(void (*walk_inputs)(const struct job *, struct walk *), const uint8_t *data, size_t n,
+    uint8_t *reply, size_t room, size_t *len) {
     struct job j;
     struct walk w;
     *len = 0;

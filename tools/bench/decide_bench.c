@@ -1,77 +1,109 @@
-/* Times decide on full-size jobs by the plain C of decide_plain.c, the word C of decide_words.c and the engine
- * (crates/engine_c, linked as an archive), in one run, and checks that all give the same sheet. tools/bench/run builds
- * and runs it.
+/* Times decide by the plain C of decide_plain.c, the word C of decide_words.c, the block C of decide_blocks.c and the
+ * engine, in turn, and checks that all give the same sheet. tools/bench/run builds and runs it.
  *
- *     decide_bench TURNS JOB..       plain C once a job, the others TURNS times in turn */
-#include "decide.h"
+ *     decide_bench TURNS INPUTS GROUP: JOB.. [GROUP: JOB..]    plain C only on jobs of up to so many inputs, and once
+ *
+ * Each row has the best turn of each; at the end stand the median and the worst ratio of each group. */
+#include "bench.h"
 
-/* The programs in the order of their columns. */
-enum { PLAIN, WORDS, OURS, KINDS };
+enum { PLAIN, WORDS, BLOCKS, OURS, KINDS, GROUPS = 8, ROWS_A_GROUP = 64 };
 
-static uint8_t data[65536], sheets[KINDS][LONGEST_SHEET];
-static size_t data_len, lens[KINDS];
-static uint32_t numbers[KINDS];
+static struct file job;
+static uint8_t sheets[KINDS][LONGEST_SHEET];
+static size_t lens[KINDS];
+static int numbers[KINDS];
 
-/* A slice is a pointer and a count; the sheet's length is returned, 0 on refusal, and the number is left in its place. */
-size_t engine_decide(const uint8_t *job, size_t, uint8_t *reply, size_t, uint32_t *number);
+static void plain(void) { numbers[PLAIN] = plain_decide(job.bytes, job.len, sheets[PLAIN], LONGEST_SHEET, &lens[PLAIN]); }
 
-static void ours(void) { lens[OURS] = engine_decide(data, data_len, sheets[OURS], LONGEST_SHEET, &numbers[OURS]); }
+static void words(void) { numbers[WORDS] = words_decide(job.bytes, job.len, sheets[WORDS], LONGEST_SHEET, &lens[WORDS]); }
 
-static void plain(void) { numbers[PLAIN] = plain_decide(data, data_len, sheets[PLAIN], LONGEST_SHEET, &lens[PLAIN]); }
-
-static void words(void) { numbers[WORDS] = words_decide(data, data_len, sheets[WORDS], LONGEST_SHEET, &lens[WORDS]); }
-
-/* Milliseconds of one call. */
-static double timed(void (*call)(void)) {
-    double start = now();
-    call();
-    return (now() - start) / 1000;
+static void blocks(void) {
+    numbers[BLOCKS] = blocks_decide(job.bytes, job.len, sheets[BLOCKS], LONGEST_SHEET, &lens[BLOCKS]);
 }
 
-/* All have accepted the job and written the same sheet, and not an empty one. */
-static int agree(void) {
-    for (int k = 0; k < KINDS; k++) {
-        if (numbers[k] != 0 || lens[k] == 0 || lens[k] != lens[PLAIN]) return 0;
-        if (memcmp(sheets[k], sheets[PLAIN], LONGEST_SHEET)) return 0;
+static void ours(void) {
+    uint32_t number;
+    lens[OURS] = engine_decide(job.bytes, job.len, sheets[OURS], LONGEST_SHEET, &number);
+    numbers[OURS] = (int)number;
+}
+
+static void (*const programs[KINDS])(void) = {plain, words, blocks, ours};
+
+/* All that have run have accepted the job and written the same sheet, and not an empty one. */
+static int agree(int first) {
+    for (int k = first; k < KINDS; k++) {
+        if (numbers[k] != 0 || lens[k] == 0 || lens[k] != lens[OURS]) return 0;
+        if (memcmp(sheets[k], sheets[OURS], LONGEST_SHEET)) return 0;
     }
     return 1;
 }
 
-static int read_file(const char *path) {
-    FILE *file = fopen(path, "rb");
-    if (!file) return 0;
-    data_len = fread(data, 1, sizeof data, file);
-    fclose(file);
-    return 1;
+static const char *verdict(void) { return sheets[OURS][0] == 20 ? "unfixable" : sheets[OURS][0] == 21 ? "blind" : "patch"; }
+
+/* The best of the turns of each program, in which they take turns; plain C has one. */
+static void time_job(int turns, int first, double best[KINDS]) {
+    long calls[KINDS];
+    memset(sheets, 0, sizeof sheets);
+    for (int k = first; k < KINDS; k++) {
+        best[k] = timed(programs[k], 1);
+        calls[k] = calls_for(best[k]);
+    }
+    for (int turn = 0; turn < turns; turn++)
+        for (int k = first; k < KINDS; k++) {
+            if (k == PLAIN && best[k] > 3000) continue;
+            double us = timed(programs[k], calls[k]);
+            if (us < best[k]) best[k] = us;
+        }
 }
 
-static const char *file_name(const char *path) { return strrchr(path, '/') ? strrchr(path, '/') + 1 : path; }
+/* Prints a row; ours to block C. */
+static double row(const char *path, int turns, size_t inputs) {
+    double best[KINDS];
+    struct job j;
+    read_file(path, &job);
+    if (read_job(job.bytes, job.len, &j)) stop("not a job", path);
+    int first = j.inputs <= inputs ? PLAIN : WORDS;
+    time_job(turns, first, best);
+    if (!agree(first)) stop("not the same reply", path);
+    printf("%-22s %-9s %6zu %7zu %5zu+%-5zu %6zu", base_name(path), verdict(), j.inputs, j.targets, j.old.gates,
+        j.golden.gates, fanout_gates(&j));
+    printf(" %9s %9s %9s %9s %9.2f\n", first == PLAIN ? shown(best[PLAIN]) : "-", shown(best[WORDS]), shown(best[BLOCKS]),
+        shown(best[OURS]), best[OURS] / best[BLOCKS]);
+    fflush(stdout);
+    return best[OURS] / best[BLOCKS];
+}
+
+static int ascending(const void *a, const void *b) {
+    double x = *(const double *)a, y = *(const double *)b;
+    return (x > y) - (x < y);
+}
+
+static void summary(const char *name, double *ratios, size_t count) {
+    if (count == 0) return;
+    qsort(ratios, count, sizeof *ratios, ascending);
+    double median = (ratios[(count - 1) / 2] + ratios[count / 2]) / 2;
+    printf("ours / block C, %-14s %2zu jobs: median %.2f, worst %.2f\n", name, count, median, ratios[count - 1]);
+}
 
 int main(int argc, char **argv) {
-    int turns = argc > 1 ? atoi(argv[1]) : 0;
-    if (turns < 1 || argc < 3) {
-        fprintf(stderr, "usage: decide_bench TURNS JOB..\n");
-        return 1;
-    }
-    printf("decide: milliseconds a call, plain C once, the others the best of %d\n", turns);
-    printf("%-24s %10s %10s %10s %14s %14s\n", "", "plain C", "word C", "ours", "ours / word C", "plain C / ours");
-    for (int i = 2; i < argc; i++) {
-        double best[KINDS] = {0};
-        if (!read_file(argv[i])) return 1;
-        memset(sheets, 0, sizeof sheets);
-        best[PLAIN] = timed(plain);
-        for (int turn = 0; turn < turns; turn++) {
-            double ms = timed(words);
-            if (turn == 0 || ms < best[WORDS]) best[WORDS] = ms;
-            ms = timed(ours);
-            if (turn == 0 || ms < best[OURS]) best[OURS] = ms;
-            if (!agree()) {
-                fprintf(stderr, "decide_bench: not the same reply to %s\n", argv[i]);
-                return 1;
-            }
+    static double ratios[GROUPS][ROWS_A_GROUP];
+    const char *names[GROUPS];
+    size_t counts[GROUPS] = {0}, groups = 0;
+    int turns = argc > 2 ? atoi(argv[1]) : 0;
+    if (turns < 1) stop("usage", "decide_bench TURNS INPUTS GROUP: JOB..");
+    printf("decide: processor time a call, the best of %d turns\n", turns);
+    printf("%-22s %-9s %6s %7s %11s %6s %9s %9s %9s %9s %9s\n", "", "verdict", "inputs", "targets", "gates", "fanout",
+        "plain C", "word C", "block C", "ours", "ours / block C");
+    for (int i = 3; i < argc; i++) {
+        if (argv[i][strlen(argv[i]) - 1] == ':') {
+            if (groups == GROUPS) stop("too many groups", argv[i]);
+            names[groups++] = argv[i];
+            printf("%s\n", argv[i]);
+        } else {
+            if (groups == 0 || counts[groups - 1] == ROWS_A_GROUP) stop("no group, or too many jobs in it", argv[i]);
+            ratios[groups - 1][counts[groups - 1]++] = row(argv[i], turns, atoi(argv[2]));
         }
-        printf("%-24s %10.1f %10.1f %10.1f %14.2f %14.1f\n", file_name(argv[i]), best[PLAIN], best[WORDS], best[OURS],
-            best[OURS] / best[WORDS], best[PLAIN] / best[OURS]);
     }
+    for (size_t g = 0; g < groups; g++) summary(names[g], ratios[g], counts[g]);
     return 0;
 }

@@ -1,8 +1,9 @@
-/* Answers the decide and order calls of run_engine's standard input by one of the two C programs, and prints their lines
- * (tools/reference/decide_calls.py has the form), so that they can be laid beside the reference's:
+/* Answers the decide and order calls of run_engine's standard input by one of the C programs plain, words and blocks, blocks
+ * the compare calls too, and prints their lines (tools/reference/decide_calls.py has the form), so that they can be laid
+ * beside the reference's:
  *
- *     gcc -O3 -o decide_lines decide_lines.c decide_plain.c decide_words.c
- *     ./decide_lines words < STDIN | diff - <(grep -e decide -e order STDOUT)
+ *     gcc -O3 -o decide_lines decide_lines.c decide_plain.c decide_words.c decide_blocks.c compare_blocks.c
+ *     ./decide_lines blocks < STDIN | diff - <(grep -E '^(decide|order|compare) ' STDOUT)
  */
 #include "decide.h"
 
@@ -31,9 +32,19 @@ static void print_hash(void) {
     printf(" %u\n", h);
 }
 
+static void print_compared(const uint8_t *job, size_t job_len, const uint8_t *sheet, size_t sheet_len) {
+    uint32_t differs, input;
+    int number = blocks_compare(job, job_len, sheet, sheet_len, &differs, &input);
+    printf("compare %d %s", number, number ? "declined" : differs ? "differs" : "equal");
+    if (differs) printf(" %u", input);
+    printf("\n");
+}
+
 int main(int argc, char **argv) {
     uint8_t head[3];
-    decide = argc > 1 && !strcmp(argv[1], "plain") ? plain_decide : words_decide;
+    const char *name = argc > 1 ? argv[1] : "";
+    int blocks = !strcmp(name, "blocks");
+    decide = blocks ? blocks_decide : !strcmp(name, "plain") ? plain_decide : words_decide;
     while (fread(head, 1, 3, stdin) == 3) {
         size_t n = word(head + 1);
         if (fread(call, 1, n, stdin) != n) return 1;
@@ -42,6 +53,8 @@ int main(int argc, char **argv) {
             printf("decide");
             print_decided(word(call), call + 2, n - 2);
             print_hash();
+        } else if (head[0] == 2 && blocks) {
+            print_compared(call + 2, word(call), call + 2 + word(call), n - 2 - word(call));
         } else if (head[0] == 3) {
             size_t a = word(call), b = word(call + 2);
             printf("order");

@@ -35,6 +35,7 @@ int main(int argc, char **argv) {
         __asm__ volatile("" : : "g"(&j), "g"(back) : "memory");
     }
     double end = now();
-    printf("%zu bytes, %ld rounds: read %.2f us, write %.2f us\n", n, rounds, (middle - start) / rounds, (end - middle) / rounds);
+    printf("%zu bytes, %ld rounds: read %.2f us, write %.2f us\n", n, rounds, (middle - start) / rounds,
+        (end - middle) / rounds);
     return kept;
 }

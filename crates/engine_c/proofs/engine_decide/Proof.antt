@@ -5,19 +5,10 @@ use borrow.Author.Needs.{needs}
 use Rattle.engine_c.proofs.engine_decide.Statement.{statement}
 use Rattle.engine_c.proofs.engine_decide.Tie as tie
 
-decide-requires : tie.Need-decide-requires
-decide-requires c κs = search needs
-
-cast-number : tie.Need-cast-number
-cast-number c = search needs
-
-same-length : tie.Need-same-length
-same-length c = search needs
-
 returns : tie.Need-returns
 returns c =
     let e = c .before .before .before .decide .ensures in
     (ap (λ (r : DecideReply). r .len) (e .0), (ap (λ (r : DecideReply). r .number) (e .0), e .1))
 
 pub engine-decide-spec : {M : Type 1} → statement M
-engine-decide-spec = tie.close (tie.spec decide-requires cast-number same-length returns)
+engine-decide-spec = tie.close (tie.spec (λ c κs. search needs) (λ c. search needs) (λ c. search needs) returns)

@@ -7,14 +7,13 @@
 /* A slice is a pointer and a count; the counts are inputs, targets, old gates and outputs, golden gates and outputs,
  * candidates. */
 uint8_t records_read(const uint8_t *job, size_t, uint8_t *old_kinds, size_t, uint16_t *old_firsts, size_t,
-    uint16_t *old_seconds, size_t, uint16_t *old_outputs, size_t, uint8_t *golden_kinds, size_t,
-    uint16_t *golden_firsts, size_t, uint16_t *golden_seconds, size_t, uint16_t *golden_outputs, size_t,
-    uint16_t *nets, size_t, uint16_t *weights, size_t, size_t counts[7]);
+    uint16_t *old_seconds, size_t, uint16_t *old_outputs, size_t, uint8_t *golden_kinds, size_t, uint16_t *golden_firsts,
+    size_t, uint16_t *golden_seconds, size_t, uint16_t *golden_outputs, size_t, uint16_t *nets, size_t, uint16_t *weights,
+    size_t, size_t counts[7]);
 size_t records_write(const size_t counts[7], const uint8_t *old_kinds, size_t, const uint16_t *old_firsts, size_t,
     const uint16_t *old_seconds, size_t, const uint16_t *old_outputs, size_t, const uint8_t *golden_kinds, size_t,
-    const uint16_t *golden_firsts, size_t, const uint16_t *golden_seconds, size_t, const uint16_t *golden_outputs,
-    size_t, const uint16_t *nets, size_t, const uint16_t *weights, size_t, uint8_t *buf, size_t,
-    uint32_t *number);
+    const uint16_t *golden_firsts, size_t, const uint16_t *golden_seconds, size_t, const uint16_t *golden_outputs, size_t,
+    const uint16_t *nets, size_t, const uint16_t *weights, size_t, uint8_t *buf, size_t, uint32_t *number);
 
 static uint8_t data[65536], ours_back[LONGEST], plain_back[LONGEST];
 static size_t data_len, ours_len, plain_len, counts[7];
@@ -22,17 +21,17 @@ static struct job ours, plain;
 
 static int ours_read(void) {
     struct netlist *o = &ours.old, *g = &ours.golden;
-    return records_read(data, data_len, o->kinds, GATES, o->firsts, GATES, o->seconds, GATES, o->outs, OUTPUTS,
-        g->kinds, GATES, g->firsts, GATES, g->seconds, GATES, g->outs, OUTPUTS, ours.nets, CANDIDATES, ours.weights,
-        CANDIDATES, counts);
+    return records_read(data, data_len, o->kinds, GATES, o->firsts, GATES, o->seconds, GATES, o->outs, OUTPUTS, g->kinds,
+        GATES, g->firsts, GATES, g->seconds, GATES, g->outs, OUTPUTS, ours.nets, CANDIDATES, ours.weights, CANDIDATES,
+        counts);
 }
 
 static int ours_write(void) {
     struct netlist *o = &ours.old, *g = &ours.golden;
     uint32_t number;
-    ours_len = records_write(counts, o->kinds, GATES, o->firsts, GATES, o->seconds, GATES, o->outs, OUTPUTS, g->kinds,
-        GATES, g->firsts, GATES, g->seconds, GATES, g->outs, OUTPUTS, ours.nets, CANDIDATES, ours.weights, CANDIDATES,
-        ours_back, LONGEST, &number);
+    ours_len = records_write(counts, o->kinds, GATES, o->firsts, GATES, o->seconds, GATES, o->outs, OUTPUTS, g->kinds, GATES,
+        g->firsts, GATES, g->seconds, GATES, g->outs, OUTPUTS, ours.nets, CANDIDATES, ours.weights, CANDIDATES, ours_back,
+        LONGEST, &number);
     return (int)number;
 }
 
@@ -50,7 +49,7 @@ static int agree(void) {
     ours.golden.outputs = counts[5];
     ours.candidates = counts[6];
     return memcmp(&ours, &plain, sizeof ours) == 0 && ours_len == data_len && plain_len == data_len
-        && memcmp(ours_back, data, data_len) == 0 && memcmp(plain_back, data, data_len) == 0;
+           && memcmp(ours_back, data, data_len) == 0 && memcmp(plain_back, data, data_len) == 0;
 }
 
 /* Every place is set to the same, so that a call that leaves one unfilled is seen. */
@@ -88,7 +87,7 @@ int main(int argc, char **argv) {
     long rounds = argc > 2 ? atol(argv[2]) : 20000;
     FILE *file = argc > 1 ? fopen(argv[1], "rb") : NULL;
     if (!file || rounds < TURNS) {
-        fprintf(stderr, "usage: compare JOB [ROUNDS], of %d rounds or more\n", TURNS);
+        fprintf(stderr, "usage: records_bench JOB [ROUNDS], of %d rounds or more\n", TURNS);
         return 1;
     }
     data_len = fread(data, 1, sizeof data, file);
@@ -100,7 +99,7 @@ int main(int argc, char **argv) {
         for (int k = 0; k < KINDS; k++) {
             double us = timed(calls[k], rounds / TURNS);
             if (us < 0) {
-                fprintf(stderr, "compare: call %d refused the job\n", k);
+                fprintf(stderr, "records_bench: call %d refused the job\n", k);
                 return 1;
             }
             if (turn == 0) continue;
@@ -108,7 +107,7 @@ int main(int argc, char **argv) {
             if (turn == 1 || us < best[k]) best[k] = us;
         }
         if (!agree()) {
-            fprintf(stderr, "compare: the two do not give the same counts, places or bytes\n");
+            fprintf(stderr, "records_bench: the two do not give the same counts, places or bytes\n");
             return 1;
         }
         if (turn < TURNS) blank();

@@ -1,0 +1,150 @@
+/* Many inputs at a time: what decide_blocks.c and compare_blocks.c have in common. Old and golden netlist are one list of
+ * gates, over inputs, targets, old gates' nets and golden gates' nets, without the gates that lead nowhere. A net has W
+ * words: bit i of word w in block b is its value on input 64 (W b + w) + i. W is a constant wherever these functions are
+ * inlined, so that the compiler makes vector instructions of their inner loops. Inputs that do not fill a block repeat in
+ * it, which alters nothing: the smallest comes first. */
+#ifndef BLOCKS_H
+#define BLOCKS_H
+#include "decide.h"
+
+#define INLINE static inline __attribute__((always_inline))
+
+enum { WIDEST = 16, ROWS = 16, TARGETS = 4, ALL_GATES = 2 * GATES, ZERO = INPUTS + TARGETS + ALL_GATES, ALL_NETS };
+
+/* A gate joins the words of two nets, and inverts them or not. A buffer joins a net with itself, a constant the net ZERO. */
+enum { AND, OR, XOR };
+
+struct gate {
+    uint16_t net, first, second, op;
+    uint64_t inverts; /* all ones or zero */
+};
+
+struct gates {
+    size_t count;
+    struct gate list[ALL_GATES];
+};
+
+struct miter {
+    struct gates gates;
+    size_t outputs;
+    uint16_t old[OUTPUTS], golden[OUTPUTS]; /* the outputs' nets */
+    uint8_t led[ALL_NETS];                  /* for each net the targets that lead to it, bit t for target t */
+};
+
+/* ---- made once a job */
+
+/* A net of one netlist in the list of both. */
+static inline unsigned moved(unsigned net, size_t inputs, size_t shift) { return net < inputs ? net : net + shift; }
+
+static inline void add_gates(struct gates *to, const struct netlist *l, size_t base, size_t inputs, size_t shift) {
+    for (size_t k = 0; k < l->gates; k++) {
+        unsigned kind = l->kinds[k], first = moved(l->firsts[k], inputs, shift),
+                 second = moved(l->seconds[k], inputs, shift);
+        struct gate *g = &to->list[to->count++];
+        g->net = moved(base + k, inputs, shift);
+        g->first = kind < 2 ? ZERO : first;
+        g->second = kind < 2 ? ZERO : kind < 4 ? first : second;
+        g->op = kind < 6 ? AND : kind < 8 ? OR : XOR;
+        g->inverts = kind % 2 ? ~(uint64_t)0 : 0;
+    }
+}
+
+/* Leaves the gates that lead to an output or one of these nets. */
+static inline void drop_dead(struct miter *m, const uint16_t *nets, size_t count) {
+    uint8_t live[ALL_NETS] = {0};
+    struct gates *g = &m->gates;
+    size_t kept = 0;
+    for (size_t i = 0; i < count; i++) live[nets[i]] = 1;
+    for (size_t i = 0; i < m->outputs; i++) live[m->old[i]] = live[m->golden[i]] = 1;
+    for (size_t k = g->count; k-- > 0;)
+        if (live[g->list[k].net]) live[g->list[k].first] = live[g->list[k].second] = 1;
+    for (size_t k = 0; k < g->count; k++)
+        if (live[g->list[k].net]) g->list[kept++] = g->list[k];
+    g->count = kept;
+}
+
+static inline void make_miter(const struct job *j, const uint16_t *nets, size_t count, struct miter *m) {
+    size_t shift = j->targets + j->old.gates;
+    m->gates.count = 0;
+    add_gates(&m->gates, &j->old, j->inputs + j->targets, j->inputs, 0);
+    add_gates(&m->gates, &j->golden, j->inputs, j->inputs, shift);
+    m->outputs = j->old.outputs;
+    for (size_t i = 0; i < m->outputs; i++) {
+        m->old[i] = j->old.outs[i];
+        m->golden[i] = moved(j->golden.outs[i], j->inputs, shift);
+    }
+    drop_dead(m, nets, count);
+    memset(m->led, 0, sizeof m->led);
+    for (size_t t = 0; t < j->targets; t++) m->led[j->inputs + t] = 1u << t;
+    for (size_t k = 0; k < m->gates.count; k++) {
+        const struct gate *g = &m->gates.list[k];
+        m->led[g->net] = m->led[g->first] | m->led[g->second];
+    }
+}
+
+/* The gates that one of these targets leads to, or, for no targets, those that none leads to. */
+static inline void pick_gates(const struct miter *m, unsigned targets, struct gates *to) {
+    to->count = 0;
+    for (size_t k = 0; k < m->gates.count; k++) {
+        unsigned led = m->led[m->gates.list[k].net];
+        if (targets ? led & targets : !led) to->list[to->count++] = m->gates.list[k];
+    }
+}
+
+/* ---- once a block */
+
+INLINE void fill(uint64_t *row, uint64_t x, unsigned W) {
+    for (unsigned w = 0; w < W; w++) row[w] = x;
+}
+
+/* Input i on a word of inputs: the first six change within it. */
+static inline uint64_t input_word(size_t i, uint32_t word) {
+    static const uint64_t within[6] = {0xaaaaaaaaaaaaaaaa, 0xcccccccccccccccc, 0xf0f0f0f0f0f0f0f0, 0xff00ff00ff00ff00,
+        0xffff0000ffff0000, 0xffffffff00000000};
+    return i < 6 ? within[i] : word >> (i - 6) & 1 ? ~(uint64_t)0 : 0;
+}
+
+INLINE void load_inputs(size_t inputs, uint32_t block, uint64_t *values, unsigned W) {
+    for (size_t i = 0; i < inputs; i++)
+        for (unsigned w = 0; w < W; w++) values[i * W + w] = input_word(i, block * W + w);
+}
+
+/* A gate's words; its own net is none of its operands'. */
+INLINE void join(const struct gate *g, const uint64_t *a, const uint64_t *b, uint64_t *restrict to, unsigned W) {
+    uint64_t inverts = g->inverts;
+    if (g->op == AND) {
+        for (unsigned w = 0; w < W; w++) to[w] = (a[w] & b[w]) ^ inverts;
+    } else if (g->op == OR) {
+        for (unsigned w = 0; w < W; w++) to[w] = (a[w] | b[w]) ^ inverts;
+    } else {
+        for (unsigned w = 0; w < W; w++) to[w] = a[w] ^ b[w] ^ inverts;
+    }
+}
+
+INLINE void run(const struct gates *gates, uint64_t *values, unsigned W) {
+    for (const struct gate *g = gates->list, *end = g + gates->count; g < end; g++)
+        join(g, values + g->first * W, values + g->second * W, values + g->net * W, W);
+}
+
+/* ---- sixteen rows of words: bit 16 k + j of row i becomes bit 16 k + i of row j */
+
+INLINE void exchange(uint64_t *rows, unsigned by, uint64_t low, unsigned W) {
+    for (unsigned i = 0; i < ROWS; i++) {
+        if (i & by) continue;
+        uint64_t *p = rows + i * W, *q = rows + (i + by) * W;
+        for (unsigned w = 0; w < W; w++) {
+            uint64_t x = (p[w] >> by ^ q[w]) & low;
+            q[w] ^= x;
+            p[w] ^= x << by;
+        }
+    }
+}
+
+INLINE void transpose(uint64_t *rows, unsigned W) {
+    exchange(rows, 8, 0x00ff00ff00ff00ff, W);
+    exchange(rows, 4, 0x0f0f0f0f0f0f0f0f, W);
+    exchange(rows, 2, 0x3333333333333333, W);
+    exchange(rows, 1, 0x5555555555555555, W);
+}
+
+#endif

@@ -1,0 +1,72 @@
+/* Compare as fast as plain C allows: 1,024 inputs at a time (blocks.h). The gates that no target leads to are evaluated
+ * first; the readings are transposed, so that each input's stands in one place, looked up in the table, and the entries
+ * transposed back to the targets' words; the other gates follow. */
+#include "blocks.h"
+#include "sheet.h"
+
+/* The targets' words where each input takes the entry at its reading. */
+INLINE void drive(const struct job *j, const struct sheet *s, uint64_t *values, unsigned W) {
+    _Alignas(64) uint64_t rows[ROWS * WIDEST];
+    for (size_t i = 0; i < ROWS; i++)
+        if (i < s->count) memcpy(rows + i * W, values + s->nets[i] * W, 8 * W);
+        else fill(rows + i * W, 0, W);
+    transpose(rows, W);
+    for (unsigned i = 0; i < ROWS * W; i++) {
+        uint64_t r = rows[i], entries = 0;
+        for (unsigned at = 0; at < 64; at += 16) entries |= (uint64_t)s->table[r >> at & (READINGS - 1)] << at;
+        rows[i] = entries;
+    }
+    transpose(rows, W);
+    memcpy(values + j->inputs * W, rows, 8 * W * j->targets);
+}
+
+/* The place of the first input of the block at which outputs differ, 64 W where they do not. */
+INLINE unsigned first_difference(const struct miter *m, const uint64_t *values, unsigned W) {
+    uint64_t differing[WIDEST] = {0};
+    for (size_t i = 0; i < m->outputs; i++) {
+        const uint64_t *a = values + m->old[i] * W, *b = values + m->golden[i] * W;
+        for (unsigned w = 0; w < W; w++) differing[w] |= a[w] ^ b[w];
+    }
+    for (unsigned w = 0; w < W; w++)
+        if (differing[w]) return 64 * w + __builtin_ctzll(differing[w]);
+    return 64 * W;
+}
+
+/* Whether outputs differ, and the smallest input at which they do. */
+INLINE int compare_by(const struct job *j, const struct sheet *s, uint32_t *input, unsigned W) {
+    _Alignas(64) uint64_t values[ALL_NETS * WIDEST];
+    struct miter m;
+    struct gates before, behind; /* the targets */
+    uint32_t blocks = (1u << j->inputs) / (64 * W);
+    make_miter(j, s->nets, s->count, &m);
+    pick_gates(&m, 0, &before);
+    behind.count = 0;
+    if (j->targets) pick_gates(&m, (1u << j->targets) - 1, &behind);
+    fill(values + ZERO * W, 0, W);
+    for (uint32_t block = 0; block == 0 || block < blocks; block++) {
+        load_inputs(j->inputs, block, values, W);
+        run(&before, values, W);
+        drive(j, s, values, W);
+        run(&behind, values, W);
+        unsigned at = first_difference(&m, values, W);
+        if (at < 64 * W) {
+            *input = 64 * W * block + at;
+            return 1;
+        }
+    }
+    return 0;
+}
+
+int blocks_compare(
+    const uint8_t *job, size_t job_len, const uint8_t *sheet, size_t sheet_len, uint32_t *differs, uint32_t *input) {
+    struct job j;
+    struct sheet s;
+    *differs = *input = 0;
+    int number = read_job(job, job_len, &j);
+    if (number == 0) number = read_sheet(&j, sheet, sheet_len, &s);
+    if (number) return number;
+    if (j.inputs < 7) *differs = compare_by(&j, &s, input, 1);
+    else if (j.inputs < 9) *differs = compare_by(&j, &s, input, 4);
+    else *differs = compare_by(&j, &s, input, WIDEST);
+    return 0;
+}

@@ -1,0 +1,406 @@
+#!/usr/bin/env python3
+"""Makes, from a fixed seed, the jobs and sheets that tools/bench/run and tools/bench/growth measure:
+
+    python3 tools/bench/make_jobs.py run FOLDER       what tools/bench/run needs
+    python3 tools/bench/make_jobs.py growth FOLDER    what tools/bench/growth needs
+
+    wide_KIND.job            20 inputs, 400 gates a side; 50 in the targets' fanout, or 300, led to by all or one target each
+    CIRCUIT_SIZE.job         typical cuts: old and golden netlist are two designs of one circuit, some old nets cut open
+    tiny_CIRCUIT_SIZE.job    the same of 2 to 6 inputs and up to 20 gates a side
+    fit_GATES.job            patches of growing size, each with a .sheet and the .netlist that fit must give
+    late.job, late.sheet     a sheet whose first difference is at one of the last inputs
+    SERIES_SIZE.job          growth: jobs that differ in one size
+
+The full-size jobs decide_*.job beside this file are made by tools/reference/bench_jobs.py.
+"""
+
+import os
+import random
+import sys
+
+BENCH = os.path.dirname(os.path.abspath(__file__))
+sys.path.insert(0, os.path.join(os.path.dirname(BENCH), "reference"))
+
+import cut_jobs as cj
+import job as jobs
+import random_jobs as rj
+import sheet as sheets
+import simulate
+from decide import fixed_inputs
+from fit import fit
+from job import Candidate, Gate, Job, Netlist
+from sheet import Patch
+
+SEED = 2012
+ZERO, ONE, BUF, NOT, AND, NAND, OR, NOR, XOR, XNOR = range(10)
+MIXED = [XOR, XOR, XOR, XNOR, XNOR, XNOR, AND, NAND, OR, NOR]
+
+
+# ---- circuits
+
+
+class Circuit:
+    """Gates over n inputs; each method appends gates and gives the net of the last."""
+
+    def __init__(self, n):
+        self.n = n
+        self.gates = []
+
+    def gate(self, kind, *operands):
+        self.gates.append(Gate(kind, *(list(operands) + [0, 0])[:2]))
+        return self.n + len(self.gates) - 1
+
+    def both(self, a, b):
+        return self.gate(AND, a, b)
+
+    def either(self, a, b):
+        return self.gate(OR, a, b)
+
+    def differ(self, a, b):
+        return self.gate(XOR, a, b)
+
+    def differ_by_nands(self, a, b):
+        both = self.gate(NAND, a, b)
+        return self.gate(NAND, self.gate(NAND, a, both), self.gate(NAND, b, both))
+
+    def half_add(self, a, b):
+        return self.differ(a, b), self.both(a, b)
+
+    def full_add(self, a, b, c):
+        some, first = self.half_add(a, b)
+        total, second = self.half_add(some, c)
+        return total, self.either(first, second)
+
+
+def tree(nets, join):
+    """Joins neighbours until one is left."""
+    while len(nets) > 1:
+        nets = [join(*nets[i : i + 2]) if i + 1 < len(nets) else nets[i] for i in range(0, len(nets), 2)]
+    return nets[0]
+
+
+def chain(nets, join):
+    last = nets[0]
+    for net in nets[1:]:
+        last = join(last, net)
+    return last
+
+
+def ripple_adder(size):
+    """One full adder after the other."""
+    c = Circuit(2 * size)
+    sums, carry = [], None
+    for i in range(size):
+        total, carry = c.half_add(i, size + i) if i == 0 else c.full_add(i, size + i, carry)
+        sums.append(total)
+    return c, sums + [carry]
+
+
+def prefix_adder(size):
+    """Carries by doubling (Kogge and Stone)."""
+    c = Circuit(2 * size)
+    propagate = [c.differ(i, size + i) for i in range(size)]
+    run, carry = list(propagate), [c.both(i, size + i) for i in range(size)]
+    step = 1
+    while step < size:
+        pairs = range(step, size)
+        carried = [c.either(carry[i], c.both(run[i], carry[i - step])) for i in pairs]
+        runs = [c.both(run[i], run[i - step]) for i in pairs]
+        run, carry = run[:step] + runs, carry[:step] + carried
+        step *= 2
+    sums = [c.differ(propagate[i], carry[i - 1]) for i in range(1, size)]
+    return c, propagate[:1] + sums + carry[-1:]
+
+
+def ripple_comparator(size):
+    """Less, equal, greater: from the lowest bit up."""
+    c = Circuit(2 * size)
+    less, equal = None, None
+    for i in range(size):
+        same = c.gate(XNOR, i, size + i)
+        below = c.both(c.gate(NOT, i), size + i)
+        less = below if i == 0 else c.either(below, c.both(same, less))
+        equal = same if i == 0 else c.both(same, equal)
+    return c, [less, equal, c.gate(NOR, less, equal)]
+
+
+def tree_comparator(size):
+    """Halves are compared, then joined."""
+    c = Circuit(2 * size)
+
+    def join(low, high):
+        less = c.gate(NAND, c.gate(NOT, high[0]), c.gate(NAND, high[1], low[0]))
+        return less, c.both(high[1], low[1])
+
+    bits = [(c.gate(NOR, i, c.gate(NOT, size + i)), c.gate(XNOR, i, size + i)) for i in range(size)]
+    less, equal = tree(bits, join)
+    return c, [less, equal, c.both(c.gate(NOT, less), c.gate(NOT, equal))]
+
+
+def chain_parity(size):
+    c = Circuit(size)
+    return c, [chain(range(size), c.differ)]
+
+
+def tree_parity(size):
+    """Balanced, of nands."""
+    c = Circuit(size)
+    return c, [tree(list(range(size)), c.differ_by_nands)]
+
+
+def products(c, size, columns):
+    """The bit products of two numbers, by column."""
+    found = [[] for _ in range(columns)]
+    for i in range(size):
+        for k in range(size):
+            if i + k < columns:
+                found[i + k].append(c.both(k, size + i))
+    return found
+
+
+def array_multiplier(size, columns):
+    """The lowest columns of a product: row after row is added, its carries along the row."""
+    c = Circuit(2 * size)
+    rows = [[(k + i, c.both(k, size + i)) for k in range(size) if k + i < columns] for i in range(size)]
+    total = dict(rows[0])
+    for row in rows[1:]:
+        carry = None
+        for column, net in row:
+            terms = [x for x in (net, total.get(column), carry) if x is not None]
+            carry = None
+            if len(terms) > 1:
+                net, carry = (c.half_add if len(terms) == 2 else c.full_add)(*terms)
+            total[column] = net
+        if carry is not None and row[-1][0] + 1 < columns:
+            total[row[-1][0] + 1] = carry
+    return c, [total[column] for column in sorted(total)]
+
+
+def column_multiplier(size, columns):
+    """The same, each column added up before the next."""
+    c = Circuit(2 * size)
+    found = products(c, size, columns) + [[]]
+    outputs = []
+    for column in range(columns):
+        terms = found[column]
+        while len(terms) > 1:
+            count = 3 if len(terms) > 2 else 2
+            total, carry = (c.full_add if count == 3 else c.half_add)(*terms[:count])
+            terms = terms[count:] + [total]
+            found[column + 1].append(carry)
+        outputs += terms
+    return c, outputs
+
+
+# ---- typical cuts
+
+
+def reached(circuit, places):
+    """The nets of the cut gates and all that they lead to."""
+    found = {circuit.n + k for k in places}
+    for k, gate in enumerate(circuit.gates):
+        if any(net in found for net in gate.operands()):
+            found.add(circuit.n + k)
+    return found
+
+
+def frontier(circuit, places):
+    """The nets that no cut gate leads to and that the cut gates are made of."""
+    behind, found, to_visit = reached(circuit, places), set(), [circuit.n + k for k in places]
+    while to_visit:
+        for net in circuit.gates[to_visit.pop() - circuit.n].operands():
+            if net in behind:
+                to_visit.append(net)
+            else:
+                found.add(net)
+    return found
+
+
+def cut_job(rng, old, golden, m, priced):
+    """Cuts m gates of the old circuit open, so that some table over the priced nets does; weights are random."""
+    circuit, outputs = old
+    n, seen = circuit.n, cj.cone(circuit.n, circuit.gates, outputs)
+    gates = [net - n for net in seen if net >= n]
+    inner = [k for k in gates if n + k not in outputs]
+    while True:
+        places = sorted(rng.sample(inner if len(inner) >= m else gates, m))
+        named = frontier(circuit, places)
+        if len(named) <= priced:
+            break
+    behind = reached(circuit, places)
+    others = [net for net in seen if net not in behind and net not in named]
+    named = sorted(named | set(rng.sample(others, min(len(others), priced - len(named)))))
+
+    def moved(net):
+        return net if net < n else net + m - sum(place < net - n for place in places)
+
+    candidates = [Candidate(moved(net), rng.randrange(1, 100)) for net in named]
+    left = cj.cut(n, m, circuit.gates, outputs, places, lambda: False)
+    return Job(n, m, left, Netlist(golden[0].gates, golden[1]), candidates)
+
+
+def cuts(rng):
+    for size, m in ((4, 1), (6, 2), (8, 3), (10, 4)):
+        yield f"adder_{size}", cut_job(rng, ripple_adder(size), prefix_adder(size), m, 10)
+    for size, m in ((4, 1), (7, 2), (10, 3)):
+        yield f"comparator_{size}", cut_job(rng, ripple_comparator(size), tree_comparator(size), m, 8)
+    for size, m in ((8, 1), (14, 2), (20, 2)):
+        yield f"parity_{size}", cut_job(rng, chain_parity(size), tree_parity(size), m, 6)
+    for size, columns, m in ((4, 8, 2), (6, 12, 3), (8, 9, 4), (8, 16, 4), (10, 10, 4)):
+        job = cut_job(rng, array_multiplier(size, columns), column_multiplier(size, columns), m, 10)
+        yield f"multiplier_{size}_{columns}", job
+
+
+def tiny(rng):
+    yield "tiny_a", rj.job_a()
+    for size in (1, 2):
+        yield f"tiny_adder_{size}", cut_job(rng, ripple_adder(size), prefix_adder(size), 1, 4)
+    for size in (1, 2, 3):
+        yield f"tiny_comparator_{size}", cut_job(rng, ripple_comparator(size), tree_comparator(size), min(size, 2), 4)
+    for size, m in ((3, 1), (6, 2)):
+        yield f"tiny_parity_{size}", cut_job(rng, chain_parity(size), tree_parity(size), m, 5)
+    yield "tiny_multiplier_2_4", cut_job(rng, array_multiplier(2, 4), column_multiplier(2, 4), 1, 4)
+
+
+# ---- jobs of a given size
+
+
+def walked_job(rng, n, m, gates, fanout, priced, outputs=32, split=False):
+    """A job that has a patch, so that every input is looked at, and where nearly every gate leads to an output. The golden
+    netlist has a front over the inputs, of which some nets are priced, a function of priced nets for each target, and a back
+    of that many gates: each is led to by all targets, or by one of them, in equal parts."""
+    c = Circuit(n)
+    unread = list(range(n))
+    while len(c.gates) < gates - (fanout + m if m else 0):
+        unread.append(c.gate(rng.choice(MIXED), unread.pop(0), rng.randrange(n + len(c.gates))))
+    front = range(n + len(c.gates))
+    named = sorted(rng.sample(front, priced))
+    roots = [root(rng, c, named) for _ in range(m)]
+    starts = [[net] for net in roots] if split else [roots]
+    ends = []
+    for nets in starts if roots else []:
+        ends += back(rng, c, list(nets), fanout // len(starts), list(front), unread, outputs // len(starts))
+    last = (ends + unread[::-1] + list(front)[::-1])[:outputs]
+    old = cj.cut(n, m, c.gates, last, [net - n for net in roots], lambda: True)
+    candidates = [Candidate(net if net < n else net + m, rng.randrange(1, 1000)) for net in named]
+    return Job(n, m, old, Netlist(c.gates, last), candidates)
+
+
+def root(rng, c, named):
+    """A gate over two of the priced nets, or fewer where there are fewer."""
+    if not named:
+        return c.gate(rng.choice([ZERO, ONE]))
+    if len(named) == 1:
+        return c.gate(rng.choice([BUF, NOT]), named[0])
+    return c.gate(rng.choice(MIXED), *rng.sample(named, 2))
+
+
+def back(rng, c, unread, count, front, unread_front, width):
+    """Appends that many gates behind these nets, which are joined first; the nets that none of them reads."""
+    while len(unread) > 1:
+        unread.append(c.gate(rng.choice(MIXED), unread.pop(0), unread.pop(0)))
+        count -= 1
+    nets = list(unread)
+    for _ in range(count):
+        first = unread.pop(0) if len(unread) == width else rng.choice(nets[-40:])
+        second = unread_front.pop(0) if unread_front else rng.choice(front + nets[-40:])
+        nets.append(c.gate(rng.choice(MIXED), first, second))
+        unread.append(nets[-1])
+    return unread
+
+
+def wide(rng):
+    yield "wide_few", walked_job(rng, 20, 4, 400, 50, 10)
+    yield "wide_all", walked_job(rng, 20, 4, 400, 300, 10)
+    yield "wide_split", walked_job(rng, 20, 4, 400, 300, 10, split=True)
+
+
+def growth(rng):
+    """Series of jobs in each of which one size grows."""
+    for n in range(4, 21, 2):
+        yield f"inputs_{n:03}", walked_job(rng, n, 2, 200, 60, 4)
+    for m in range(5):
+        yield f"targets_{m:03}", walked_job(rng, 16, m, 200, 60, 4)
+    for gates in (80, 120, 170, 240, 400):
+        yield f"gates_{gates:03}", walked_job(rng, 16, 2, gates, 60, 4)
+    for fanout in (25, 50, 100, 200, 380):
+        yield f"fanout_{fanout:03}", walked_job(rng, 16, 4, 400, fanout, 4)
+    for priced in range(0, 11, 2):
+        yield f"candidates_{priced:03}", walked_job(rng, 12, 2, 200, 60, priced)
+
+
+# ---- sheets
+
+
+def parity(x):
+    return bin(x).count("1") % 2
+
+
+def fits():
+    """A table whose column for target t is the parity of the lowest heights[t] support nets: 5 * 2^height - 4 gates. The
+    old netlist has one gate."""
+    for heights in ((0, 0, 0, 0), (2, 0, 0, 0), (3, 2, 1, 0), (4, 3, 1, 0), (5, 4, 1, 0), (6, 0, 0, 0), (6, 4, 1, 0)):
+        n, k = 10, max(heights)
+        columns = [[parity(r % 2**height) for r in range(2**k)] for height in heights]
+        table = [sum(column[r] << t for t, column in enumerate(columns)) for r in range(2**k)]
+        old = Netlist([Gate(BUF, 0, 0)], [n, n + 1, n + 2, n + 3, n + 4])
+        job = Job(n, 4, old, Netlist([], [0, 0, 0, 0, 0]), [Candidate(i, 1) for i in range(n)])
+        sheet = sheets.encode(Patch(list(range(k)), table, k, [0]))
+        number, netlist = fit(jobs.encode(job), sheet)
+        assert number == 0
+        yield f"fit_{jobs.number(netlist[6:8]) // 5:03}", job, sheet, netlist
+
+
+def late_sheet(job):
+    """A sheet over all priced nets that does for every fixable input."""
+    fixed = fixed_inputs(job)
+    fixable = 0
+    for inputs in fixed:
+        fixable |= inputs
+    values = simulate.net_values(job, job.old, simulate.vector_values(job, 0))
+    table = [0] * 2 ** len(job.candidates)
+    for reading, inputs in simulate.readings([values[c.net] for c in job.candidates], fixable):
+        table[reading] = next(vector for vector, these in enumerate(fixed) if inputs & ~these == 0)
+    return sheets.encode(Patch([c.net for c in job.candidates], table, sum(c.weight for c in job.candidates), [0]))
+
+
+# ---- files
+
+
+def put(folder, name, data):
+    with open(os.path.join(folder, name), "wb") as file:
+        file.write(data)
+
+
+def put_jobs(folder, made):
+    for name, job in made:
+        number, data = jobs.write(job)
+        assert number == 0, (name, number)
+        put(folder, f"{name}.job", data)
+
+
+def put_sheets(folder):
+    for name, job, sheet, netlist in fits():
+        put_jobs(folder, [(name, job)])
+        put(folder, f"{name}.sheet", sheet)
+        put(folder, f"{name}.netlist", netlist)
+    with open(os.path.join(BENCH, "decide_unfixable_4.job"), "rb") as file:
+        job = jobs.read(file.read())[1]
+    put_jobs(folder, [("late", job)])
+    put(folder, "late.sheet", late_sheet(job))
+
+
+def main():
+    what, folder = sys.argv[1:]
+    rng = random.Random(SEED)
+    os.makedirs(folder, exist_ok=True)
+    if what == "growth":
+        put_jobs(folder, growth(rng))
+        return
+    for made in (wide, cuts, tiny):
+        put_jobs(folder, made(rng))
+    put_sheets(folder)
+
+
+if __name__ == "__main__":
+    main()
