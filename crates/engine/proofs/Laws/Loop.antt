@@ -170,6 +170,9 @@ loop-finished j = rounds-finished j (2 ^ j .targets) (0 ∷ []) (listing-start j
 
 -- ---- the listed vectors
 
+pub vectors-distinct : (j : Job) → Distinct (vectorLoop j .vectors)
+vectors-distinct j = loop-finished j .listing .distinct
+
 pub vectors-below : (j : Job) (v : ℕ) → Mem v (vectorLoop j .vectors) → v < 2 ^ j .targets
 vectors-below j = loop-finished j .listing .below
 
