@@ -131,7 +131,7 @@ fn rule_patch(
     }
 }
 
-// The verdict after the walk, and its sheet.
+// The verdict after the search, and its sheet.
 fn rule(
     nets: [u16; CANDIDATES],
     weights: [u16; CANDIDATES],

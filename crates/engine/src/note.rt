@@ -1,4 +1,4 @@
-// What a block of 1,024 inputs adds to the walk: its rows of masks say which vectors rectify each input, its rows of readings what the
+// What a block of 1,024 inputs adds to the search: its rows of masks say which vectors rectify each input, its rows of readings what the
 // candidates give there. The sets of vectors are narrowed by all of its inputs; the vector list is stepped only where the listed vectors
 // do not cover the block.
 ghost use mathlib.Core.Path.{_≡_};

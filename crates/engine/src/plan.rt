@@ -1,4 +1,4 @@
-// The gates of a miter in the lists that a walk over a job's inputs evaluates.
+// The gates of a miter in the lists that the search over a job's inputs evaluates.
 ghost use mathlib.Core.Path.{_≡_};
 ghost use mathlib.Core.Bool.{true};
 ghost use mathlib.Core.List.{List};
@@ -19,7 +19,7 @@ use super::miter::Miter;
 use records::CANDIDATES;
 use records::OUTPUTS;
 
-// What a walk needs: counts, the nets of the outputs in both circuits, the nets that are read, and where the lists of gates end.
+// What the search needs: counts, the nets of the outputs in both circuits, the nets that are read, and where the lists of gates end.
 // List t, for target t, is gates[ends[t]..ends[t + 1]]; before ends[0] stand all live gates, from ends[4] to ends[5] those that any
 // target leads to.
 pub struct Plan {
@@ -221,7 +221,7 @@ fn live_marks(
     mark_live(gates, count, three)
 }
 
-// The plan of a walk over a miter's inputs where the first reads nets are read, and its gates.
+// The plan of a search over a miter's inputs where the first reads nets are read, and its gates.
 pub(super) fn plan_of(
     miter: Miter,
     nets: [u16; CANDIDATES],

@@ -1,5 +1,5 @@
 // Partial evaluation of packed gates: one evaluation on 0, 1 and not yet known (2) speaks for a whole range of inputs, which the
-// walk then need not look at one by one.
+// search then need not look at one by one.
 ghost use mathlib.Core.Path.{_≡_};
 ghost use mathlib.Core.Logic.{_↔_};
 ghost use mathlib.Core.Bool.{true};
