@@ -9,7 +9,7 @@ ghost use Rattle.engine.specs.Compare.{difference};
 ghost use Rattle.engine.specs.Reply.{comparisonOf, compareReply};
 ghost use Rattle.engine.specs.Inner.Miter.{SomeParts};
 ghost use Rattle.engine.specs.Inner.Plan.{PlanHeld};
-ghost use Rattle.engine.specs.Inner.Comparing.{PlanReads, DrivenRow, LowestBit, FirstUnequal, TableCopied, sheetComparison};
+ghost use Rattle.engine.specs.Inner.Comparing.{PlanReads, DrivenRow, TableCopied, sheetComparison};
 use super::choose::reading_count;
 use super::drive::set_targets;
 use super::drive::table_rows;
@@ -24,6 +24,7 @@ use super::miter::miter_of;
 use super::plan::Plan;
 use super::plan::plan_of;
 use super::search::eval_block;
+use super::word::first_unequal;
 use records::Check;
 use records::JobParts;
 use records::load;
@@ -68,39 +69,6 @@ fn driven_row(
     let outputs = plan.outputs;
     let goldens = plan.goldens;
     equal_row(outputs, goldens, plan.outs, words)
-}
-
-// The lowest of the first count places whose bit is 1, count where there is none.
-fn lowest_bit(word: u64, count: usize) -> usize
-    requires { ⌜ count ≤ 64 ⌝ }
-    ensures { λ r. ⌜ LowestBit word count r ⌝ }
-{
-    if word == 0 {
-        return count;
-    }
-    let mut i = 0usize;
-    while i < count {
-        if (word >> i) % 2 == 1 {
-            return i;
-        }
-        i += 1;
-    }
-    count
-}
-
-// The first scenario of which the row says 0, 1,024 where there is none.
-fn first_unequal(row: [u64; ROW]) -> usize
-    ensures { λ r. ⌜ FirstUnequal row r ⌝ }
-{
-    let mut w = 0usize;
-    while w < 16 {
-        let i = lowest_bit(row[w] ^ !0, 64);
-        if i < 64 {
-            return 64 * w + i;
-        }
-        w += 1;
-    }
-    1024
 }
 
 // How many of the inputs left are in one block.

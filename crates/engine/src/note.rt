@@ -1,12 +1,11 @@
 // What a block of 1,024 inputs adds to the search: its rows of masks say which vectors rectify each input, its rows of readings what the
-// candidates give there. The sets of vectors are narrowed by all of its inputs; the vector list is stepped only where the listed vectors
-// do not cover the block.
+// candidates give there. The sets of vectors are narrowed by all of its inputs; the vector list is stepped only at inputs that no listed
+// vector rectifies.
 ghost use mathlib.Core.Path.{_≡_};
-ghost use mathlib.Core.Bool.{true};
-ghost use Prim.Native.Nat.{ℕ, _+_, _-_, _*_, _/_, _%_, _^_, _≤_, _<_};
+ghost use Prim.Native.Nat.{ℕ, _+_, _*_, _/_, _%_, _^_, _≤_, _<_};
 ghost use lib.Bits.{bitOr};
 ghost use lib.ListN.{length, getD, take};
-ghost use Rattle.engine.specs.Inner.Note.{narrowed, setsFrom, gathered, Covered, ListNoted, BlockNoted};
+ghost use Rattle.engine.specs.Inner.Note.{narrowed, setsFrom, gathered, Joined, CoveredTo, ListNoted, BlockNoted};
 ghost use Rattle.engine.specs.Inner.List.{Held};
 use super::limits::READINGS;
 use super::limits::ROW;
@@ -15,6 +14,7 @@ use super::limits::VECTORS;
 use super::list::Vectors;
 use super::list::list_step;
 use super::turn::transpose;
+use super::word::first_unequal;
 
 // The sets with the one of a reading cut down to its part in a set of vectors.
 fn meet(reading: u64, set: u64, sets: &mut [u16; READINGS])
@@ -70,21 +70,6 @@ fn gather_rows(masks: &[u64; ROWS], y: usize) -> usize
     r
 }
 
-// The list after the first count inputs of a block, one after the other.
-fn list_block(masks: [u64; ROWS], first: usize, count: usize, list: Vectors) -> Vectors
-    requires { ⌜ (count ≤ 1024) × (first < 2 ^ 32) × Held list ⌝ }
-    ensures { λ r. ⌜ ListNoted masks first count list r ⌝ }
-{
-    let mut list = list;
-    let mut y = 0usize;
-    while y < count {
-        let set = gather_rows(&masks, y);
-        list = list_step(list, set, first + y);
-        y += 1;
-    }
-    list
-}
-
 // The words joined with those of row v.
 fn join_row(v: usize, masks: &[u64; ROWS], words: [u64; ROW]) -> [u64; ROW]
     requires { ⌜ v < 16 ⌝ }
@@ -99,45 +84,51 @@ fn join_row(v: usize, masks: &[u64; ROWS], words: [u64; ROW]) -> [u64; ROW]
     r
 }
 
-// Whether each of 1,024 bits is 1.
-fn all_ones(words: [u64; ROW]) -> bool
-    ensures { λ r. ⌜ (r ≡ true → (w : ℕ) → w < 16 → getD words w 0 ≡ 2 ^ 64 - 1) ⌝ }
-{
-    let mut w = 0usize;
-    while w < 16 {
-        if words[w] != 0xffff_ffff_ffff_ffff {
-            return false;
-        }
-        w += 1;
-    }
-    true
-}
-
-// Whether a listed vector rectifies each input of the block.
-fn covered(masks: [u64; ROWS], list: [u8; VECTORS], len: usize) -> bool
+// The row that has a 1 where a listed vector rectifies the input.
+fn listed_row(masks: &[u64; ROWS], list: [u8; VECTORS], len: usize) -> [u64; ROW]
     requires { ⌜ (len ≤ 16) × ((i : ℕ) → getD list i 0 < 16) ⌝ }
-    ensures { λ r. ⌜ (r ≡ true → Covered masks (take len list)) ⌝ }
+    ensures { λ r. ⌜ Joined (now (masks .entry)) (take len list) r ⌝ }
 {
     let mut words = [0u64; ROW];
     let mut i = 0usize;
     while i < len {
-        let next = join_row(list[i] as usize, &masks, words);
+        let next = join_row(list[i] as usize, masks, words);
         words = next;
         i += 1;
     }
-    all_ones(words)
+    words
 }
 
-// The list after the first count inputs of a block; as it is where it covers the block.
-fn list_uncovered(masks: [u64; ROWS], first: usize, count: usize, list: Vectors) -> Vectors
+// The first input from y on that no listed vector rectifies, at least 1,024 where there is none.
+fn next_uncovered(masks: &[u64; ROWS], list: Vectors, y: usize) -> usize
+    requires { ⌜ Held list ⌝ }
+    ensures { λ r. ⌜ CoveredTo (now (masks .entry)) list y r ⌝ }
+{
+    let vectors = list.list;
+    let next = first_unequal(listed_row(masks, vectors, list.len));
+    if next < y {
+        return y;
+    }
+    next
+}
+
+// The list after the first count inputs of a block. Those that a listed vector rectifies leave it as it is, so it goes from one that
+// none rectifies to the next: at most 16 steps in the whole search, one for each vector.
+fn list_block(masks: [u64; ROWS], first: usize, count: usize, list: Vectors) -> Vectors
     requires { ⌜ (count ≤ 1024) × (first < 2 ^ 32) × Held list ⌝ }
     ensures { λ r. ⌜ ListNoted masks first count list r ⌝ }
 {
-    let vectors = list.list;
-    if covered(masks, vectors, list.len) {
-        return list;
+    let mut list = list;
+    let mut y = next_uncovered(&masks, list, 0);
+    while y < count {
+        let set = gather_rows(&masks, y);
+        list = list_step(list, set, first + y);
+        if list.stuck {
+            return list;
+        }
+        y = next_uncovered(&masks, list, y + 1);
     }
-    list_block(masks, first, count, list)
+    list
 }
 
 // The list after the first count inputs of a block, which are those from first on, and the sets after all 1,024.
@@ -154,5 +145,5 @@ pub(super) fn note_block(
     ensures { λ r. ⌜ BlockNoted masks readings first count list (now (sets .entry)) r (now (sets .exit)) ⌝ }
 {
     meet_block(masks, readings, sets);
-    list_uncovered(masks, first, count, list)
+    list_block(masks, first, count, list)
 }

@@ -1,7 +1,9 @@
-// Words: a bit a scenario. Scenario j of word b is input 64 * b + j.
+// Words: a bit a scenario. Scenario j of word b is input 64 * b + j. A row has the 16 words of 1,024 scenarios.
 ghost use mathlib.Core.Path.{_≡_};
-ghost use Prim.Native.Nat.{ℕ, _+_, _*_, _<_};
+ghost use Prim.Native.Nat.{ℕ, _+_, _*_, _≤_, _<_};
 ghost use Rattle.engine.specs.Eval.{bit};
+ghost use Rattle.engine.specs.Inner.Kernel.{LowestBit, FirstUnequal};
+use super::limits::ROW;
 
 // The word of a value that is the same in every scenario: the lowest bit of x.
 pub(super) fn broadcast(x: usize) -> u64
@@ -26,4 +28,37 @@ pub(super) fn input_word(i: usize, b: usize) -> u64
         4 => 0xffff_0000_ffff_0000,
         _ => 0xffff_ffff_0000_0000,
     }
+}
+
+// The lowest of the first count places whose bit is 1, count where there is none.
+fn lowest_bit(word: u64, count: usize) -> usize
+    requires { ⌜ count ≤ 64 ⌝ }
+    ensures { λ r. ⌜ LowestBit word count r ⌝ }
+{
+    if word == 0 {
+        return count;
+    }
+    let mut i = 0usize;
+    while i < count {
+        if (word >> i) % 2 == 1 {
+            return i;
+        }
+        i += 1;
+    }
+    count
+}
+
+// The first scenario of which the row says 0, 1,024 where there is none.
+pub(super) fn first_unequal(row: [u64; ROW]) -> usize
+    ensures { λ r. ⌜ FirstUnequal row r ⌝ }
+{
+    let mut w = 0usize;
+    while w < 16 {
+        let i = lowest_bit(row[w] ^ !0, 64);
+        if i < 64 {
+            return 64 * w + i;
+        }
+        w += 1;
+    }
+    1024
 }

@@ -1,13 +1,12 @@
 -- Laws of compare: where the driven old outputs differ from the golden ones. Assumes nothing.
-use Prim.Native.Nat.{ℕ, _+_, _-_, _*_, _/_, _%_, _^_, min, _≤_, _<_}
+use Prim.Native.Nat.{ℕ, _+_, _-_, _*_, _%_, _^_, min, _≤_, _<_}
 use mathlib.Core.Path.{_≡_, refl, sym, _∙_, ap, subst}
 use mathlib.Core.Logic.{inr, ⊎-elim}
 use mathlib.Core.List.{List, [], _∷_, _++_}
 use mathlib.Core.Bool.{Bool, true, false, cond, not}
-use native.Mathlib.Nat.{one-mul, eq-zero-or-pos}
+use native.Mathlib.Nat.{one-mul}
 use native.Mathlib.Omega.{arith}
 use borrow.Author.Tests.{ltb-true, ltb-false, eqb-true, eqb-false, eq-eqb, ne-eqb}
-use lib.Bits.{bitXor}
 use lib.Dec.{ltb, eqb, lit<}
 use lib.ListN.{length, getD, take, drop, replicate, List·getD-eq-default, length-take}
 use lib.Pow.{pow-mono, shl-exact}
@@ -24,60 +23,21 @@ use Rattle.records.proofs.Laws.Accepted.{job-accepts}
 use Rattle.records.proofs.Laws.Counts.{passes, fails}
 use Rattle.records.proofs.Laws.Loading.{loaded-number, loaded-check, loaded-parts}
 use Rattle.engine.specs.Choice.{first}
-use Rattle.engine.specs.Eval.{bit, allInputs}
+use Rattle.engine.specs.Eval.{allInputs}
 use Rattle.engine.specs.Rectify.{rectifies}
 use Rattle.engine.specs.Support.{reading, drivenBy}
 use Rattle.engine.specs.Compare.{difference, pairTests}
 use Rattle.engine.specs.Reply.{comparisonOf, compareNumber, compareReply}
-use Rattle.engine.specs.Inner.Kernel.{rowValue, Filled}
-use Rattle.engine.specs.Inner.Comparing.{differing, PlanReads, DrivenRow, LowestBit, FirstUnequal, TableCopied, declinedComparison, sheetComparison}
+use Rattle.engine.specs.Inner.Kernel.{Filled, FirstUnequal}
+use Rattle.engine.specs.Inner.Comparing.{differing, PlanReads, DrivenRow, TableCopied, declinedComparison, sheetComparison}
 use Rattle.engine.specs.declared.comparing.Comparison.{Comparison}
 use Rattle.engine.specs.declared.comparing.Comparison.the-variants as Comparison
 use Rattle.engine.specs.declared.plan.Plan.{Plan}
 use Rattle.engine.proofs.Laws.Choice.{true-or-false, Least}
-use Rattle.engine.proofs.Laws.Eval.{bit-lt}
 use Rattle.engine.proofs.Laws.Fill.{fill-at}
-use Rattle.engine.proofs.Laws.Kernel.{bit-sum}
 use Rattle.engine.proofs.Laws.Leaves.{getD-zeros}
 use Rattle.engine.proofs.Laws.ListLoop.{first-of-least, first-of-none}
-use Rattle.engine.proofs.Laws.Word.{bit-ones}
 use Rattle.engine.proofs.Laws.PartsSheet.{parts-number, parts-sheet}
-
--- ---- the first scenario of which a row says 0
-
--- a 0 in a word inverted is a 1
-bit-set : (i x v : ℕ) → i < 64 → bit i (bitXor x (2 ^ 64 - 1)) ≡ v → v < 2 → bit i x ≡ 1 - v
-bit-set i x v h e l =
-    let s : (bit i x + 1) % 2 ≡ v = ap (λ (k : ℕ). (bit i x + k) % 2) (sym (bit-ones i h)) ∙ sym (bit-sum i x (2 ^ 64 - 1)) ∙ e in
-    omega (arith, bit-lt i x)
-
-module _ (row : List ℕ) (w r : ℕ) (e : (y : ℕ) → y < 64 * w → rowValue row y ≡ 1)
-    (l : LowestBit (bitXor (getD row w 0) (2 ^ 64 - 1)) 64 r) where
-  row-word : (y : ℕ) → y / 64 ≡ w → rowValue row y ≡ bit (y % 64) (getD row w 0)
-  unfolding rowValue
-  row-word y q = ap (λ (k : ℕ). bit (y % 64) (getD row k 0)) q
-
-  pub equal-more : (y : ℕ) → y < 64 * w + r → rowValue row y ≡ 1
-  equal-more y h =
-      let m = l .most in
-      ⊎-elim
-      (λ (a : 64 * w - y ≡ 0).
-      row-word y (omega arith) ∙ bit-set (y % 64) (getD row w 0) 0 (omega arith) (l .clear (y % 64) (omega arith)) (omega arith))
-      (λ (a : 0 < 64 * w - y). e y (omega arith))
-      (eq-zero-or-pos (64 * w - y))
-
-  pub unequal-found : w < 16 → r < 64 → FirstUnequal row (64 * w + r)
-  unequal-found h a =
-      let p : (64 * w + r) % 64 ≡ r = omega arith in
-      record {
-        most = omega arith;
-        equal = equal-more;
-        unequal =
-            λ k.
-            row-word (64 * w + r) (omega arith)
-            ∙ ap (λ (i : ℕ). bit i (getD row w 0)) p
-            ∙ bit-set r (getD row w 0) 1 a (l .set a) (omega arith);
-      }
 
 -- ---- block after block
 

@@ -1,5 +1,5 @@
--- Laws of single nets and rows of a block: a row filled word by word, nets set one after the other, rows as numbers, and where two
--- rows of outputs are equal. Assumes nothing.
+-- Laws of single nets and rows of a block: a row filled word by word, nets set one after the other, rows as numbers, where two rows
+-- of outputs are equal, and the first scenario of which a row says 0. Assumes nothing.
 use Prim.Native.Nat.{ℕ, zero, suc, _+_, _-_, _*_, _/_, _%_, _^_, min, _≤_, _<_}
 use mathlib.Core.Path.{_≡_, refl, sym, _∙_, ap}
 use mathlib.Core.List.{List, [], _∷_, map}
@@ -14,7 +14,7 @@ use lib.Seq.{getD-set-same, getD-set-other, getD-take, length-take-le}
 use Rattle.records.specs.Bytes.{upFrom, tabulate}
 use Rattle.engine.specs.Choice.{same}
 use Rattle.engine.specs.Eval.{bit, numberOf}
-use Rattle.engine.specs.Inner.Kernel.{Filled, rowValue, valueIn, NetSet, NetsSet}
+use Rattle.engine.specs.Inner.Kernel.{Filled, rowValue, valueIn, NetSet, NetsSet, LowestBit, FirstUnequal}
 use Rattle.engine.specs.Inner.Note.{gathered}
 use Rattle.engine.proofs.Laws.Eval.{bit-lt}
 use Rattle.engine.proofs.Laws.Fill.{fill-at}
@@ -167,3 +167,39 @@ equal-next f os ps k v v′ h l e d =
     omega (arith, length-map (take k os) f, length-map (take k ps) f, length-take-le k os (omega arith), length-take-le k ps (omega arith)) in
     rw (map-more f os k h, map-more f ps k l, same-snoc x y (f (getD os k 0)) (f (getD ps k 0)) m)
     (d ∙ ap (λ (u : ℕ). cond (eqb (f (getD os k 0)) (f (getD ps k 0))) u 0) e ∙ both-equal (same x y) (eqb (f (getD os k 0)) (f (getD ps k 0))))
+
+-- ---- the first scenario of which a row says 0
+
+-- a 0 in a word inverted is a 1
+bit-set : (i x v : ℕ) → i < 64 → bit i (bitXor x (2 ^ 64 - 1)) ≡ v → v < 2 → bit i x ≡ 1 - v
+bit-set i x v h e l =
+    let s : (bit i x + 1) % 2 ≡ v = ap (λ (k : ℕ). (bit i x + k) % 2) (sym (bit-ones i h)) ∙ sym (bit-sum i x (2 ^ 64 - 1)) ∙ e in
+    omega (arith, bit-lt i x)
+
+module _ (row : List ℕ) (w r : ℕ) (e : (y : ℕ) → y < 64 * w → rowValue row y ≡ 1)
+    (l : LowestBit (bitXor (getD row w 0) (2 ^ 64 - 1)) 64 r) where
+  row-word : (y : ℕ) → y / 64 ≡ w → rowValue row y ≡ bit (y % 64) (getD row w 0)
+  unfolding rowValue
+  row-word y q = ap (λ (k : ℕ). bit (y % 64) (getD row k 0)) q
+
+  pub equal-more : (y : ℕ) → y < 64 * w + r → rowValue row y ≡ 1
+  equal-more y h =
+      let m = l .most in
+      ⊎-elim
+      (λ (a : 64 * w - y ≡ 0).
+      row-word y (omega arith) ∙ bit-set (y % 64) (getD row w 0) 0 (omega arith) (l .clear (y % 64) (omega arith)) (omega arith))
+      (λ (a : 0 < 64 * w - y). e y (omega arith))
+      (eq-zero-or-pos (64 * w - y))
+
+  pub unequal-found : w < 16 → r < 64 → FirstUnequal row (64 * w + r)
+  unequal-found h a =
+      let p : (64 * w + r) % 64 ≡ r = omega arith in
+      record {
+        most = omega arith;
+        equal = equal-more;
+        unequal =
+            λ k.
+            row-word (64 * w + r) (omega arith)
+            ∙ ap (λ (i : ℕ). bit i (getD row w 0)) p
+            ∙ bit-set r (getD row w 0) 1 a (l .set a) (omega arith);
+      }

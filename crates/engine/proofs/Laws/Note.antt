@@ -1,7 +1,7 @@
--- Laws of the noting of a block (src/note.rt): a set gathered row by row, rows joined word by word, the list stepped where it is not
--- covered. Assumes nothing.
+-- Laws of the noting of a block (src/note.rt): a set gathered row by row, rows joined word by word, the list stepped where no
+-- listed vector covers the scenario. Assumes nothing.
 use Prim.Native.Nat.{ℕ, zero, suc, _+_, _-_, _*_, _/_, _%_, _^_, max, _≤_, _<_}
-use mathlib.Core.Path.{_≡_, refl, sym, _∙_, ap}
+use mathlib.Core.Path.{_≡_, refl, sym, _∙_, ap, subst}
 use mathlib.Core.Logic.{_⊎_, inl, inr, ⊎-elim}
 use mathlib.Core.List.{List, [], _∷_, _++_, List·Memᴰ·head as here, Memᴰ·append-left as append-left, Memᴰ·append-right as append-right}
 use mathlib.Core.Bool.{true}
@@ -13,18 +13,17 @@ use lib.ListN.{length, getD, take, drop, replicate, getD-replicate}
 use lib.Seq.{take-suc}
 use Rattle.records.specs.Bytes.{tabulate}
 use Rattle.records.proofs.Laws.Bytes.{drop-tabulate, drop-tabulate-end}
-use Rattle.engine.specs.Choice.{any}
 use Rattle.engine.specs.Eval.{bit, numberOf}
 use Rattle.engine.specs.Rectify.{Listed}
 use Rattle.engine.specs.Inner.List.{listStep, listedFrom, listedOf, Held, Stepped}
-use Rattle.engine.specs.Inner.Note.{narrowed, gathered, Covered, ListNoted}
-use Rattle.engine.specs.Inner.Kernel.{valueIn, rowValue}
+use Rattle.engine.specs.Inner.Note.{narrowed, gathered, Joined, CoveredTo, ListNoted}
+use Rattle.engine.specs.Inner.Kernel.{valueIn, rowValue, FirstUnequal}
 use Rattle.engine.specs.declared.list.Vectors.{Vectors}
 use Rattle.engine.proofs.Laws.Choice.{any-true, any-of-member}
 use Rattle.engine.proofs.Laws.Eval.{bit-lt}
 use Rattle.engine.proofs.Laws.Rows.{bit-gathered, gathered-lt, valueIn-lt}
-use Rattle.engine.proofs.Laws.VectorSets.{inSet, bit-ones}
-use Rattle.engine.proofs.Laws.List.{listing, walked-still, listedFrom-walked, listedFrom-snoc, listStep-listed}
+use Rattle.engine.proofs.Laws.VectorSets.{inSet}
+use Rattle.engine.proofs.Laws.List.{listing, walked-still, listedFrom-walked, listedFrom-append, listedFrom-snoc, listStep-listed, listStep-stuck}
 use Rattle.engine.proofs.Laws.Word.{bit-or, bit-zero}
 
 -- ---- sets that a reading does not change
@@ -67,10 +66,6 @@ module _ (x : List ℕ) (y : ℕ) where
 
 -- ---- rows joined
 
--- where the words say 1, a vector of the list is in the set
-abbrev pub Joined : List ℕ → List ℕ → List ℕ → Type 0
-Joined masks vs words = (y : ℕ) → y < 1024 → rowValue words y ≡ 1 → any (inSet (gathered masks y)) vs ≡ true
-
 pub joined-none : (masks vs : List ℕ) → Joined masks vs (replicate 16 0)
 unfolding rowValue
 joined-none masks vs y h e =
@@ -112,12 +107,17 @@ joined-next masks list words next i l h j p y k e =
     (either-one (rowValue words y) (valueIn masks y v) (rowValue-lt words y) (valueIn-lt masks y v)
     (sym (joined-row masks words next v j y k) ∙ e)))
 
--- words of ones
-pub joined-full : (masks vs words : List ℕ) → ((w : ℕ) → w < 16 → getD words w 0 ≡ 2 ^ 64 - 1) → Joined masks vs words
-    → Covered masks vs
-unfolding rowValue
-joined-full masks vs words o p y h =
-    p y h (ap (bit (y % 64)) (o (y / 64) (omega arith)) ∙ bit-ones 64 (y % 64) .1 (omega arith))
+-- ---- the next scenario that no listed vector covers
+
+pub covered-none : (masks : List ℕ) (v : Vectors) (y : ℕ) → CoveredTo masks v y y
+covered-none masks v y = record { past = omega arith; covered = λ k a b. let f : ⊥ = omega arith in absurd f }
+
+pub covered-next : (masks row : List ℕ) (v : Vectors) (y r : ℕ) → Joined masks (take (v .len) (v .list)) row → FirstUnequal row r
+    → y ≤ r → CoveredTo masks v y r
+unfolding listedOf
+covered-next masks row v y r p f h =
+    let m = f .most in
+    record { past = h; covered = λ k a b. p k (omega arith) (f .equal k b) }
 
 -- ---- the list
 
@@ -139,23 +139,38 @@ module _ (masks : List ℕ) (first : ℕ) (v : Vectors) where
             ∙ sym (listedFrom-snoc f (listedOf v) first i);
       }
 
--- inputs that a listed vector rectifies add nothing to the list
-pub listedFrom-covered : (f : ℕ → ℕ) (l : Listed) (x k : ℕ)
-    → ((y : ℕ) → x ≤ y → y < x + k → any (inSet (f y)) (l .vectors) ≡ true) → listedFrom f l x k ≡ l
-listedFrom-covered f l x k h =
-    listedFrom-walked f l x k ∙ walked-still (listing f) l x k (λ y a b. listStep-listed l (f y) y (h y a b))
+  -- scenarios that leave the list as it is
+  list-still : (i n : ℕ) (u : Vectors) → i ≤ n → ListNoted masks first i v u
+      → ((y : ℕ) → i ≤ y → y < n → listStep (listedOf u) (gathered masks y) (first + y) ≡ listedOf u) → ListNoted masks first n v u
+  list-still i n u l p h =
+      record {
+        held = p .held;
+        listed = λ f g.
+            let k : ℕ = n - i in
+            let e : i + k ≡ n = omega arith in
+            let q : listedOf u ≡ listedFrom f (listedOf v) first i = p .listed f (λ y a. g y (omega arith)) in
+            let still = walked-still (listing f) (listedOf u) (first + i) k
+            (λ z a b.
+            let y : ℕ = z - first in
+            let d : first + y ≡ z = omega arith in
+            subst (λ (x : ℕ). listStep (listedOf u) (f x) x ≡ listedOf u) d
+            (ap (λ (s : ℕ). listStep (listedOf u) s (first + y)) (sym (g y (omega arith))) ∙ h y (omega arith) (omega arith))) in
+            sym still
+            ∙ sym (listedFrom-walked f (listedOf u) (first + i) k)
+            ∙ ap (λ (l : Listed). listedFrom f l (first + i) k) q
+            ∙ sym (listedFrom-append f (listedOf v) first i k)
+            ∙ ap (listedFrom f (listedOf v) first) e;
+      }
 
-pub list-covered : (masks : List ℕ) (first count : ℕ) (v : Vectors) → count ≤ 1024 → Held v
-    → Covered masks (take (v .len) (v .list)) → ListNoted masks first count v v
-unfolding listedOf
-list-covered masks first count v n h p =
-    record {
-      held = h;
-      listed = λ f g.
-          sym
-          (listedFrom-covered f (listedOf v) first count
-          (λ y a b.
-          let e : first + (y - first) ≡ y = omega arith in
-          let q : gathered masks (y - first) ≡ f y = rw e at (g (y - first) (omega arith)) in
-          rw q at (p (y - first) (omega arith))));
-    }
+  -- .. as a listed vector covers each
+  pub list-covered : (i r n : ℕ) (u : Vectors) → ListNoted masks first i v u → CoveredTo masks u i r → i ≤ n → n ≤ r
+      → ListNoted masks first n v u
+  list-covered i r n u p c a b =
+      list-still i n u a p
+      (λ y k l. listStep-listed (listedOf u) (gathered masks y) (first + y) (c .covered y k (omega arith)))
+
+  -- .. as an input before had no vector
+  pub list-stuck : (i n : ℕ) (u : Vectors) → ListNoted masks first i v u → u .stuck ≡ true → i ≤ n → ListNoted masks first n v u
+  unfolding listedOf
+  list-stuck i n u p e a =
+      list-still i n u a p (λ y k l. listStep-stuck (listedOf u) (gathered masks y) (first + y) (u .input) (rw e))

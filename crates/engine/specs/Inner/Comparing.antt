@@ -3,11 +3,9 @@
 --   differing j is t x   the old outputs driven by the table t over the nets is are not the golden ones at input x
 --   PlanReads j is ..    a plan of the job j where the old nets is are read
 --   DrivenRow ..         a block's row says of each of its inputs whether they are the golden ones
---   LowestBit w k r      r is the lowest place below k whose bit in w is 1; k where there is none
---   FirstUnequal row r   r is the first scenario of which the row says 0; 1,024 where there is none
 --   TableCopied ..       count bytes from start on in 1,024 places, 0 behind them
 --   sheetComparison j p  what compare replies to a good job j and a sheet's bytes p
-use Prim.Native.Nat.{ℕ, _+_, _*_, _≤_, _<_}
+use Prim.Native.Nat.{ℕ, _+_, _*_, _<_}
 use mathlib.Core.Path.{_≡_}
 use mathlib.Core.List.{List}
 use mathlib.Core.Bool.{Bool, true, cond, not}
@@ -17,7 +15,6 @@ use Rattle.records.specs.Bytes.{all}
 use Rattle.records.specs.Job.{Job}
 use Rattle.records.specs.Refusal.{firstFailing, oldNets}
 use Rattle.records.specs.Sheet.{patchOf, sheetTests}
-use Rattle.engine.specs.Eval.{bit}
 use Rattle.engine.specs.Rectify.{rectifies}
 use Rattle.engine.specs.Support.{drivenBy}
 use Rattle.engine.specs.Compare.{difference}
@@ -38,16 +35,6 @@ pub record PlanReads (j : Job) (is : List ℕ) (p : Plan) (gates : List ℕ) : T
 pub record DrivenRow (p : Plan) (gates table : List ℕ) (b : ℕ) (row : List ℕ) : Type 0 where
   pub values : (j : Job) (is : List ℕ) → PlanReads j is p gates → (y : ℕ) → y < 1024
       → rowValue row y ≡ cond (rectifies j (1024 * b + y) (drivenBy j is table (1024 * b + y))) 1 0
-
-pub record LowestBit (word count r : ℕ) : Type 0 where
-  pub most : r ≤ count
-  pub clear : (i : ℕ) → i < r → bit i word ≡ 0
-  pub set : r < count → bit r word ≡ 1
-
-pub record FirstUnequal (row : List ℕ) (r : ℕ) : Type 0 where
-  pub most : r ≤ 1024
-  pub equal : (y : ℕ) → y < r → rowValue row y ≡ 1
-  pub unequal : r < 1024 → rowValue row r ≡ 0
 
 pub record TableCopied (sheet : List ℕ) (start count : ℕ) (table : List ℕ) : Type 0 where
   pub long : length table ≡ 1024

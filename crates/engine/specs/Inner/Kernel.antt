@@ -7,6 +7,8 @@
 --   column words y         those of all 1,024 nets
 --   Ran cs before after    in every scenario the values after are those that the gates cs give
 --   rowValue r y           bit y % 64 of word y / 64 of the 16 words r: what a row says of scenario y
+--   LowestBit w k r        r is the lowest place below k whose bit in w is 1; k where there is none
+--   FirstUnequal row r     r is the first scenario of which the row says 0; 1,024 where there is none
 use Prim.Native.Nat.{ℕ, _+_, _*_, _/_, _%_, _≤_, _<_}
 use mathlib.Core.Path.{_≡_}
 use mathlib.Core.List.{List}
@@ -51,3 +53,13 @@ pub record NetsSet (at n : ℕ) (f : ℕ → ℕ → ℕ) (before after : List �
   pub long : length after ≡ length before
   pub put : (y k : ℕ) → y < 1024 → k < n → valueIn after y (at + k) ≡ f y k
   pub kept : (y k : ℕ) → y < 1024 → (k < at) ⊎ (at + n ≤ k) → valueIn after y k ≡ valueIn before y k
+
+pub record LowestBit (word count r : ℕ) : Type 0 where
+  pub most : r ≤ count
+  pub clear : (i : ℕ) → i < r → bit i word ≡ 0
+  pub set : r < count → bit r word ≡ 1
+
+pub record FirstUnequal (row : List ℕ) (r : ℕ) : Type 0 where
+  pub most : r ≤ 1024
+  pub equal : (y : ℕ) → y < r → rowValue row y ≡ 1
+  pub unequal : r < 1024 → rowValue row r ≡ 0

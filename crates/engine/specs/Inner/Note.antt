@@ -4,9 +4,11 @@
 --   narrowed ss r s              the sets ss with the one of reading r cut down to its part in s
 --   setsFrom f g ss x k          .. after the k inputs from x on, where g says the reading of each
 --   gathered x y     the number whose bit i is what row i of x says of scenario y
---   Covered ..       a listed vector is in the set of each scenario
+--   Covered ..       a listed vector is in the set of a scenario
+--   Joined ..        .. of each of which a row says 1
+--   CoveredTo ..     .. of each from one on to another
 --   BlockNoted ..    the list and the sets after a block's inputs
-use Prim.Native.Nat.{ℕ, zero, suc, _+_, _-_, _*_, _^_, _<_, _%_}
+use Prim.Native.Nat.{ℕ, zero, suc, _+_, _-_, _*_, _^_, _≤_, _<_, _%_}
 use mathlib.Core.Path.{_≡_}
 use mathlib.Core.List.{List}
 use mathlib.Core.Bool.{true}
@@ -19,7 +21,7 @@ use Rattle.engine.specs.Eval.{bit, numberOf}
 use Rattle.engine.specs.Support.{reading}
 use Rattle.engine.specs.declared.list.Vectors.{Vectors}
 use Rattle.engine.specs.Inner.List.{listedOf, listedFrom, Held}
-use Rattle.engine.specs.Inner.Kernel.{valueIn}
+use Rattle.engine.specs.Inner.Kernel.{rowValue, valueIn}
 
 abbrev pub maxReadings : ℕ
 maxReadings = 1024
@@ -39,8 +41,18 @@ startSets m = replicate maxReadings (2 ^ 2 ^ m - 1)
 unfoldable pub gathered : List ℕ → ℕ → ℕ
 gathered x y = numberOf (tabulate 16 (valueIn x y))
 
-abbrev pub Covered : List ℕ → List ℕ → Type 0
-Covered masks vs = (y : ℕ) → y < 1024 → any (λ v. eqb (bit v (gathered masks y)) 1) vs ≡ true
+-- a vector of vs is in the set of scenario y
+abbrev pub Covered : List ℕ → List ℕ → ℕ → Type 0
+Covered masks vs y = any (λ v. eqb (bit v (gathered masks y)) 1) vs ≡ true
+
+-- .. of each scenario of which the row says 1
+abbrev pub Joined : List ℕ → List ℕ → List ℕ → Type 0
+Joined masks vs row = (y : ℕ) → y < 1024 → rowValue row y ≡ 1 → Covered masks vs y
+
+-- .. of each scenario from y on to r, for the list that a struct holds
+pub record CoveredTo (masks : List ℕ) (v : Vectors) (y r : ℕ) : Type 0 where
+  pub past : y ≤ r
+  pub covered : (k : ℕ) → y ≤ k → k < r → Covered masks (listedOf v .vectors) k
 
 -- what f says of the count inputs from first on is what the masks say of the first count scenarios
 abbrev pub Gathers : List ℕ → ℕ → ℕ → (ℕ → ℕ) → Type 0

@@ -5,11 +5,11 @@ use Rattle.engine.proofs.note.note_block.Tie as tie
 meet-block-requires : tie.Need-meet-block-requires
 meet-block-requires c κs = let p = c .before .pre in (p .3, p .4)
 
-list-uncovered-requires : tie.Need-list-uncovered-requires
-list-uncovered-requires c κs = let p = c .before .before .pre in (p .0, p .1, p .2)
+list-block-requires : tie.Need-list-block-requires
+list-block-requires c κs = let p = c .before .before .pre in (p .0, p .1, p .2)
 
 returns : tie.Need-returns
-returns c = record { list = c .list-uncovered .ensures; sets = c .before .meet-block .ensures }
+returns c = record { list = c .list-block .ensures; sets = c .before .meet-block .ensures }
 
 pub note-block-spec : {M : Type 1} → statement M
-note-block-spec = tie.close (tie.spec meet-block-requires list-uncovered-requires returns)
+note-block-spec = tie.close (tie.spec meet-block-requires list-block-requires returns)

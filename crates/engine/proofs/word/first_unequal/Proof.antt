@@ -1,12 +1,12 @@
--- `engine::comparing::first_unequal` meets its contract. The invariant: of the scenarios of the words passed the row says 1. Assumes
+-- `engine::word::first_unequal` meets its contract. The invariant: of the scenarios of the words passed the row says 1. Assumes
 -- nothing.
 use Prim.Native.Nat.{ℕ, _*_, _-_, _≤_, _<_}
 use mathlib.Core.Path.{_≡_}
 use native.Mathlib.Omega.{arith}
 use Rattle.engine.specs.Inner.Kernel.{rowValue}
-use Rattle.engine.proofs.Laws.Compare.{equal-more, unequal-found}
-use Rattle.engine.proofs.comparing.first_unequal.Statement.{statement}
-use Rattle.engine.proofs.comparing.first_unequal.Tie as tie
+use Rattle.engine.proofs.Laws.Leaves.{equal-more, unequal-found}
+use Rattle.engine.proofs.word.first_unequal.Statement.{statement}
+use Rattle.engine.proofs.word.first_unequal.Tie as tie
 
 abbrev Inv-loop : tie.InvT-loop
 Inv-loop row w₀ w = (w ≤ 16) × ((y : ℕ) → y < 64 * w → rowValue row y ≡ 1)

@@ -1,12 +1,12 @@
--- `engine::comparing::lowest_bit` meets its contract. The invariant: the bits of the places passed are 0. Assumes nothing.
+-- `engine::word::lowest_bit` meets its contract. The invariant: the bits of the places passed are 0. Assumes nothing.
 use Prim.Native.Nat.{ℕ, _-_, _≤_, _<_}
 use mathlib.Core.Path.{_≡_, _∙_, ap}
 use native.Mathlib.Omega.{arith}
 use borrow.Author.Count.{below-more}
 use Rattle.engine.specs.Eval.{bit}
 use Rattle.engine.proofs.Laws.Word.{bit-zero}
-use Rattle.engine.proofs.comparing.lowest_bit.Statement.{statement}
-use Rattle.engine.proofs.comparing.lowest_bit.Tie as tie
+use Rattle.engine.proofs.word.lowest_bit.Statement.{statement}
+use Rattle.engine.proofs.word.lowest_bit.Tie as tie
 
 abbrev Inv-loop : tie.InvT-loop
 Inv-loop word count i₀ i = (i ≤ count) × ((k : ℕ) → k < i → bit k word ≡ 0)
