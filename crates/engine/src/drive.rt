@@ -38,14 +38,14 @@ pub(super) fn table_rows(readings: [u64; ROWS], table: &[u8]) -> [u64; ROWS]
     ensures { λ r. ⌜ (length r ≡ 256)
         × ((y : ℕ) → y < 1024 → gathered r y ≡ getD (now (table .entry)) (gathered readings y % 1024) 0) ⌝ }
 {
-    let read = transpose(readings);
+    let read = transpose(readings, 16);
     let mut found = [0u64; ROWS];
     let mut i = 0usize;
     while i < 256 {
         found[i] = look_four(read[i], table);
         i += 1;
     }
-    transpose(found)
+    transpose(found, 16)
 }
 
 // Row i of 16 rows.

@@ -5,7 +5,7 @@ ghost use mathlib.Core.Path.{_≡_};
 ghost use Prim.Native.Nat.{ℕ, _+_, _*_, _/_, _%_, _^_, _≤_, _<_};
 ghost use lib.Bits.{bitOr};
 ghost use lib.ListN.{length, getD, take};
-ghost use Rattle.engine.specs.Inner.Note.{narrowed, setsFrom, gathered, Joined, CoveredTo, ListNoted, BlockNoted};
+ghost use Rattle.engine.specs.Inner.Note.{narrowed, setsFrom, gathered, ColumnMet, Joined, CoveredTo, ListNoted, BlockNoted};
 ghost use Rattle.engine.specs.Inner.List.{Held};
 use super::limits::READINGS;
 use super::limits::ROW;
@@ -40,17 +40,35 @@ fn meet_four(readings: u64, masks: u64, sets: &mut [u16; READINGS])
     meet(readings >> 48, masks >> 48, sets);
 }
 
-// The sets after the 1,024 inputs of a block. Transposed, a word has the sets, or the readings, of four of them.
-pub(super) fn meet_block(masks: [u64; ROWS], readings: [u64; ROWS], sets: &mut [u16; READINGS])
-    requires { ⌜ (length masks ≡ 256) × (length readings ≡ 256) ⌝ }
-    ensures { λ r. ⌜ now (sets .exit) ≡ setsFrom (gathered masks) (λ y. gathered readings y % 1024) (now (sets .entry)) 0 1024 ⌝ }
+// The sets after the 64 scenarios of column w. Transposed, a word has the sets, or the readings, of four of them.
+fn meet_column(masks: &[u64; ROWS], readings: &[u64; ROWS], w: usize, sets: &mut [u16; READINGS])
+    requires { ⌜ w < 16 ⌝ }
+    ensures { λ r. ⌜ ColumnMet (now (masks .entry)) (now (readings .entry)) w (now (sets .entry)) (now (sets .exit)) ⌝ }
 {
-    let turned = transpose(masks);
-    let read = transpose(readings);
     let mut i = 0usize;
-    while i < 256 {
-        meet_four(read[i], turned[i], sets);
+    while i < 16 {
+        meet_four(readings[16 * i + w], masks[16 * i + w], sets);
         i += 1;
+    }
+}
+
+// The sets after the scenarios of a block's first columns.
+pub(super) fn meet_block(
+    masks: [u64; ROWS],
+    readings: [u64; ROWS],
+    columns: usize,
+    sets: &mut [u16; READINGS],
+)
+    requires { ⌜ (length masks ≡ 256) × (length readings ≡ 256) × (columns ≤ 16) ⌝ }
+    ensures { λ r. ⌜ now (sets .exit)
+        ≡ setsFrom (gathered masks) (λ y. gathered readings y % 1024) (now (sets .entry)) 0 (64 * columns) ⌝ }
+{
+    let turned = transpose(masks, columns);
+    let read = transpose(readings, columns);
+    let mut w = 0usize;
+    while w < columns {
+        meet_column(&turned, &read, w, sets);
+        w += 1;
     }
 }
 
@@ -131,7 +149,7 @@ fn list_block(masks: [u64; ROWS], first: usize, count: usize, list: Vectors) -> 
     list
 }
 
-// The list after the first count inputs of a block, which are those from first on, and the sets after all 1,024.
+// The list after the first count inputs of a block, which are those from first on, and the sets after the columns of 64 that they fill.
 pub(super) fn note_block(
     masks: [u64; ROWS],
     readings: [u64; ROWS],
@@ -144,6 +162,6 @@ pub(super) fn note_block(
         × (length (now sets) ≡ 1024) ⌝ }
     ensures { λ r. ⌜ BlockNoted masks readings first count list (now (sets .entry)) r (now (sets .exit)) ⌝ }
 {
-    meet_block(masks, readings, sets);
+    meet_block(masks, readings, (count + 63) / 64, sets);
     list_block(masks, first, count, list)
 }

@@ -3,7 +3,7 @@
 ghost use mathlib.Core.Path.{_≡_};
 ghost use Prim.Native.Nat.{_^_, _≤_, _<_};
 ghost use lib.ListN.{length};
-ghost use Rattle.engine.specs.Inner.Turn.{Moved, HalfMask, SwappedRow, Swapped, Turned, Column, Placed, AllTurned};
+ghost use Rattle.engine.specs.Inner.Turn.{Moved, HalfMask, SwappedRow, Swapped, Turned, Column, Placed, ColumnsTurned};
 use super::limits::ROW;
 use super::limits::ROWS;
 
@@ -81,14 +81,14 @@ fn put_column(w: usize, c: [u64; ROW], x: &mut [u64; ROWS])
     }
 }
 
-// The whole block: bit 16 k + i of word w of row j is bit 16 k + j of word w of row i.
-pub(super) fn transpose(x: [u64; ROWS]) -> [u64; ROWS]
-    requires { ⌜ length x ≡ 256 ⌝ }
-    ensures { λ r. ⌜ (length r ≡ 256) × AllTurned x r ⌝ }
+// The block's first columns: bit 16 k + i of word w of row j is bit 16 k + j of word w of row i.
+pub(super) fn transpose(x: [u64; ROWS], columns: usize) -> [u64; ROWS]
+    requires { ⌜ (length x ≡ 256) × (columns ≤ 16) ⌝ }
+    ensures { λ r. ⌜ (length r ≡ 256) × ColumnsTurned columns x r ⌝ }
 {
     let mut y = x;
     let mut w = 0usize;
-    while w < 16 {
+    while w < columns {
         put_column(w, turn(column(&y, w)), &mut y);
         w += 1;
     }

@@ -1,30 +1,26 @@
--- Laws of the rows of a block (specs/Inner/Rows): what the rows say of a scenario, also once they are transposed; and the sets of
+-- Laws of the rows of a block (specs/Inner/Note): what the rows say of a scenario, also once they are transposed; and the sets of
 -- vectors after a block's inputs, which may come in any order and more than once. Assumes nothing.
 use Prim.Native.Nat.{ℕ, zero, suc, _+_, _*_, _/_, _%_, _^_, _≤_, _<_}
 use mathlib.Core.Path.{_≡_, refl, sym, _∙_, ap}
 use mathlib.Core.List.{List}
-use mathlib.Core.Bool.{true}
 use native.Mathlib.Nat.{add-zero, zero-add, mod-lt, mod-eq-of-lt, mod-one, div-one}
 use native.Mathlib.Numerals.{add-one}
 use native.Mathlib.Omega.{arith}
-use borrow.Author.Tests.{eqb-true}
 use lib.Bits.{bitAnd}
-use lib.Dec.{eqb}
 use lib.ListN.{length, getD, length-set}
 use lib.Pow.{mod-pow-add}
-use Rattle.records.specs.Bytes.{upFrom, all, tabulate}
+use Rattle.records.specs.Bytes.{upFrom, tabulate}
 use Rattle.records.proofs.Laws.Bytes.{tabulate-ext}
 use Rattle.engine.specs.Eval.{bit, bits, numberOf}
-use Rattle.engine.specs.Inner.Note.{narrowed, setsFrom, gathered}
+use Rattle.engine.specs.Inner.Note.{narrowed, setsFrom, gathered, ColumnMet}
 use Rattle.engine.specs.Inner.Kernel.{valueIn}
-use Rattle.engine.specs.Inner.Turn.{AllTurned}
+use Rattle.engine.specs.Inner.Turn.{TurnedAt, ColumnsTurned}
 use Rattle.engine.proofs.Laws.AnyOrder.{met, under, setsFrom-met, met-along, met-order}
-use Rattle.engine.proofs.Laws.Choice.{all-iff-below}
 use Rattle.engine.proofs.Laws.Eval.{bit-lt}
 use Rattle.engine.proofs.Laws.Picked.{bits-suc}
 use Rattle.engine.proofs.Laws.Shift.{bit-shr}
 use Rattle.engine.proofs.Laws.VectorSets.{bit-tabulate, tabulate-lt}
-use Rattle.engine.proofs.Laws.List.{narrowing}
+use Rattle.engine.proofs.Laws.List.{narrowing, setsFrom-append}
 
 -- ---- what the rows say of a scenario
 
@@ -43,8 +39,8 @@ module _ (x : List ℕ) (y : ℕ) where
 
 -- ---- the transposed rows
 
-pub turned-back : (x y : List ℕ) → AllTurned x y → AllTurned y x
-turned-back x y t w h k i j hk hi hj = sym (t w h k j i hk hj hi)
+pub turned-back : (n : ℕ) (x y : List ℕ) → ColumnsTurned n x y → ColumnsTurned n y x
+turned-back n x y t w h k i j hk hi hj = sym (t w h k j i hk hj hi)
 
 -- the number made of a number's lowest bits
 pub numberOf-bits : (k x : ℕ) → numberOf (bits k x) ≡ x % 2 ^ k
@@ -54,89 +50,32 @@ numberOf-bits (suc k) x =
     let m : x % 2 ^ suc k ≡ x / 2 % 2 ^ k * 2 + x % 2 = rw (add-one k) at (mod-pow-add x k 1) in
     ap numberOf (bits-suc k x) ∙ omega (arith, numberOf-bits k (x / 2))
 
--- n counts the quarters of the words
-unfoldable pub part : ℕ → List ℕ → ℕ → ℕ
-part size ws n = getD ws (n / 4) 0 / 2 ^ (16 * (n % 4)) % size
-
-pub part-at : (size : ℕ) (ws : List ℕ) (i k : ℕ) → k < 4 → part size ws (4 * i + k) ≡ getD ws i 0 / 2 ^ (16 * k) % size
-unfolding part
-part-at size ws i k l =
-    let p : (4 * i + k) / 4 ≡ i = omega arith in
-    let q : (4 * i + k) % 4 ≡ k = omega arith in
-    rw (p, q)
-
-pub part-first : (size : ℕ) (ws : List ℕ) (i : ℕ) → part size ws (4 * i) ≡ getD ws i 0 % size
-unfolding part
-part-first size ws i =
-    let p : 4 * i / 4 ≡ i = omega arith in
-    let q : 4 * i % 4 ≡ 0 = omega arith in
-    rw (p, q) (ap (λ (y : ℕ). y % size) (div-one (getD ws i 0)))
-
-pub part-small : (ws : List ℕ) (n : ℕ) → part 1024 ws n ≡ part 65536 ws n % 1024
-unfolding part
-part-small ws n = omega arith
-
--- the scenario of quarter n, and the quarter of scenario y
-abbrev pub visit : ℕ → ℕ
-visit n = 64 * (n / 4 % 16) + 16 * (n % 4) + n / 64
-
-abbrev pub turnOf : ℕ → ℕ
-turnOf y = 64 * (y % 16) + 4 * (y / 64) + y / 16 % 4
-
-pub visit-lt : (n : ℕ) → n < 1024 → visit n < 1024
-visit-lt n h = omega arith
-
-pub turnOf-lt : (y : ℕ) → y < 1024 → turnOf y < 1024
-turnOf-lt y h = omega arith
-
-visits : all (λ y. eqb (visit (turnOf y)) y) (upFrom 0 1024) ≡ true
-unfolding all upFrom
-visits = refl
-
-pub visit-turnOf : (y : ℕ) → y < 1024 → visit (turnOf y) ≡ y
-visit-turnOf y h = eqb-true (visit (turnOf y)) y (all-iff-below (λ y. eqb (visit (turnOf y)) y) 1024 .0 visits y h)
-
-visit-place : (i k : ℕ) → i < 256 → k < 4 → visit (4 * i + k) ≡ 64 * (i % 16) + (16 * k + i / 16)
-visit-place i k h l =
-    let p : (4 * i + k) / 4 ≡ i = omega arith in
-    let q : (4 * i + k) % 4 ≡ k = omega arith in
-    let s : (4 * i + k) / 64 ≡ i / 16 = omega arith in
-    rw (p, q, s) (omega arith)
-
 digits : (w b : ℕ) → b < 64 → ((64 * w + b) % 64 ≡ b) × ((64 * w + b) / 64 ≡ w)
 digits w b h = (omega arith, omega arith)
 
-module _ (x y : List ℕ) (t : AllTurned x y) where
-  quarter : (i k : ℕ) → i < 256 → k < 4 → part 65536 y (4 * i + k) ≡ gathered x (visit (4 * i + k))
-  unfolding gathered valueIn bits
-  quarter i k h l =
-      let w : i % 16 < 16 = omega arith in
-      let z : i / 16 < 16 = omega arith in
-      let v = visit (4 * i + k) in
-      let q = getD y i 0 / 2 ^ (16 * k) in
-      let g = visit-place i k h l in
-      let d = digits (i % 16) (16 * k + i / 16) (omega arith) in
-      let e : 16 * (i / 16) + i % 16 ≡ i = omega arith in
-      let a : v % 64 ≡ 16 * k + i / 16 = rw g (d .0) in
-      let b : v / 64 ≡ i % 16 = rw g (d .1) in
-      part-at 65536 y i k l ∙ sym (numberOf-bits 16 q)
-      ∙ ap numberOf
-      (tabulate-ext 16 (λ r. bit r q) (valueIn x v)
-      (λ r u.
-      bit-shr r (16 * k) (getD y i 0)
-      ∙ ap (λ (n : ℕ). bit (16 * k + r) (getD y n 0)) (sym e)
-      ∙ t (i % 16) w k r (i / 16) l u z
-      ∙ rw (a, b)))
+-- a quarter of a transposed word is what the rows say of one scenario
+quarter : (x y : List ℕ) (w : ℕ) → TurnedAt x y w → (k j : ℕ) → k < 4 → j < 16
+    → getD y (16 * j + w) 0 / 2 ^ (16 * k) % 65536 ≡ gathered x (64 * w + (16 * k + j))
+unfolding gathered valueIn bits
+quarter x y w t k j hk hj =
+    let q = getD y (16 * j + w) 0 / 2 ^ (16 * k) in
+    let d = digits w (16 * k + j) (omega arith) in
+    sym (numberOf-bits 16 q)
+    ∙ ap numberOf
+    (tabulate-ext 16 (λ r. bit r q) (valueIn x (64 * w + (16 * k + j)))
+    (λ r u. bit-shr r (16 * k) (getD y (16 * j + w) 0) ∙ t k r j hk u hj ∙ rw (d .0, d .1)))
 
-  -- each quarter of the transposed words is what the rows say of one scenario
-  pub part-gathered : (n : ℕ) → n < 1024 → part 65536 y n ≡ gathered x (visit n)
-  part-gathered n h =
-      let m : 4 * (n / 4) + n % 4 ≡ n = omega arith in
-      rw m at (quarter (n / 4) (n % 4) (omega arith) (omega arith))
+-- .. and the other way
+pub gathered-quarter : (x y : List ℕ) → ColumnsTurned 16 x y → (s : ℕ) → s < 1024
+    → gathered x s ≡ getD y (16 * (s % 16) + s / 64) 0 / 2 ^ (16 * (s / 16 % 4)) % 65536
+gathered-quarter x y t s h =
+    let e : 64 * (s / 64) + (16 * (s / 16 % 4) + s % 16) ≡ s = omega arith in
+    ap (gathered x) (sym e)
+    ∙ sym (quarter x y (s / 64) (t (s / 64) (omega arith)) (s / 16 % 4) (s % 16) (omega arith) (omega arith))
 
-  -- .. and the other way
-  pub gathered-part : (s : ℕ) → s < 1024 → gathered x s ≡ part 65536 y (turnOf s)
-  gathered-part s h = sym (part-gathered (turnOf s) (turnOf-lt s h) ∙ ap (gathered x) (visit-turnOf s h))
+-- a reading is the low bits of a quarter
+pub mod-small : (z : ℕ) → z % 1024 ≡ z % 65536 % 1024
+mod-small z = omega arith
 
 -- ---- the sets, quarter by quarter
 
@@ -145,63 +84,6 @@ unfolding setsFrom narrowed
 setsFrom-length f g ss x zero = refl
 setsFrom-length f g ss x (suc n) =
     setsFrom-length f g (narrowed ss (g x) (f x)) (suc x) n ∙ length-set ss (g x) (bitAnd (getD ss (g x) 0) (f x))
-
-visited-all : (f g : ℕ → ℕ) (ss : List ℕ) → met (narrowing f g) ss (under visit 1024) ≡ setsFrom f g ss 0 1024
-visited-all f g ss =
-    met-order f g visit (λ y. y) ss 1024 1024 (λ n l. (visit n, visit-lt n l, refl))
-    (λ y l. (turnOf y, turnOf-lt y l, visit-turnOf y l))
-    ∙ sym (setsFrom-met f g ss 1024)
-
-abbrev pub quarters : List ℕ → List ℕ → List ℕ → ℕ → List ℕ
-quarters ms rs ss n = met (narrowing (part 65536 ms) (part 1024 rs)) ss (under (λ y. y) n)
-
-pub quarters-none : (ms rs ss : List ℕ) → ss ≡ quarters ms rs ss (4 * 0)
-unfolding met under
-quarters-none ms rs ss = refl
-
-met-four : (step : List ℕ → ℕ → List ℕ) (a : List ℕ) (n : ℕ)
-    → met step a (under (λ y. y) (4 * (n + 1)))
-    ≡ step (step (step (step (met step a (under (λ y. y) (4 * n))) (4 * n)) (4 * n + 1)) (4 * n + 2)) (4 * n + 3)
-unfolding met under
-met-four step a n =
-    let e : 4 * (n + 1) ≡ suc (suc (suc (suc (4 * n)))) = omega arith in
-    let e1 : 4 * n + 1 ≡ suc (4 * n) = omega arith in
-    let e2 : 4 * n + 2 ≡ suc (suc (4 * n)) = omega arith in
-    let e3 : 4 * n + 3 ≡ suc (suc (suc (4 * n))) = omega arith in
-    rw (e, e1, e2, e3)
-
-pub quarters-next : (ms rs ss ts us : List ℕ) (i : ℕ) → ts ≡ quarters ms rs ss (4 * i)
-    → us
-    ≡ narrowed (narrowed (narrowed (narrowed ts
-    (getD rs i 0 % 1024) (getD ms i 0 % 65536)) (getD rs i 0 / 2 ^ 16 % 1024) (getD ms i 0 / 2 ^ 16 % 65536))
-    (getD rs i 0 / 2 ^ 32 % 1024) (getD ms i 0 / 2 ^ 32 % 65536)) (getD rs i 0 / 2 ^ 48 % 1024) (getD ms i 0 / 2 ^ 48 % 65536)
-    → us ≡ quarters ms rs ss (4 * (i + 1))
-quarters-next ms rs ss ts us i p q =
-    q
-    ∙ rw (
-      met-four (narrowing (part 65536 ms) (part 1024 rs)) ss i,
-      ← p,
-      part-first 65536 ms i,
-      part-first 1024 rs i,
-      part-at 65536 ms i 1 (omega arith),
-      part-at 65536 ms i 2 (omega arith),
-      part-at 65536 ms i 3 (omega arith),
-      part-at 1024 rs i 1 (omega arith),
-      part-at 1024 rs i 2 (omega arith),
-      part-at 1024 rs i 3 (omega arith),
-    )
-
-pub quarters-all : (xs ys ms rs ss : List ℕ) → AllTurned xs ms → AllTurned ys rs
-    → quarters ms rs ss 1024 ≡ setsFrom (gathered xs) (λ y. gathered ys y % 1024) ss 0 1024
-quarters-all xs ys ms rs ss t u =
-    met-along visit (gathered xs) (λ y. gathered ys y % 1024) (part 65536 ms) (part 1024 rs) ss 1024
-    (λ m l. (
-      part-gathered xs ms t m l,
-      part-small rs m ∙ ap (λ (z : ℕ). z % 1024) (part-gathered ys rs u m l),
-    ))
-    ∙ visited-all (gathered xs) (λ y. gathered ys y % 1024) ss
-
--- ---- for the callers: a block's inputs among all
 
 -- another numbering
 pub setsFrom-agree : (f g h k : ℕ → ℕ) (ss : List ℕ) (x y n : ℕ)
@@ -217,6 +99,128 @@ setsFrom-agree f g h k ss x y (suc n) e =
     let q : suc y + i ≡ y + suc i = omega arith in
     rw (p, q) (e (suc i) (omega arith))))
 
+-- n counts the quarters of the words of column w
+unfoldable pub part : ℕ → List ℕ → ℕ → ℕ → ℕ
+part size ws w n = getD ws (16 * (n / 4) + w) 0 / 2 ^ (16 * (n % 4)) % size
+
+part-at : (size : ℕ) (ws : List ℕ) (w i k : ℕ) → k < 4 → part size ws w (4 * i + k) ≡ getD ws (16 * i + w) 0 / 2 ^ (16 * k) % size
+unfolding part
+part-at size ws w i k l =
+    let p : (4 * i + k) / 4 ≡ i = omega arith in
+    let q : (4 * i + k) % 4 ≡ k = omega arith in
+    rw (p, q)
+
+part-first : (size : ℕ) (ws : List ℕ) (w i : ℕ) → part size ws w (4 * i) ≡ getD ws (16 * i + w) 0 % size
+unfolding part
+part-first size ws w i =
+    let p : 4 * i / 4 ≡ i = omega arith in
+    let q : 4 * i % 4 ≡ 0 = omega arith in
+    rw (p, q) (ap (λ (y : ℕ). y % size) (div-one (getD ws (16 * i + w) 0)))
+
+-- the scenario of quarter n among the 64 of a column, and the quarter of scenario y
+abbrev visit : ℕ → ℕ
+visit n = 16 * (n % 4) + n / 4
+
+abbrev turnOf : ℕ → ℕ
+turnOf y = 4 * (y % 16) + y / 16
+
+visit-lt : (n : ℕ) → n < 64 → visit n < 64
+visit-lt n h = omega arith
+
+turnOf-lt : (y : ℕ) → y < 64 → turnOf y < 64
+turnOf-lt y h = omega arith
+
+visit-turnOf : (y : ℕ) → y < 64 → visit (turnOf y) ≡ y
+visit-turnOf y h = omega arith
+
+abbrev pub quarters : List ℕ → List ℕ → ℕ → List ℕ → ℕ → List ℕ
+quarters ms rs w ss n = met (narrowing (part 65536 ms w) (part 1024 rs w)) ss (under (λ y. y) n)
+
+pub quarters-none : (ms rs : List ℕ) (w : ℕ) (ss : List ℕ) → ss ≡ quarters ms rs w ss (4 * 0)
+unfolding met under
+quarters-none ms rs w ss = refl
+
+met-four : (step : List ℕ → ℕ → List ℕ) (a : List ℕ) (n : ℕ)
+    → met step a (under (λ y. y) (4 * (n + 1)))
+    ≡ step (step (step (step (met step a (under (λ y. y) (4 * n))) (4 * n)) (4 * n + 1)) (4 * n + 2)) (4 * n + 3)
+unfolding met under
+met-four step a n =
+    let e : 4 * (n + 1) ≡ suc (suc (suc (suc (4 * n)))) = omega arith in
+    let e1 : 4 * n + 1 ≡ suc (4 * n) = omega arith in
+    let e2 : 4 * n + 2 ≡ suc (suc (4 * n)) = omega arith in
+    let e3 : 4 * n + 3 ≡ suc (suc (suc (4 * n))) = omega arith in
+    rw (e, e1, e2, e3)
+
+pub quarters-next : (ms rs : List ℕ) (w : ℕ) (ss ts us : List ℕ) (i : ℕ) → ts ≡ quarters ms rs w ss (4 * i)
+    → us
+    ≡ narrowed (narrowed (narrowed (narrowed ts
+    (getD rs (16 * i + w) 0 % 1024) (getD ms (16 * i + w) 0 % 65536))
+    (getD rs (16 * i + w) 0 / 2 ^ 16 % 1024) (getD ms (16 * i + w) 0 / 2 ^ 16 % 65536))
+    (getD rs (16 * i + w) 0 / 2 ^ 32 % 1024) (getD ms (16 * i + w) 0 / 2 ^ 32 % 65536))
+    (getD rs (16 * i + w) 0 / 2 ^ 48 % 1024) (getD ms (16 * i + w) 0 / 2 ^ 48 % 65536)
+    → us ≡ quarters ms rs w ss (4 * (i + 1))
+quarters-next ms rs w ss ts us i p q =
+    q
+    ∙ rw (
+      met-four (narrowing (part 65536 ms w) (part 1024 rs w)) ss i,
+      ← p,
+      part-first 65536 ms w i,
+      part-first 1024 rs w i,
+      part-at 65536 ms w i 1 (omega arith),
+      part-at 65536 ms w i 2 (omega arith),
+      part-at 65536 ms w i 3 (omega arith),
+      part-at 1024 rs w i 1 (omega arith),
+      part-at 1024 rs w i 2 (omega arith),
+      part-at 1024 rs w i 3 (omega arith),
+    )
+
+part-gathered : (x y : List ℕ) (w n : ℕ) → TurnedAt x y w → n < 64 → part 65536 y w n ≡ gathered x (64 * w + visit n)
+unfolding part
+part-gathered x y w n t h = quarter x y w t (n % 4) (n / 4) (omega arith) (omega arith)
+
+part-reading : (x y : List ℕ) (w n : ℕ) → TurnedAt x y w → n < 64 → part 1024 y w n ≡ gathered x (64 * w + visit n) % 1024
+unfolding part
+part-reading x y w n t h =
+    mod-small (getD y (16 * (n / 4) + w) 0 / 2 ^ (16 * (n % 4))) ∙ ap (λ (z : ℕ). z % 1024) (part-gathered x y w n t h)
+
+pub quarters-all : (ms rs : List ℕ) (w : ℕ) (ss : List ℕ) → ColumnMet ms rs w ss (quarters ms rs w ss 64)
+quarters-all ms rs w ss x y t u =
+    let f : ℕ → ℕ = λ s. gathered x (64 * w + s) in
+    let g : ℕ → ℕ = λ s. gathered y (64 * w + s) % 1024 in
+    met-along visit f g (part 65536 ms w) (part 1024 rs w) ss 64
+    (λ n l. (part-gathered x ms w n t l, part-reading y rs w n u l))
+    ∙ met-order f g visit (λ s. s) ss 64 64 (λ n l. (visit n, visit-lt n l, refl))
+    (λ s l. (turnOf s, turnOf-lt s l, visit-turnOf s l))
+    ∙ sym (setsFrom-met f g ss 64)
+    ∙ setsFrom-agree f g (gathered x) (λ s. gathered y s % 1024) ss 0 (64 * w) 64 (λ i l. rw (zero-add i) (refl, refl))
+
+-- ---- the sets, column by column
+
+-- the sets ts after the first k of n columns, from the sets ss
+abbrev pub ColumnsMet : ℕ → List ℕ → List ℕ → ℕ → List ℕ → List ℕ → Type 0
+ColumnsMet n ms rs k ss ts =
+    (x y : List ℕ) → ColumnsTurned n x ms → ColumnsTurned n y rs
+    → ts ≡ setsFrom (gathered x) (λ s. gathered y s % 1024) ss 0 (64 * k)
+
+pub columns-none : (n : ℕ) (ms rs ss : List ℕ) → ColumnsMet n ms rs 0 ss ss
+unfolding setsFrom
+columns-none n ms rs ss x y t u = refl
+
+pub columns-next : (n : ℕ) (ms rs : List ℕ) (w : ℕ) (ss ts us : List ℕ) → w < n → ColumnsMet n ms rs w ss ts
+    → ColumnMet ms rs w ts us → ColumnsMet n ms rs (w + 1) ss us
+columns-next n ms rs w ss ts us h p q x y t u =
+    let f : ℕ → ℕ = gathered x in
+    let g : ℕ → ℕ = λ s. gathered y s % 1024 in
+    let e : 64 * w + 64 ≡ 64 * (w + 1) = omega arith in
+    q x y (t w h) (u w h)
+    ∙ ap (λ (vs : List ℕ). setsFrom f g vs (64 * w) 64) (p x y t u)
+    ∙ sym
+    (ap (setsFrom f g ss 0) (sym e)
+    ∙ setsFrom-append f g ss 0 (64 * w) 64
+    ∙ ap (λ (z : ℕ). setsFrom f g (setsFrom f g ss 0 (64 * w)) z 64) (zero-add (64 * w)))
+
+-- ---- for the callers: a block's inputs among all
+
 -- a block of n that repeats its first c inputs
 pub setsFrom-repeats : (f g : ℕ → ℕ) (ss : List ℕ) (c n : ℕ) → 0 < c → c ≤ n
     → setsFrom (λ y. f (y % c)) (λ y. g (y % c)) ss 0 n ≡ setsFrom f g ss 0 c
@@ -227,12 +231,12 @@ setsFrom-repeats f g ss c n h l =
     (λ m u. (m, omega arith, mod-eq-of-lt u))
     ∙ sym (setsFrom-met f g ss c)
 
--- the sets after the 1,024 inputs from first on, where f and g say what a block's rows say
-pub block-sets : (ms rs ss : List ℕ) (f g : ℕ → ℕ) (first : ℕ) → ((y : ℕ) → y < 1024 → gathered ms y ≡ f (first + y))
-    → ((y : ℕ) → y < 1024 → (gathered rs y ≡ g (first + y)) × (g (first + y) < 1024))
-    → setsFrom (gathered ms) (λ y. gathered rs y % 1024) ss 0 1024 ≡ setsFrom f g ss first 1024
-block-sets ms rs ss f g first p q =
-    setsFrom-agree (gathered ms) (λ y. gathered rs y % 1024) f g ss 0 first 1024
+-- the sets after the n inputs from first on, where f and g say what a block's rows say
+pub block-sets : (ms rs ss : List ℕ) (f g : ℕ → ℕ) (first n : ℕ) → ((y : ℕ) → y < n → gathered ms y ≡ f (first + y))
+    → ((y : ℕ) → y < n → (gathered rs y ≡ g (first + y)) × (g (first + y) < 1024))
+    → setsFrom (gathered ms) (λ y. gathered rs y % 1024) ss 0 n ≡ setsFrom f g ss first n
+block-sets ms rs ss f g first n p q =
+    setsFrom-agree (gathered ms) (λ y. gathered rs y % 1024) f g ss 0 first n
     (λ i l.
     let d = q i l in
     rw (zero-add i) (p i l, ap (λ (z : ℕ). z % 1024) (d .0) ∙ mod-eq-of-lt (d .1)))

@@ -16,7 +16,7 @@ use Rattle.engine.specs.Rectify.{rectifies, Listed}
 use Rattle.engine.specs.Support.{reading, candidateNets}
 use Rattle.engine.specs.Inner.Masks.{rectifiers}
 use Rattle.engine.specs.Inner.List.{listedOf, listedFrom, startList, Held}
-use Rattle.engine.specs.Inner.Note.{setsFrom, startSets, gathered, BlockNoted}
+use Rattle.engine.specs.Inner.Note.{setsFrom, startSets, gathered, filled, BlockNoted}
 use Rattle.engine.specs.Inner.Search.{Progress, Aligned, BlockRange}
 use Rattle.engine.proofs.Laws.Shift.{bit-mod}
 use Rattle.engine.proofs.Laws.Rows.{setsFrom-agree, setsFrom-repeats, block-sets, setsFrom-length}
@@ -141,23 +141,25 @@ noted-sets : (j : Job) (b count : ℕ) (masks readings ss : List ℕ) → BlockR
     → ((y : ℕ) → y < 1024 → gathered masks y ≡ rectifiers j (1024 * b + y))
     → ((y : ℕ) → y < 1024 → gathered readings y ≡ reading j (candidateNets j) (1024 * b + y))
     → ((x : ℕ) → reading j (candidateNets j) x < 1024)
-    → setsFrom (gathered masks) (λ y. gathered readings y % 1024) ss 0 1024
+    → setsFrom (gathered masks) (λ y. gathered readings y % 1024) ss 0 (filled count)
     ≡ setsFrom (rectifiers j) (reading j (candidateNets j)) ss (1024 * b) count
 noted-sets j b count masks readings ss r m g l =
     let f = rectifiers j in
     let h = reading j (candidateNets j) in
-    let whole : setsFrom (gathered masks) (λ y. gathered readings y % 1024) ss 0 1024 ≡ setsFrom f h ss (1024 * b) 1024 =
-    block-sets masks readings ss f h (1024 * b) m (λ y u. (g y u, l (1024 * b + y))) in
+    let n : ℕ = filled count in
+    let most : n ≤ 1024 = omega (arith, r .few) in
+    let whole : setsFrom (gathered masks) (λ y. gathered readings y % 1024) ss 0 n ≡ setsFrom f h ss (1024 * b) n =
+    block-sets masks readings ss f h (1024 * b) n (λ y u. m y (omega arith)) (λ y u. (g y (omega arith), l (1024 * b + y))) in
     ⊎-elim
-    (λ (e : count ≡ 1024). whole ∙ ap (setsFrom f h ss (1024 * b)) (sym e))
+    (λ (e : count ≡ 1024). let same : n ≡ count = omega arith in whole ∙ ap (setsFrom f h ss (1024 * b)) same)
     (λ (e : (b ≡ 0) × (count ≡ 2 ^ j .inputs)).
     let z : 1024 * b ≡ 0 = omega (arith, e .0) in
     let c = 2 ^ j .inputs in
-    let few : c ≤ 1024 = omega (arith, e .1, r .few) in
+    let few : c ≤ n = omega (arith, e .1) in
     whole
-    ∙ ap (λ (x : ℕ). setsFrom f h ss x 1024) z
-    ∙ setsFrom-agree f h (λ y. f (y % c)) (λ y. h (y % c)) ss 0 0 1024 (λ i u. (rectifiers-low j (0 + i), reading-low j (0 + i) (candidateNets j)))
-    ∙ setsFrom-repeats f h ss c 1024 (pow-pos (j .inputs)) few
+    ∙ ap (λ (x : ℕ). setsFrom f h ss x n) z
+    ∙ setsFrom-agree f h (λ y. f (y % c)) (λ y. h (y % c)) ss 0 0 n (λ i u. (rectifiers-low j (0 + i), reading-low j (0 + i) (candidateNets j)))
+    ∙ setsFrom-repeats f h ss c n (pow-pos (j .inputs)) few
     ∙ ap (λ (x : ℕ). setsFrom f h ss x c) (sym z)
     ∙ ap (setsFrom f h ss (1024 * b)) (sym (e .1)))
     (r .whole)
@@ -174,7 +176,7 @@ progress-noted {j} b count masks readings {v} {after} {ss} {ss′} p s r m w l n
     let g = reading j (candidateNets j) in
     record {
       held = n .list .held;
-      long = ap length (n .sets) ∙ setsFrom-length (gathered masks) (λ y. gathered readings y % 1024) ss 0 1024 ∙ p .long;
+      long = ap length (n .sets) ∙ setsFrom-length (gathered masks) (λ y. gathered readings y % 1024) ss 0 (filled count) ∙ p .long;
       listed =
           n .list .listed f (λ y h. m y (omega (arith, r .few)))
           ∙ ap (λ (k : Listed). listedFrom f k (1024 * b) count) (p .listed)

@@ -17,7 +17,7 @@ use Rattle.engine.specs.Inner.Kernel.{Ran, NetSet, NetsSet, valueIn, row
 use Rattle.engine.specs.Inner.Masks.{ordered, turns, Among}
 use Rattle.engine.specs.Inner.Plan.{BlockAt, PlannedOf}
 use Rattle.engine.specs.Inner.Search.{BlockEvaluated, TargetTurned, BlockMasks, BlockRange, Searched}
-use Rattle.engine.specs.Inner.Note.{gathered, BlockNoted}
+use Rattle.engine.specs.Inner.Note.{gathered, filled, BlockNoted}
 use Rattle.engine.specs.Support.{candidateNets}
 use Rattle.engine.specs.Inner.List.{Held}
 use Rattle.engine.specs.declared.list.Vectors.{Vectors}
@@ -163,7 +163,7 @@ module _ {p : Plan} {gates : List ℕ} where
   searched-block b count masks readings words {v} {v′} {ss} {ss′} s k r e g m n =
       record {
         held = n .list .held;
-        long = ap length (n .sets) ∙ setsFrom-length (gathered masks) (λ y. gathered readings y % 1024) ss 0 1024;
+        long = ap length (n .sets) ∙ setsFrom-length (gathered masks) (λ y. gathered readings y % 1024) ss 0 (filled count);
         progress = λ j q h.
             let is = candidateNets j in
             let a = e .values j is q in

@@ -6,8 +6,8 @@ use native.Mathlib.Nat.{div-one}
 use native.Mathlib.Omega.{arith}
 use lib.ListN.{getD}
 use Rattle.engine.specs.Inner.Note.{gathered}
-use Rattle.engine.specs.Inner.Turn.{AllTurned, Looked}
-use Rattle.engine.proofs.Laws.Rows.{part, part-small, turnOf, turnOf-lt, gathered-part, turned-back}
+use Rattle.engine.specs.Inner.Turn.{ColumnsTurned, Looked}
+use Rattle.engine.proofs.Laws.Rows.{turned-back, gathered-quarter, mod-small}
 
 -- ---- four numbers in a word
 
@@ -44,15 +44,13 @@ looked-four t x a b c d h i j k p q r s (suc (suc (suc (suc n)))) l = let f : �
 
 -- ---- all the words
 
-module _ (t x read found r : List ℕ) (p : AllTurned x read) (q : AllTurned found r)
+module _ (t x read found r : List ℕ) (p : ColumnsTurned 16 x read) (q : ColumnsTurned 16 found r)
     (l : (i : ℕ) → i < 256 → Looked t (getD read i 0) (getD found i 0)) where
-  looked-part : (n : ℕ) → n < 1024 → part 65536 found n ≡ getD t (part 1024 read n) 0
-  unfolding part
-  looked-part n h = l (n / 4) (omega arith) (n % 4) (omega arith)
-
   pub looked-rows : (y : ℕ) → y < 1024 → gathered r y ≡ getD t (gathered x y % 1024) 0
   looked-rows y h =
-      let n = turnOf y in
-      gathered-part r found (turned-back found r q) y h
-      ∙ looked-part n (turnOf-lt y h)
-      ∙ ap (λ (m : ℕ). getD t m 0) (part-small read n ∙ ap (λ (z : ℕ). z % 1024) (sym (gathered-part x read p y h)))
+      let i : ℕ = 16 * (y % 16) + y / 64 in
+      let k : ℕ = y / 16 % 4 in
+      gathered-quarter r found (turned-back 16 found r q) y h
+      ∙ l i (omega arith) k (omega arith)
+      ∙ ap (λ (m : ℕ). getD t m 0)
+      (mod-small (getD read i 0 / 2 ^ (16 * k)) ∙ ap (λ (z : ℕ). z % 1024) (sym (gathered-quarter x read p y h)))

@@ -4,11 +4,13 @@
 --   narrowed ss r s              the sets ss with the one of reading r cut down to its part in s
 --   setsFrom f g ss x k          .. after the k inputs from x on, where g says the reading of each
 --   gathered x y     the number whose bit i is what row i of x says of scenario y
+--   ColumnMet ..     the sets after the 64 scenarios of a column
+--   filled count     how many scenarios the columns of 64 have that count inputs fill
 --   Covered ..       a listed vector is in the set of a scenario
 --   Joined ..        .. of each of which a row says 1
 --   CoveredTo ..     .. of each from one on to another
 --   BlockNoted ..    the list and the sets after a block's inputs
-use Prim.Native.Nat.{ℕ, zero, suc, _+_, _-_, _*_, _^_, _≤_, _<_, _%_}
+use Prim.Native.Nat.{ℕ, zero, suc, _+_, _-_, _*_, _/_, _%_, _^_, _≤_, _<_}
 use mathlib.Core.Path.{_≡_}
 use mathlib.Core.List.{List}
 use mathlib.Core.Bool.{true}
@@ -22,6 +24,7 @@ use Rattle.engine.specs.Support.{reading}
 use Rattle.engine.specs.declared.list.Vectors.{Vectors}
 use Rattle.engine.specs.Inner.List.{listedOf, listedFrom, Held}
 use Rattle.engine.specs.Inner.Kernel.{rowValue, valueIn}
+use Rattle.engine.specs.Inner.Turn.{TurnedAt}
 
 abbrev pub maxReadings : ℕ
 maxReadings = 1024
@@ -40,6 +43,15 @@ startSets m = replicate maxReadings (2 ^ 2 ^ m - 1)
 
 unfoldable pub gathered : List ℕ → ℕ → ℕ
 gathered x y = numberOf (tabulate 16 (valueIn x y))
+
+-- the sets ts after column w, from the sets ss: the columns w of ms and of rs are turned ones of masks x and readings y
+abbrev pub ColumnMet : List ℕ → List ℕ → ℕ → List ℕ → List ℕ → Type 0
+ColumnMet ms rs w ss ts =
+    (x y : List ℕ) → TurnedAt x ms w → TurnedAt y rs w
+    → ts ≡ setsFrom (gathered x) (λ s. gathered y s % 1024) ss (64 * w) 64
+
+abbrev pub filled : ℕ → ℕ
+filled count = 64 * ((count + 63) / 64)
 
 -- a vector of vs is in the set of scenario y
 abbrev pub Covered : List ℕ → List ℕ → ℕ → Type 0
@@ -63,7 +75,7 @@ pub record ListNoted (masks : List ℕ) (first count : ℕ) (v w : Vectors) : Ty
   pub held : Held w
   pub listed : (f : ℕ → ℕ) → Gathers masks first count f → listedOf w ≡ listedFrom f (listedOf v) first count
 
--- .. and the sets ts after all 1,024 scenarios, from the sets ss
+-- .. and the sets ts after the columns that they fill, from the sets ss
 pub record BlockNoted (masks readings : List ℕ) (first count : ℕ) (v : Vectors) (ss : List ℕ) (w : Vectors) (ts : List ℕ) : Type 0 where
   pub list : ListNoted masks first count v w
-  pub sets : ts ≡ setsFrom (gathered masks) (λ y. gathered readings y % 1024) ss 0 1024
+  pub sets : ts ≡ setsFrom (gathered masks) (λ y. gathered readings y % 1024) ss 0 (filled count)

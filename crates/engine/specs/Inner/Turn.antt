@@ -9,7 +9,7 @@
 --   Turned x y          bit 16 k + j of word i becomes bit 16 k + i of word j
 --   Column x w c        c has word w of each of the 16 rows x, 16 words to a row
 --   Placed w m c x y    y is x with the first m words of c in the column w
---   AllTurned x y       each column is turned
+--   ColumnsTurned n x y the first n columns are turned
 --   Looked t x r        each quarter of the word r is the entry of the table t at that quarter of x
 use Prim.Native.Nat.{ℕ, _+_, _-_, _*_, _/_, _%_, _^_, _≤_, _<_}
 use mathlib.Core.Path.{_≡_}
@@ -55,8 +55,8 @@ TurnedAt x y w =
     (k i j : ℕ) → k < 4 → i < 16 → j < 16
     → bit (16 * k + i) (getD y (16 * j + w) 0) ≡ bit (16 * k + j) (getD x (16 * i + w) 0)
 
-abbrev pub AllTurned : List ℕ → List ℕ → Type 0
-AllTurned x y = (w : ℕ) → w < 16 → TurnedAt x y w
+abbrev pub ColumnsTurned : ℕ → List ℕ → List ℕ → Type 0
+ColumnsTurned n x y = (w : ℕ) → w < n → TurnedAt x y w
 
 -- ---- the quarters of a word
 

@@ -18,7 +18,7 @@ abbrev μ-loop : tie.MeasureT-loop
 μ-loop table read found₀ i₀ found i = 256 - i
 
 transpose-requires : tie.Need-transpose-requires Inv-loop μ-loop
-transpose-requires c κs = c .before .pre .0
+transpose-requires c κs = (c .before .pre .0, omega arith)
 
 loop-holds : tie.Need-loop-holds Inv-loop μ-loop
 loop-holds c = (omega arith, length-replicate {A = ℕ} 256 0, λ k l. let f : ⊥ = omega arith in absurd f)
@@ -40,7 +40,7 @@ loop-again c =
     )
 
 transpose-requires-2 : tie.Need-transpose-requires-2 Inv-loop μ-loop
-transpose-requires-2 c κs = c .before .loop .inv .1
+transpose-requires-2 c κs = (c .before .loop .inv .1, omega arith)
 
 returns : tie.Need-returns Inv-loop μ-loop
 returns c =

@@ -6,13 +6,13 @@ use Rattle.engine.proofs.turn.transpose.Statement.{statement}
 use Rattle.engine.proofs.turn.transpose.Tie as tie
 
 abbrev Inv-loop : tie.InvT-loop
-Inv-loop y₀ w₀ y w = (w ≤ 16) × TurnedTo w y₀ y
+Inv-loop columns y₀ w₀ y w = (w ≤ columns) × TurnedTo w y₀ y
 
 abbrev μ-loop : tie.MeasureT-loop
-μ-loop y₀ w₀ y w = 16 - w
+μ-loop columns y₀ w₀ y w = columns - w
 
 loop-holds : tie.Need-loop-holds Inv-loop μ-loop
-loop-holds c = (omega arith, turned-none (c .args .x) (c .pre))
+loop-holds c = (omega arith, turned-none (c .args .x) (c .pre .0))
 
 loop-again : tie.Need-loop-again Inv-loop μ-loop
 loop-again c =
