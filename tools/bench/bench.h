@@ -3,7 +3,7 @@
 #define BENCH_H
 #include "decide.h"
 
-enum { LONGEST_FIT = 2075 };
+enum { LONGEST_FIT = 4075 };
 
 /* A slice is a pointer and a count. The length of the reply is returned, 0 on refusal, and the number is left in its place;
  * compare returns the number, and leaves whether the outputs differ and the smallest input at which they do. */
@@ -45,8 +45,7 @@ static inline size_t fanout_gates(const struct job *j) {
     size_t base = j->inputs + j->targets, count = 0;
     for (size_t t = j->inputs; t < base; t++) led[t] = 1;
     for (size_t k = 0; k < j->old.gates; k++) {
-        int operands = operand_count(j->old.kinds[k]);
-        led[base + k] = (operands > 0 && led[j->old.firsts[k]]) || (operands > 1 && led[j->old.seconds[k]]);
+        for (int s = 0; s < j->old.counts[k]; s++) led[base + k] |= led[j->old.slots[k][s]];
         count += led[base + k];
     }
     return count;

@@ -11,11 +11,12 @@
 
 enum { WIDEST = 16, ROWS = 16, TARGETS = 4, ALL_GATES = 2 * GATES, ZERO = INPUTS + TARGETS + ALL_GATES, ALL_NETS };
 
-/* A gate joins the words of two nets, and inverts them or not. A buffer joins a net with itself, a constant the net ZERO. */
+/* A gate joins the words of two to four nets, and inverts them or not. A buffer joins a net with itself, a constant the net
+ * ZERO. */
 enum { AND, OR, XOR };
 
 struct gate {
-    uint16_t net, first, second, op;
+    uint16_t net, op, count, operands[SLOTS];
     uint64_t inverts; /* all ones or zero */
 };
 
@@ -38,12 +39,14 @@ static inline unsigned moved(unsigned net, size_t inputs, size_t shift) { return
 
 static inline void add_gates(struct gates *to, const struct netlist *l, size_t base, size_t inputs, size_t shift) {
     for (size_t k = 0; k < l->gates; k++) {
-        unsigned kind = l->kinds[k], first = moved(l->firsts[k], inputs, shift),
-                 second = moved(l->seconds[k], inputs, shift);
+        unsigned kind = l->kinds[k], count = l->counts[k];
         struct gate *g = &to->list[to->count++];
         g->net = moved(base + k, inputs, shift);
-        g->first = kind < 2 ? ZERO : first;
-        g->second = kind < 2 ? ZERO : kind < 4 ? first : second;
+        for (unsigned i = 0; i < count; i++) g->operands[i] = moved(l->slots[k][i], inputs, shift);
+        if (count == 0) g->operands[count++] = ZERO;
+        if (count == 1) g->operands[count++] = g->operands[0];
+        g->count = count;
+        while (count < SLOTS) g->operands[count++] = ZERO;
         g->op = kind < 6 ? AND : kind < 8 ? OR : XOR;
         g->inverts = kind % 2 ? ~(uint64_t)0 : 0;
     }
@@ -57,7 +60,8 @@ static inline void drop_dead(struct miter *m, const uint16_t *nets, size_t count
     for (size_t i = 0; i < count; i++) live[nets[i]] = 1;
     for (size_t i = 0; i < m->outputs; i++) live[m->old[i]] = live[m->golden[i]] = 1;
     for (size_t k = g->count; k-- > 0;)
-        if (live[g->list[k].net]) live[g->list[k].first] = live[g->list[k].second] = 1;
+        if (live[g->list[k].net])
+            for (unsigned i = 0; i < g->list[k].count; i++) live[g->list[k].operands[i]] = 1;
     for (size_t k = 0; k < g->count; k++)
         if (live[g->list[k].net]) g->list[kept++] = g->list[k];
     g->count = kept;
@@ -78,7 +82,7 @@ static inline void make_miter(const struct job *j, const uint16_t *nets, size_t 
     for (size_t t = 0; t < j->targets; t++) m->led[j->inputs + t] = 1u << t;
     for (size_t k = 0; k < m->gates.count; k++) {
         const struct gate *g = &m->gates.list[k];
-        m->led[g->net] = m->led[g->first] | m->led[g->second];
+        for (unsigned i = 0; i < g->count; i++) m->led[g->net] |= m->led[g->operands[i]];
     }
 }
 
@@ -109,21 +113,42 @@ INLINE void load_inputs(size_t inputs, uint32_t block, uint64_t *values, unsigne
         for (unsigned w = 0; w < W; w++) values[i * W + w] = input_word(i, block * W + w);
 }
 
-/* A gate's words; its own net is none of its operands'. */
-INLINE void join(const struct gate *g, const uint64_t *a, const uint64_t *b, uint64_t *restrict to, unsigned W) {
-    uint64_t inverts = g->inverts;
-    if (g->op == AND) {
-        for (unsigned w = 0; w < W; w++) to[w] = (a[w] & b[w]) ^ inverts;
-    } else if (g->op == OR) {
-        for (unsigned w = 0; w < W; w++) to[w] = (a[w] | b[w]) ^ inverts;
-    } else {
-        for (unsigned w = 0; w < W; w++) to[w] = a[w] ^ b[w] ^ inverts;
+/* Two words, for one instruction. */
+typedef uint64_t two_words __attribute__((vector_size(16), may_alias));
+
+#define EACH(x)                                                                                                             \
+    for (unsigned w = 0; w < count; w++) to[w] = (x) ^ inverts
+
+/* The words of a gate from those of its operands, of which it uses as many as it has; TYPE is a word or two. */
+#define JOIN(NAME, TYPE)                                                                                                    \
+    INLINE void NAME(                                                                                                       \
+        const struct gate *g, const TYPE *a, const TYPE *b, const TYPE *c, const TYPE *d, TYPE *to, unsigned count) {       \
+        uint64_t inverts = g->inverts;                                                                                      \
+        if (g->count == 2) {                                                                                                \
+            if (g->op == AND) EACH(a[w] & b[w]);                                                                            \
+            else if (g->op == OR) EACH(a[w] | b[w]);                                                                        \
+            else EACH(a[w] ^ b[w]);                                                                                         \
+        } else if (g->count == 3) {                                                                                         \
+            if (g->op == AND) EACH(a[w] & b[w] & c[w]);                                                                     \
+            else if (g->op == OR) EACH(a[w] | b[w] | c[w]);                                                                 \
+            else EACH(a[w] ^ b[w] ^ c[w]);                                                                                  \
+        } else {                                                                                                            \
+            if (g->op == AND) EACH(a[w] & b[w] & c[w] & d[w]);                                                              \
+            else if (g->op == OR) EACH(a[w] | b[w] | c[w] | d[w]);                                                          \
+            else EACH(a[w] ^ b[w] ^ c[w] ^ d[w]);                                                                           \
+        }                                                                                                                   \
     }
-}
+
+JOIN(join_words, uint64_t)
+JOIN(join_twos, two_words)
 
 INLINE void run(const struct gates *gates, uint64_t *values, unsigned W) {
-    for (const struct gate *g = gates->list, *end = g + gates->count; g < end; g++)
-        join(g, values + g->first * W, values + g->second * W, values + g->net * W, W);
+    for (const struct gate *g = gates->list, *end = g + gates->count; g < end; g++) {
+        uint64_t *a = values + g->operands[0] * W, *b = values + g->operands[1] * W, *to = values + g->net * W;
+        uint64_t *c = values + g->operands[2] * W, *d = values + g->operands[3] * W;
+        if (W % 2) join_words(g, a, b, c, d, to, W);
+        else join_twos(g, (two_words *)a, (two_words *)b, (two_words *)c, (two_words *)d, (two_words *)to, W / 2);
+    }
 }
 
 /* ---- sixteen rows of words: bit 16 k + j of row i becomes bit 16 k + i of row j */

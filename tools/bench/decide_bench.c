@@ -3,7 +3,8 @@
  *
  *     decide_bench TURNS INPUTS GROUP: JOB.. [GROUP: JOB..]    plain C only on jobs of up to so many inputs, and once
  *
- * Each row has the best turn of each; at the end stand the median and the worst ratio of each group. */
+ * Each row has the best turn of each; at the end stand the median and the worst ratio of each group. In the group "pairs:"
+ * the second of each two jobs is also measured by the first. */
 #include "bench.h"
 
 enum { PLAIN, WORDS, BLOCKS, OURS, KINDS, GROUPS = 8, ROWS_A_GROUP = 64 };
@@ -56,9 +57,8 @@ static void time_job(int turns, int first, double best[KINDS]) {
         }
 }
 
-/* Prints a row; ours to block C. */
-static double row(const char *path, int turns, size_t inputs) {
-    double best[KINDS];
+/* Prints a row. */
+static void row(const char *path, int turns, size_t inputs, double best[KINDS]) {
     struct job j;
     read_file(path, &job);
     if (read_job(job.bytes, job.len, &j)) stop("not a job", path);
@@ -70,7 +70,6 @@ static double row(const char *path, int turns, size_t inputs) {
     printf(" %9s %9s %9s %9s %9.2f\n", first == PLAIN ? shown(best[PLAIN]) : "-", shown(best[WORDS]), shown(best[BLOCKS]),
         shown(best[OURS]), best[OURS] / best[BLOCKS]);
     fflush(stdout);
-    return best[OURS] / best[BLOCKS];
 }
 
 static int ascending(const void *a, const void *b) {
@@ -86,7 +85,7 @@ static void summary(const char *name, double *ratios, size_t count) {
 }
 
 int main(int argc, char **argv) {
-    static double ratios[GROUPS][ROWS_A_GROUP];
+    static double ratios[GROUPS][ROWS_A_GROUP], last[KINDS];
     const char *names[GROUPS];
     size_t counts[GROUPS] = {0}, groups = 0;
     int turns = argc > 2 ? atoi(argv[1]) : 0;
@@ -101,7 +100,14 @@ int main(int argc, char **argv) {
             printf("%s\n", argv[i]);
         } else {
             if (groups == 0 || counts[groups - 1] == ROWS_A_GROUP) stop("no group, or too many jobs in it", argv[i]);
-            ratios[groups - 1][counts[groups - 1]++] = row(argv[i], turns, atoi(argv[2]));
+            double best[KINDS];
+            size_t at = counts[groups - 1]++;
+            row(argv[i], turns, atoi(argv[2]), best);
+            ratios[groups - 1][at] = best[OURS] / best[BLOCKS];
+            if (at % 2 && !strcmp(names[groups - 1], "pairs:"))
+                printf(
+                    "    to the one above: block C %.2f, ours %.2f\n", best[BLOCKS] / last[BLOCKS], best[OURS] / last[OURS]);
+            memcpy(last, best, sizeof last);
         }
     }
     for (size_t g = 0; g < groups; g++) summary(names[g], ratios[g], counts[g]);

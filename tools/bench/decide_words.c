@@ -4,20 +4,13 @@
 
 static void evaluate(const struct netlist *l, size_t base, uint64_t *values) {
     for (size_t k = 0; k < l->gates; k++) {
-        uint64_t a = values[l->firsts[k]], b = values[l->seconds[k]], v = 0;
-        switch (l->kinds[k]) {
-        case 0: v = 0; break;
-        case 1: v = ~(uint64_t)0; break;
-        case 2: v = a; break;
-        case 3: v = ~a; break;
-        case 4: v = a & b; break;
-        case 5: v = ~(a & b); break;
-        case 6: v = a | b; break;
-        case 7: v = ~(a | b); break;
-        case 8: v = a ^ b; break;
-        case 9: v = ~(a ^ b); break;
+        const uint16_t *slots = l->slots[k];
+        uint64_t v = l->counts[k] ? values[slots[0]] : 0;
+        for (int s = 1; s < l->counts[k]; s++) {
+            uint64_t x = values[slots[s]];
+            v = l->kinds[k] < 6 ? v & x : l->kinds[k] < 8 ? v | x : v ^ x;
         }
-        values[base + k] = v;
+        values[base + k] = l->kinds[k] % 2 ? ~v : v;
     }
 }
 

@@ -1,5 +1,5 @@
 /* Jobs in C: what the benchmark's plain programs read and write them with. Document 01, "Bytes" and "Numbers given when
- * a call is declined". */
+ * a call is declined", and card 6 of document 02. */
 #ifndef JOB_H
 #define JOB_H
 #include <stdint.h>
@@ -8,12 +8,12 @@
 #include <string.h>
 #include <time.h>
 
-enum { GATES = 400, OUTPUTS = 32, CANDIDATES = 10, LONGEST = 4188, NETS = 424 };
+enum { GATES = 400, OUTPUTS = 32, CANDIDATES = 10, SLOTS = 4, GATE_BYTES = 10, LONGEST = 8188, NETS = 424 };
 
 struct netlist {
     size_t gates, outputs;
-    uint8_t kinds[GATES];
-    uint16_t firsts[GATES], seconds[GATES], outs[OUTPUTS];
+    uint8_t kinds[GATES], counts[GATES];         /* a gate's kind, and how many operands it has */
+    uint16_t slots[GATES][SLOTS], outs[OUTPUTS]; /* its operands, and 0 in the slots behind them */
 };
 
 struct job {
@@ -24,7 +24,11 @@ struct job {
 
 static inline unsigned word(const uint8_t *p) { return 256u * p[0] + p[1]; }
 
-static inline int operand_count(unsigned kind) { return kind < 2 ? 0 : kind < 4 ? 1 : 2; }
+/* Whether a kind may have so many operands. */
+static inline int permits(unsigned kind, unsigned count) {
+    if (kind < 4) return count == kind / 2;
+    return kind < 10 && 2 <= count && count <= SLOTS;
+}
 
 /* ---- reading */
 
@@ -47,31 +51,22 @@ static inline int walk(const uint8_t *s, size_t n, struct span fields[6]) {
 }
 
 static inline void take_netlist(struct netlist *l, struct span gates, struct span outputs) {
-    l->gates = gates.len / 5;
+    l->gates = gates.len / GATE_BYTES;
     l->outputs = outputs.len / 2;
     for (size_t i = 0; i < l->gates; i++) {
-        const uint8_t *p = gates.start + 5 * i;
+        const uint8_t *p = gates.start + GATE_BYTES * i;
         l->kinds[i] = p[0];
-        l->firsts[i] = word(p + 1);
-        l->seconds[i] = word(p + 3);
+        l->counts[i] = p[1];
+        for (int s = 0; s < SLOTS; s++) l->slots[i][s] = word(p + 2 + 2 * s);
     }
     for (size_t i = 0; i < l->outputs; i++) l->outs[i] = word(outputs.start + 2 * i);
 }
 
 static inline int gates_good(const struct netlist *l, size_t base) {
     for (size_t i = 0; i < l->gates; i++) {
-        unsigned a = l->firsts[i], b = l->seconds[i], net = base + i;
-        if (l->kinds[i] > 9) return 0;
-        switch (operand_count(l->kinds[i])) {
-        case 0:
-            if (a != 0 || b != 0) return 0;
-            break;
-        case 1:
-            if (a >= net || b != 0) return 0;
-            break;
-        default:
-            if (a >= net || b >= net) return 0;
-        }
+        if (!permits(l->kinds[i], l->counts[i])) return 0;
+        for (int s = 0; s < SLOTS; s++)
+            if (s < l->counts[i] ? l->slots[i][s] >= base + i : l->slots[i][s] != 0) return 0;
     }
     return 1;
 }
@@ -86,11 +81,8 @@ static inline int candidates_good(const struct job *j) {
     uint8_t marks[NETS] = {0};
     size_t base = j->inputs + j->targets;
     for (size_t i = j->inputs; i < base; i++) marks[i] = 1;
-    for (size_t i = 0; i < j->old.gates; i++) {
-        int count = operand_count(j->old.kinds[i]);
-        if (count > 0) marks[base + i] |= marks[j->old.firsts[i]];
-        if (count > 1) marks[base + i] |= marks[j->old.seconds[i]];
-    }
+    for (size_t i = 0; i < j->old.gates; i++)
+        for (int s = 0; s < j->old.counts[i]; s++) marks[base + i] |= marks[j->old.slots[i][s]];
     for (size_t i = 0; i < j->candidates; i++) {
         if (i > 0 && j->nets[i] <= j->nets[i - 1]) return 0;
         if (j->nets[i] >= base + j->old.gates || marks[j->nets[i]]) return 0;
@@ -109,9 +101,9 @@ static inline int parts_number(const struct job *j) {
 static inline int read_job(const uint8_t *s, size_t n, struct job *j) {
     struct span f[6];
     if (!walk(s, n, f) || f[0].len != 2) return 2;
-    if (f[1].len % 5 || f[2].len % 2 || f[3].len % 5 || f[4].len % 2 || f[5].len % 4) return 2;
+    if (f[1].len % GATE_BYTES || f[2].len % 2 || f[3].len % GATE_BYTES || f[4].len % 2 || f[5].len % 4) return 2;
     if (f[0].start[0] > 20 || f[0].start[1] > 4) return 3;
-    if (f[1].len / 5 > GATES || f[3].len / 5 > GATES || f[5].len / 4 > CANDIDATES) return 3;
+    if (f[1].len / GATE_BYTES > GATES || f[3].len / GATE_BYTES > GATES || f[5].len / 4 > CANDIDATES) return 3;
     if (f[2].len < 2 || f[2].len / 2 > OUTPUTS || f[4].len < 2 || f[4].len / 2 > OUTPUTS) return 3;
     j->inputs = f[0].start[0];
     j->targets = f[0].start[1];
@@ -139,11 +131,11 @@ static inline uint8_t *put_head(uint8_t *p, int tag, size_t len) {
 }
 
 static inline uint8_t *put_netlist(uint8_t *p, int tag, const struct netlist *l) {
-    p = put_head(p, tag, 5 * l->gates);
+    p = put_head(p, tag, GATE_BYTES * l->gates);
     for (size_t i = 0; i < l->gates; i++) {
         *p++ = l->kinds[i];
-        p = put_word(p, l->firsts[i]);
-        p = put_word(p, l->seconds[i]);
+        *p++ = l->counts[i];
+        for (int s = 0; s < SLOTS; s++) p = put_word(p, l->slots[i][s]);
     }
     p = put_head(p, tag + 1, 2 * l->outputs);
     for (size_t i = 0; i < l->outputs; i++) p = put_word(p, l->outs[i]);

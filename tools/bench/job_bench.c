@@ -1,10 +1,10 @@
 /* Reads and writes one job the straightforward way in C, many times, and prints microseconds per call: what the record
- * library's read and write are measured against. Document 01, "Bytes" and "Numbers given when a call is declined".
+ * library's read and write are measured against.
  *
  *     cc -O3 -o job_bench job_bench.c && ./job_bench longest.job [rounds]
  *
  * longest.job is made by tools/reference/make_samples.py: 20 inputs, 4 targets, 400 gates a side, 32 outputs and
- * 10 priced nets, 4,188 bytes. */
+ * 10 priced nets, 8,188 bytes. */
 #include "job.h"
 
 int main(int argc, char **argv) {

@@ -7,11 +7,12 @@
     wide_KIND.job            20 inputs, 400 gates a side; 50 in the targets' fanout, or 300, led to by all or one target each
     CIRCUIT_SIZE.job         typical cuts: old and golden netlist are two designs of one circuit, some old nets cut open
     tiny_CIRCUIT_SIZE.job    the same of 2 to 6 inputs and up to 20 gates a side
+    pair_GATES_four.job      gates of four operands, and in pair_GATES_chain.job each of them as three gates of two operands
     fit_GATES.job            patches of growing size, each with a .sheet and the .netlist that fit must give
     late.job, late.sheet     a sheet whose first difference is at one of the last inputs
     SERIES_SIZE.job          growth: jobs that differ in one size
 
-The full-size jobs decide_*.job beside this file are made by tools/reference/bench_jobs.py.
+The full-size jobs decide_*.job and four_*.job beside this file are made by tools/reference/bench_jobs.py.
 """
 
 import os
@@ -26,7 +27,7 @@ import job as jobs
 import random_jobs as rj
 import sheet as sheets
 import simulate
-from decide import fixed_inputs
+from decide import fixed_inputs, verdict_of
 from fit import fit
 from job import Candidate, Gate, Job, Netlist
 from sheet import Patch
@@ -47,7 +48,7 @@ class Circuit:
         self.gates = []
 
     def gate(self, kind, *operands):
-        self.gates.append(Gate(kind, *(list(operands) + [0, 0])[:2]))
+        self.gates.append(Gate.of(kind, *operands))
         return self.n + len(self.gates) - 1
 
     def both(self, a, b):
@@ -265,46 +266,48 @@ def tiny(rng):
 # ---- jobs of a given size
 
 
-def walked_job(rng, n, m, gates, fanout, priced, outputs=32, split=False):
+def walked_job(rng, n, m, gates, fanout, priced, outputs=32, split=False, operands=2):
     """A job that has a patch, so that every input is looked at, and where nearly every gate leads to an output. The golden
     netlist has a front over the inputs, of which some nets are priced, a function of priced nets for each target, and a back
-    of that many gates: each is led to by all targets, or by one of them, in equal parts."""
+    of that many gates: each is led to by all targets, or by one of them, in equal parts. Gates have so many operands."""
     c = Circuit(n)
     unread = list(range(n))
     while len(c.gates) < gates - (fanout + m if m else 0):
-        unread.append(c.gate(rng.choice(MIXED), unread.pop(0), rng.randrange(n + len(c.gates))))
+        nets = range(n + len(c.gates))
+        unread.append(c.gate(rng.choice(MIXED), unread.pop(0), *[rng.choice(nets) for _ in range(operands - 1)]))
     front = range(n + len(c.gates))
     named = sorted(rng.sample(front, priced))
-    roots = [root(rng, c, named) for _ in range(m)]
+    roots = [root(rng, c, named, operands) for _ in range(m)]
     starts = [[net] for net in roots] if split else [roots]
     ends = []
     for nets in starts if roots else []:
-        ends += back(rng, c, list(nets), fanout // len(starts), list(front), unread, outputs // len(starts))
+        ends += back(rng, c, list(nets), fanout // len(starts), list(front), unread, outputs // len(starts), operands)
     last = (ends + unread[::-1] + list(front)[::-1])[:outputs]
     old = cj.cut(n, m, c.gates, last, [net - n for net in roots], lambda: True)
     candidates = [Candidate(net if net < n else net + m, rng.randrange(1, 1000)) for net in named]
     return Job(n, m, old, Netlist(c.gates, last), candidates)
 
 
-def root(rng, c, named):
-    """A gate over two of the priced nets, or fewer where there are fewer."""
+def root(rng, c, named, operands):
+    """A gate over so many of the priced nets, or fewer where there are fewer."""
     if not named:
         return c.gate(rng.choice([ZERO, ONE]))
     if len(named) == 1:
         return c.gate(rng.choice([BUF, NOT]), named[0])
-    return c.gate(rng.choice(MIXED), *rng.sample(named, 2))
+    return c.gate(rng.choice(MIXED), *rng.sample(named, min(operands, len(named))))
 
 
-def back(rng, c, unread, count, front, unread_front, width):
+def back(rng, c, unread, count, front, unread_front, width, operands):
     """Appends that many gates behind these nets, which are joined first; the nets that none of them reads."""
     while len(unread) > 1:
-        unread.append(c.gate(rng.choice(MIXED), unread.pop(0), unread.pop(0)))
+        joined = [unread.pop(0) for _ in range(min(operands, len(unread)))]
+        unread.append(c.gate(rng.choice(MIXED), *joined))
         count -= 1
     nets = list(unread)
     for _ in range(count):
         first = unread.pop(0) if len(unread) == width else rng.choice(nets[-40:])
-        second = unread_front.pop(0) if unread_front else rng.choice(front + nets[-40:])
-        nets.append(c.gate(rng.choice(MIXED), first, second))
+        others = [unread_front.pop(0) if unread_front else rng.choice(front + nets[-40:]) for _ in range(operands - 1)]
+        nets.append(c.gate(rng.choice(MIXED), first, *others))
         unread.append(nets[-1])
     return unread
 
@@ -313,6 +316,36 @@ def wide(rng):
     yield "wide_few", walked_job(rng, 20, 4, 400, 50, 10)
     yield "wide_all", walked_job(rng, 20, 4, 400, 300, 10)
     yield "wide_split", walked_job(rng, 20, 4, 400, 300, 10, split=True)
+
+
+def chained(job, side):
+    """A side's gates, each of more than two operands as a chain of gates of two, any inversion on the last; and the new
+    number of each net."""
+    first, found = job.first_gate_net(side), []
+    new_net = list(range(first))
+    for gate in side.gates:
+        operands = [new_net[net] for net in gate.operands()]
+        while len(operands) > 2:
+            found.append(Gate.of(gate.kind - gate.kind % 2, *operands[:2]))
+            operands[:2] = [first + len(found) - 1]
+        found.append(Gate.of(gate.kind, *operands))
+        new_net.append(first + len(found) - 1)
+    return Netlist(found, [new_net[net] for net in side.outputs]), new_net
+
+
+def pairs(rng):
+    """Jobs of gates of four operands whose patch has a support, and the same functions with each of these gates as a chain of
+    three."""
+    for n, m, gates, fanout in ((8, 1, 20, 8), (14, 2, 60, 30), (20, 4, 130, 50)):
+        while True:
+            job = walked_job(rng, n, m, gates, fanout, 6, operands=4)
+            if verdict_of(job).patch.support:
+                break
+        old, new_net = chained(job, job.old)
+        golden, _ = chained(job, job.golden)
+        candidates = [Candidate(new_net[c.net], c.weight) for c in job.candidates]
+        yield f"pair_{gates:03}_four", job
+        yield f"pair_{gates:03}_chain", Job(n, m, old, golden, candidates)
 
 
 def growth(rng):
@@ -343,12 +376,12 @@ def fits():
         n, k = 10, max(heights)
         columns = [[parity(r % 2**height) for r in range(2**k)] for height in heights]
         table = [sum(column[r] << t for t, column in enumerate(columns)) for r in range(2**k)]
-        old = Netlist([Gate(BUF, 0, 0)], [n, n + 1, n + 2, n + 3, n + 4])
+        old = Netlist([Gate.of(BUF, 0)], [n, n + 1, n + 2, n + 3, n + 4])
         job = Job(n, 4, old, Netlist([], [0, 0, 0, 0, 0]), [Candidate(i, 1) for i in range(n)])
         sheet = sheets.encode(Patch(list(range(k)), table, k, [0]))
         number, netlist = fit(jobs.encode(job), sheet)
         assert number == 0
-        yield f"fit_{jobs.number(netlist[6:8]) // 5:03}", job, sheet, netlist
+        yield f"fit_{jobs.number(netlist[6:8]) // jobs.GATE_BYTES:03}", job, sheet, netlist
 
 
 def late_sheet(job):
@@ -397,7 +430,7 @@ def main():
     if what == "growth":
         put_jobs(folder, growth(rng))
         return
-    for made in (wide, cuts, tiny):
+    for made in (wide, cuts, tiny, pairs):
         put_jobs(folder, made(rng))
     put_sheets(folder)
 

@@ -6,13 +6,13 @@
 
 /* A slice is a pointer and a count; the counts are inputs, targets, old gates and outputs, golden gates and outputs,
  * candidates. */
-uint8_t records_read(const uint8_t *job, size_t, uint8_t *old_kinds, size_t, uint16_t *old_firsts, size_t,
-    uint16_t *old_seconds, size_t, uint16_t *old_outputs, size_t, uint8_t *golden_kinds, size_t, uint16_t *golden_firsts,
-    size_t, uint16_t *golden_seconds, size_t, uint16_t *golden_outputs, size_t, uint16_t *nets, size_t, uint16_t *weights,
+uint8_t records_read(const uint8_t *job, size_t, uint8_t *old_kinds, size_t, uint8_t *old_counts, size_t,
+    uint16_t *old_slots, size_t, uint16_t *old_outputs, size_t, uint8_t *golden_kinds, size_t, uint8_t *golden_counts,
+    size_t, uint16_t *golden_slots, size_t, uint16_t *golden_outputs, size_t, uint16_t *nets, size_t, uint16_t *weights,
     size_t, size_t counts[7]);
-size_t records_write(const size_t counts[7], const uint8_t *old_kinds, size_t, const uint16_t *old_firsts, size_t,
-    const uint16_t *old_seconds, size_t, const uint16_t *old_outputs, size_t, const uint8_t *golden_kinds, size_t,
-    const uint16_t *golden_firsts, size_t, const uint16_t *golden_seconds, size_t, const uint16_t *golden_outputs, size_t,
+size_t records_write(const size_t counts[7], const uint8_t *old_kinds, size_t, const uint8_t *old_counts, size_t,
+    const uint16_t *old_slots, size_t, const uint16_t *old_outputs, size_t, const uint8_t *golden_kinds, size_t,
+    const uint8_t *golden_counts, size_t, const uint16_t *golden_slots, size_t, const uint16_t *golden_outputs, size_t,
     const uint16_t *nets, size_t, const uint16_t *weights, size_t, uint8_t *buf, size_t, uint32_t *number);
 
 static uint8_t data[65536], ours_back[LONGEST], plain_back[LONGEST];
@@ -21,17 +21,17 @@ static struct job ours, plain;
 
 static int ours_read(void) {
     struct netlist *o = &ours.old, *g = &ours.golden;
-    return records_read(data, data_len, o->kinds, GATES, o->firsts, GATES, o->seconds, GATES, o->outs, OUTPUTS, g->kinds,
-        GATES, g->firsts, GATES, g->seconds, GATES, g->outs, OUTPUTS, ours.nets, CANDIDATES, ours.weights, CANDIDATES,
-        counts);
+    return records_read(data, data_len, o->kinds, GATES, o->counts, GATES, *o->slots, SLOTS * GATES, o->outs, OUTPUTS,
+        g->kinds, GATES, g->counts, GATES, *g->slots, SLOTS * GATES, g->outs, OUTPUTS, ours.nets, CANDIDATES, ours.weights,
+        CANDIDATES, counts);
 }
 
 static int ours_write(void) {
     struct netlist *o = &ours.old, *g = &ours.golden;
     uint32_t number;
-    ours_len = records_write(counts, o->kinds, GATES, o->firsts, GATES, o->seconds, GATES, o->outs, OUTPUTS, g->kinds, GATES,
-        g->firsts, GATES, g->seconds, GATES, g->outs, OUTPUTS, ours.nets, CANDIDATES, ours.weights, CANDIDATES, ours_back,
-        LONGEST, &number);
+    ours_len = records_write(counts, o->kinds, GATES, o->counts, GATES, *o->slots, SLOTS * GATES, o->outs, OUTPUTS, g->kinds,
+        GATES, g->counts, GATES, *g->slots, SLOTS * GATES, g->outs, OUTPUTS, ours.nets, CANDIDATES, ours.weights, CANDIDATES,
+        ours_back, LONGEST, &number);
     return (int)number;
 }
 

@@ -73,7 +73,7 @@ static double fit_row(const char *path, int turns, double last_us, size_t last_l
     if (!read_beside(path, ".sheet", &sheet) || !read_beside(path, ".netlist", &netlist)) stop("no sheet or netlist", path);
     double us = best_of(our_fit, turns);
     if (number || len != netlist.len || memcmp(reply, netlist.bytes, len)) stop("not the reference's netlist", path);
-    printf("%-22s %5u %6zu %9s %10.2f", base_name(path), word(reply + 6) / 5, len, shown(us), 1000 * us / len);
+    printf("%-22s %5u %6zu %9s %10.2f", base_name(path), word(reply + 6) / GATE_BYTES, len, shown(us), 1000 * us / len);
     if (last_len) printf(" %12.2f", 1000 * (us - last_us) / (len - last_len));
     printf("\n");
     return us;

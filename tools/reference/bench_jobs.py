@@ -4,6 +4,7 @@
     python3 tools/reference/bench_jobs.py
 
     tools/bench/decide_VERDICT_N.job   full-size jobs: 20 inputs, 4 targets, 400 gates a side, 32 outputs, 10 priced nets
+    tools/bench/four_VERDICT_N.job     the same, nearly every gate with four operands; the last with two to four
 
 Nothing in them can be left out early: every output depends on every input and every target, mostly by xor; a patch needs
 nearly all priced nets; an unfixable input is among the last; the vector list is long. It prints what each job has.
@@ -18,7 +19,16 @@ from decide import decide
 
 SEED = 1364
 TOP = os.path.dirname(os.path.dirname(os.path.dirname(os.path.abspath(__file__))))
-WANTED = [("patch", 1.0), ("patch", 0.95), ("patch", 0.85), ("unfixable", 0.95), ("blind", 1.0), ("blind", 0.9)]
+WANTED = [
+    ("decide", "patch", 1.0, (2,)),
+    ("decide", "patch", 0.95, (2,)),
+    ("decide", "patch", 0.85, (2,)),
+    ("decide", "unfixable", 0.95, (2,)),
+    ("decide", "blind", 1.0, (2,)),
+    ("decide", "blind", 0.9, (2,)),
+    ("four", "patch", 0.95, (4,)),
+    ("four", "blind", 0.9, (2, 3, 4)),
+]
 
 
 def cone_of_output(job, side, net):
@@ -44,18 +54,19 @@ def hard(job, verdict):
 
 def main():
     rng = random.Random(SEED)
-    for k, (name, xor_share) in enumerate(WANTED, 1):
+    for k, (start, name, xor_share, counts) in enumerate(WANTED, 1):
         while True:
-            job = cj.full_job(rng, name, used=10, xor_share=xor_share, late=18)
+            job = cj.full_job(rng, name, used=10, xor_share=xor_share, late=18, counts=counts)
             verdict = decide(jobs.encode(job)).verdict
             if verdict.name == name and hard(job, verdict):
                 break
-        with open(os.path.join(TOP, f"tools/bench/decide_{name}_{k}.job"), "wb") as file:
+        with open(os.path.join(TOP, f"tools/bench/{start}_{name}_{k}.job"), "wb") as file:
             file.write(jobs.encode(job))
         read = len({net for output in job.old.outputs for net in cone_of_output(job, job.old, output)}) - 24
         kinds = sum(gate.kind >= cj.XOR for gate in job.old.gates)
-        about = f"sheet of {len(verdict.sheet)} bytes; {read} old gates lead to outputs, {kinds} are xor or xnor"
-        print(f"{name}_{k}: {name} {verdict.value}, {about}")
+        operands = sum(gate.count for gate in job.old.gates) / len(job.old.gates)
+        about = f"{read} old gates lead to outputs, {kinds} are xor or xnor, {operands:.2f} operands a gate"
+        print(f"{start}_{name}_{k}: {name} {verdict.value}, sheet of {len(verdict.sheet)} bytes; {about}")
 
 
 if __name__ == "__main__":

@@ -8,22 +8,27 @@ A call is one byte, which service, a two-byte length, and that many bytes:
     4 again   a job, which is read and then written from the places
     5 after   two bytes, a length; a job of that length, which is read first; and a second job, read into the same places
 
-A list is a two-byte number of places and their values, two bytes each, kinds one byte. A count of 65,535 stands for
-the largest number of its type, 2^64 - 1. The ten places are old kinds, first operands, second operands and outputs,
-the same four of the golden netlist, nets and weights, each the start of 401 places; again and after lend all of them.
-A line has the service's name and the numbers of its reply; read and after end in a hash of all places, write and
-again in a hash of a buffer of 4,200 bytes, of which some are lent. Before each call every place and byte holds a
-pattern, so that one that should be untouched shows in the hash if it is not.
+A list is a two-byte number of places and their values, two bytes each, kinds and operand counts one byte. A count of
+65,535 stands for the largest number of its type, 2^64 - 1. The ten places are old kinds, operand counts, slots (the
+operand places, four a gate, gate by gate) and outputs, the same four of the golden netlist, nets and weights, each the
+start of 401 places, slots of 1,601; again and after lend all of them. A line has the service's name and the numbers of
+its reply; read and after end in a hash of all places, write and again in a hash of a buffer of 8,200 bytes, of which
+some are lent. Before each call every place and byte holds a pattern, so that one that should be untouched shows in the
+hash if it is not.
 """
 
+import gates
 import job as jobs
 import sheet as sheets
 
 GATES, OUTPUTS, CANDIDATES = jobs.MAX_GATES, jobs.MAX_OUTPUTS, jobs.MAX_CANDIDATES
-SIZES = [GATES, GATES, GATES, OUTPUTS, GATES, GATES, GATES, OUTPUTS, CANDIDATES, CANDIDATES]
-BYTE_LISTS = (0, 4)
-PLACES = 401
-BUFFER = 4200
+SLOTS = gates.PLACES * GATES
+SIZES = [GATES, GATES, SLOTS, OUTPUTS, GATES, GATES, SLOTS, OUTPUTS, CANDIDATES, CANDIDATES]
+BYTE_LISTS = (0, 1, 4, 5)
+SLOT_LISTS = (2, 6)
+PLACES = [SLOTS + 1 if k in SLOT_LISTS else GATES + 1 for k in range(10)]
+MOST_PLACES = [1620 if k in SLOT_LISTS else 420 for k in range(10)]  # of a list in a call of write
+BUFFER = 8200
 LARGEST = 2**64 - 1
 
 
@@ -45,7 +50,7 @@ def pattern(which, size, width):
 
 def patterned():
     """The ten lists of places; of each only some are lent."""
-    return [pattern(k + 1, PLACES, 256 if k in BYTE_LISTS else 65536) for k in range(len(SIZES))]
+    return [pattern(k + 1, size, 256 if k in BYTE_LISTS else 65536) for k, size in enumerate(PLACES)]
 
 
 def hash_of(lists):
@@ -61,8 +66,8 @@ def columns(job):
     side_lists = [
         [
             [g.kind for g in side.gates],
-            [g.first for g in side.gates],
-            [g.second for g in side.gates],
+            [g.count for g in side.gates],
+            [net for g in side.gates for net in g.places],
             list(side.outputs),
         ]
         for side in (job.old, job.golden)
@@ -94,12 +99,18 @@ def read_into(places, lent, data):
     return [0] + counts(job)
 
 
+def gates_of(kinds, operand_counts, slots):
+    """The gates of three lists."""
+    return [jobs.Gate(*parts) for parts in zip(kinds, operand_counts, jobs.pieces(slots, gates.PLACES))]
+
+
 def written(buffer_length, asked, lists):
     """The number and the bytes written, from lists of places of which the first so many are asked for."""
     if buffer_length < jobs.LONGEST_JOB:
         return 1, b""
     n, m, old_gates, old_outputs, golden_gates, golden_outputs, priced = asked
-    needed = [old_gates] * 3 + [old_outputs] + [golden_gates] * 3 + [golden_outputs] + [priced] * 2
+    needed = [old_gates, old_gates, gates.PLACES * old_gates, old_outputs]
+    needed += [golden_gates, golden_gates, gates.PLACES * golden_gates, golden_outputs, priced, priced]
     if any(count > len(values) for count, values in zip(needed, lists)):
         return 3, b""
     kept = [values[:count] for count, values in zip(needed, lists)]
@@ -107,8 +118,8 @@ def written(buffer_length, asked, lists):
         jobs.Job(
             n,
             m,
-            jobs.Netlist([jobs.Gate(*g) for g in zip(*kept[0:3])], kept[3]),
-            jobs.Netlist([jobs.Gate(*g) for g in zip(*kept[4:7])], kept[7]),
+            jobs.Netlist(gates_of(*kept[0:3]), kept[3]),
+            jobs.Netlist(gates_of(*kept[4:7]), kept[7]),
             [jobs.Candidate(*c) for c in zip(*kept[8:10])],
         )
     )
@@ -130,6 +141,7 @@ def read_call(data, short=0):
 
 def write_call(buffer_length, asked, lists):
     payload = two(buffer_length) + b"".join(two(min(c, 65535)) for c in asked)
+    assert all(len(values) <= most for values, most in zip(lists, MOST_PLACES))
     for k, values in enumerate(lists):
         payload += two(len(values)) + b"".join(bytes([x]) if k in BYTE_LISTS else two(x) for x in values)
     refusal, data = written(buffer_length, asked, lists)
@@ -157,7 +169,7 @@ def sheet_call(targets, priced, nets, weights, data):
 
 def again_call(data):
     places = patterned()
-    reply = read_into(places, [PLACES] * 10, data)
+    reply = read_into(places, PLACES, data)
     refusal, back = written(jobs.LONGEST_JOB, reply[1:], places)
     assert (reply[0] == 0) == (refusal == 0) and (refusal or back == data)
     buffer = pattern(11, BUFFER, 256)
@@ -167,6 +179,6 @@ def again_call(data):
 
 def after_call(first, second):
     places = patterned()
-    read_into(places, [PLACES] * 10, first)
-    reply = read_into(places, [PLACES] * 10, second)
+    read_into(places, PLACES, first)
+    reply = read_into(places, PLACES, second)
     return call(5, two(len(first)) + first + second), line("after", reply + [hash_of(places)])

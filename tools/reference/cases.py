@@ -3,12 +3,13 @@
 
     python3 tools/reference/cases.py
 
-Then it tries the reference against itself where a second way is at hand: the values of gates on sets of inputs beside
-gates.py, and, on small random jobs, the verdict beside every table over every set of priced nets, the fitted netlist
-beside the driven old one, and compare beside one input at a time. Where something differs, it stops.
+Then it tries the reference where a second way is at hand: the values of gates beside the simulator's table and, on sets of
+inputs, beside gates.py; on small random jobs the verdict beside every table over every set of priced nets, the fitted
+netlist beside the driven old one, and compare beside one input at a time. Where something differs, it stops.
 """
 
 import copy
+import os
 import random
 from itertools import combinations, product
 
@@ -47,26 +48,26 @@ def said(reply):
 
 def case_8(first, second):
     prices = [Candidate(0, first), Candidate(2, second)]
-    return Job(1, 1, Netlist([Gate(3, 0, 0)], [1]), Netlist([], [0]), prices)
+    return Job(1, 1, Netlist([Gate.of(3, 0)], [1]), Netlist([], [0]), prices)
 
 
 def fitted_a():
     data = jobs.encode(rj.job_a())
     number, fields = fit(data, decide(data).verdict.sheet)
-    count, output = len(fields[8:-5]) // 5, jobs.number(fields[-2:])
+    count, output = len(fields[8:-5]) // jobs.GATE_BYTES, jobs.number(fields[-2:])
     return f"fit {number}: {count} gates, output net {output}"
 
 
 def jobs_of_cases():
     """The jobs of cases 1 to 11, without 2, which is case 1's job."""
     a = rj.job_a()
-    same = Netlist([Gate(4, 0, 1)], [2])
+    same = Netlist([Gate.of(4, 0, 1)], [2])
     return [
         a,
         changed(candidates=a.candidates[:1]),
         changed(candidates=[]),
         changed(old=Netlist([], [0])),
-        changed(golden=Netlist([Gate(0, 0, 0)], [2])),
+        changed(golden=Netlist([Gate.of(0)], [2])),
         changed(targets=0, old=same, golden=same),
         case_8(5, 1),
         case_8(0, 0),
@@ -99,15 +100,31 @@ def cases():
 # ---- second ways
 
 
+TABLE = os.path.join(os.path.dirname(os.path.abspath(__file__)), "../../crates/run_gates/stdin")
+
+
+def check_table():
+    """The simulator's rows, over 0, 1 and x; each kind and count over all of these has a row."""
+    with open(TABLE, encoding="ascii") as file:
+        rows = [line.split() for line in file if not line.startswith("#")]
+    for name, *words, _, value in rows:
+        operands = [word if word == "x" else int(word) for word in words]
+        assert str(gates.partial_value(gates.NAMES.index(name), operands)) == value, (name, words)
+    every = sum(3**count for kind in range(2, 10) for count in gates.operand_counts(kind))
+    assert len({tuple(row[:-1]) for row in rows}) == every
+    return len(rows)
+
+
 def check_gates():
-    """Two inputs give every pair of operands."""
-    job = Job(2, 0, None, None, [])
+    """Four inputs give every four operands."""
+    job = Job(4, 0, None, None, [])
     values = simulate.input_values(job)
     for kind in range(10):
-        count = gates.operand_count(kind)
-        found = simulate.gate_values(simulate.every_input(job), kind, values[:count])
-        for x in range(4):
-            assert found >> x & 1 == gates.value(kind, [x & 1, x >> 1][:count]), (kind, x)
+        for count in gates.operand_counts(kind):
+            found = simulate.gate_values(simulate.every_input(job), kind, values[:count])
+            for x in range(16):
+                operands = [x >> i & 1 for i in range(count)]
+                assert found >> x & 1 == gates.value(kind, operands), (kind, operands)
 
 
 def carrying(job):
@@ -177,6 +194,7 @@ def main():
     for k, (found, wanted) in enumerate(zip(cases(), WANTED), 1):
         print(f"{k:2} {found}")
         assert found == wanted, f"document 01 says {wanted}"
+    print("tried against the simulator:", check_table(), "rows")
     check_gates()
     print("tried against every table over every set:", check_random(random.Random(1364), 100))
 

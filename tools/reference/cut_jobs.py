@@ -3,7 +3,7 @@ the old one has a target in place of each cut gate. Every function takes the ran
 
     cut_job(rng, n, m, telling)      a job of up to some thirty gates, of any verdict
     crossed_job(rng)                 a job where sets {a, d} and {b, c} of priced nets a < b < c < d both do
-    full_job(rng, verdict, ..)       400 gates a side, 32 outputs, 4 targets, 10 priced nets: 4,188 bytes
+    full_job(rng, verdict, ..)       400 gates a side, 32 outputs, 4 targets, 10 priced nets: 8,188 bytes
 """
 
 import gates
@@ -11,21 +11,19 @@ import job as jobs
 import random_jobs as rj
 from job import Candidate, Gate, Job, Netlist
 
-TWO_OPERANDS = range(4, 10)
+WIDE = range(4, 10)  # the kinds of two operands and more
 AND, OR, XOR, XNOR = 4, 6, 8, 9
 
 
 def some_gate(rng, nets, kinds):
-    """A gate of one of the kinds that reads some of the nets."""
+    """A gate of one of the kinds that reads some of the nets, one or more of them perhaps twice."""
     kind = rng.choice(kinds)
-    operands = [rng.choice(nets) for _ in range(gates.operand_count(kind))]
-    return Gate(kind, *(operands + [0, 0])[:2])
+    return Gate.of(kind, *[rng.choice(nets) for _ in range(rj.some_count(rng, kind))])
 
 
 def renumbered(gate, new_net):
     """The gate with each used operand replaced by its new net."""
-    operands = [new_net[net] for net in gate.operands()]
-    return Gate(gate.kind, *(operands + [0, 0])[:2])
+    return Gate.of(gate.kind, *[new_net[net] for net in gate.operands()])
 
 
 # ---- small jobs
@@ -37,7 +35,7 @@ def circuit(rng, n, gate_count):
     for k in range(gate_count):
         nets = list(range(n + k))
         near = nets[-6:] if rng.random() < 0.6 else nets
-        found.append(some_gate(rng, near, list(TWO_OPERANDS) * 3 + list(range(4))) if nets else Gate(rng.randrange(2), 0, 0))
+        found.append(some_gate(rng, near, list(WIDE) * 3 + list(range(4))) if nets else Gate.of(rng.randrange(2)))
     return found
 
 
@@ -69,10 +67,8 @@ def cut(n, m, golden, outputs, places, stays):
 def change_gate(rng, n, golden, k):
     """Another kind with as many operands, or other operands."""
     gate = golden[k]
-    count = gates.operand_count(gate.kind)
-    kind = rng.choice([kind for kind in range(10) if gates.operand_count(kind) == count])
-    operands = [rng.randrange(n + k) if rng.random() < 0.3 else net for net in gate.operands()]
-    golden[k] = Gate(kind, *(operands + [0, 0])[:2])
+    kind = rng.choice([kind for kind in range(10) if gate.count in gates.operand_counts(kind)])
+    golden[k] = Gate.of(kind, *[rng.randrange(n + k) if rng.random() < 0.3 else net for net in gate.operands()])
 
 
 def change_output(rng, n, golden, outputs):
@@ -80,10 +76,10 @@ def change_output(rng, n, golden, outputs):
     nets = rng.sample(range(n), rng.randrange(1, n + 1))
     last = nets[0]
     for net in nets[1:]:
-        golden.append(Gate(AND, last, net))
+        golden.append(Gate.of(AND, last, net))
         last = n + len(golden) - 1
     place = rng.randrange(len(outputs))
-    golden.append(Gate(XOR, outputs[place], last))
+    golden.append(Gate.of(XOR, outputs[place], last))
     outputs[place] = n + len(golden) - 1
 
 
@@ -152,43 +148,62 @@ def cut_job(rng, n, m, telling=True):
 
 def crossed_job(rng):
     """The golden output is the sum of x and y. Priced are a = x, b = x + z, c = y + z, d = y, ascending, each behind a
-    gate; weights are equal or nearly so."""
+    gate; weights are equal or nearly so. A net that a parity has twice is of no effect."""
     x, y, z = rng.sample(range(3), 3)
-    old = [Gate(2, x, 0), Gate(XOR, x, z), Gate(XOR, y, z), Gate(rng.choice([2, 3]), y, 0)]
+    old = [
+        Gate.of(2, x),
+        Gate.of(XOR, *rng.choice([[x, z], [x, y, y, z]])),
+        Gate.of(XOR, *rng.choice([[y, z], [z, z, z, y]])),
+        Gate.of(rng.choice([2, 3]), y),
+    ]
+    golden = Gate.of(rng.choice([XOR, XNOR]), *rng.choice([[x, y], [x, z, z, y], [x, y, y, y]]))
     weight = rng.choice([1, 5, 65535])
     weights = [weight, weight, weight, weight]
     if rng.random() < 0.3:
         weights[rng.randrange(4)] -= 1
     candidates = [Candidate(4 + i, weights[i]) for i in range(4)]
-    return Job(3, 1, Netlist(old, [3]), Netlist([Gate(rng.choice([XOR, XNOR]), x, y)], [3]), candidates)
+    return Job(3, 1, Netlist(old, [3]), Netlist([golden], [3]), candidates)
 
 
 # ---- jobs that fill every place
 
 
-def chain(rng, found, n, nets, kinds):
-    """Appends gates that join all of the nets, at least two; the net of the last gate."""
-    last = nets[0]
-    for net in nets[1:]:
-        found.append(Gate(rng.choice(kinds), last, net))
+def one_of(rng, counts):
+    return rng.choice(counts) if len(counts) > 1 else counts[0]
+
+
+def sampled_gate(rng, nets, kinds, counts):
+    """A gate of one of the kinds and counts that reads so many different nets."""
+    kind = rng.choice(kinds)
+    return Gate.of(kind, *rng.sample(nets, one_of(rng, counts)))
+
+
+def chain(rng, found, n, nets, kinds, most=2):
+    """Appends gates of up to so many operands that join all of the nets, at least two; the net of the last gate."""
+    last, left = nets[0], list(nets[1:])
+    while left:
+        found.append(Gate.of(rng.choice(kinds), last, *left[: most - 1]))
+        left = left[most - 1 :]
         last = n + len(found) - 1
     return last
 
 
-def grow(rng, found, n, count, fresh, kinds):
-    """Appends gates that each read the oldest net not read yet, from the fresh ones on, and the next such net as long as
-    there are more than 32 of them, then one of the last forty nets. So all of them lead to the last 32 gates."""
+def grow(rng, found, n, count, fresh, kinds, counts):
+    """Appends gates that each read the oldest net not read yet, from the fresh ones on, and the next such nets as long as
+    there are more than 32 of them, then some of the last forty nets. So all of them lead to the last 32 gates."""
     unread, nets = list(fresh), list(fresh)
     for _ in range(count):
-        first = unread.pop(0)
-        second = unread.pop(0) if len(unread) > 31 else rng.choice([net for net in nets[-40:] if net != first])
-        found.append(Gate(rng.choice(kinds), first, second))
+        operands = [unread.pop(0)]
+        for _ in range(one_of(rng, counts) - 1):
+            others = [net for net in nets[-40:] if net not in operands]
+            operands.append(unread.pop(0) if len(unread) > 31 else rng.choice(others))
+        found.append(Gate.of(rng.choice(kinds), *operands))
         unread.append(n + len(found) - 1)
         nets.append(n + len(found) - 1)
 
 
-def full_job(rng, verdict, n=20, used=10, xor_share=0.85, late=17):
-    """A job of 4,188 bytes that is to have this verdict. The golden netlist has
+def full_job(rng, verdict, n=20, used=10, xor_share=0.85, late=17, counts=(2,)):
+    """A job of 8,188 bytes that is to have this verdict, of gates with so many operands. The golden netlist has
 
     - a front over the inputs, of which ten nets are priced (for n 10, the inputs),
     - a function of up to `used` priced nets for each cut net; for blind, the first one reads a further net,
@@ -202,9 +217,9 @@ def full_job(rng, verdict, n=20, used=10, xor_share=0.85, late=17):
     kinds = [rng.choice([XOR, XNOR]) for _ in range(xors)] + [rng.choice([4, 5, 6, 7]) for _ in range(100 - xors)]
 
     golden = []
-    chain(rng, golden, n, range(n), [XOR])
+    chain(rng, golden, n, range(n), [XOR], counts[-1])
     while len(golden) < 70:
-        golden.append(Gate(rng.choice(kinds), *rng.sample(range(n + len(golden)), 2)))
+        golden.append(sampled_gate(rng, range(n + len(golden)), kinds, counts))
     front = list(range(n + len(golden)))
     named = front[:n] if n == 10 else sorted(rng.sample(front, 10))
     hidden = rng.choice([net for net in front if net not in named])
@@ -213,23 +228,23 @@ def full_job(rng, verdict, n=20, used=10, xor_share=0.85, late=17):
     for t in range(m):
         nets = rng.sample(named, used if t == 0 else rng.randrange(2, used + 1))
         if t == 0 and verdict == "blind":
-            nets.append(hidden if rng.random() < 0.5 else chain(rng, golden, n, named + [hidden], [AND]))
-        roots.append(chain(rng, golden, n, nets, [XOR] if t == 0 else [AND, OR, XOR, XNOR]))
+            nets.append(hidden if rng.random() < 0.5 else chain(rng, golden, n, named + [hidden], [AND], counts[-1]))
+        roots.append(chain(rng, golden, n, nets, [XOR] if t == 0 else [AND, OR, XOR, XNOR], counts[-1]))
     read = {net for gate in golden[: len(front) - n] for net in gate.operands()}
     fresh = [net for net in range(n + len(golden)) if net not in read]
 
     extra = late if verdict == "unfixable" else 0
-    grow(rng, golden, n, gate_count - extra - len(golden), fresh, kinds)
+    grow(rng, golden, n, gate_count - extra - len(golden), fresh, kinds, counts)
     outputs = list(range(n + len(golden) - output_count, n + len(golden)))
     old = cut(n, m, golden, outputs, [root - n for root in roots], lambda: True)
     for root in roots:
         old.gates[root - n].kind = rng.choice(kinds)
     if extra:
         everywhere_one = chain(rng, golden, n, range(n - late, n), [AND])
-        golden.append(Gate(XOR, outputs[-1], everywhere_one))
+        golden.append(Gate.of(XOR, outputs[-1], everywhere_one))
         outputs[-1] = n + len(golden) - 1
     while len(old.gates) < gate_count:
-        old.gates.append(Gate(rng.choice(kinds), *rng.sample(range(n), 2)))
+        old.gates.append(sampled_gate(rng, range(n), kinds, counts))
 
     nets = [net if net < n else net + m for net in named]
     candidates = [Candidate(net, weight) for net, weight in zip(nets, some_weights(rng, 10))]

@@ -1,4 +1,4 @@
-"""Fit (document 01, "Fitting and comparing"): the patched netlist of a job and a patch sheet by anyone.
+"""Fit (document 01, "Fitting and comparing"; card 6 of document 02): the patched netlist of a job and a patch sheet by anyone.
 
     fit(job_data, sheet_data, buffer_length)   (0, the three fields) or (1 to 9, b"")
     patched(job, patch)                        the patched netlist, of any size
@@ -8,7 +8,7 @@ import job as jobs
 from compare import accepted
 from job import Gate, Netlist
 
-LONGEST_NETLIST = 2075
+LONGEST_NETLIST = 4075
 
 
 def emit(gates, first_net, gate):
@@ -20,9 +20,9 @@ def emit(gates, first_net, gate):
 def tree(gates, first_net, support, column):
     """Appends the tree of a column over the support's new nets; the net of its root."""
     if not any(column):
-        return emit(gates, first_net, Gate(0, 0, 0))
+        return emit(gates, first_net, Gate.of(0))
     if all(column):
-        return emit(gates, first_net, Gate(1, 0, 0))
+        return emit(gates, first_net, Gate.of(1))
     s = support[-1]
     half = len(column) // 2
     low, high = column[:half], column[half:]
@@ -30,10 +30,10 @@ def tree(gates, first_net, support, column):
         return tree(gates, first_net, support[:-1], low)
     low_net = tree(gates, first_net, support[:-1], low)
     high_net = tree(gates, first_net, support[:-1], high)
-    not_s = emit(gates, first_net, Gate(3, s, 0))
-    low_part = emit(gates, first_net, Gate(4, not_s, low_net))
-    high_part = emit(gates, first_net, Gate(4, s, high_net))
-    return emit(gates, first_net, Gate(6, low_part, high_part))
+    not_s = emit(gates, first_net, Gate.of(3, s))
+    low_part = emit(gates, first_net, Gate.of(4, not_s, low_net))
+    high_part = emit(gates, first_net, Gate.of(4, s, high_net))
+    return emit(gates, first_net, Gate.of(6, low_part, high_part))
 
 
 def patched(job, patch):
@@ -42,10 +42,10 @@ def patched(job, patch):
     gates = []
 
     def move(group):
-        """Appends old gates, given with their old nets, each operand by its new net; an unused one stays 0."""
+        """Appends old gates, given with their old nets, each used operand by its new net; an unused place stays 0."""
         for net, gate in group:
             operands = [new_net[operand] for operand in gate.operands()]
-            new_net[net] = emit(gates, job.inputs, Gate(gate.kind, *(operands + [0, 0])[:2]))
+            new_net[net] = emit(gates, job.inputs, Gate.of(gate.kind, *operands))
 
     old = list(enumerate(job.old.gates, job.first_gate_net(job.old)))
     move([(net, gate) for net, gate in old if net not in reached])

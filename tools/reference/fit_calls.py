@@ -5,7 +5,7 @@ A call is one byte, which service, a two-byte length, and that many bytes:
 
     4 fit    two bytes, how much of the buffer is lent; two bytes, a length; a job of that length; and a patch sheet
     5 row    two bytes, a length; a job of that length; and a second job. Each in turn is decided into one buffer, of which
-             1,076 bytes are lent, then fitted with the sheet that stands there into a second one, of which 2,075 are lent,
+             1,076 bytes are lent, then fitted with the sheet that stands there into a second one, of which 4,075 are lent,
              then compared with that sheet
 
 The lines, with a verdict's value and a differing input where there is one:
@@ -17,7 +17,7 @@ The lines, with a verdict's value and a differing input where there is one:
         NUMBER equal|differs|declined [INPUT]                               of compare
     then HASH of the sheets' buffer and HASH of the netlists'
 
-HASH is that of a whole buffer, 2,200 bytes, which holds a pattern before each call, so that a byte that should be
+HASH is that of a whole buffer, 4,200 bytes, which holds a pattern before each call, so that a byte that should be
 untouched shows in the hash if it is not.
 """
 
@@ -27,7 +27,7 @@ from decide_calls import decided, line
 from decide import LONGEST_SHEET
 from fit import LONGEST_NETLIST, fit
 
-BUFFER = 2200
+BUFFER = 4200
 
 
 def fitted(buffer, lent, job_data, sheet_data):

@@ -1,4 +1,4 @@
-"""Jobs (document 01, "Nets and gates", "Bytes" and "Numbers given when a call is declined").
+"""Jobs (document 01, "Nets and gates", "Bytes" and "Numbers given when a call is declined"; card 6 of document 02).
 
     Job, Netlist, Gate, Candidate   a job's parts
     number_of_parts(job)            the first of 3 to 6 that applies to the parts, else 0
@@ -19,22 +19,28 @@ MAX_TARGETS = 4
 MAX_GATES = 400
 MAX_OUTPUTS = 32
 MAX_CANDIDATES = 10
-LONGEST_JOB = 4188
+GATE_BYTES = 10
+LONGEST_JOB = 8188
 
 
 @dataclass
 class Gate:
     kind: int
-    first: int
-    second: int
+    count: int
+    places: list  # four
+
+    @staticmethod
+    def of(kind, *operands):
+        """The gate of a kind with these operands; the other places hold 0."""
+        return Gate(kind, len(operands), list(operands) + [0] * (gates.PLACES - len(operands)))
 
     def operands(self):
-        """The operands that the kind uses."""
-        return [self.first, self.second][: gates.operand_count(self.kind)]
+        """The operands that are used."""
+        return self.places[: self.count]
 
     def fillers(self):
-        """The operand places that the kind does not use."""
-        return [self.first, self.second][gates.operand_count(self.kind) :]
+        """The operand places that are not used."""
+        return self.places[self.count :]
 
 
 @dataclass
@@ -100,7 +106,7 @@ def pieces(body, size):
 
 def netlist_of(gate_body, output_body):
     return Netlist(
-        [Gate(p[0], number(p[1:3]), number(p[3:5])) for p in pieces(gate_body, 5)],
+        [Gate(p[0], p[1], [number(place) for place in pieces(p[2:], 2)]) for p in pieces(gate_body, GATE_BYTES)],
         [number(p) for p in pieces(output_body, 2)],
     )
 
@@ -110,7 +116,7 @@ def two(x):
 
 
 def gate_body(side):
-    return b"".join(bytes([g.kind]) + two(g.first) + two(g.second) for g in side.gates)
+    return b"".join(bytes([g.kind, g.count]) + b"".join(two(net) for net in g.places) for g in side.gates)
 
 
 def output_body(side):
@@ -145,7 +151,7 @@ def counts_in_range(job):
 def gates_good(job, side):
     for k, gate in enumerate(side.gates):
         own_net = job.first_gate_net(side) + k
-        if gate.kind > 9:
+        if gate.kind > 9 or gate.count not in gates.operand_counts(gate.kind):
             return False
         if any(net >= own_net for net in gate.operands()):
             return False
@@ -207,7 +213,7 @@ def read(data):
     bodies = walk(data, [1, 2, 3, 4, 5, 6])
     if bodies is None or len(bodies[0]) != 2:
         return 2, None
-    if any(len(body) % size for body, size in zip(bodies[1:], [5, 2, 5, 2, 4])):
+    if any(len(body) % size for body, size in zip(bodies[1:], [GATE_BYTES, 2, GATE_BYTES, 2, 4])):
         return 2, None
     job = Job(
         bodies[0][0],

@@ -4,9 +4,11 @@
     python3 tools/reference/make_samples.py
 
     crates/run_records/stdin, stdout   calls of the record library, and the lines that this reference gives
-    crates/run_gates/stdout            the rows of its stdin (the simulator's table) over 0 and 1 with one or two operands
-    examples/a.job, a.shown            job A of document 01, and what `patcher show` says of it; the job also in crates/patcher/data
-    tools/bench/longest.job            one accepted job of 4,188 bytes
+    crates/run_gates/stdout            the rows of its stdin (the simulator's table), those over 0 and 1 twice
+    examples/a.job, a.sheet, a.shown   job A of document 01, its sheet, and what `patcher show` says of it
+    examples/VERDICT.job               variants of it: unfixable, blind, refused
+    crates/rectify/stdin, stdout       job A, and what the program must print; crates/patcher/data has the job and the sheet
+    tools/bench/longest.job            one accepted job of 8,188 bytes, of gates with up to two operands
 
 It prints how often each service gives each number. With --try FILE, a file of lines that run_records wrote, it
 compares them with its own and prints each line that differs with its call.
@@ -17,12 +19,14 @@ import random
 import sys
 from collections import Counter
 
+import cases
 import gates
 import job as jobs
 import random_jobs as rj
 import random_sheets as rs
 import sheet as sheets
-from calls import LARGEST, after_call, again_call, columns, counts, read_call, sheet_call, write_call
+from calls import BYTE_LISTS, LARGEST, MOST_PLACES, SLOT_LISTS, after_call, again_call, columns, counts, read_call, sheet_call, write_call
+from decide import decide
 from job import Candidate, Gate, Job, Netlist, encode
 
 SEED = 1364
@@ -33,12 +37,12 @@ TOP = os.path.dirname(os.path.dirname(os.path.dirname(os.path.abspath(__file__))
 
 
 def constants(k):
-    return [Gate(0, 0, 0)] * k
+    return [Gate.of(0)] * k
 
 
 def chain(leaf, first_net, k):
     """k buffers in a row behind a net."""
-    return [Gate(2, leaf if i == 0 else first_net + i - 1, 0) for i in range(k)]
+    return [Gate.of(2, leaf if i == 0 else first_net + i - 1) for i in range(k)]
 
 
 def shaped(n, m, old, outputs, golden, goldens, candidates):
@@ -65,14 +69,45 @@ def limit_jobs():
     return found
 
 
-def gate_jobs():
-    """Kinds 9 and 10, operands at and past the gate's own net on each side, unused operands that are not 0."""
+def one_gate(gate):
+    """The gate as an old one, of net 3, and as a golden one, of net 2."""
+    return [shaped(2, 1, [gate], [0], [], [0], []), shaped(2, 1, [], [0], [gate], [0], [])]
+
+
+def count_jobs():
+    """Every kind, and two too many, with every count up to 5, and 255."""
     found = []
     for kind in range(12):
-        for first, second in [(0, 0), (1, 0), (0, 1), (1, 1), (2, 0), (0, 2), (3, 0), (0, 3), (2, 2), (3, 3), (65535, 0)]:
-            gate = Gate(kind, first, second)
-            found.append(shaped(2, 1, [gate], [0], [], [0], []))
-            found.append(shaped(2, 1, [], [0], [gate], [0], []))
+        for count in rj.COUNTS:
+            found += one_gate(Gate(kind, count, [0, 0, 0, 0]))
+    for kind in range(4, 10):
+        for count in (1, 2, 3, 4, 5):
+            found += one_gate(Gate(kind, count, [1, 1, 1, 1]))
+    return found
+
+
+def place_jobs():
+    """Every kind with each of its counts, and one too many: below, at and past the gate's own net on each side in each
+    place, used or not."""
+    found = []
+    for kind in range(11):
+        for count in gates.operand_counts(kind):
+            for place in range(gates.PLACES):
+                for net in (1, 2, 3, 4, 256, 65535):
+                    places = [0, 0, 0, 0]
+                    places[place] = net
+                    found += one_gate(Gate(kind, count, places))
+    return found
+
+
+def good_gate_jobs():
+    """Gates of every kind and count over different nets and over the same one, each of them an output."""
+    found = []
+    for nets in ([0, 1, 2, 3], [3, 2, 1, 0], [2, 2, 2, 2], [1, 1, 3, 3]):
+        for kind in range(10):
+            for count in gates.operand_counts(kind):
+                gate = Gate.of(kind, *nets[:count])
+                found.append(shaped(4, 1, [gate], [5], [gate], [4], [Candidate(5, 1)]))
     return found
 
 
@@ -90,17 +125,21 @@ def candidate_jobs():
     """Each net and each pair of nets priced, over gates of which some are reached from a target."""
     found = []
     old = [
-        Gate(4, 0, 1),  # net 4: of inputs
-        Gate(0, 0, 0),  # net 5: a constant
-        Gate(4, 5, 2),  # net 6: and (constant 0, target), still reached
-        Gate(3, 6, 0),  # net 7: behind net 6
-        Gate(6, 4, 5),  # net 8: not reached
-        Gate(8, 8, 7),  # net 9: reached by its second operand
+        Gate.of(4, 0, 1),  # net 4: of inputs
+        Gate.of(0),  # net 5: a constant
+        Gate.of(4, 5, 2),  # net 6: and (constant 0, target), still reached
+        Gate.of(3, 6),  # net 7: behind net 6
+        Gate.of(6, 4, 5),  # net 8: not reached
+        Gate.of(8, 8, 7),  # net 9: reached by its second operand
+        Gate.of(4, 0, 1, 3),  # net 10: reached by its third
+        Gate.of(7, 0, 1, 4, 9),  # net 11: reached by its fourth
+        Gate.of(8, 0, 1, 4, 8),  # net 12: not reached
+        Gate.of(5, 12, 12, 5),  # net 13: not reached
     ]
-    for net in list(range(12)) + [65535]:
+    for net in list(range(16)) + [65535]:
         found.append(shaped(2, 2, old, [9], [], [1], [Candidate(net, 7)]))
-    for a in (0, 1, 2, 4, 5, 6, 8):
-        for b in (0, 1, 3, 4, 5, 8, 9, 10):
+    for a in (0, 1, 2, 4, 5, 6, 8, 12):
+        for b in (0, 1, 3, 4, 5, 8, 9, 10, 13, 14):
             found.append(shaped(2, 2, old, [9], [], [1], [Candidate(a, 65535), Candidate(b, 0)]))
     return found
 
@@ -109,9 +148,15 @@ def filler_jobs():
     """With no input and a target, net 0 is a target and the filler of unused operands, which is no path."""
     found = []
     for m in (1, 2, 4):
-        for gate in (Gate(0, 0, 0), Gate(1, 0, 0), Gate(2, 0, 0), Gate(3, m - 1, 0), Gate(8, 0, 0)):
+        for gate in (Gate.of(0), Gate.of(1), Gate.of(2, 0), Gate.of(3, m - 1), Gate.of(8, 0, 0)):
             found.append(shaped(0, m, [gate], [0], constants(1), [0], [Candidate(m, 9)]))
-        found.append(shaped(0, m, constants(2) + [Gate(3, m, 0)], [0], constants(1), [0], [Candidate(m + 2, 9)]))
+        a, b = m, m + 1  # constants
+        for kind, *operands in (
+            [(3, a), (4, a, b), (5, a, b, a), (9, b, a, b, a)]  # not reached
+            + [(2, 0), (6, a, 0), (7, 0, b, a), (8, a, b, 0), (5, a, b, a, 0), (4, a, 0, b, b)]  # reached
+        ):
+            gate = Gate.of(kind, *operands)
+            found.append(shaped(0, m, constants(2) + [gate], [0], constants(1), [0], [Candidate(m + 2, 9)]))
     return found
 
 
@@ -123,15 +168,20 @@ def chain_jobs():
         for k in (1, 2, 400):
             old = chain(leaf, first, k)
             found.append(shaped(n, m, old, [first + k - 1], [], [0], [Candidate(first + k - 1, 1)]))
-    old = chain(0, 2, 399) + [Gate(4, 400, 1)]
-    found.append(shaped(1, 1, old, [0], [], [0], [Candidate(400, 1)]))
+    for operands in ([400, 1], [400, 400, 1], [0, 399, 400, 1]):
+        old = chain(0, 2, 399) + [Gate.of(4, *operands)]
+        found.append(shaped(1, 1, old, [0], [], [0], [Candidate(400, 1)]))
+        found.append(shaped(1, 1, old, [0], [], [0], [Candidate(401, 1)]))
+    # each gate reads the one before in another place
+    places = [[net if place == net % 4 else 0 for place in range(4)] for net in range(1, 401)]
+    old = [Gate(4 + k % 6, 4, operands) for k, operands in enumerate(places)]
     found.append(shaped(1, 1, old, [0], [], [0], [Candidate(401, 1)]))
     return found
 
 
 def order_jobs():
     """Several things wrong at once, on one side or both: the smallest number wins."""
-    bad_gate = Gate(10, 0, 0)
+    bad_gate = Gate(4, 1, [0, 0, 0, 0])
     return [
         shaped(21, 1, [bad_gate], [0], [], [0], []),
         shaped(1, 5, [], [0], [bad_gate], [0], []),
@@ -150,11 +200,45 @@ def order_jobs():
     ]
 
 
+def with_bodies(old, golden):
+    """The bytes of a job with these bytes in its fields of gates."""
+    fields = rj.split(encode(shaped(2, 1, [], [0], [], [1], [])))
+    return b"".join([fields[0], jobs.field(2, old), fields[2], jobs.field(4, golden)] + fields[4:])
+
+
+def gate_lengths():
+    """Fields of gates of every length up to three gates: only multiples of ten are accepted, or refused with 4."""
+    for length in range(31):
+        yield with_bodies(bytes(length), b"")
+        yield with_bodies(b"", bytes(length))
+    for old, golden in ((5, 5), (15, 5), (10, 15), (15, 20)):
+        yield with_bodies(bytes(old), bytes(golden))
+
+
+def five_byte_gates():
+    """Gates of five bytes each, kind and two operands, as they were before card 6: one alone is 2, two are one of ten bytes,
+    as a rule refused with 4."""
+    for kind in range(10):
+        body = bytes([kind]) + bytes([0, 0, 0, 1] if kind > 3 else [0, 0, 0, 0])
+        yield with_bodies(body, b"")
+        for second in (body, bytes([0, 0, 0, 0, 0]), bytes([4, 0, 1, 0, 0]), bytes([3, 0, 1, 0, 0])):
+            yield with_bodies(body + second, b"")
+            yield with_bodies(b"", second + body)
+
+
+def longest_shapes():
+    """Jobs of 65,534 bytes, of well-formed ones the longest that two-byte lengths and the programs' buffers take: too many
+    gates."""
+    return [shaped(1, 1, constants(6551), [0], [], [0], [])]
+
+
 def hand_jobs():
     return (
         [rj.job_a()]
         + limit_jobs()
-        + gate_jobs()
+        + count_jobs()
+        + place_jobs()
+        + good_gate_jobs()
         + output_jobs()
         + candidate_jobs()
         + filler_jobs()
@@ -221,6 +305,8 @@ def read_calls(rng):
             yield read_call(data + extra)
     for _ in range(40):
         yield read_call(noise(rng))
+    for data in list(gate_lengths()) + list(five_byte_gates()):
+        yield read_call(data)
     # random ones
     for _ in range(250):
         yield read_call(encode(a_good_job(rng)))
@@ -235,8 +321,10 @@ def read_calls(rng):
         for _ in range(5):
             yield read_call(damage(rng, encode(a_damaged_job(rng))))
     # fields that fill what two bytes can say
-    yield read_call(encode(shaped(1, 1, constants(13000), [0], [], [0], [])))
-    yield read_call(encode(shaped(1, 1, [Gate(77, 0, 0)], [0], [], [0] * 32000, [])))
+    yield read_call(encode(shaped(1, 1, constants(6500), [0], [], [0], [])))
+    for job in longest_shapes():
+        yield read_call(encode(job))
+    yield read_call(encode(shaped(1, 1, [Gate(77, 0, [0, 0, 0, 0])], [0], [], [0] * 32000, [])))
     yield read_call(encode(shaped(1, 1, [], [0], [], [0], []))[:-3] + b"\6\377\377" + bytes(9000))
     # lent places: one too short, all longer than asked; 1 comes before every other number
     for short in range(1, 12):
@@ -272,22 +360,22 @@ def spare_places(rng, job):
     lists = columns(job)
     for k, values in enumerate(lists):
         if rng.random() < 0.5:
-            room = 420 - len(values)
-            width = 256 if k in (0, 4) else 65536
+            room = max(0, MOST_PLACES[k] - len(values))
+            width = 256 if k in BYTE_LISTS else 65536
             values += [rng.randrange(width) for _ in range(min(room, rng.randrange(6)))]
     return lists
 
 
 def write_job(rng, job, buffer_length=jobs.LONGEST_JOB):
-    return write_call(buffer_length, counts(job), [values[:420] for values in spare_places(rng, job)])
+    return write_call(buffer_length, counts(job), [values[:most] for values, most in zip(spare_places(rng, job), MOST_PLACES)])
 
 
 def write_calls(rng):
     for job in hand_jobs():
-        if rng.random() < 0.5 or jobs.number_of_parts(job) != 4:
+        if rng.random() < 0.25 or jobs.number_of_parts(job) != 4:
             yield write_job(rng, job)
     for _ in range(200):
-        yield write_job(rng, a_good_job(rng), rng.choice([4188, 4188, 4189, 4200]))
+        yield write_job(rng, a_good_job(rng), rng.choice([8188, 8188, 8189, 8200]))
     for damage in rj.ALL_DAMAGES:
         for _ in range(8):
             yield write_job(rng, rj.damaged(rng, a_good_job(rng), [damage]))
@@ -296,7 +384,7 @@ def write_calls(rng):
     for gate_count in (400, 400, 401):
         yield write_job(rng, rj.longest_job(rng, gate_count))
     # 1 comes before every other number
-    for length in (0, 1, 37, 4187, 4188):
+    for length in (0, 1, 42, 4188, 8187, 8188):
         yield write_job(rng, rj.job_a(), length)
         yield write_job(rng, rj.longest_job(rng), length)
         for _ in range(6):
@@ -309,9 +397,9 @@ def write_calls(rng):
             asked[k] = count
             yield write_call(jobs.LONGEST_JOB, asked, columns(job))
     for k in range(10):
-        for missing in (1, 2):
+        for missing in (1, 2) if k not in SLOT_LISTS else (1, 2, 3, 4, 5):
             for job in (rj.good_job(rng, 3, 1, 4, 4, 3, 2), a_damaged_job(rng)):
-                lists = [values[:14] for values in columns(job)]
+                lists = [values[: 56 if i in SLOT_LISTS else 14] for i, values in enumerate(columns(job))]
                 lists[k] = lists[k][: max(0, len(lists[k]) - missing)]
                 yield write_call(jobs.LONGEST_JOB, counts(job), lists)
 
@@ -411,6 +499,20 @@ def sheet_calls(rng):
 # ---- the other programs' files
 
 
+def store_examples():
+    a, blind, _, unfixable, *_, refused, _ = cases.jobs_of_cases()
+    reply = decide(encode(a))
+    for path in ("examples", "crates/patcher/data"):
+        store(f"{path}/a.job", encode(a))
+        store(f"{path}/a.sheet", reply.verdict.sheet)
+    store("examples/a.shown", described(a))
+    store("crates/rectify/stdin", encode(a))
+    store("crates/rectify/stdout", cases.said(reply).replace(", ", "\n") + "\n")
+    for name, job in (("blind", blind), ("unfixable", unfixable), ("refused", refused)):
+        assert cases.said(decide(encode(job))).startswith(name)
+        store(f"examples/{name}.job", encode(job))
+
+
 def described(job):
     """What `patcher show` says of an accepted job: each count, and under it the nets, gates or candidates."""
     rows = [f"inputs {job.inputs}", f"targets {job.targets}"]
@@ -426,13 +528,14 @@ def described(job):
     return "".join(row + "\n" for row in rows)
 
 
-def plain_rows(table):
-    """The rows of the simulator's table that this stage covers: 0 and 1 alone, one or two operands."""
+def rows_said(table):
+    """The rows of the simulator's table as run_gates is to print them: by the value on 0 and 1 where no operand is x, then
+    by the value over 0, 1 and x."""
     rows = []
     for row in table.splitlines(keepends=True):
-        words = row.split()
-        if words[0] != "#" and "x" not in words and len(words) <= 5:
-            rows.append(row)
+        name, *words = row.split()
+        if name != "#":
+            rows += [row] if "x" in words[:-2] else [row, row]
     return "".join(rows)
 
 
@@ -483,11 +586,9 @@ def main():
     store("crates/run_records/stdin", b"".join(data for data, _ in calls))
     store("crates/run_records/stdout", "".join(text for _, text in calls))
     with open(os.path.join(TOP, "crates/run_gates/stdin"), encoding="ascii") as file:
-        store("crates/run_gates/stdout", plain_rows(file.read()))
-    for path in ("examples", "crates/patcher/data"):
-        store(f"{path}/a.job", encode(rj.job_a()))
-    store("examples/a.shown", described(rj.job_a()))
-    store("tools/bench/longest.job", encode(rj.longest_job(random.Random(SEED))))
+        store("crates/run_gates/stdout", rows_said(file.read()))
+    store_examples()
+    store("tools/bench/longest.job", encode(rj.longest_job(random.Random(SEED), most=2)))
     report(calls)
 
 

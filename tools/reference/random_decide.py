@@ -63,12 +63,13 @@ def tie_jobs(rng):
 
 
 def full_jobs(rng, n, count, verdicts):
-    """So many jobs of 4,188 bytes of each of the verdicts."""
+    """So many jobs of 8,188 bytes of each of the verdicts, of gates with two operands, with two to four, with four."""
     for verdict in verdicts:
         made = 0
         while made < count:
             xor_share, late = rng.choice([0.5, 0.85, 0.85, 0.95, 1.0]), rng.choice([3, 7, n // 2, n - 3, n - 2])
-            job = cj.full_job(rng, verdict, n, rng.randrange(4, 11), xor_share, late)
+            counts = [(2,), (2, 3, 4), (4,)][made % 3]
+            job = cj.full_job(rng, verdict, n, rng.randrange(4, 11), xor_share, late, counts)
             reply = decide(encode(job))
             assert reply.number == 0 and len(encode(job)) == jobs.LONGEST_JOB
             if reply.verdict.name == verdict:
@@ -79,18 +80,19 @@ def full_jobs(rng, n, count, verdicts):
 def hand_jobs():
     """The numbered cases, the smallest jobs, and the sizes of the paper's line "Run"."""
     a = rj.job_a()
-    one = Netlist([Gate(1, 0, 0)], [0])
+    one = Netlist([Gate.of(1)], [0])
     yield from cases.jobs_of_cases()
     for m in range(5):
-        yield Job(0, m, Netlist([Gate(1, 0, 0)], [m]), one, [])
-        yield Job(0, m, Netlist([Gate(0, 0, 0)], [m]), one, [Candidate(m, 0)])
+        yield Job(0, m, Netlist([Gate.of(1)], [m]), one, [])
+        yield Job(0, m, Netlist([Gate.of(0)], [m]), one, [Candidate(m, 0)])
         yield Job(0, m, Netlist([], [0]), one, []) if m else a
         yield Job(20, m, Netlist([], [19]), Netlist([], [19]), [Candidate(i, 65535) for i in range(10, 20)])
         yield Job(20, m, Netlist([], [19]), Netlist([], [18]), [])
+    more = [[], [18], [18, 17]]
     for gate_count, outputs in [(400, 32), (401, 32), (400, 33), (401, 33)]:
-        gates = [Gate(3, 0, 0)] + [Gate(8, 19, 24 + i) for i in range(gate_count - 1)]
+        gates = [Gate.of(3, 0)] + [Gate.of(8, 19, 24 + i, *more[i % 3]) for i in range(gate_count - 1)]
         side = Netlist(gates, [24] * outputs)
-        golden = Netlist([Gate(3, 0, 0)] + [Gate(8, 19, 20 + i) for i in range(gate_count - 1)], [20] * outputs)
+        golden = Netlist([Gate.of(3, 0)] + [Gate.of(8, 19, 20 + i, *more[i % 3]) for i in range(gate_count - 1)], [20] * outputs)
         yield Job(20, 4, side, golden, [Candidate(i, 0) for i in range(10)])
 
 
@@ -140,12 +142,11 @@ def order_calls(rng, accepted, longs, fulls):
     data = [encode(job) for job, _ in accepted]
     full_sheet = [encode(job) for job, reply in longs if len(reply.verdict.sheet) == LONGEST_SHEET]
     assert full_sheet
-    for k in range(16):
+    for k in range(8):
         yield from both(rng.choice(data), rng.choice(data), full_sheet[k % len(full_sheet)])
-    for job, _ in longs:
-        yield from both(rng.choice(data), rng.choice(data), encode(job))
+    for k, (job, _) in enumerate(longs):
         refused = rj.damaged(rng, rng.choice(accepted)[0], [rng.choice(rj.ALL_DAMAGES)])
-        yield from both(rng.choice(data), encode(refused), encode(job))
+        yield from both(rng.choice(data), encode(refused) if k % 2 else rng.choice(data), encode(job))
     yield from both(encode(rj.job_a()), rng.choice(data), encode(fulls[0][0]))
 
 
@@ -263,6 +264,8 @@ def covered(jobs_and_replies):
         found[f"targets {job.targets}"] += 1
         found[f"priced {len(job.candidates):2}"] += 1
         found[f"listed vectors {len(verdict.vectors):2}"] += 1
+        for count in {gate.count for side in (job.old, job.golden) for gate in side.gates}:
+            found[f"a gate of {count} operands"] += 1
         weights = {c.weight for c in job.candidates}
         found["a weight of 0"] += 0 in weights
         found["a weight of 65535"] += 65535 in weights

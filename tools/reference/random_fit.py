@@ -32,7 +32,7 @@ def mixed_gates(rng, n, m, count, free_share):
     free, found = list(range(n)), []
     for net in range(n + m, n + m + count):
         nets = free if rng.random() < free_share else range(net)
-        gate = cj.some_gate(rng, nets, range(10)) if nets else Gate(rng.randrange(2), 0, 0)
+        gate = cj.some_gate(rng, nets, range(10)) if nets else Gate.of(rng.randrange(2))
         found.append(gate)
         if all(operand in free for operand in gate.operands()):
             free.append(net)
@@ -210,7 +210,7 @@ def bare_jobs(rng):
 def at_limit(rng, accepted):
     """Netlists of just 400 gates and of 401, with old gates of all sorts; and decide's own, with dead gates to fill up."""
     turn = 0
-    while turn < 60:
+    while turn < 36:
         k, m = rng.randrange(11), rng.randrange(5)
         columns = [column(rng, k, rng.choice([0.1, 0.3]), rng.choice([0.2, 0.6])) for _ in range(m)]
         left = jobs.MAX_GATES - sum(column_size(bits) for bits in columns)
@@ -219,7 +219,7 @@ def at_limit(rng, accepted):
             for extra in (0, 1) if m else (0,):
                 job = roomy_job(rng, m, left + extra, rng.randrange(k, 11), outputs=rng.choice([1, 32, rng.randrange(1, 33)]))
                 yield f"{400 + extra} gates", job, patch_of(rng, job, table_of_columns(columns, k))
-    for job, reply in rng.sample([pair for pair in accepted if pair[1].verdict.patch and pair[0].targets], 20):
+    for job, reply in rng.sample([pair for pair in accepted if pair[1].verdict.patch and pair[0].targets], 12):
         patch = reply.verdict.patch
         size = len(patched(job, patch).gates) - len(job.old.gates)
         for extra in (0, 1):
@@ -242,19 +242,19 @@ def tall_trees(rng):
 
 
 def full_size(rng):
-    """Jobs of 4,188 bytes with few inputs. Without targets the netlist has 400 gates and 2,075 bytes; with them it is too
-    large. Then the longest jobs that have a netlist of 2,075 bytes behind 1 to 4 trees."""
-    for turn in range(24):
-        job = roomy_job(rng, 0 if turn < 16 else 1 + turn % 4, 400, 10, 400, 32)
+    """Jobs of 8,188 bytes with few inputs. Without targets the netlist has 400 gates and 4,075 bytes; with them it is too
+    large. Then the longest jobs that have a netlist of 4,075 bytes behind 1 to 4 trees."""
+    for turn in range(14):
+        job = roomy_job(rng, 0 if turn < 10 else 1 + turn % 4, 400, 10, 400, 32)
         assert len(encode(job)) == jobs.LONGEST_JOB
-        yield "4,188 bytes", job, rs.good_patch(rng, job, rng.choice([0, 1, 3, 10]))
-    for turn in range(16):
+        yield "8,188 bytes", job, rs.good_patch(rng, job, rng.choice([0, 1, 3, 10]))
+    for turn in range(10):
         m = 1 + turn % 4
         columns = [column(rng, 10, 0.4, 0.4) for _ in range(m)]
         left = jobs.MAX_GATES - sum(column_size(bits) for bits in columns)
         if left >= 20:
             job = roomy_job(rng, m, left, 10, 400, 32)
-            yield "2,075 bytes behind trees", job, patch_of(rng, job, table_of_columns(columns, 10))
+            yield "4,075 bytes behind trees", job, patch_of(rng, job, table_of_columns(columns, 10))
 
 
 def wide_jobs(rng):
@@ -274,7 +274,7 @@ def hand_jobs():
             yield "numbered cases", job, verdict.patch
     # no target leads to net 4, which stands behind net 3, to which one does; the tree reads it by its new number, 2
     prices = [Candidate(0, 1), Candidate(4, 2)]
-    old = Netlist([Gate(3, 2, 0), Gate(8, 0, 1), Gate(4, 3, 4)], [5, 2, 2, 5])
+    old = Netlist([Gate.of(3, 2), Gate.of(8, 0, 1), Gate.of(4, 3, 4)], [5, 2, 2, 5])
     job = Job(2, 1, old, Netlist([], [0, 0, 1, 1]), prices)
     for value in range(16):
         yield "by hand", job, sheets.Patch([0, 4], [value >> i & 1 for i in range(4)], 3, [1, 0])
@@ -400,7 +400,7 @@ def row_calls(rng, accepted):
         yield from both("patch and a damaged job", rng.choice(named["patch"]), refused)
     fulls = [encode(job) for job, _ in rd.full_jobs(rng, 8, 2, ["patch", "unfixable", "blind"])]
     for data in fulls:
-        yield from both("patch and 4,188 bytes", rng.choice(named["patch"]), data)
+        yield from both("patch and 8,188 bytes", rng.choice(named["patch"]), data)
     limits = [(name, job) for name, job, _ in at_limit(rng, accepted) if "own" in name][:8]
     for k, (name, job) in enumerate(limits):
         yield from both("patch and " + name, rng.choice(named["patch"]), encode(job))
@@ -427,6 +427,8 @@ def covered(parts):
         found["gates of all three groups"] += bool(job.targets and reached and free)
         found["a target is an output"] += any(net in job.target_nets() for net in job.old.outputs)
         found["an input is an output"] += any(net < job.inputs for net in job.old.outputs)
+        for count in {gate.count for gate in job.old.gates}:
+            found[f"an old gate of {count} operands"] += 1
         found["a repeated output"] += len(set(job.old.outputs)) < len(job.old.outputs)
         found["a target that nothing reads"] += any(
             net not in job.old.outputs and all(net not in gate.operands() for gate in job.old.gates)
@@ -435,10 +437,10 @@ def covered(parts):
         read = {net for gate in job.old.gates for net in gate.operands()} | set(job.old.outputs)
         found["a dead gate"] += any(net not in read for net in range(job.first_gate_net(job.old), job.net_count(job.old)))
         found["net 0 a target and a filler"] += job.inputs == 0 < job.targets and any(
-            gates.operand_count(gate.kind) < 2 for gate in job.old.gates
+            gate.count < gates.PLACES for gate in job.old.gates
         )
         found["differs from the golden netlist"] += compare.smallest_difference(job, patch) is not None
-        found["2,075 bytes"] += len(fields) == LONGEST_NETLIST
+        found["4,075 bytes"] += len(fields) == LONGEST_NETLIST
     return found
 
 

@@ -2,7 +2,7 @@
 
     job_a()                     job A of document 01
     good_job(rng, ..)           a job that is accepted
-    DAMAGES                     changes of a job's parts, by the number that each alone gives
+    DAMAGES                     changes of a job's parts, by the number that each alone gives (moved_count: mostly)
     damaged(rng, job, names)    a copy of the job with these damages, in this order
     BYTE_DAMAGES                changes of a job's bytes: cuts, tags, lengths, order, bytes left over
 """
@@ -15,23 +15,28 @@ from job import Candidate, Gate, Job, Netlist
 
 
 def job_a():
-    return Job(2, 1, Netlist([], [2]), Netlist([Gate(4, 0, 1)], [2]), [Candidate(0, 3), Candidate(1, 4)])
+    return Job(2, 1, Netlist([], [2]), Netlist([Gate.of(4, 0, 1)], [2]), [Candidate(0, 3), Candidate(1, 4)])
 
 
 # ---- good jobs
 
 
-def good_gate(rng, nets):
-    """A gate that reads any of the nets below nets."""
+def some_count(rng, kind, most=gates.PLACES):
+    """How many operands a gate of this kind has: one of the counts that it may have, up to most."""
+    counts = [count for count in gates.operand_counts(kind) if count <= most]
+    return rng.choice(counts) if len(counts) > 1 else counts[0]
+
+
+def good_gate(rng, nets, most=gates.PLACES):
+    """A gate with up to so many operands that reads any of the nets below nets, some more than once."""
     kind = rng.choice(range(10) if nets else (0, 1))
-    operands = [rng.randrange(nets) for _ in range(gates.operand_count(kind))]
-    return Gate(kind, *(operands + [0, 0])[:2])
+    return Gate.of(kind, *[rng.randrange(nets) for _ in range(some_count(rng, kind, most))])
 
 
-def good_netlist(rng, leaves, gate_count, output_count):
+def good_netlist(rng, leaves, gate_count, output_count, most=gates.PLACES):
     found = []
     for k in range(gate_count):
-        found.append(good_gate(rng, leaves + k))
+        found.append(good_gate(rng, leaves + k, most))
     nets = leaves + gate_count
     return Netlist(found, [rng.randrange(nets) for _ in range(output_count)])
 
@@ -45,7 +50,7 @@ def allowed_nets(job):
     return [net for net in range(job.net_count(job.old)) if net not in job.target_nets() and net not in reached]
 
 
-def good_job(rng, n=None, m=None, old_gates=None, golden_gates=None, outputs=None, priced=None):
+def good_job(rng, n=None, m=None, old_gates=None, golden_gates=None, outputs=None, priced=None, most=gates.PLACES):
     """A job of this shape; what is not given is small and random. Both sides have a net for their outputs."""
     n = rng.randrange(6) if n is None else n
     m = rng.randrange(5) if m is None else m
@@ -59,8 +64,8 @@ def good_job(rng, n=None, m=None, old_gates=None, golden_gates=None, outputs=Non
     made = Job(
         n,
         m,
-        good_netlist(rng, n + m, old_gates, outputs),
-        good_netlist(rng, n, golden_gates, outputs),
+        good_netlist(rng, n + m, old_gates, outputs, most),
+        good_netlist(rng, n, golden_gates, outputs, most),
         [],
     )
     allowed = allowed_nets(made)
@@ -70,9 +75,9 @@ def good_job(rng, n=None, m=None, old_gates=None, golden_gates=None, outputs=Non
     return made
 
 
-def longest_job(rng, gate_count=400):
-    """20 inputs, 4 targets, 400 gates a side, 32 outputs, 10 priced nets: 4,188 bytes."""
-    return good_job(rng, 20, 4, gate_count, gate_count, 32, 10)
+def longest_job(rng, gate_count=400, most=gates.PLACES):
+    """20 inputs, 4 targets, 400 gates a side, 32 outputs, 10 priced nets: 8,188 bytes."""
+    return good_job(rng, 20, 4, gate_count, gate_count, 32, 10, most)
 
 
 # ---- damage to a job's parts; a damage that finds nothing to damage leaves the job as it is
@@ -92,7 +97,7 @@ def set_targets(rng, job):
 
 def too_many_gates(rng, job):
     side = a_side(rng, job)
-    side.gates = [Gate(0, 0, 0)] * rng.choice([401, 402, 500])
+    side.gates = [Gate.of(0)] * rng.choice([401, 402, 500])
 
 
 def too_many_outputs(rng, job):
@@ -110,11 +115,11 @@ def too_many_candidates(rng, job):
 
 
 def some_gate(rng, job, wanted):
-    """A gate of a side with a kind that has at least so many operands, or fewer, and the net that it drives."""
+    """A gate of a side whose operand count is wanted, and the net that it drives."""
     found = []
     for side in (job.old, job.golden):
         for k, gate in enumerate(side.gates):
-            if gate.kind <= 9 and wanted(gates.operand_count(gate.kind)):
+            if gate.kind <= 9 and wanted(gate.count):
                 found.append((gate, job.first_gate_net(side) + k))
     return rng.choice(found) if found else (None, 0)
 
@@ -130,28 +135,45 @@ def past(rng, limit):
     return min(65535, rng.choice([limit, limit, limit + 1, limit + 256, 65535]))
 
 
-def wrong_first(rng, job):
-    gate, net = some_gate(rng, job, lambda count: count >= 1)
+COUNTS = [0, 1, 2, 3, 4, 5, 255]
+
+
+def wrong_count(rng, job):
+    """A count that the kind may not have; half of the time the places behind it hold 0."""
+    gate, _ = some_gate(rng, job, lambda count: True)
     if gate:
-        gate.first = past(rng, net)
+        gate.count = rng.choice([count for count in COUNTS if count not in gates.operand_counts(gate.kind)])
+        if rng.random() < 0.5:
+            gate.places = gate.operands() + [0] * len(gate.fillers())
 
 
-def wrong_second(rng, job):
-    gate, net = some_gate(rng, job, lambda count: count == 2)
+def moved_count(rng, job):
+    """One operand more or fewer than there are, the places as they were."""
+    gate, _ = some_gate(rng, job, lambda count: True)
     if gate:
-        gate.second = past(rng, net)
+        gate.count = rng.choice([count for count in (gate.count - 1, gate.count + 1) if count >= 0])
 
 
-def filled_first(rng, job):
-    gate, _ = some_gate(rng, job, lambda count: count == 0)
-    if gate:
-        gate.first = rng.choice([1, 256, 65535])
+def wrong_operand(place):
+    """A used place that holds the gate's own net, or one beyond."""
+
+    def damage(rng, job):
+        gate, net = some_gate(rng, job, lambda count: count > place)
+        if gate:
+            gate.places[place] = past(rng, net)
+
+    return damage
 
 
-def filled_second(rng, job):
-    gate, _ = some_gate(rng, job, lambda count: count <= 1)
-    if gate:
-        gate.second = rng.choice([1, 256, 65535])
+def filled(place):
+    """An unused place that does not hold 0."""
+
+    def damage(rng, job):
+        gate, _ = some_gate(rng, job, lambda count: count <= place)
+        if gate:
+            gate.places[place] = rng.choice([1, 256, 65535])
+
+    return damage
 
 
 def wrong_output(rng, job):
@@ -201,7 +223,9 @@ def swapped_candidates(rng, job):
 
 DAMAGES = {
     3: [set_inputs, set_targets, too_many_gates, too_many_outputs, no_outputs, too_many_candidates],
-    4: [wrong_kind, wrong_first, wrong_second, filled_first, filled_second],
+    4: [wrong_kind, wrong_count, moved_count]
+    + [wrong_operand(place) for place in range(gates.PLACES)]
+    + [filled(place) for place in range(gates.PLACES)],
     5: [wrong_output, unequal_outputs],
     6: [absent_candidate, target_candidate, reached_candidate, equal_candidates, swapped_candidates],
 }
@@ -248,7 +272,7 @@ def wrong_length(rng, data):
     fields = split(data)
     k = rng.randrange(len(fields))
     length = jobs.number(fields[k][1:3])
-    other = max(0, min(65535, rng.choice([length - 1, length + 1, length + 5, length + 256, 0, 65535])))
+    other = max(0, min(65535, rng.choice([length - 1, length + 1, length + 5, length + 10, length + 256, 0, 65535])))
     return b"".join(fields[:k]) + fields[k][:1] + other.to_bytes(2, "big") + fields[k][3:] + b"".join(fields[k + 1 :])
 
 
@@ -284,6 +308,15 @@ def resized_field(rng, data):
     return b"".join(fields)
 
 
+def half_gate(rng, data):
+    """Five bytes, half a gate, more or fewer in a field of gates (in a sheet, in the field in its place)."""
+    fields = split(data)
+    k = rng.choice([1, 3])
+    body = fields[k][3:]
+    fields[k] = jobs.field(fields[k][0], body[:-5] if body and rng.random() < 0.5 else body + bytes(5))
+    return b"".join(fields)
+
+
 def changed_byte(rng, data):
     at = rng.randrange(len(data))
     return data[:at] + bytes([rng.choice([0, 1, 255, (data[at] + 1) % 256, rng.randrange(256)])]) + data[at + 1 :]
@@ -298,5 +331,6 @@ BYTE_DAMAGES = [
     missing_field,
     repeated_field,
     resized_field,
+    half_gate,
     changed_byte,
 ]

@@ -1,7 +1,7 @@
-"""Values of nets on all inputs at once (document 01, "Nets and gates").
+"""Values of nets on all inputs at once (document 01, "Nets and gates"; card 6 of document 02).
 
 A set of inputs is one integer of 2^n bits: bit x is 1 where input x is in the set. A net's values are such an integer
-too, the set of inputs at which it is 1. So a gate is one operation on integers, and a question about every input is
+too, the set of inputs at which it is 1. So a gate is a few operations on integers, and a question about every input is
 one comparison; nothing is searched, skipped or packed by hand.
 
     every_input(job)                   the set of all inputs
@@ -42,8 +42,9 @@ def gate_values(every, kind, operands):
         return operands[0]
     if kind == 3:
         return every ^ operands[0]
-    first, second = operands
-    plain = (first & second, first | second, first ^ second)[(kind - 4) // 2]
+    plain = operands[0]
+    for operand in operands[1:]:
+        plain = (plain & operand, plain | operand, plain ^ operand)[(kind - 4) // 2]
     return every ^ plain if kind % 2 else plain
 
 

@@ -1,4 +1,4 @@
--- The longest replies are attained: a result of fit with 2,075 bytes, and a sheet of decide with 1,076. The job of the sheet needs no
+-- The longest replies are attained: a result of fit with 4,075 bytes, and a sheet of decide with 1,076. The job of the sheet needs no
 -- enumeration: a vector rectifies an input exactly when its bits are the golden outputs there, each input alone changes them, so that
 -- no support can do without one, and each vector is the golden outputs of some input, so that the loop lists all. Assumes nothing.
 use Prim.Native.Nat.{ℕ, zero, suc, _+_, _*_, _^_, _≤_, _<_}
@@ -13,7 +13,7 @@ use lib.Dec.{ltb, eqb}
 use lib.Pow.{pow-lt, pow-mono}
 use lib.ListN.{length, getD, replicate, length-replicate}
 use Rattle.records.specs.Bytes.{upFrom, tabulate, all, flat, bytePair, word, field, bodyLength, body, rest, fits, whole, nth}
-use Rattle.records.specs.Gate.{gateOf, arity, operands, unused, conj, disj, parity, inverted, gateValue}
+use Rattle.records.specs.Gate.{gateOf, leastCount, mostCount, permits, operands, unused, conj, disj, parity, inverted, gateValue}
 use Rattle.records.specs.Netlist.{Netlist, netAt, extended, valueOf, values, markOf, fanout}
 use Rattle.records.specs.Job.{Job, netsOf, gateBytes, candidateBytes, jobBytes}
 use Rattle.records.specs.Refusal.{sideCountsGood, countsGood, gateGood, gatesGood, netlistsGood, oldNets, goldenNets, outputsGood, ascending, candidateGood, candidatesGood}
@@ -21,7 +21,7 @@ use Rattle.records.specs.Sheet.{quad, patchOf, sheetWhole, costOf, isCandidate,
 use Rattle.records.specs.Claims.{PartsGood}
 use Rattle.records.proofs.Laws.Bytes.{length-tabulate}
 use Rattle.records.proofs.Laws.Accepted.{below-of-all}
-use Rattle.records.proofs.Laws.RoundTrip.{Two, TwoEach, all-tabulate, jobWhole-jobBytes, jobOf-jobBytes}
+use Rattle.records.proofs.Laws.RoundTrip.{Four, FourEach, all-tabulate, jobWhole-jobBytes, jobOf-jobBytes}
 use Rattle.engine.specs.Choice.{any, keep, same}
 use Rattle.engine.specs.Eval.{bit, bits, numberOf, oldValues, oldOutputs, goldenOutputs}
 use Rattle.engine.specs.Rectify.{rectifies, vectorLoop}
@@ -71,7 +71,7 @@ golden-bits j x =
 
 -- as many gates and outputs as there may be: constant zeros, and net 0
 fullSide : Netlist
-fullSide = record { gates = tabulate 400 (λ i. gateOf 0 0 0); outputs = tabulate 32 (λ i. 0) }
+fullSide = record { gates = tabulate 400 (λ i. gateOf 0 0 0 0 0 0); outputs = tabulate 32 (λ i. 0) }
 
 -- the old netlist is golden already
 fullJob : Job
@@ -81,13 +81,13 @@ fullJob = record { inputs = 0; targets = 0; old = fullSide; golden = fullSide; c
 fullSheet : List ℕ
 fullSheet = patchBytes [] (0 ∷ []) 0 (0 ∷ [])
 
-two-full : TwoEach fullJob
+four-full : FourEach fullJob
 unfolding fullJob fullSide gateOf
-two-full = record { old = all-tabulate Two _ (λ i. refl) 400; golden = all-tabulate Two _ (λ i. refl) 400 }
+four-full = record { old = all-tabulate Four _ (λ i. refl) 400; golden = all-tabulate Four _ (λ i. refl) 400 }
 
 good-full : PartsGood fullJob
 unfolding fullJob fullSide tabulate upFrom all
-    countsGood sideCountsGood netlistsGood gatesGood gateGood gateOf operands unused arity outputsGood oldNets goldenNets
+    countsGood sideCountsGood netlistsGood gatesGood gateGood gateOf permits leastCount mostCount operands unused outputsGood oldNets goldenNets
     candidatesGood candidateGood ascending netAt fanout extended markOf disj
 good-full = record { counts = refl; gates = refl; outputs = refl; candidates = refl }
 
@@ -106,7 +106,7 @@ module _ (is t : List ℕ) where
   -- there are no targets, and so no trees
   gates-full : length (fitted fullJob is t .gates) ≡ 400
   unfolding fullJob fullSide trees treesFrom
-  gates-full = omega (arith, length-fitted fullJob is t, indices-all fullJob, length-tabulate 400 (λ i. gateOf 0 0 0))
+  gates-full = omega (arith, length-fitted fullJob is t, indices-all fullJob, length-tabulate 400 (λ i. gateOf 0 0 0 0 0 0))
 
   fits-full : fits′ fullJob is t ≡ true
   unfolding fits′
@@ -116,20 +116,20 @@ module _ (is t : List ℕ) where
   unfolding fullJob fullSide
   length-full =
       let o = length-outputs fullJob is t ∙ length-tabulate {A = ℕ} 32 (λ i. 0) in
-      omega (arith, length-fittedBytes fullJob is t (two-full .old), gates-full)
+      omega (arith, length-fittedBytes fullJob is t (four-full .old), gates-full)
 
 pub longest-fit-met : LongestFitMet
 longest-fit-met =
-    let d : List ℕ = replicate 2075 0 in
+    let d : List ℕ = replicate 4075 0 in
     let s = jobBytes fullJob in
     let p = fullSheet in
     let is = patchOf p .support in
     let t = patchOf p .table in
-    let e = jobOf-jobBytes fullJob two-full in
+    let e = jobOf-jobBytes fullJob four-full in
     let n : fitNumber d s p ≡ 0 =
     fit-accepts d s p .1 (
-      omega (arith, length-replicate {A = ℕ} 2075 0),
-      compare-accepts s p .1 (jobWhole-jobBytes fullJob two-full, rw e good-full, rw e (sheet-full .0), rw e (sheet-full .1)),
+      omega (arith, length-replicate {A = ℕ} 4075 0),
+      compare-accepts s p .1 (jobWhole-jobBytes fullJob four-full, rw e good-full, rw e (sheet-full .0), rw e (sheet-full .1)),
       rw e (fits-full is t),
     ) in (
       d,
@@ -152,19 +152,19 @@ wideJob =
       old = record { gates = []; outputs = upFrom 10 4 };
       golden =
           record {
-            gates = gateOf 8 3 4 ∷ tabulate 5 (λ i. gateOf 8 (10 + i) (5 + i));
-            outputs = 0 ∷ 1 ∷ 2 ∷ 15 ∷ [];
+            gates = gateOf 8 4 3 4 5 6 ∷ gateOf 8 4 7 8 9 10 ∷ [];
+            outputs = 0 ∷ 1 ∷ 2 ∷ 11 ∷ [];
           };
       candidates = tabulate 10 (λ i. record { net = i; weight = 0 });
     }
 
-two-wide : TwoEach wideJob
+four-wide : FourEach wideJob
 unfolding wideJob gateOf
-two-wide = record { old = tt; golden = (refl, all-tabulate Two _ (λ i. refl) 5) }
+four-wide = record { old = tt; golden = (refl, (refl, tt)) }
 
 good-wide : PartsGood wideJob
 unfolding wideJob tabulate upFrom all
-    countsGood sideCountsGood netlistsGood gatesGood gateGood gateOf operands unused arity outputsGood oldNets goldenNets
+    countsGood sideCountsGood netlistsGood gatesGood gateGood gateOf permits leastCount mostCount operands unused outputsGood oldNets goldenNets
     candidatesGood candidateGood ascending netAt fanout extended markOf disj
 good-wide = record { counts = refl; gates = refl; outputs = refl; candidates = refl }
 
@@ -236,7 +236,7 @@ alone : ℕ → ℕ → Bool
 alone i k = eqb i k || eqb (netAt (oldValues wideJob (2 ^ i) 0) k) (netAt (oldValues wideJob 0 0) k)
 
 inputs-apart : (all apart (upFrom 0 10) ≡ true) × (all (λ i. all (alone i) (upFrom 0 10)) (upFrom 0 10) ≡ true)
-unfolding apart alone all same goldenOutputs oldValues values extended valueOf gateValue gateOf operands arity
+unfolding apart alone all same goldenOutputs oldValues values extended valueOf gateValue gateOf operands
     conj disj parity inverted netAt bits bit tabulate upFrom wideJob
 inputs-apart = (refl, refl)
 
@@ -291,7 +291,7 @@ module _ (is : List ℕ) (e : ruling wideJob ≡ patch is) where
 
 -- each is wanted by the input of the same number
 wanted-self : all (λ v. eqb (wanted v) v) (upFrom 0 16) ≡ true
-unfolding wanted numberOf all goldenOutputs values extended valueOf gateValue gateOf operands arity conj disj parity inverted
+unfolding wanted numberOf all goldenOutputs values extended valueOf gateValue gateOf operands conj disj parity inverted
     netAt bits bit tabulate upFrom wideJob
 wanted-self = refl
 
@@ -321,10 +321,10 @@ pub longest-sheet-met : LongestSheetMet
 longest-sheet-met =
     let d : List ℕ = replicate 1076 0 in
     let s = jobBytes wideJob in
-    let e = jobOf-jobBytes wideJob two-wide in
+    let e = jobOf-jobBytes wideJob four-wide in
     let n : decideNumber d s ≡ 0 =
     decide-accepts d s .1
-    (omega (arith, length-replicate {A = ℕ} 1076 0), jobWhole-jobBytes wideJob two-wide, rw e good-wide) in (
+    (omega (arith, length-replicate {A = ℕ} 1076 0), jobWhole-jobBytes wideJob four-wide, rw e good-wide) in (
       d,
       s,
       below-of-all 256 (omega arith) s bytes-wide,

@@ -1,98 +1,52 @@
 -- What specs/Claims.antt promises of what fit replies. Assumes nothing.
-use Prim.Native.Nat.{ℕ, zero, suc, _+_, _*_, _^_, _≤_, _<_}
+use Prim.Native.Nat.{ℕ, _+_, _*_, _≤_, _<_}
 use mathlib.Core.Path.{_≡_, refl, sym, _∙_, ap, subst}
 use mathlib.Core.Logic.{⊎-elim}
-use mathlib.Core.List.{List, [], _∷_, _++_, map, append-assoc, append-nil}
+use mathlib.Core.List.{List, [], _∷_, append-assoc, append-nil}
 use mathlib.Core.Bool.{true}
 use native.Mathlib.Nat.{zero-add}
 use native.Mathlib.Omega.{arith}
 use borrow.Author.Tests.{leb-true, le-leb, eqb-true, eq-eqb, ne-eqb}
 use lib.Dec.{eqb}
-use lib.ListN.{length, getD, take, drop, length-append, length-map, take-append-drop}
-use Rattle.records.specs.Bytes.{upFrom, flat, bytePair, placed, whole, nth}
-use Rattle.records.specs.Gate.{Gate, gateOf, arity, operands, unused}
-use Rattle.records.specs.Netlist.{netAt}
+use lib.ListN.{length, getD, take, length-append, length-map}
+use Rattle.records.specs.Bytes.{upFrom, all, flat, bytePair, placed, whole, nth}
+use Rattle.records.specs.Gate.{Gate}
 use Rattle.records.specs.Job.{Job, jobOf, gatesOf, netsOf, netlistOf, gateBytes}
 use Rattle.records.specs.Refusal.{firstFailing, jobTests, partTests}
 use Rattle.records.specs.Sheet.{Patch, patchOf, sheetTests}
 use Rattle.records.specs.Claims.{PartsGood}
-use Rattle.records.proofs.Laws.Bytes.{take-placed}
+use Rattle.records.proofs.Laws.Bytes.{all-cons, take-placed}
 use Rattle.records.proofs.Laws.Job.{length-field, length-flat, length-bytePair}
-use Rattle.records.proofs.Laws.RoundTrip.{All, Two, gateFormat, read-flat, length-records, joined, whole-joined, nth-joined, netsOf-flat}
-use Rattle.records.proofs.Laws.Accepted.{passes-of-none, none-of-passes, two-jobOf}
+use Rattle.records.proofs.Laws.RoundTrip.{All, Four, gateFormat, read-flat, length-records, joined, whole-joined, nth-joined, netsOf-flat}
+use Rattle.records.proofs.Laws.Accepted.{passes-of-none, none-of-passes, four-jobOf}
 use Rattle.records.proofs.Laws.Counts.{countsWithin-facts, countsWithin-countsOf}
 use Rattle.records.specs.Service.{countsOf, sideCountsOf}
 use Rattle.engine.specs.Compare.{pairTests}
-use Rattle.engine.specs.Tree.{column, tree}
-use Rattle.engine.specs.Fit.{treesFrom, trees, gateIndices, newNets, moved, movedGates, fitted, fittedBytes, fits, longestFit}
+use Rattle.engine.specs.Inner.Packed.{formed}
+use Rattle.engine.specs.Fit.{fitted, fittedBytes, fits, longestFit}
 use Rattle.engine.specs.Reply.{fitTests, fitNumber, fitReply, fittedBuffer}
 use Rattle.engine.specs.Claims.{FitAccepts, FitRefuses, FitKeeps, FitIndependent, LongestFit, FittedIn, FittedGiven, FitIgnoresVectors}
 use Rattle.engine.specs.declared.fitting.FitReply.{FitReply}
-use Rattle.engine.proofs.Laws.FitTree.{TreeCase, zeros, ones, halves, choice, tree-case}
 use Rattle.engine.proofs.Laws.Fitted.{sheet-entries, fitted-driven, fitted-netlist}
+use Rattle.engine.proofs.Laws.Unpacked.{fitted-formed}
 use Rattle.engine.proofs.Replies.{zero-or-not, kept-behind, compare-accepts}
 
--- ---- every gate of a fitted netlist has two slots
+-- ---- every gate of a fitted netlist has four slots
 
-two-append : (gs hs : List Gate) → All Two gs → All Two hs → All Two (gs ++ hs)
-two-append [] hs a b = b
-two-append (g ∷ gs) hs a b = (a .0, two-append gs hs (a .1) b)
+formed-of-four : (gs : List Gate) → All Four gs → all formed gs ≡ true
+unfolding all formed
+formed-of-four [] a = refl
+formed-of-four (g ∷ gs) a = rw (eq-eqb (length (g .slots)) 4 (a .0), formed-of-four gs (a .1))
 
-two-at : (gs : List Gate) → All Two gs → (i : ℕ) → Two (getD gs i (gateOf 0 0 0))
-unfolding gateOf
-two-at [] a i = refl
-two-at (g ∷ gs) a zero = a .0
-two-at (g ∷ gs) a (suc i) = two-at gs (a .1) i
+four-of-formed : (gs : List Gate) → all formed gs ≡ true → All Four gs
+unfolding formed
+four-of-formed [] e = tt
+four-of-formed (g ∷ gs) e =
+    let t = all-cons formed g gs e in
+    (eqb-true (length (g .slots)) 4 (t .0), four-of-formed gs (t .1))
 
-two-moved : (ns : List ℕ) (g : Gate) → Two g → Two (moved ns g)
-unfolding moved operands unused
-two-moved ns g h =
-    let k = arity (g .kind) in
-    length-append (map (netAt ns) (take k (g .slots))) (drop k (g .slots))
-    ∙ ap (λ (n : ℕ). n + length (drop k (g .slots))) (length-map (take k (g .slots)) (netAt ns))
-    ∙ sym (length-append (take k (g .slots)) (drop k (g .slots)))
-    ∙ ap length (take-append-drop k (g .slots))
-    ∙ h
-
-two-movedGates : (j : Job) (ns : List ℕ) → All Two (j .old .gates) → (ks : List ℕ) → All Two (movedGates j ns ks)
-unfolding movedGates
-two-movedGates j ns h [] = tt
-two-movedGates j ns h (k ∷ ks) = (
-  two-moved ns (getD (j .old .gates) k (gateOf 0 0 0)) (two-at (j .old .gates) h k),
-  two-movedGates j ns h ks,
-)
-
-two-case : (k next : ℕ) (is col : List ℕ) {gs : List Gate}
-    → ((n : ℕ) (c : List ℕ) → All Two (tree k n is c)) → TreeCase k next is col gs → All Two gs
-unfolding gateOf
-two-case k next is col h (zeros e) = (refl, tt)
-two-case k next is col h (ones e) = (refl, tt)
-two-case k next is col h (halves e) = h next (take (2 ^ k) col)
-two-case k next is col h choice =
-    let ls = tree k next is (take (2 ^ k) col) in
-    let hs = tree k (next + length ls) is (drop (2 ^ k) col) in
-    two-append (ls ++ hs) _ (two-append ls hs (h next _) (h (next + length ls) _)) (refl, (refl, (refl, (refl, tt))))
-
-two-tree : (k next : ℕ) (is col : List ℕ) → All Two (tree k next is col)
-unfolding tree gateOf
-two-tree zero next is col = (refl, tt)
-two-tree (suc k) next is col = two-case k next is col (λ n c. two-tree k n is c) (tree-case k next is col)
-
-two-trees : (m k next : ℕ) (is t : List ℕ) → All Two (treesFrom m k next is t .gates)
-unfolding treesFrom
-two-trees zero k next is t = tt
-two-trees (suc m) k next is t =
-    two-append (tree (length is) next is (column t k)) _
-    (two-tree (length is) next is (column t k))
-    (two-trees m (suc k) (next + length (tree (length is) next is (column t k))) is t)
-
-two-fitted : (j : Job) → All Two (j .old .gates) → (is t : List ℕ) → All Two (fitted j is t .gates)
-unfolding fitted trees
-two-fitted j h is t =
-    let ns = newNets j is t in
-    two-append (movedGates j ns (gateIndices j 0) ++ trees j is t .gates) _
-    (two-append (movedGates j ns (gateIndices j 0)) _ (two-movedGates j ns h (gateIndices j 0)) (two-trees (j .targets) 0 _ _ t))
-    (two-movedGates j ns h (gateIndices j 1))
+four-fitted : (j : Job) → All Four (j .old .gates) → (is t : List ℕ) → All Four (fitted j is t .gates)
+four-fitted j h is t = four-of-formed (fitted j is t .gates) (fitted-formed j is t (formed-of-four (j .old .gates) h))
 
 -- ---- the bytes of a fitted netlist
 
@@ -121,23 +75,23 @@ module _ (j : Job) (is t : List ℕ) where
   unfolding bodies
   nth-outputs = ap netsOf (nth-fitted 2 (omega arith)) ∙ netsOf-flat (fitted j is t .outputs)
 
-  nth-gates : All Two (j .old .gates) → gatesOf (nth 1 (fittedBytes j is t)) ≡ fitted j is t .gates
+  nth-gates : All Four (j .old .gates) → gatesOf (nth 1 (fittedBytes j is t)) ≡ fitted j is t .gates
   unfolding bodies gatesOf
   nth-gates h =
-      ap gatesOf (nth-fitted 1 (omega arith)) ∙ read-flat gateFormat (omega arith) (fitted j is t .gates) (two-fitted j h is t)
+      ap gatesOf (nth-fitted 1 (omega arith)) ∙ read-flat gateFormat (omega arith) (fitted j is t .gates) (four-fitted j h is t)
 
-  netlist-read : All Two (j .old .gates) → netlistOf (nth 1 (fittedBytes j is t)) (nth 2 (fittedBytes j is t)) ≡ fitted j is t
+  netlist-read : All Four (j .old .gates) → netlistOf (nth 1 (fittedBytes j is t)) (nth 2 (fittedBytes j is t)) ≡ fitted j is t
   unfolding netlistOf
   netlist-read h = rw (nth-gates h, nth-outputs)
 
-  pub length-fittedBytes : All Two (j .old .gates)
-      → length (fittedBytes j is t) ≡ 11 + 5 * length (fitted j is t .gates) + 2 * length (fitted j is t .outputs)
+  pub length-fittedBytes : All Four (j .old .gates)
+      → length (fittedBytes j is t) ≡ 11 + 10 * length (fitted j is t .gates) + 2 * length (fitted j is t .outputs)
   unfolding fittedBytes
   length-fittedBytes h =
       simp (
         length-append,
         length-field,
-        length-records gateFormat (fitted j is t .gates) (two-fitted j h is t),
+        length-records gateFormat (fitted j is t .gates) (four-fitted j h is t),
         length-flat bytePair 2 length-bytePair (fitted j is t .outputs),
       ) (omega arith)
 
@@ -158,7 +112,7 @@ longest-fit s g is t e =
     let j = jobOf s in
     omega (
       arith,
-      length-fittedBytes j is t (two-jobOf s .old),
+      length-fittedBytes j is t (four-jobOf s .old),
       length-outputs j is t,
       outputs-few j g,
       gates-few j is t e,
@@ -247,13 +201,13 @@ fitted-given d s p e =
     let c = compare-accepts s p .0 (u .1) in
     let entries = sheet-entries (j .targets) p (c .2) in
     let good = fitted-netlist j (c .1) (patchOf p) (c .3) entries in
-    let gates = nth-gates j is t (two-jobOf s .old) in
+    let gates = nth-gates j is t (four-jobOf s .old) in
     let outputs = nth-outputs j is t in
     subst (FittedIn j (patchOf p)) (sym (bytes-of d s p e))
     (record {
       fields = whole-fitted j is t;
       bytes = rw (gates, outputs) refl;
-      netlist = netlist-read j is t (two-jobOf s .old);
+      netlist = netlist-read j is t (four-jobOf s .old);
       counts = nth-counts j is t;
       gates = rw gates (good .0);
       few = rw gates (gates-few j is t (u .2));

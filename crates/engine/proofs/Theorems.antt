@@ -9,9 +9,9 @@ use Rattle.engine.specs.Choice.{any}
 use Rattle.engine.specs.Rectify.{rectifies, vectorLoop}
 use Rattle.engine.specs.Support.{sound, candidateNets, subsets, chosen, tableOf}
 use Rattle.engine.specs.Verdict.{patch, blind, blindReading, ruling}
-use Rattle.engine.specs.Claims.{In, Rectifiable, TernaryKnown, TernaryUnknown, LoopEnds, EveryTable, Readings, PatchExactly, PatchTable, LeastCost, UnfixableExactly, BlindExactly}
+use Rattle.engine.specs.Claims.{In, Rectifiable, TernaryKnown, TernaryUnknown, TernaryListKnown, TernaryListUnknown, TernaryFold, TernaryInverts, LoopEnds, EveryTable, Readings, PatchExactly, PatchTable, LeastCost, UnfixableExactly, BlindExactly}
 use Rattle.engine.proofs.Laws.Choice.{any-iff-member, none-or-some}
-use Rattle.engine.proofs.Laws.Ternary.{entry-table, ternaryValue-known-iff, ternaryValue-unknown-iff}
+use Rattle.engine.proofs.Laws.Ternary.{entry-known-iff, entry-unknown-iff, list-known-iff, list-unknown-iff, fold-more, fold-inverts}
 use Rattle.engine.proofs.Laws.Support.{golden-iff, golden-iff-readings, golden-of-sound, carries-of-sound, sound-of-carries, sound-iff-subset-carries, reading-vector, rectifiable-of-carries}
 use Rattle.engine.proofs.Laws.Best.{chosen-sound, chosen-least}
 use Rattle.engine.proofs.Laws.Loop.{rectifiable-iff, listed-of-none, listed-of-some, unlisted-of-some, stuck-iff, stuck-none-iff}
@@ -21,10 +21,22 @@ pub rectifiable-exactly : Rectifiable
 rectifiable-exactly = rectifiable-iff
 
 pub ternary-known : TernaryKnown
-ternary-known k x y v h l t = rw (entry-table k x y h l) (ternaryValue-known-iff k x y h l v t)
+ternary-known k x y v h l = entry-known-iff x y k h l v
 
 pub ternary-unknown : TernaryUnknown
-ternary-unknown k x y h l = rw (entry-table k x y h l) (ternaryValue-unknown-iff k x y h l)
+ternary-unknown k x y = entry-unknown-iff x y k
+
+pub ternary-list-known : TernaryListKnown
+ternary-list-known = list-known-iff
+
+pub ternary-list-unknown : TernaryListUnknown
+ternary-list-unknown = list-unknown-iff
+
+pub ternary-fold : TernaryFold
+ternary-fold = fold-more
+
+pub ternary-inverts : TernaryInverts
+ternary-inverts = fold-inverts
 
 pub loop-ends : LoopEnds
 loop-ends j =

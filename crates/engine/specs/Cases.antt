@@ -1,6 +1,6 @@
--- The twelve numbered cases (document 01, "Jobs on file"), as one table about the definitions. Assumes nothing.
+-- The twelve numbered cases (document 01, "Jobs on file", in card 6's ten-byte gates), as one table about the definitions. Assumes nothing.
 --
---   jobA, sheetA       job A's bytes and its 26-byte sheet, as document 01 writes them
+--   jobA, sheetA       job A's bytes, with ten-byte gates (card 6 of document 02), and its 26-byte sheet, as document 01 writes it
 --   jobWith ..         a job's bytes: n, m, and the bytes of its fields 2 to 6
 --   replied k s        what decide gives on job bytes s and a reply buffer of k bytes: the number, then the sheet if it is 0
 --   fittedSize s p     how many gates the job s fitted with the sheet p has, then its output nets
@@ -23,7 +23,7 @@ jobA =
     0x01 ∷ 0x00 ∷ 0x02 ∷ 0x02 ∷ 0x01
     ∷ 0x02 ∷ 0x00 ∷ 0x00
     ∷ 0x03 ∷ 0x00 ∷ 0x02 ∷ 0x00 ∷ 0x02
-    ∷ 0x04 ∷ 0x00 ∷ 0x05 ∷ 0x04 ∷ 0x00 ∷ 0x00 ∷ 0x00 ∷ 0x01
+    ∷ 0x04 ∷ 0x00 ∷ 0x0a ∷ 0x04 ∷ 0x02 ∷ 0x00 ∷ 0x00 ∷ 0x00 ∷ 0x01 ∷ 0x00 ∷ 0x00 ∷ 0x00 ∷ 0x00
     ∷ 0x05 ∷ 0x00 ∷ 0x02 ∷ 0x00 ∷ 0x02
     ∷ 0x06 ∷ 0x00 ∷ 0x08 ∷ 0x00 ∷ 0x00 ∷ 0x00 ∷ 0x03 ∷ 0x00 ∷ 0x01 ∷ 0x00 ∷ 0x04
     ∷ []
@@ -52,7 +52,7 @@ fittedSize s p =
 
 -- the parts of job A: the and gate, and net 2
 abbrev andGate : List ℕ
-andGate = 4 ∷ 0 ∷ 0 ∷ 0 ∷ 1 ∷ []
+andGate = 4 ∷ 2 ∷ 0 ∷ 0 ∷ 0 ∷ 1 ∷ 0 ∷ 0 ∷ 0 ∷ 0 ∷ []
 
 abbrev netTwo : List ℕ
 netTwo = 0 ∷ 2 ∷ []
@@ -62,7 +62,7 @@ bothNets = 0 ∷ 0 ∷ 0 ∷ 3 ∷ 0 ∷ 1 ∷ 0 ∷ 4 ∷ []
 
 -- a job of one input and one target: the old gate not 0 on net 2, old output 1, golden output 0, and two candidates
 abbrev inverted : List ℕ → List ℕ
-inverted cs = jobWith 1 1 (3 ∷ 0 ∷ 0 ∷ 0 ∷ 0 ∷ []) (0 ∷ 1 ∷ []) [] (0 ∷ 0 ∷ []) cs
+inverted cs = jobWith 1 1 (3 ∷ 1 ∷ replicate 8 0) (0 ∷ 1 ∷ []) [] (0 ∷ 0 ∷ []) cs
 
 -- the sheet of an empty support with table 0, cost 0 and the vector list 0
 abbrev emptySupport : List ℕ
@@ -88,7 +88,7 @@ cases =
     -- 5: A with old output 0: unfixable 1, vectors 0
     ∷ is (replied longestSheet (jobWith 2 1 [] (0 ∷ 0 ∷ []) andGate netTwo bothNets)) (0 ∷ field 20 (0 ∷ 0 ∷ 0 ∷ 1 ∷ []) ++ field 19 (0 ∷ []))
     -- 6: A with a golden constant zero: empty support, table 0, cost 0
-    ∷ is (replied longestSheet (jobWith 2 1 [] netTwo (0 ∷ 0 ∷ 0 ∷ 0 ∷ 0 ∷ []) netTwo bothNets)) (0 ∷ emptySupport)
+    ∷ is (replied longestSheet (jobWith 2 1 [] netTwo (replicate 10 0) netTwo bothNets)) (0 ∷ emptySupport)
     -- 7: no targets, equal circuits: the same, vectors 0
     ∷ is (replied longestSheet (jobWith 2 0 andGate netTwo andGate netTwo bothNets)) (0 ∷ emptySupport)
     -- 8: prices 0 at 5 and 2 at 1: support 2, table 1 0

@@ -7,6 +7,8 @@
 --   In x xs                 x is an element of xs
 --   Rectifiable             an input is fixable exactly when some vector makes the old outputs the golden ones
 --   TernaryKnown, TernaryUnknown            when an entry of a three by three table is known, and when not
+--   TernaryListKnown, TernaryListUnknown    the same of a gate's value on any number of operands
+--   TernaryFold, TernaryInverts             that value from the tables
 --   LoopEnds                where the vector loop ends
 --   EveryTable              when a table does, for every table over any nets
 --   Readings                a reading does not depend on the vector, so it is the one that the driven circuit has
@@ -23,19 +25,19 @@
 --   VectorsGiven            the bytes in the buffer, of which the last field is the vector list
 --   CompareAccepts, CompareRefuses, ComparesEqual, ComparesDiffers, CompareIgnoresVectors     what compare accepts and replies
 --   FitAccepts, FitRefuses, FitKeeps, FitIndependent        as for decide
---   LongestFit, LongestFitMet               no result has more than 2,075 bytes, and one has as many
+--   LongestFit, LongestFitMet               no result has more than 4,075 bytes, and one has as many
 --   FittedIn, FittedGiven, FitIgnoresVectors                what the netlist in the buffer is, and what plays no part in it
 --   DecidedEqual, DecidedFits, DecidedFitted                decide, then compare or fit
-use Prim.Native.Nat.{ℕ, _+_, _^_, _≤_, _<_}
+use Prim.Native.Nat.{ℕ, suc, _+_, _%_, _^_, _≤_, _<_}
 use mathlib.Core.Path.{_≡_}
 use mathlib.Core.Logic.{_↔_, _⊎_}
 use mathlib.Core.List.{List, [], _∷_, _++_, List·Memᴰ, map}
 use mathlib.Core.Bool.{true, false}
 use mathlib.Core.Option.{none, some}
-use lib.Dec.{ltb}
+use lib.Dec.{leb, ltb}
 use lib.ListN.{length, getD, take, drop}
 use Rattle.records.specs.Bytes.{all, flat, bytePair, field, whole, nth}
-use Rattle.records.specs.Gate.{gateValue}
+use Rattle.records.specs.Gate.{kindCount, gateValue}
 use Rattle.records.specs.Netlist.{netAt, values}
 use Rattle.records.specs.Job.{Job, jobWhole, jobOf, gatesOf, netsOf, netlistOf, gateBytes}
 use Rattle.records.specs.Refusal.{maxGates, gatesGood, candidatesGood}
@@ -43,7 +45,7 @@ use Rattle.records.specs.Sheet.{Patch, patchOf, sheetWhole, patchGood}
 use Rattle.records.specs.Claims.{Below, PartsGood}
 use Rattle.engine.specs.Choice.{any}
 use Rattle.engine.specs.Eval.{bits, numberOf, oldValues, oldOutputs, goldenOutputs}
-use Rattle.engine.specs.Ternary.{unknown, ternaryTable, entry, Completes, Possible}
+use Rattle.engine.specs.Ternary.{unknown, ternaryValue, ternaryTable, entry, Completes, CompletesAll, Possible, PossibleOf}
 use Rattle.engine.specs.Rectify.{rectifies, rectifiable, vectorLoop}
 use Rattle.engine.specs.Support.{reading, drivenBy, Carries, shared, tableOf, candidateNets, subsets, cost}
 use Rattle.engine.specs.Verdict.{patch, unfixable, blind, ruling, rulingFields, sheetOf, longestSheet, decideNumber, decidedBytes}
@@ -76,6 +78,29 @@ TernaryUnknown =
     (k x y : ℕ) → x ≤ unknown → y ≤ unknown
     → (entry (ternaryTable k) x y ≡ unknown)
     ↔ ((v : ℕ) × (w : ℕ) × Possible k x y v × Possible k x y w × (v ≡ w → ⊥))
+
+-- Card 6: the same of any number of operands.
+abbrev pub TernaryListKnown : Type 0
+TernaryListKnown =
+    (k v : ℕ) (xs : List ℕ) → all (λ x. leb x unknown) xs ≡ true → v < unknown
+    → (ternaryValue k xs ≡ v) ↔ ((vs : List ℕ) → CompletesAll vs xs → gateValue k vs ≡ v)
+
+abbrev pub TernaryListUnknown : Type 0
+TernaryListUnknown =
+    (k : ℕ) (xs : List ℕ) → all (λ x. leb x unknown) xs ≡ true
+    → (ternaryValue k xs ≡ unknown) ↔ ((v : ℕ) × (w : ℕ) × PossibleOf k xs v × PossibleOf k xs w × (v ≡ w → ⊥))
+
+-- .. and it is had from the three by three tables: that of the plain kind goes from operand to operand, and an odd kind inverts the whole,
+-- by the table of not.
+abbrev pub TernaryFold : Type 0
+TernaryFold =
+    (k x : ℕ) (xs : List ℕ) → k % 2 ≡ 0 → all (λ x. leb x unknown) (x ∷ xs) ≡ true
+    → ternaryValue k (x ∷ xs) ≡ entry (ternaryTable k) x (ternaryValue k xs)
+
+abbrev pub TernaryInverts : Type 0
+TernaryInverts =
+    (k : ℕ) (xs : List ℕ) → k % 2 ≡ 0 → k < kindCount → all (λ x. leb x unknown) xs ≡ true
+    → ternaryValue (suc k) xs ≡ entry (ternaryTable 3) (ternaryValue k xs) 0
 
 -- Document 01: "repeat until there is no such input, or no such vector. In the second case that input is unfixable." The loop ends
 -- only where every input is rectified by some listed vector, or at the smallest input that no listed vector rectifies, and no
@@ -356,7 +381,7 @@ FitIndependent =
     → (fitReply d s p ≡ fitReply e s p)
     × (take (fitReply d s p .len) (fittedBuffer d s p) ≡ take (fitReply e s p .len) (fittedBuffer e s p))
 
--- Document 01: "The longest result has 2,075 bytes."
+-- Card 6: the longest fitted netlist is 4,075 bytes.
 abbrev pub LongestFit : Type 0
 LongestFit =
     (s : List ℕ) → PartsGood (jobOf s) → (is t : List ℕ) → fits (jobOf s) is t ≡ true

@@ -1,4 +1,4 @@
--- Fit (document 01, "Fitting and comparing"). Assumes nothing.
+-- Fit (document 01, "Fitting and comparing"; card 6 of document 02). Assumes nothing.
 --
 --   led j                  1 for each old net that is a target or led to by one, else 0
 --   gateIndices j b        the indices of the old gates with mark b, ascending
@@ -14,7 +14,7 @@
 --                          gates, each group in its old order
 --   fittedBytes j is t     its fields 1 (n and 0), 2 and 3
 --   fits j is t            the patched netlist has at most 400 gates, else number 9
---   longestFit             the longest result has 2,075 bytes
+--   longestFit             the longest result has 4,075 bytes
 use Prim.Native.Nat.{ℕ, zero, suc, _+_, _-_}
 use mathlib.Core.List.{List, [], _∷_, _++_, map}
 use mathlib.Core.Bool.{Bool, cond}
@@ -71,10 +71,10 @@ newNets j is t =
     upFrom 0 (j .inputs) ++ trees j is t .nets ++ tabulate (length (j .old .gates)) (newGate j is t)
 
 unfoldable pub moved : List ℕ → Gate → Gate
-moved ns g = record { kind = g .kind; slots = map (netAt ns) (operands g) ++ unused g }
+moved ns g = record { kind = g .kind; count = g .count; slots = map (netAt ns) (operands g) ++ unused g }
 
 unfoldable pub movedGates : Job → List ℕ → List ℕ → List Gate
-movedGates j ns ks = map (λ k. moved ns (getD (j .old .gates) k (gateOf 0 0 0))) ks
+movedGates j ns ks = map (λ k. moved ns (getD (j .old .gates) k (gateOf 0 0 0 0 0 0))) ks
 
 unfoldable pub fitted : Job → List ℕ → List ℕ → Netlist
 fitted j is t =
@@ -94,4 +94,4 @@ unfoldable pub fits : Job → List ℕ → List ℕ → Bool
 fits j is t = leb (length (fitted j is t .gates)) maxGates
 
 abbrev pub longestFit : ℕ
-longestFit = 2075
+longestFit = 4075

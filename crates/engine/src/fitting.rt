@@ -105,7 +105,7 @@ fn fit_patch(
     table: &[u8],
     reply: &mut [u8],
 ) -> FitReply
-    requires { ⌜ Fittable old support (now table) × (2075 ≤ length (now reply)) ⌝ }
+    requires { ⌜ Fittable old support (now table) × (4075 ≤ length (now reply)) ⌝ }
     requires { ⌜ (count ≤ 32) × ((i : ℕ) → i < count → getD outputs i 0 < oldBase old + old .count) ⌝ }
     ensures { λ r. ⌜ FitGives
         (patchNumber (sideJob old (take count outputs)) (take (support .len) (support .nets))
@@ -129,7 +129,7 @@ fn fit_patch(
 
 // The reply to a sheet's bytes for a job's parts and old side, and its netlist, or number 7, 8 or 9.
 fn fit_sheet(old: OldSide, job: JobParts, sheet: &[u8], reply: &mut [u8]) -> FitReply
-    requires { ⌜ FitReady old job × (2075 ≤ length (now reply)) ⌝ }
+    requires { ⌜ FitReady old job × (4075 ≤ length (now reply)) ⌝ }
     ensures { λ r. ⌜ ((j : Job) → PartsOf j job → OldOf j old
         → FitGives (sheetFitNumber j (now (sheet .entry)))
         (fittedBytes j (patchOf (now (sheet .entry)) .support) (patchOf (now (sheet .entry)) .table))
@@ -183,7 +183,7 @@ fn old_side(job: JobParts) -> OldSide
 }
 
 // The service fit: the patched netlist of a job's bytes and a sheet's, at the start of the reply buffer. Refused are a buffer
-// below 2,075 bytes (1), what read refuses of the job (2 to 6) and read_sheet of the sheet (7, 8), and a patched netlist of more
+// below 4,075 bytes (1), what read refuses of the job (2 to 6) and read_sheet of the sheet (7, 8), and a patched netlist of more
 // than 400 gates (9). It evaluates no gate: it passes four times over the old gates, once over the golden ones, and at most
 // 6 * (k + 1) times over each target's column of the table, for a support of k nets.
 pub fn fit(job: &[u8], sheet: &[u8], reply: &mut [u8]) -> FitReply

@@ -41,3 +41,4 @@ pub use fitting::FitReply;
 pub use fitting::fit;
 pub use ternary::ternary_entry;
 pub use ternary::ternary_table;
+pub use ternary::ternary_value;

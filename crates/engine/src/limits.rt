@@ -20,4 +20,4 @@ pub const LISTED: usize = MITER_GATES + 5 * GATES;
 
 pub const LONGEST_SHEET: usize = 1076;
 
-pub const LONGEST_FIT: usize = 2075;
+pub const LONGEST_FIT: usize = 4075;

@@ -1,8 +1,9 @@
 // Both circuits as one netlist (the field's miter), with a gate in one number.
 ghost use mathlib.Core.Path.{_≡_};
-ghost use mathlib.Core.Bool.{cond};
-ghost use Prim.Native.Nat.{_<_};
-ghost use lib.Dec.{ltb};
+ghost use mathlib.Core.List.{map, _++_};
+ghost use Prim.Native.Nat.{ℕ, _+_, _≤_, _<_};
+ghost use lib.ListN.{getD, take, drop};
+ghost use Rattle.records.specs.Claims.{Below};
 ghost use Rattle.records.specs.Job.{Job};
 ghost use Rattle.records.specs.Service.{gateFrom};
 ghost use Rattle.records.specs.Parts.{PartsOf};
@@ -14,6 +15,8 @@ use records::GATES;
 use records::Gate;
 use records::JobParts;
 use records::OUTPUTS;
+use records::SLOTS;
+use records::slots_of;
 
 // Inputs, targets, old gates, golden gates. The golden nets are those of the golden outputs in the miter.
 pub struct Miter {
@@ -37,15 +40,23 @@ fn shift_net(i: usize, inputs: usize, shift: usize) -> usize
     i + shift
 }
 
-// What stands in a slot that the kinds from least on use: the operand's net in the miter, else what stood there.
-fn shift_slot(kind: u8, least: u8, i: usize, inputs: usize, shift: usize) -> usize
-    requires { ⌜ (i < 65536) × (shift < 65536) ⌝ }
-    ensures { λ r. ⌜ r ≡ cond (ltb kind least) i (shiftedNet inputs shift i) ⌝ }
+// The operand slots with the first count of them, which are used, at their nets in the miter.
+fn shift_slots(slots: [u16; SLOTS], count: usize, inputs: usize, shift: usize) -> [u16; SLOTS]
+    requires { ⌜ (count ≤ 4) × ((i : ℕ) → getD slots i 0 + shift < 1024) ⌝ }
+    ensures { λ r. ⌜ (r ≡ map (shiftedNet inputs shift) (take count slots) ++ drop count slots) × Below 1024 r ⌝ }
 {
-    if kind < least {
-        return i;
+    let mut r = slots;
+    let mut i = 0usize;
+    while i < SLOTS {
+        let net = slots[i];
+        r[i] = if i < count {
+            shift_net(net as usize, inputs, shift) as u16
+        } else {
+            net
+        };
+        i += 1;
     }
-    shift_net(i, inputs, shift)
+    r
 }
 
 // A gate that drives net own, in one number.
@@ -53,9 +64,8 @@ fn gate_code(gate: Gate, own: usize, inputs: usize, shift: usize) -> u64
     requires { ⌜ GateFits gate shift × (own < 1024) ⌝ }
     ensures { λ r. ⌜ r ≡ packed own (shifted inputs shift (gateFrom gate)) ⌝ }
 {
-    let first = shift_slot(gate.kind, 2, gate.first as usize, inputs, shift);
-    let second = shift_slot(gate.kind, 4, gate.second as usize, inputs, shift);
-    pack(gate.kind, own, first, second)
+    let slots = shift_slots(slots_of(gate), gate.count as usize, inputs, shift);
+    pack(gate.kind, gate.count, own, slots)
 }
 
 // The first count gates, which drive the nets from base on, in the places from at on.

@@ -3,41 +3,44 @@ ghost use mathlib.Core.Path.{_≡_};
 ghost use mathlib.Core.List.{[], _∷_};
 ghost use Prim.Native.Nat.{_+_, _*_, _≤_, _<_};
 ghost use lib.ListN.{length, take};
-ghost use Rattle.records.specs.Bytes.{flat, bytePair, field};
+ghost use Rattle.records.specs.Bytes.{flat, bytePair, placed, field};
 ghost use Rattle.records.specs.Job.{gateBytes};
 ghost use Rattle.engine.specs.Inner.Sheet.{BytesPut};
 ghost use Rattle.engine.specs.Inner.Renumber.{gateIn, unpacked};
 ghost use Rattle.engine.specs.Inner.Netlist.{netlistBytes};
 use super::sheet::two_bytes;
+use records::GATE_SIZE;
 use records::GATES;
 use records::OUTPUTS;
 use records::put_field;
 
-// The five bytes of the gate in the number c.
-fn gate_bytes(c: u64) -> [u8; 5]
-    ensures { λ r. ⌜ r ≡ gateBytes (gateIn c) ⌝ }
+// The ten bytes of the gate in the number c, from position at on.
+fn put_code(c: u64, at: usize, bytes: &mut [u8; GATE_SIZE * GATES])
+    requires { ⌜ (at + 10 ≤ 4000) × (length (now bytes) ≡ 4000) ⌝ }
+    ensures { λ _. ⌜ now (bytes .exit) ≡ placed (now (bytes .entry)) at (gateBytes (gateIn c)) ⌝ }
 {
-    let slots = c / 131072;
-    let first = two_bytes((slots % 1024) as u16);
-    let second = two_bytes((slots / 1024 % 1024) as u16);
-    [(c % 16) as u8, first[0], first[1], second[0], second[1]]
+    bytes[at] = (c % 16) as u8;
+    bytes[at + 1] = (c / 16 % 8) as u8;
+    let mut rest = c / 131072;
+    let mut i = 1usize;
+    while i < 5 {
+        let pair = two_bytes((rest % 1024) as u16);
+        bytes[at + 2 * i] = pair[0];
+        bytes[at + 2 * i + 1] = pair[1];
+        rest = rest / 1024;
+        i += 1;
+    }
 }
 
-// The first count gates, five bytes each, at the start.
-fn gates_bytes(gates: [u64; GATES], count: usize) -> [u8; 5 * GATES]
+// The first count gates, ten bytes each, at the start.
+fn gates_bytes(gates: [u64; GATES], count: usize) -> [u8; GATE_SIZE * GATES]
     requires { ⌜ count ≤ 400 ⌝ }
-    ensures { λ r. ⌜ take (5 * count) r ≡ flat gateBytes (unpacked count gates) ⌝ }
+    ensures { λ r. ⌜ take (10 * count) r ≡ flat gateBytes (unpacked count gates) ⌝ }
 {
-    let mut bytes = [0u8; 5 * GATES];
+    let mut bytes = [0u8; GATE_SIZE * GATES];
     let mut i = 0usize;
     while i < count {
-        let five = gate_bytes(gates[i]);
-        let at = 5 * i;
-        bytes[at] = five[0];
-        bytes[at + 1] = five[1];
-        bytes[at + 2] = five[2];
-        bytes[at + 3] = five[3];
-        bytes[at + 4] = five[4];
+        put_code(gates[i], GATE_SIZE * i, &mut bytes);
         i += 1;
     }
     bytes
@@ -71,11 +74,11 @@ fn put_inputs(reply: &mut [u8], inputs: usize) -> usize
 
 // The field of the first count gates, from position at on.
 fn put_gate_list(reply: &mut [u8], at: usize, gates: [u64; GATES], count: usize) -> usize
-    requires { ⌜ (count ≤ 400) × (at + 3 + 5 * count ≤ length (now reply)) ⌝ }
+    requires { ⌜ (count ≤ 400) × (at + 3 + 10 * count ≤ length (now reply)) ⌝ }
     ensures { λ r. ⌜ BytesPut (now (reply .entry)) at (field 2 (flat gateBytes (unpacked count gates))) (now (reply .exit)) r ⌝ }
 {
     let bytes = gates_bytes(gates, count);
-    let len = 5 * count;
+    let len = GATE_SIZE * count;
     put_field(reply, at, 2, &bytes[..len])
 }
 
@@ -98,7 +101,7 @@ pub(super) fn put_netlist(
     nets: [u16; OUTPUTS],
     outputs: usize,
 ) -> usize
-    requires { ⌜ (2075 ≤ length (now reply)) × (inputs < 256) × (count ≤ 400) × (outputs ≤ 32) ⌝ }
+    requires { ⌜ (4075 ≤ length (now reply)) × (inputs < 256) × (count ≤ 400) × (outputs ≤ 32) ⌝ }
     ensures { λ r. ⌜ BytesPut (now (reply .entry)) 0 (netlistBytes inputs (unpacked count gates) (take outputs nets))
         (now (reply .exit)) r ⌝ }
 {

@@ -3,34 +3,49 @@
 ghost use mathlib.Core.Path.{_≡_};
 ghost use mathlib.Core.Logic.{_↔_};
 ghost use mathlib.Core.Bool.{true};
-ghost use mathlib.Core.List.{List};
-ghost use Prim.Native.Nat.{ℕ, _+_, _≤_, _<_};
-ghost use lib.ListN.{length, getD};
+ghost use mathlib.Core.List.{List, map};
+ghost use Prim.Native.Nat.{ℕ, _+_, _≤_, _<_, min};
+ghost use lib.ListN.{length, getD, take};
 ghost use lib.Seq.{slice};
 ghost use Rattle.records.specs.Bytes.{tabulate, placed};
 ghost use Rattle.records.specs.Claims.{Below};
+ghost use Rattle.records.specs.Netlist.{netAt};
 ghost use Rattle.records.specs.Job.{Job};
 ghost use Rattle.engine.specs.Rectify.{rectifies};
 ghost use Rattle.engine.specs.Ternary.{unknown};
-ghost use Rattle.engine.specs.Inner.Packed.{evaluated};
+ghost use Rattle.engine.specs.Inner.Packed.{countOf, operandsOf, evaluated};
 ghost use Rattle.engine.specs.Inner.Plan.{PlanHeld, PlannedOf};
 ghost use Rattle.engine.specs.Inner.Ranges.{codeTernary, partialInput, InRange, Known};
 use super::limits::NETS;
 use super::plan::Plan;
-use super::ternary::ternary_entry;
-use super::ternary::ternary_table;
+use super::ternary::ternary_value;
 use records::OUTPUTS;
-use records::wide;
+use records::SLOTS;
 
-// What is known of a packed gate's net, by its kind's table. A kind of one operand looks at the first alone, a constant at none,
-// so what stands in a slot that is not used plays no part.
+// What is known of the operands of a packed gate, which has four at most; 0 behind them.
+fn known_operands(c: u64, known: &[u8; NETS]) -> [u8; SLOTS]
+    ensures { λ r. ⌜ take (min (countOf c) 4) r ≡ map (netAt (now (known .entry))) (take 4 (operandsOf c)) ⌝ }
+{
+    let mut r = [0u8; SLOTS];
+    let mut rest = c / 131072;
+    let count = (c / 16 % 8) as usize;
+    let mut i = 0usize;
+    while i < SLOTS {
+        if i < count {
+            r[i] = known[(rest % 1024) as usize];
+        }
+        rest = rest / 1024;
+        i += 1;
+    }
+    r
+}
+
+// What is known of a packed gate's net.
 fn ternary_gate(c: u64, known: &[u8; NETS]) -> u8
     ensures { λ r. ⌜ r ≡ codeTernary (now (known .entry)) c ⌝ }
 {
-    let a = (c / 131072 % 1024) as usize;
-    let b = (c / 134217728 % 1024) as usize;
-    let table = ternary_table((c % 16) as u8);
-    ternary_entry(table, wide(known[a]), wide(known[b]))
+    let operands = known_operands(c, known);
+    ternary_value((c % 16) as u8, (c / 16 % 8) as u8, operands)
 }
 
 // Each of the first count gates, one after the other, sets what is known of its own net.

@@ -1,10 +1,9 @@
 // The nets of a patched netlist: each old net's new number, and gates and nets at their new numbers.
 ghost use mathlib.Core.Path.{_≡_};
 ghost use mathlib.Core.List.{map};
-ghost use mathlib.Core.Bool.{cond};
-ghost use Prim.Native.Nat.{_+_, _%_, _≤_, _<_};
-ghost use lib.Dec.{ltb};
+ghost use Prim.Native.Nat.{_+_, _≤_, _<_};
 ghost use lib.ListN.{length, getD, take};
+ghost use Rattle.records.specs.Claims.{Below};
 ghost use Rattle.engine.specs.Fit.{moved};
 ghost use Rattle.engine.specs.Inner.Packed.{packed};
 ghost use Rattle.engine.specs.Inner.Tree.{Nets, GateRoom};
@@ -13,6 +12,7 @@ use super::limits::MITER_GATES;
 use super::limits::NETS;
 use super::packed::pack;
 use records::GATES;
+use records::SLOTS;
 
 // A job's old netlist as fit reads it: packed gates, the first of the miter's, and a mark for each net that a target leads to.
 pub struct OldSide {
@@ -58,28 +58,31 @@ pub(super) fn move_nets(nets: &[u16], count: usize, numbers: &[u16; NETS], out: 
     }
 }
 
-// The lowest operand slot: at its new number where the kind uses it, which kinds from least on do, else as it is.
-fn moved_slot(kind: u8, least: u8, slots: u64, numbers: &[u16; NETS]) -> usize
+// The operand slots of the gate in the number c, those that it uses at their new numbers.
+fn moved_slots(c: u64, numbers: &[u16; NETS]) -> [u16; SLOTS]
     requires { ⌜ Nets 1024 (now numbers) ⌝ }
-    ensures { λ r. ⌜ r ≡ cond (ltb kind least) (slots % 1024) (getD (now (numbers .entry)) (slots % 1024) 0) ⌝ }
+    ensures { λ r. ⌜ (r ≡ moved (now (numbers .entry)) (gateIn c) .slots) × Below 1024 r ⌝ }
 {
-    let net = (slots % 1024) as usize;
-    if kind < least {
-        return net;
+    let mut r = [0u16; SLOTS];
+    let mut rest = c / 131072;
+    let count = (c / 16 % 8) as usize;
+    let mut i = 0usize;
+    while i < SLOTS {
+        let net = (rest % 1024) as usize;
+        r[i] = if i < count { numbers[net] } else { net as u16 };
+        rest = rest / 1024;
+        i += 1;
     }
-    numbers[net] as usize
+    r
 }
 
 // The gate in the number c at its new numbers, driving net own, in one number.
 fn moved_code(c: u64, own: usize, numbers: &[u16; NETS]) -> u64
-    requires { ⌜ (c % 16 < 10) × (own < 1024) × Nets 1024 (now numbers) ⌝ }
+    requires { ⌜ (own < 1024) × Nets 1024 (now numbers) ⌝ }
     ensures { λ r. ⌜ r ≡ packed own (moved (now (numbers .entry)) (gateIn c)) ⌝ }
 {
-    let kind = (c % 16) as u8;
-    let slots = c / 131072;
-    let first = moved_slot(kind, 2, slots, numbers);
-    let second = moved_slot(kind, 4, slots / 1024, numbers);
-    pack(kind, own, first, second)
+    let slots = moved_slots(c, numbers);
+    pack((c % 16) as u8, (c / 16 % 8) as u8, own, slots)
 }
 
 // The old gates with this mark, in their order, numbered from the new netlist's next net on and put behind its gates.

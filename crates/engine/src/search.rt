@@ -84,7 +84,7 @@ fn search_range(
     if low < 11 {
         return search_block(gates, plan, prefix, 1 << low, list, words, sets);
     }
-    if 13 < low {
+    if 14 < low {
         if settled(gates, plan, low, prefix) {
             return list;
         }

@@ -5,15 +5,15 @@ ghost use Prim.Native.Nat.{_+_, _^_, _≤_, _<_};
 ghost use lib.Dec.{eqb};
 ghost use lib.ListN.{length, getD, take, drop};
 ghost use Rattle.records.specs.Bytes.{all};
-ghost use Rattle.records.specs.Gate.{gateOf};
 ghost use Rattle.engine.specs.Choice.{same};
 ghost use Rattle.engine.specs.Eval.{bit};
-ghost use Rattle.engine.specs.Tree.{column, tree, treeSize};
+ghost use Rattle.engine.specs.Tree.{constant, column, tree, treeSize};
 ghost use Rattle.engine.specs.Inner.Tree.{Nets, GateRoom, GatesPut, columnPart, TablePart, treeStart, mux, treesSize, TreesPut};
 use super::choose::reading_count;
 use super::packed::pack;
 use records::CANDIDATES;
 use records::GATES;
+use records::SLOTS;
 
 // How a tree starts: it is one constant gate of this kind, or the tree of the column's halves, which are equal, or the trees of
 // both halves and a multiplexer.
@@ -23,20 +23,12 @@ pub enum TreeStart {
     Split,
 }
 
-// One gate at place at, which drives net base + at; the place behind it.
-pub(super) fn add_gate(
-    gates: &mut [u64; GATES],
-    base: usize,
-    at: usize,
-    kind: u8,
-    a: u16,
-    b: u16,
-) -> usize
-    requires { ⌜ GateRoom base (at + 1) (now gates) ⌝ }
-    requires { ⌜ (kind < 10) × (a < 1024) × (b < 1024) ⌝ }
-    ensures { λ r. ⌜ GatesPut base at (now (gates .entry)) (gateOf kind a b ∷ []) r (now (gates .exit)) ⌝ }
+// A constant at place at, which drives net base + at; the place behind it.
+fn put_constant(kind: u8, base: usize, at: usize, gates: &mut [u64; GATES]) -> usize
+    requires { ⌜ GateRoom base (at + 1) (now gates) × (kind < 2) ⌝ }
+    ensures { λ r. ⌜ GatesPut base at (now (gates .entry)) (constant kind ∷ []) r (now (gates .exit)) ⌝ }
 {
-    gates[at] = pack(kind, base + at, a as usize, b as usize);
+    gates[at] = pack(kind, 0, base + at, [0; SLOTS]);
     at + 1
 }
 
@@ -55,11 +47,10 @@ fn put_mux(
     ensures { λ r. ⌜ GatesPut base count (now (gates .entry)) (mux s low high) r (now (gates .exit)) ⌝ }
 {
     let n = high + 1;
-    let chooser = s as usize;
-    gates[count] = pack(3, n, chooser, 0);
-    gates[count + 1] = pack(4, n + 1, n, low);
-    gates[count + 2] = pack(4, n + 2, chooser, high);
-    gates[count + 3] = pack(6, n + 3, n + 1, n + 2);
+    gates[count] = pack(3, 1, n, [s, 0, 0, 0]);
+    gates[count + 1] = pack(4, 2, n + 1, [n as u16, low as u16, 0, 0]);
+    gates[count + 2] = pack(4, 2, n + 2, [s, high as u16, 0, 0]);
+    gates[count + 3] = pack(6, 2, n + 3, [(n + 1) as u16, (n + 2) as u16, 0, 0]);
     count + 4
 }
 
@@ -159,7 +150,7 @@ pub(super) fn put_tree(
 {
     let start = tree_start(table, at, k, t);
     match start {
-        TreeStart::Constant(kind) => add_gate(gates, base, count, kind, 0, 0),
+        TreeStart::Constant(kind) => put_constant(kind, base, count, gates),
         TreeStart::Equal => put_tree(table, at, k - 1, t, support, base, count, gates),
         TreeStart::Split => {
             let half = reading_count(k - 1);

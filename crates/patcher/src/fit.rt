@@ -2,7 +2,7 @@
 
 // The netlist's fields to standard output, of which a refusal has none; the number given. Costs what fit costs.
 pub(super) fn write_netlist(job: &[u8], sheet: &[u8]) -> u8 {
-    let mut netlist = [0u8; 2075];
+    let mut netlist = [0u8; 4075];
     let reply = engine::fit(job, sheet, &mut netlist);
     let len = reply.len;
     cli::write_reply(&netlist[..len]);

@@ -1,8 +1,10 @@
--- What specs/Claims.antt promises of the record library, each by one citation. Assumes nothing.
-use Rattle.records.specs.Claims.{First, ReadAccepts, WriteAccepts, SheetAccepts, ReadRefuses, WriteRefuses, SheetRefuses, NumberGiven, ReadKeeps, WriteKeeps, ReadIndependent, WriteIndependent, SheetIndependent, TruthTable, PlacesGiven, ReadWrite, WriteRead, LongestJob, LongestJobMet, SheetGiven, ColumnsRead, ColumnsAccepts, ColumnsRefuses, ColumnsGiven, ColumnsWithin, ColumnsWrite, ColumnsWriteAccepts, ColumnsWriteRefuses, ColumnsReadWrite, ColumnsWriteRead, ColumnsKeeps, ColumnsWriteKeeps, ColumnsIndependent, ColumnsWriteIndependent}
+-- What specs/Claims.antt and specs/Parts.antt promise of the record library, each by one citation. Assumes nothing.
+use Rattle.records.specs.Parts.{LoadGiven}
+use Rattle.records.specs.Claims.{First, ReadAccepts, WriteAccepts, SheetAccepts, ReadRefuses, WriteRefuses, SheetRefuses, NumberGiven, ReadKeeps, WriteKeeps, ReadIndependent, WriteIndependent, SheetIndependent, TruthTable, OperandsFold, OddInverts, PlacesGiven, ReadWrite, WriteRead, LongestJob, LongestJobMet, SheetGiven, ColumnsRead, ColumnsAccepts, ColumnsRefuses, ColumnsGiven, ColumnsWithin, ColumnsWrite, ColumnsWriteAccepts, ColumnsWriteRefuses, ColumnsReadWrite, ColumnsWriteRead, ColumnsKeeps, ColumnsWriteKeeps, ColumnsIndependent, ColumnsWriteIndependent}
 use Rattle.records.proofs.Laws.Accepted as accepted
 use Rattle.records.proofs.Laws.Gate as gate
 use Rattle.records.proofs.Laws.Independent as independent
+use Rattle.records.proofs.Laws.Loading as loading
 use Rattle.records.proofs.Laws.ReadColumns as over-columns
 use Rattle.records.proofs.Laws.SheetReply as sheet-reply
 
@@ -47,6 +49,12 @@ sheet-independent = independent.sheet-independent
 
 pub truth-table : TruthTable
 truth-table = gate.truth-table
+
+pub operands-fold : OperandsFold
+operands-fold = gate.operands-fold
+
+pub odd-inverts : OddInverts
+odd-inverts = gate.odd-inverts
 
 pub places-given : PlacesGiven
 places-given = accepted.places-given
@@ -107,3 +115,6 @@ columns-independent = independent.columns-independent
 
 pub columns-write-independent : ColumnsWriteIndependent
 columns-write-independent = independent.columns-write-independent
+
+pub load-given : LoadGiven
+load-given s = (loading.loaded-number s, loading.loaded-parts s)

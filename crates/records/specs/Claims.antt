@@ -14,10 +14,12 @@
 --   sideUpTo, upTo c p            the places p as far as the counts c say
 --   ReadIndependent, WriteIndependent, SheetIndependent     what lent places held before, or hold behind the counts, plays no part
 --   assignments k                 all lists of k values of 0 and 1, counting up, the last value fastest
---   TruthTable                    the values of all kinds on 0 and 1
+--   permittedCounts k             the counts of operands that kind k permits
+--   TruthTable                    the values of all kinds on 0 and 1, with every count of operands
+--   OperandsFold, OddInverts      .. however many they are: the plain kinds go from operand to operand, the others invert the whole
 --   PlacesGiven                   the places of an accepted job hold it
 --   ReadWrite, WriteRead          the round trip
---   LongestJob, LongestJobMet     no accepted job has more than 4,188 bytes, and one has as many
+--   LongestJob, LongestJobMet     no accepted job has more than 8,188 bytes, and one has as many
 --   SheetIn m k nets weights s, SheetGiven      an accepted sheet's support, table and cost are replied
 --   ColumnsRead       read_columns replies what read does
 --   ColumnsAccepts, ColumnsRefuses              what read_columns accepts; a refusal alters no column
@@ -30,14 +32,14 @@
 --   SideColumnsAlike, ColumnsAlike p q          the columns p and q have the same lengths, whatever they hold
 --   sideColumnsUpTo, columnsUpTo c p            the columns p as far as the counts c say
 --   ColumnsIndependent, ColumnsWriteIndependent             what columns held before, or hold behind the counts, plays no part
-use Prim.Native.Nat.{ℕ, zero, suc, _^_, _≤_, _<_}
+use Prim.Native.Nat.{ℕ, zero, suc, _-_, _*_, _%_, _^_, _≤_, _<_}
 use mathlib.Core.Path.{_≡_}
 use mathlib.Core.Logic.{_↔_}
 use mathlib.Core.List.{List, [], _∷_, _++_, map}
 use mathlib.Core.Bool.{true, false}
-use lib.ListN.{length, getD, take, drop}
-use Rattle.records.specs.Bytes.{tabulate, all, placed}
-use Rattle.records.specs.Gate.{gateOf, kindCount, arity}
+use lib.ListN.{length, getD, take, drop, replicate}
+use Rattle.records.specs.Bytes.{upFrom, tabulate, all, placed}
+use Rattle.records.specs.Gate.{slotCount, gateOf, kindCount, leastCount, mostCount, inverted, gateValue}
 use Rattle.records.specs.Netlist.{valueOf}
 use Rattle.records.specs.Job.{Job, jobWhole, jobOf}
 use Rattle.records.specs.Refusal.{Test, firstFailing, countsGood, netlistsGood, outputsGood, candidatesGood, jobRefusal, longestJob}
@@ -180,32 +182,52 @@ SheetIndependent =
 
 -- ---- demand 2
 
+unfoldable pub permittedCounts : ℕ → List ℕ
+permittedCounts k = upFrom (leastCount k) (suc (mostCount k - leastCount k))
+
 unfoldable pub assignments : ℕ → List (List ℕ)
 assignments zero = [] ∷ []
 assignments (suc k) =
     map (λ (vs : List ℕ). 0 ∷ vs) (assignments k) ++ map (λ (vs : List ℕ). 1 ∷ vs) (assignments k)
 
--- "Gates behave as IEEE 1364 defines its primitives on 0 and 1": a row for each kind, the values of a gate over nets 0 and 1 where its
--- operands count up from all 0 to all 1.
+-- "Gates behave as IEEE 1364 defines its primitives on 0 and 1": for each kind a row for each count of operands that it permits, the
+-- values of a gate over nets 0, 1, 2, 3 where its operands count up from all 0 to all 1.
 abbrev pub TruthTable : Type 0
 TruthTable =
-    tabulate kindCount (λ k. map (λ (vs : List ℕ). valueOf vs (gateOf k 0 1)) (assignments (arity k)))
+    tabulate kindCount
+    (λ k. map (λ n. map (λ (vs : List ℕ). valueOf vs (gateOf k n 0 1 2 3)) (assignments n)) (permittedCounts k))
     -- constant zero, constant one
-    ≡ (0 ∷ [])
-    ∷ (1 ∷ [])
+    ≡ ((0 ∷ []) ∷ [])
+    ∷ ((1 ∷ []) ∷ [])
     -- buf, not
-    ∷ (0 ∷ 1 ∷ [])
-    ∷ (1 ∷ 0 ∷ [])
+    ∷ ((0 ∷ 1 ∷ []) ∷ [])
+    ∷ ((1 ∷ 0 ∷ []) ∷ [])
     -- and, nand
-    ∷ (0 ∷ 0 ∷ 0 ∷ 1 ∷ [])
-    ∷ (1 ∷ 1 ∷ 1 ∷ 0 ∷ [])
+    ∷ ((0 ∷ 0 ∷ 0 ∷ 1 ∷ []) ∷ (replicate 7 0 ++ 1 ∷ []) ∷ (replicate 15 0 ++ 1 ∷ []) ∷ [])
+    ∷ ((1 ∷ 1 ∷ 1 ∷ 0 ∷ []) ∷ (replicate 7 1 ++ 0 ∷ []) ∷ (replicate 15 1 ++ 0 ∷ []) ∷ [])
     -- or, nor
-    ∷ (0 ∷ 1 ∷ 1 ∷ 1 ∷ [])
-    ∷ (1 ∷ 0 ∷ 0 ∷ 0 ∷ [])
+    ∷ ((0 ∷ 1 ∷ 1 ∷ 1 ∷ []) ∷ (0 ∷ replicate 7 1) ∷ (0 ∷ replicate 15 1) ∷ [])
+    ∷ ((1 ∷ 0 ∷ 0 ∷ 0 ∷ []) ∷ (1 ∷ replicate 7 0) ∷ (1 ∷ replicate 15 0) ∷ [])
     -- xor, xnor
-    ∷ (0 ∷ 1 ∷ 1 ∷ 0 ∷ [])
-    ∷ (1 ∷ 0 ∷ 0 ∷ 1 ∷ [])
+    ∷ ((0 ∷ 1 ∷ 1 ∷ 0 ∷ [])
+    ∷ (0 ∷ 1 ∷ 1 ∷ 0 ∷ 1 ∷ 0 ∷ 0 ∷ 1 ∷ [])
+    ∷ (0 ∷ 1 ∷ 1 ∷ 0 ∷ 1 ∷ 0 ∷ 0 ∷ 1 ∷ 1 ∷ 0 ∷ 0 ∷ 1 ∷ 0 ∷ 1 ∷ 1 ∷ 0 ∷ [])
+    ∷ [])
+    ∷ ((1 ∷ 0 ∷ 0 ∷ 1 ∷ [])
+    ∷ (1 ∷ 0 ∷ 0 ∷ 1 ∷ 0 ∷ 1 ∷ 1 ∷ 0 ∷ [])
+    ∷ (1 ∷ 0 ∷ 0 ∷ 1 ∷ 0 ∷ 1 ∷ 1 ∷ 0 ∷ 0 ∷ 1 ∷ 1 ∷ 0 ∷ 1 ∷ 0 ∷ 0 ∷ 1 ∷ [])
+    ∷ [])
     ∷ []
+
+-- Card 6, "operand meaning shown once for any count": a plain kind on some operands is that kind on the first one and on what it gives for
+-- the rest.
+abbrev pub OperandsFold : Type 0
+OperandsFold =
+    (k v : ℕ) (vs : List ℕ) → k % 2 ≡ 0 → gateValue k (v ∷ vs) ≡ gateValue k (v ∷ gateValue k vs ∷ [])
+
+-- "Nand, nor and xnor invert the whole and, or, parity", and in the same way constant one and not.
+abbrev pub OddInverts : Type 0
+OddInverts = (k : ℕ) (vs : List ℕ) → k % 2 ≡ 0 → k < kindCount → gateValue (suc k) vs ≡ inverted (gateValue k vs)
 
 -- The places of an accepted job hold it, as many parts as its counts say.
 abbrev pub PlacesGiven : Type 0
@@ -233,7 +255,7 @@ WriteRead =
 
 -- ---- document 01, "Bytes"
 
--- "The longest accepted job has 4,188 bytes."
+-- Card 6: "The longest job is 8,188 bytes."
 abbrev pub LongestJob : Type 0
 LongestJob = (s : List ℕ) → jobRefusal s ≡ 0 → length s ≤ longestJob
 
@@ -313,8 +335,8 @@ unfoldable pub sideColumnsBehind : SideCounts → SideColumns → SideColumns
 sideColumnsBehind c p =
     record {
       kinds = drop (c .gates) (p .kinds);
-      firsts = drop (c .gates) (p .firsts);
-      seconds = drop (c .gates) (p .seconds);
+      counts = drop (c .gates) (p .counts);
+      slots = drop (slotCount * c .gates) (p .slots);
       outputs = drop (c .outputs) (p .outputs);
     }
 
@@ -341,8 +363,8 @@ ColumnsWriteKeeps =
 -- Columns of the same lengths.
 pub record SideColumnsAlike (p q : SideColumns) : Type 0 where
   pub kinds : length (p .kinds) ≡ length (q .kinds)
-  pub firsts : length (p .firsts) ≡ length (q .firsts)
-  pub seconds : length (p .seconds) ≡ length (q .seconds)
+  pub counts : length (p .counts) ≡ length (q .counts)
+  pub slots : length (p .slots) ≡ length (q .slots)
   pub outputs : length (p .outputs) ≡ length (q .outputs)
 
 pub record ColumnsAlike (p q : Columns) : Type 0 where
@@ -355,8 +377,8 @@ unfoldable pub sideColumnsUpTo : SideCounts → SideColumns → SideColumns
 sideColumnsUpTo c p =
     record {
       kinds = take (c .gates) (p .kinds);
-      firsts = take (c .gates) (p .firsts);
-      seconds = take (c .gates) (p .seconds);
+      counts = take (c .gates) (p .counts);
+      slots = take (slotCount * c .gates) (p .slots);
       outputs = take (c .outputs) (p .outputs);
     }
 

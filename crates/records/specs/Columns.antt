@@ -1,5 +1,5 @@
--- The services over columns: read and write for callers that keep a netlist's gates in three lists, the kinds, the first and the
--- second operands (docs/DECISIONS.md). That they give what read and write give is claimed in Claims.antt. Assumes nothing.
+-- The services over columns: read and write for callers that keep a netlist's gates in three lists, the kinds, the operand counts and
+-- the operand slots, four a gate (docs/DECISIONS.md). That they give what read and write give is claimed in Claims.antt. Assumes nothing.
 --
 --   SideColumns, Columns       the lent columns of a netlist, of a job
 --   sideColumns, columns       the same from their lists
@@ -9,17 +9,17 @@
 --   sideColumnsHeld, columnsHeld c p            number 3 for write_columns: no count of c exceeds its places
 --   gatesFrom, columnsNetlist, columnsJob c p   the job whose parts stand at the starts of the columns p, as many as the counts c say
 --   columnsWriteNumber, columnsWriteReply, columnsWritten               what write_columns replies, and the reply buffer afterwards
-use Prim.Native.Nat.{ℕ}
+use Prim.Native.Nat.{ℕ, _+_, _*_}
 use mathlib.Core.List.{List, _∷_, map}
 use mathlib.Core.Bool.{Bool, cond, _&&_}
 use lib.ListN.{length, getD, take}
 use lib.Dec.{leb, eqb}
-use Rattle.records.specs.Bytes.{tabulate, placed}
-use Rattle.records.specs.Gate.{Gate, gateOf}
+use Rattle.records.specs.Bytes.{tabulate, flat, placed}
+use Rattle.records.specs.Gate.{Gate, slotCount, gateOf}
 use Rattle.records.specs.Netlist.{Netlist}
 use Rattle.records.specs.Job.{Candidate, Job, jobOf, jobBytes}
 use Rattle.records.specs.Refusal.{maxGates, maxOutputs, maxCandidates, longestJob, firstFailing, partTests, jobTests}
-use Rattle.records.specs.Service.{slotOf, countsOf, noCounts, candidatesFrom}
+use Rattle.records.specs.Service.{countsOf, noCounts, candidatesFrom}
 use Rattle.records.specs.declared.job.SideCounts.{SideCounts}
 use Rattle.records.specs.declared.job.Counts.{Counts}
 use Rattle.records.specs.declared.reading.ReadReply.{ReadReply}
@@ -27,8 +27,8 @@ use Rattle.records.specs.declared.writing.WriteReply.{WriteReply}
 
 pub record SideColumns : Type 0 where
   pub kinds : List ℕ
-  pub firsts : List ℕ
-  pub seconds : List ℕ
+  pub counts : List ℕ
+  pub slots : List ℕ
   pub outputs : List ℕ
 
 pub record Columns : Type 0 where
@@ -38,7 +38,7 @@ pub record Columns : Type 0 where
   pub weights : List ℕ
 
 abbrev pub sideColumns : List ℕ → List ℕ → List ℕ → List ℕ → SideColumns
-sideColumns ks xs ys os = record { kinds = ks; firsts = xs; seconds = ys; outputs = os }
+sideColumns ks ns ss os = record { kinds = ks; counts = ns; slots = ss; outputs = os }
 
 abbrev pub columns : SideColumns → SideColumns → List ℕ → List ℕ → Columns
 columns old golden nets weights = record { old = old; golden = golden; nets = nets; weights = weights }
@@ -48,8 +48,8 @@ columns old golden nets weights = record { old = old; golden = golden; nets = ne
 unfoldable pub sideColumnsRoomy : SideColumns → Bool
 sideColumnsRoomy p =
     leb maxGates (length (p .kinds))
-    && leb maxGates (length (p .firsts))
-    && leb maxGates (length (p .seconds))
+    && leb maxGates (length (p .counts))
+    && leb (slotCount * maxGates) (length (p .slots))
     && leb maxOutputs (length (p .outputs))
 
 unfoldable pub columnsRoomy : Columns → Bool
@@ -63,8 +63,8 @@ unfoldable pub sideColumnsFilled : SideColumns → Netlist → SideColumns
 sideColumnsFilled p l =
     record {
       kinds = placed (p .kinds) 0 (map (λ (g : Gate). g .kind) (l .gates));
-      firsts = placed (p .firsts) 0 (map (slotOf 0) (l .gates));
-      seconds = placed (p .seconds) 0 (map (slotOf 1) (l .gates));
+      counts = placed (p .counts) 0 (map (λ (g : Gate). g .count) (l .gates));
+      slots = placed (p .slots) 0 (flat (λ (g : Gate). g .slots) (l .gates));
       outputs = placed (p .outputs) 0 (l .outputs);
     }
 
@@ -90,12 +90,21 @@ columnsAfter p s = cond (eqb (columnsNumber p s) 0) (columnsFilled p (jobOf s)) 
 -- ---- write_columns
 
 unfoldable pub gatesFrom : ℕ → List ℕ → List ℕ → List ℕ → List Gate
-gatesFrom k kinds firsts seconds = tabulate k (λ i. gateOf (getD kinds i 0) (getD firsts i 0) (getD seconds i 0))
+gatesFrom k kinds counts slots =
+    tabulate k
+    (λ i. let at = slotCount * i in
+    gateOf
+    (getD kinds i 0)
+    (getD counts i 0)
+    (getD slots at 0)
+    (getD slots (at + 1) 0)
+    (getD slots (at + 2) 0)
+    (getD slots (at + 3) 0))
 
 unfoldable pub columnsNetlist : SideCounts → SideColumns → Netlist
 columnsNetlist c p =
     record {
-      gates = gatesFrom (c .gates) (p .kinds) (p .firsts) (p .seconds);
+      gates = gatesFrom (c .gates) (p .kinds) (p .counts) (p .slots);
       outputs = take (c .outputs) (p .outputs);
     }
 
@@ -112,8 +121,8 @@ columnsJob c p =
 unfoldable pub sideColumnsHeld : SideCounts → SideColumns → Bool
 sideColumnsHeld c p =
     leb (c .gates) (length (p .kinds))
-    && leb (c .gates) (length (p .firsts))
-    && leb (c .gates) (length (p .seconds))
+    && leb (c .gates) (length (p .counts))
+    && leb (slotCount * c .gates) (length (p .slots))
     && leb (c .outputs) (length (p .outputs))
 
 unfoldable pub columnsHeld : Counts → Columns → Bool

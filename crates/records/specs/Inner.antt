@@ -7,12 +7,13 @@ use mathlib.Core.Bool.{Bool, true, cond, _&&_}
 use lib.ListN.{length, getD, set, take, drop, replicate}
 use lib.Dec.{leb, ltb, eqb}
 use Rattle.records.specs.Bytes.{upFrom, tabulate, all, flat, bytePair, word, placed, headSize, field, bodyLength, rest, fits, whole, nth}
+use Rattle.records.specs.Gate.{slotCount}
 use Rattle.records.specs.Netlist.{netAt}
 use Rattle.records.specs.Job.{Candidate, Job, gateSize, netSize, candidateSize, gateBytes, jobWhole, jobOf, jobBytes}
 use Rattle.records.specs.Refusal.{maxInputs, maxTargets, maxGates, maxOutputs, maxCandidates, longestJob, firstFailing, netlistsGood, ascending, jobTests, jobRefusal}
 use Rattle.records.specs.Sheet.{sheetWhole, isCandidate, costOf}
 use Rattle.records.specs.Service.{Places, gatesIn, countsOf, noCounts, held, jobFrom, writeReply, writtenBytes}
-unfoldable pub use Rattle.records.specs.Service.{checkOf, noGate, noGates}
+unfoldable pub use Rattle.records.specs.Service.{checkOf, structSlots, noGate, noGates}
 use Rattle.records.specs.declared.gate.Gate.{Gate as GateStruct}
 use Rattle.records.specs.declared.field.Field.{Field}
 use Rattle.records.specs.declared.field.Field.the-variants.{Body, Missing}
@@ -169,9 +170,9 @@ shapeOf s = cond (jobWhole s) (Whole (countsOf (jobOf s))) Broken
 -- fields 2 to 6 start after a head of three bytes each
 unfoldable pub startsOf : Counts → Starts
 startsOf c =
-    let outputs = 8 + 5 * c .old .gates + 3 in
+    let outputs = 8 + gateSize * c .old .gates + 3 in
     let golden = outputs + 2 * c .old .outputs + 3 in
-    let goldens = golden + 5 * c .golden .gates + 3 in
+    let goldens = golden + gateSize * c .golden .gates + 3 in
     let candidates = goldens + 2 * c .golden .outputs + 3 in
     record {
       old = 8;
@@ -215,7 +216,15 @@ wordColumn s size offset count = tabulate count (λ i. word s (size * i + offset
 
 -- the gate struct at position at of the bytes s; count of them, from there on
 unfoldable pub structAt : List ℕ → ℕ → GateStruct
-structAt s at = record { kind = getD s at 0; first = word s (at + 1); second = word s (at + 3) }
+structAt s at =
+    record {
+      kind = getD s at 0;
+      count = getD s (at + 1) 0;
+      first = word s (at + 2);
+      second = word s (at + 4);
+      third = word s (at + 6);
+      fourth = word s (at + 8);
+    }
 
 unfoldable pub structsAt : List ℕ → ℕ → ℕ → List GateStruct
 structsAt s at count = tabulate count (λ i. structAt s (at + gateSize * i))
@@ -302,14 +311,14 @@ pub record SidePut (n at t : ℕ) (c : SideCounts) (k : ℕ) : Type 0 where
   pub tag : t < 255
   pub within : SideWithin c
   pub held : c .outputs ≤ k
-  pub room : at + 6 + 5 * c .gates + 2 * c .outputs ≤ n
+  pub room : at + 6 + gateSize * c .gates + 2 * c .outputs ≤ n
 
 -- d is left as d′: a head for the gates, and behind the gates' bytes the field of the outputs
 pub record SideDone (d : List ℕ) (at t : ℕ) (c : SideCounts) (os : List ℕ) (r : ℕ) (d′ : List ℕ) : Type 0 where
-  pub end : r ≡ at + 6 + 5 * c .gates + 2 * c .outputs
+  pub end : r ≡ at + 6 + gateSize * c .gates + 2 * c .outputs
   pub bytes : d′
-      ≡ placed (placed d at (t ∷ bytePair (5 * c .gates)))
-      (at + 3 + 5 * c .gates)
+      ≡ placed (placed d at (t ∷ bytePair (gateSize * c .gates)))
+      (at + 3 + gateSize * c .gates)
       (field (suc t) (flat bytePair (take (c .outputs) os)))
 
 -- a buffer of n bytes has room for a job, and the places for outputs and candidates hold the counts
@@ -328,8 +337,8 @@ pub record JobDone (c : Counts) (p : Places) (r : ℕ) (d′ : List ℕ) : Type 
 
 -- the bytes z hold the gates gs and hs of a job with the counts c where the job has them
 pub record GatesPut (c : Counts) (gs hs : List GateStruct) (z : List ℕ) : Type 0 where
-  pub old : take (5 * c .old .gates) (drop (startsOf c .old) z) ≡ gatesBytes (c .old .gates) gs
-  pub golden : take (5 * c .golden .gates) (drop (startsOf c .golden) z) ≡ gatesBytes (c .golden .gates) hs
+  pub old : take (gateSize * c .old .gates) (drop (startsOf c .old) z) ≡ gatesBytes (c .old .gates) gs
+  pub golden : take (gateSize * c .golden .gates) (drop (startsOf c .golden) z) ≡ gatesBytes (c .golden .gates) hs
   pub held : (c .old .gates ≤ length gs) × (c .golden .gates ≤ length hs)
 
 -- what write_rest asks of an accepted plan
@@ -347,25 +356,33 @@ pub record RestWritten (w : WritePlan) (p : Places) (d : List ℕ) (r : WriteRep
 
 -- so many places hold count gates
 unfoldable pub columnsHold : ℕ → ℕ → ℕ → ℕ → Bool
-columnsHold count k x y = leb count k && leb count x && leb count y
+columnsHold count k n s = leb count k && leb count n && leb (slotCount * count) s
 
--- the same as inequalities, for n gates
-pub record ColumnsHold (n count k x y : ℕ) : Type 0 where
-  pub gates : count ≤ n
+-- the same as inequalities, where there are at most so many gates
+pub record ColumnsHold (most count k n s : ℕ) : Type 0 where
+  pub gates : count ≤ most
   pub kinds : count ≤ k
-  pub firsts : count ≤ x
-  pub seconds : count ≤ y
+  pub counts : count ≤ n
+  pub slots : slotCount * count ≤ s
 
 -- the columns with the first count gates at their starts
-pub record Split (gs : List GateStruct) (count : ℕ) (ks xs ys ks′ xs′ ys′ : List ℕ) : Type 0 where
+pub record Split (gs : List GateStruct) (count : ℕ) (ks ns ss ks′ ns′ ss′ : List ℕ) : Type 0 where
   pub kinds : ks′ ≡ placed ks 0 (map (λ (g : GateStruct). g .kind) (take count gs))
-  pub firsts : xs′ ≡ placed xs 0 (map (λ (g : GateStruct). g .first) (take count gs))
-  pub seconds : ys′ ≡ placed ys 0 (map (λ (g : GateStruct). g .second) (take count gs))
+  pub counts : ns′ ≡ placed ns 0 (map (λ (g : GateStruct). g .count) (take count gs))
+  pub slots : ss′ ≡ placed ss 0 (flat structSlots (take count gs))
 
 -- the first count gates of columns
 unfoldable pub structsFrom : ℕ → List ℕ → List ℕ → List ℕ → List GateStruct
-structsFrom count ks xs ys =
-    tabulate count (λ i. record { kind = getD ks i 0; first = getD xs i 0; second = getD ys i 0 })
+structsFrom count ks ns ss =
+    tabulate count
+    (λ i. record {
+      kind = getD ks i 0;
+      count = getD ns i 0;
+      first = getD ss (slotCount * i) 0;
+      second = getD ss (slotCount * i + 1) 0;
+      third = getD ss (slotCount * i + 2) 0;
+      fourth = getD ss (slotCount * i + 3) 0;
+    })
 
 -- ---- sheets
 

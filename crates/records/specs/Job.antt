@@ -1,4 +1,5 @@
--- The parts of a job, and its bytes (document 01, "Nets and gates" and "Bytes"). Assumes nothing.
+-- The parts of a job, and its bytes (document 01, "Nets and gates" and "Bytes"; card 6 of document 02: a gate has ten bytes). Assumes
+-- nothing.
 --
 --   Candidate         a candidate (01: priced net) and its weight, a number of two bytes
 --   Job               input and target counts, the old and the golden netlist, the candidates
@@ -34,7 +35,7 @@ pub record Job : Type 0 where
 -- ---- from bytes
 
 abbrev pub gateSize : ℕ
-gateSize = 5
+gateSize = 10
 
 abbrev pub netSize : ℕ
 netSize = 2
@@ -43,7 +44,14 @@ abbrev pub candidateSize : ℕ
 candidateSize = 4
 
 unfoldable pub gateAt : List ℕ → ℕ → Gate
-gateAt s i = gateOf (getD s (gateSize * i) 0) (word s (gateSize * i + 1)) (word s (gateSize * i + 3))
+gateAt s i =
+    gateOf
+    (getD s (gateSize * i) 0)
+    (getD s (gateSize * i + 1) 0)
+    (word s (gateSize * i + 2))
+    (word s (gateSize * i + 4))
+    (word s (gateSize * i + 6))
+    (word s (gateSize * i + 8))
 
 unfoldable pub gatesOf : List ℕ → List Gate
 gatesOf s = tabulate (length s / gateSize) (gateAt s)
@@ -86,7 +94,7 @@ jobOf s =
 -- ---- to bytes
 
 unfoldable pub gateBytes : Gate → List ℕ
-gateBytes g = g .kind ∷ flat bytePair (g .slots)
+gateBytes g = g .kind ∷ g .count ∷ flat bytePair (g .slots)
 
 unfoldable pub candidateBytes : Candidate → List ℕ
 candidateBytes c = bytePair (c .net) ++ bytePair (c .weight)

@@ -1,11 +1,11 @@
--- The numbers 1 to 6 and the ranges behind them (document 01, "Nets and gates" and "Numbers given when a call is declined").
--- Assumes nothing.
+-- The numbers 1 to 6 and the ranges behind them (document 01, "Nets and gates" and "Numbers given when a call is declined"; card 6 of
+-- document 02). Assumes nothing.
 --
 --   maxInputs .. maxCandidates, longestJob     the ranges' ends, and the length of the longest accepted job
 --   Test, firstFailing ts    a number and whether its test passes; the number of the first test of ts that fails, 0 if all pass
 --   oldNets j, goldenNets j  how many nets each netlist has
 --   sideCountsGood, countsGood   number 3: every count is within its range
---   gateGood net g           gate g may drive net: a kind that exists, used operands below net, unused slots 0
+--   gateGood net g           gate g may drive net: a kind that exists and permits the count, used operands below net, unused slots 0
 --   gatesGood net gs         the same for each gate of gs, which drive net, net + 1, ..
 --   netlistsGood             number 4: both netlists' gates are good
 --   outputsGood              number 5: output nets exist, and the two output counts are equal
@@ -20,7 +20,7 @@ use mathlib.Core.Bool.{Bool, true, cond, _&&_}
 use lib.ListN.{length}
 use lib.Dec.{leb, ltb, eqb}
 use Rattle.records.specs.Bytes.{all}
-use Rattle.records.specs.Gate.{Gate, kindCount, operands, unused}
+use Rattle.records.specs.Gate.{Gate, permits, operands, unused}
 use Rattle.records.specs.Netlist.{Netlist, netAt, fanout}
 use Rattle.records.specs.Job.{Job, Candidate, jobWhole, jobOf}
 
@@ -40,7 +40,7 @@ abbrev pub maxCandidates : ℕ
 maxCandidates = 10
 
 abbrev pub longestJob : ℕ
-longestJob = 4188
+longestJob = 8188
 
 pub record Test : Type 0 where
   pub number : ℕ
@@ -66,7 +66,7 @@ countsGood j =
 -- ---- number 4
 
 unfoldable pub gateGood : ℕ → Gate → Bool
-gateGood net g = ltb (g .kind) kindCount && all (λ i. ltb i net) (operands g) && all (eqb 0) (unused g)
+gateGood net g = permits (g .kind) (g .count) && all (λ i. ltb i net) (operands g) && all (eqb 0) (unused g)
 
 unfoldable pub gatesGood : ℕ → List Gate → Bool
 gatesGood net [] = true

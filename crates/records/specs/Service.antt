@@ -1,8 +1,9 @@
 -- What the services reply and what the lent places hold afterwards (document 01, "Numbers given when a call is
 -- declined"; docs/DECISIONS.md). Assumes nothing.
 --
---   GateStruct            the struct Gate of src/gate.rt: kind, first and second operand slot
+--   GateStruct            the struct Gate of src/gate.rt: kind, operand count, four operand slots
 --   slotOf i g            what stands in operand slot i of a gate
+--   structSlots g         the operand slots of a gate struct
 --   gateFrom g, structOf g                 the gate that a gate struct holds, and back
 --   noGate, noGates       the gate struct of zeros, and a netlist's places of it
 --   checkOf b             a check's answer for a test
@@ -21,7 +22,7 @@
 --   sheetNumber, sheetReply                what read_sheet replies
 --   fieldFits d at xs     a field of the bytes xs fits into the buffer d from position at on, and its length into two bytes
 use Prim.Native.Nat.{ℕ, _+_, _-_}
-use mathlib.Core.List.{List, _∷_, _++_, map}
+use mathlib.Core.List.{List, [], _∷_, _++_, map}
 use mathlib.Core.Bool.{Bool, cond, _&&_}
 use lib.ListN.{length, getD, take, replicate}
 use lib.Dec.{leb, ltb, eqb}
@@ -44,14 +45,25 @@ use Rattle.records.specs.declared.sheet.SheetReply.{SheetReply}
 unfoldable pub slotOf : ℕ → Gate → ℕ
 slotOf i g = getD (g .slots) i 0
 
+unfoldable pub structSlots : GateStruct → List ℕ
+structSlots g = g .first ∷ g .second ∷ g .third ∷ g .fourth ∷ []
+
 unfoldable pub gateFrom : GateStruct → Gate
-gateFrom g = gateOf (g .kind) (g .first) (g .second)
+gateFrom g = gateOf (g .kind) (g .count) (g .first) (g .second) (g .third) (g .fourth)
 
 unfoldable pub structOf : Gate → GateStruct
-structOf g = record { kind = g .kind; first = slotOf 0 g; second = slotOf 1 g }
+structOf g =
+    record {
+      kind = g .kind;
+      count = g .count;
+      first = slotOf 0 g;
+      second = slotOf 1 g;
+      third = slotOf 2 g;
+      fourth = slotOf 3 g;
+    }
 
 unfoldable pub noGate : GateStruct
-noGate = record { kind = 0; first = 0; second = 0 }
+noGate = record { kind = 0; count = 0; first = 0; second = 0; third = 0; fourth = 0 }
 
 unfoldable pub noGates : List GateStruct
 noGates = replicate maxGates noGate

@@ -1,4 +1,5 @@
-// Read and write for callers with plain parameters: a netlist's gates in three lists, the kinds, the first and the second operands.
+// Read and write for callers with plain parameters: a netlist's gates in three lists, the kinds, the operand counts and the
+// operand slots, four a gate.
 ghost use mathlib.Core.Path.{_≡_};
 ghost use lib.ListN.{length};
 ghost use Rattle.records.specs.Bytes.{placed};
@@ -11,6 +12,7 @@ use super::job::Counts;
 use super::job::check_counts;
 use super::limits::GATES;
 use super::limits::LONGEST_JOB;
+use super::limits::SLOTS;
 use super::reading::ReadReply;
 use super::reading::read;
 use super::reading::refused;
@@ -52,8 +54,11 @@ pub(super) fn read_gates(
 {
     let none = Gate {
         kind: 0,
+        count: 0,
         first: 0,
         second: 0,
+        third: 0,
+        fourth: 0,
     };
     let mut old = [none; GATES];
     let mut golden = [none; GATES];
@@ -106,44 +111,49 @@ fn write_gates(
 }
 
 // The first count gates into columns.
-fn split(
-    gates: [Gate; GATES],
-    count: usize,
-    kinds: &mut [u8],
-    firsts: &mut [u16],
-    seconds: &mut [u16],
-)
-    requires { ⌜ ColumnsHold (length gates) count (length (now kinds)) (length (now firsts)) (length (now seconds)) ⌝ }
+fn split(gates: [Gate; GATES], count: usize, kinds: &mut [u8], counts: &mut [u8], slots: &mut [u16])
+    requires { ⌜ ColumnsHold (length gates) count (length (now kinds)) (length (now counts)) (length (now slots)) ⌝ }
     ensures { λ _. ⌜ Split gates count
-        (now (kinds .entry)) (now (firsts .entry)) (now (seconds .entry))
-        (now (kinds .exit)) (now (firsts .exit)) (now (seconds .exit)) ⌝ }
+        (now (kinds .entry)) (now (counts .entry)) (now (slots .entry))
+        (now (kinds .exit)) (now (counts .exit)) (now (slots .exit)) ⌝ }
 {
     let mut i = 0usize;
     while i < count {
         let gate = gates[i];
         kinds[i] = gate.kind;
-        firsts[i] = gate.first;
-        seconds[i] = gate.second;
+        counts[i] = gate.count;
+        let at = SLOTS * i;
+        slots[at] = gate.first;
+        slots[at + 1] = gate.second;
+        slots[at + 2] = gate.third;
+        slots[at + 3] = gate.fourth;
         i += 1;
     }
 }
 
 // The first count gates of columns.
-fn joined(kinds: &[u8], firsts: &[u16], seconds: &[u16], count: usize) -> [Gate; GATES]
-    requires { ⌜ ColumnsHold 400 count (length (now kinds)) (length (now firsts)) (length (now seconds)) ⌝ }
-    ensures { λ r. ⌜ r ≡ placed noGates 0 (structsFrom count (now (kinds .entry)) (now (firsts .entry)) (now (seconds .entry))) ⌝ }
+fn joined(kinds: &[u8], counts: &[u8], slots: &[u16], count: usize) -> [Gate; GATES]
+    requires { ⌜ ColumnsHold 400 count (length (now kinds)) (length (now counts)) (length (now slots)) ⌝ }
+    ensures { λ r. ⌜ r ≡ placed noGates 0 (structsFrom count (now (kinds .entry)) (now (counts .entry)) (now (slots .entry))) ⌝ }
 {
     let mut gates = [Gate {
         kind: 0,
+        count: 0,
         first: 0,
         second: 0,
+        third: 0,
+        fourth: 0,
     }; GATES];
     let mut k = 0usize;
     while k < count {
+        let at = SLOTS * k;
         gates[k] = Gate {
             kind: kinds[k],
-            first: firsts[k],
-            second: seconds[k],
+            count: counts[k],
+            first: slots[at],
+            second: slots[at + 1],
+            third: slots[at + 2],
+            fourth: slots[at + 3],
         };
         k += 1;
     }
@@ -151,10 +161,10 @@ fn joined(kinds: &[u8], firsts: &[u16], seconds: &[u16], count: usize) -> [Gate;
 }
 
 // Whether so many places hold count gates.
-fn check_columns(count: usize, kinds: usize, firsts: usize, seconds: usize) -> Check
-    ensures { λ r. ⌜ r ≡ checkOf (columnsHold count kinds firsts seconds) ⌝ }
+fn check_columns(count: usize, kinds: usize, counts: usize, slots: usize) -> Check
+    ensures { λ r. ⌜ r ≡ checkOf (columnsHold count kinds counts slots) ⌝ }
 {
-    if (count <= kinds) & (count <= firsts) & (count <= seconds) {
+    if (count <= kinds) & (count <= counts) & (count <= slots / SLOTS) {
         return Check::Passed;
     }
     Check::Failed
@@ -164,43 +174,43 @@ fn check_columns(count: usize, kinds: usize, firsts: usize, seconds: usize) -> C
 pub fn read_columns(
     job: &[u8],
     old_kinds: &mut [u8],
-    old_firsts: &mut [u16],
-    old_seconds: &mut [u16],
+    old_counts: &mut [u8],
+    old_slots: &mut [u16],
     old_outputs: &mut [u16],
     golden_kinds: &mut [u8],
-    golden_firsts: &mut [u16],
-    golden_seconds: &mut [u16],
+    golden_counts: &mut [u8],
+    golden_slots: &mut [u16],
     golden_outputs: &mut [u16],
     nets: &mut [u16],
     weights: &mut [u16],
 ) -> ReadReply
     ensures reply { λ r. ⌜ r ≡ columnsReply
         (columns
-        (sideColumns (now («old_kinds» .entry)) (now («old_firsts» .entry)) (now («old_seconds» .entry)) (now («old_outputs» .entry)))
-        (sideColumns (now («golden_kinds» .entry)) (now («golden_firsts» .entry)) (now («golden_seconds» .entry)) (now («golden_outputs» .entry)))
+        (sideColumns (now («old_kinds» .entry)) (now («old_counts» .entry)) (now («old_slots» .entry)) (now («old_outputs» .entry)))
+        (sideColumns (now («golden_kinds» .entry)) (now («golden_counts» .entry)) (now («golden_slots» .entry)) (now («golden_outputs» .entry)))
         (now (nets .entry)) (now (weights .entry)))
         (now (job .entry)) ⌝ }
     ensures lent { λ r. ⌜
         columns
-        (sideColumns (now («old_kinds» .exit)) (now («old_firsts» .exit)) (now («old_seconds» .exit)) (now («old_outputs» .exit)))
-        (sideColumns (now («golden_kinds» .exit)) (now («golden_firsts» .exit)) (now («golden_seconds» .exit)) (now («golden_outputs» .exit)))
+        (sideColumns (now («old_kinds» .exit)) (now («old_counts» .exit)) (now («old_slots» .exit)) (now («old_outputs» .exit)))
+        (sideColumns (now («golden_kinds» .exit)) (now («golden_counts» .exit)) (now («golden_slots» .exit)) (now («golden_outputs» .exit)))
         (now (nets .exit)) (now (weights .exit))
         ≡ columnsAfter
         (columns
-        (sideColumns (now («old_kinds» .entry)) (now («old_firsts» .entry)) (now («old_seconds» .entry)) (now («old_outputs» .entry)))
-        (sideColumns (now («golden_kinds» .entry)) (now («golden_firsts» .entry)) (now («golden_seconds» .entry)) (now («golden_outputs» .entry)))
+        (sideColumns (now («old_kinds» .entry)) (now («old_counts» .entry)) (now («old_slots» .entry)) (now («old_outputs» .entry)))
+        (sideColumns (now («golden_kinds» .entry)) (now («golden_counts» .entry)) (now («golden_slots» .entry)) (now («golden_outputs» .entry)))
         (now (nets .entry)) (now (weights .entry)))
         (now (job .entry)) ⌝ }
 {
-    let first = check_columns(GATES, old_kinds.len(), old_firsts.len(), old_seconds.len());
+    let first = check_columns(GATES, old_kinds.len(), old_counts.len(), old_slots.len());
     let Check::Passed = first else {
         return refused(1);
     };
     let second = check_columns(
         GATES,
         golden_kinds.len(),
-        golden_firsts.len(),
-        golden_seconds.len(),
+        golden_counts.len(),
+        golden_slots.len(),
     );
     let Check::Passed = second else {
         return refused(1);
@@ -211,14 +221,14 @@ pub fn read_columns(
     let old = counts.old;
     let golden = counts.golden;
     let gates = found.old;
-    split(gates, old.gates, old_kinds, old_firsts, old_seconds);
+    split(gates, old.gates, old_kinds, old_counts, old_slots);
     let gates = found.golden;
     split(
         gates,
         golden.gates,
         golden_kinds,
-        golden_firsts,
-        golden_seconds,
+        golden_counts,
+        golden_slots,
     );
     reply
 }
@@ -227,12 +237,12 @@ pub fn read_columns(
 pub fn write_columns(
     counts: Counts,
     old_kinds: &[u8],
-    old_firsts: &[u16],
-    old_seconds: &[u16],
+    old_counts: &[u8],
+    old_slots: &[u16],
     old_outputs: &[u16],
     golden_kinds: &[u8],
-    golden_firsts: &[u16],
-    golden_seconds: &[u16],
+    golden_counts: &[u8],
+    golden_slots: &[u16],
     golden_outputs: &[u16],
     nets: &[u16],
     weights: &[u16],
@@ -240,14 +250,14 @@ pub fn write_columns(
 ) -> WriteReply
     ensures reply { λ r. ⌜ r ≡ columnsWriteReply counts
         (columns
-        (sideColumns (now («old_kinds» .entry)) (now («old_firsts» .entry)) (now («old_seconds» .entry)) (now («old_outputs» .entry)))
-        (sideColumns (now («golden_kinds» .entry)) (now («golden_firsts» .entry)) (now («golden_seconds» .entry)) (now («golden_outputs» .entry)))
+        (sideColumns (now («old_kinds» .entry)) (now («old_counts» .entry)) (now («old_slots» .entry)) (now («old_outputs» .entry)))
+        (sideColumns (now («golden_kinds» .entry)) (now («golden_counts» .entry)) (now («golden_slots» .entry)) (now («golden_outputs» .entry)))
         (now (nets .entry)) (now (weights .entry)))
         (now (buf .entry)) ⌝ }
     ensures lent { λ r. ⌜ now (buf .exit) ≡ columnsWritten counts
         (columns
-        (sideColumns (now («old_kinds» .entry)) (now («old_firsts» .entry)) (now («old_seconds» .entry)) (now («old_outputs» .entry)))
-        (sideColumns (now («golden_kinds» .entry)) (now («golden_firsts» .entry)) (now («golden_seconds» .entry)) (now («golden_outputs» .entry)))
+        (sideColumns (now («old_kinds» .entry)) (now («old_counts» .entry)) (now («old_slots» .entry)) (now («old_outputs» .entry)))
+        (sideColumns (now («golden_kinds» .entry)) (now («golden_counts» .entry)) (now («golden_slots» .entry)) (now («golden_outputs» .entry)))
         (now (nets .entry)) (now (weights .entry)))
         (now (buf .entry)) ⌝ }
 {
@@ -262,8 +272,8 @@ pub fn write_columns(
     let second = check_columns(
         old.gates,
         old_kinds.len(),
-        old_firsts.len(),
-        old_seconds.len(),
+        old_counts.len(),
+        old_slots.len(),
     );
     let Check::Passed = second else {
         return WriteReply { number: 3, len: 0 };
@@ -272,14 +282,14 @@ pub fn write_columns(
     let third = check_columns(
         golden.gates,
         golden_kinds.len(),
-        golden_firsts.len(),
-        golden_seconds.len(),
+        golden_counts.len(),
+        golden_slots.len(),
     );
     let Check::Passed = third else {
         return WriteReply { number: 3, len: 0 };
     };
-    let old_gates = joined(old_kinds, old_firsts, old_seconds, old.gates);
-    let golden_gates = joined(golden_kinds, golden_firsts, golden_seconds, golden.gates);
+    let old_gates = joined(old_kinds, old_counts, old_slots, old.gates);
+    let golden_gates = joined(golden_kinds, golden_counts, golden_slots, golden.gates);
     write_gates(
         counts,
         old_gates,

@@ -12,6 +12,7 @@ use super::gate::Gate;
 use super::job::Counts;
 use super::job::check_counts;
 use super::job::starts_of;
+use super::limits::GATE_SIZE;
 use super::put::put_word;
 
 // Where the gates of both netlists stand in a job's bytes, and how many they are.
@@ -47,47 +48,53 @@ pub(super) fn gate_spans(counts: Counts) -> GateSpans
 }
 
 // The gate whose bytes stand at a position.
-fn gate_at(s: &[u8], at: usize) -> Gate
-    requires { ⌜ at + 5 ≤ length (now s) ⌝ }
+pub(super) fn gate_at(s: &[u8], at: usize) -> Gate
+    requires { ⌜ at + 10 ≤ length (now s) ⌝ }
     ensures { λ r. ⌜ r ≡ structAt (now (s .entry)) at ⌝ }
 {
     Gate {
         kind: s[at],
-        first: (word_at(s, at + 1) % 65536) as u16,
-        second: (word_at(s, at + 3) % 65536) as u16,
+        count: s[at + 1],
+        first: (word_at(s, at + 2) % 65536) as u16,
+        second: (word_at(s, at + 4) % 65536) as u16,
+        third: (word_at(s, at + 6) % 65536) as u16,
+        fourth: (word_at(s, at + 8) % 65536) as u16,
     }
 }
 
 // A gate's bytes.
 fn put_gate(buf: &mut [u8], at: usize, gate: Gate)
-    requires { ⌜ at + 5 ≤ length (now buf) ⌝ }
+    requires { ⌜ at + 10 ≤ length (now buf) ⌝ }
     ensures { λ _. ⌜ now (buf .exit) ≡ placed (now (buf .entry)) at (gateBytes (gateFrom gate)) ⌝ }
 {
     buf[at] = gate.kind;
-    put_word(buf, at + 1, gate.first);
-    put_word(buf, at + 3, gate.second);
+    buf[at + 1] = gate.count;
+    put_word(buf, at + 2, gate.first);
+    put_word(buf, at + 4, gate.second);
+    put_word(buf, at + 6, gate.third);
+    put_word(buf, at + 8, gate.fourth);
 }
 
 // The first count places with the gates whose bytes stand from a position on.
 pub(super) fn fill_gates(s: &[u8], at: usize, count: usize, gates: &mut [Gate])
-    requires { ⌜ (at + 5 * count ≤ length (now s)) × (count ≤ length (now gates)) ⌝ }
+    requires { ⌜ (at + 10 * count ≤ length (now s)) × (count ≤ length (now gates)) ⌝ }
     ensures { λ _. ⌜ now (gates .exit) ≡ placed (now (gates .entry)) 0 (structsAt (now (s .entry)) at count) ⌝ }
 {
     let mut i = 0usize;
     while i < count {
-        gates[i] = gate_at(s, at + 5 * i);
+        gates[i] = gate_at(s, at + GATE_SIZE * i);
         i += 1;
     }
 }
 
 // The bytes of the first count gates, from a position on.
 pub(super) fn put_gates(gates: &[Gate], count: usize, at: usize, buf: &mut [u8])
-    requires { ⌜ (at + 5 * count ≤ length (now buf)) × (count ≤ length (now gates)) ⌝ }
+    requires { ⌜ (at + 10 * count ≤ length (now buf)) × (count ≤ length (now gates)) ⌝ }
     ensures { λ _. ⌜ now (buf .exit) ≡ placed (now (buf .entry)) at (gatesBytes count (now (gates .entry))) ⌝ }
 {
     let mut i = 0usize;
     while i < count {
-        put_gate(buf, at + 5 * i, gates[i]);
+        put_gate(buf, at + GATE_SIZE * i, gates[i]);
         i += 1;
     }
 }

@@ -10,6 +10,7 @@ use super::field::Check;
 use super::field::walked;
 use super::field::wide;
 use super::limits::CANDIDATES;
+use super::limits::GATE_SIZE;
 use super::limits::GATES;
 use super::limits::INPUTS;
 use super::limits::OUTPUTS;
@@ -83,17 +84,17 @@ fn counted(lens: [usize; 6], inputs: usize, targets: usize) -> Shape
     let golden = lens[3];
     let goldens = lens[4];
     let candidates = lens[5];
-    let first = (lens[0] == 2) & (old % 5 == 0) & (outputs % 2 == 0);
-    if first & (golden % 5 == 0) & (goldens % 2 == 0) & (candidates % 4 == 0) {
+    let first = (lens[0] == 2) & (old % GATE_SIZE == 0) & (outputs % 2 == 0);
+    if first & (golden % GATE_SIZE == 0) & (goldens % 2 == 0) & (candidates % 4 == 0) {
         return Shape::Whole(Counts {
             inputs,
             targets,
             old: SideCounts {
-                gates: old / 5,
+                gates: old / GATE_SIZE,
                 outputs: outputs / 2,
             },
             golden: SideCounts {
-                gates: golden / 5,
+                gates: golden / GATE_SIZE,
                 outputs: goldens / 2,
             },
             candidates: candidates / 4,
@@ -136,9 +137,9 @@ pub(super) fn starts_of(c: Counts) -> Starts
 {
     let old = c.old;
     let golden = c.golden;
-    let outputs = 8 + 5 * old.gates + 3;
+    let outputs = 8 + GATE_SIZE * old.gates + 3;
     let third = outputs + 2 * old.outputs + 3;
-    let goldens = third + 5 * golden.gates + 3;
+    let goldens = third + GATE_SIZE * golden.gates + 3;
     let candidates = goldens + 2 * golden.outputs + 3;
     Starts {
         old: 8,

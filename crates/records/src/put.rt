@@ -12,6 +12,7 @@ ghost use Rattle.records.specs.declared.gate.Gate.{Gate as GateStruct};
 use super::fill::copy;
 use super::job::Counts;
 use super::job::SideCounts;
+use super::limits::GATE_SIZE;
 use super::limits::LONGEST_JOB;
 
 // A job's bytes so far: the first len of them.
@@ -104,12 +105,12 @@ fn put_column(
 // The head of the field of a netlist's gates, with this tag, whose bytes stand behind it already, and the field of its outputs, with
 // the next tag.
 fn put_side(job: JobBytes, tag: u8, outputs: &[u16], counts: SideCounts) -> JobBytes
-    requires { ⌜ (length (job .bytes) ≡ 4188) × SidePut 4188 (job .len) tag counts (length (now outputs)) ⌝ }
-    ensures { λ r. ⌜ (length (r .bytes) ≡ 4188) × SideDone (job .bytes) (job .len) tag counts (now (outputs .entry)) (r .len) (r .bytes) ⌝ }
+    requires { ⌜ (length (job .bytes) ≡ 8188) × SidePut 8188 (job .len) tag counts (length (now outputs)) ⌝ }
+    ensures { λ r. ⌜ (length (r .bytes) ≡ 8188) × SideDone (job .bytes) (job .len) tag counts (now (outputs .entry)) (r .len) (r .bytes) ⌝ }
 {
     let bytes = job.bytes;
     let a = job.len;
-    let gates = 5 * counts.gates;
+    let gates = GATE_SIZE * counts.gates;
     let outs = 2 * counts.outputs;
     let b = a + 3 + gates;
     let first = headed(bytes, a, tag, gates);

@@ -142,7 +142,7 @@ fn write_rest(
 }
 
 // The service write: the job whose parts stand at the starts of the places, as many as counts says. Refused are a
-// buffer below 4,188 bytes (1), a count outside its range or above its places (3), gates (4), outputs (5) and
+// buffer below 8,188 bytes (1), a count outside its range or above its places (3), gates (4), outputs (5) and
 // candidates (6). The bytes are put into a buffer of the function's own, checked there as read checks them, and
 // copied; a refused plan has no gates to put. Time linear in the job's bytes.
 pub fn write(

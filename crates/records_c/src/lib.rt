@@ -12,12 +12,12 @@ ghost use Rattle.records_c.specs.Row.{rowAfter, rowCounts};
 pub extern "C" fn records_read(
     job: &[u8],
     old_kinds: &mut [u8],
-    old_firsts: &mut [u16],
-    old_seconds: &mut [u16],
+    old_counts: &mut [u8],
+    old_slots: &mut [u16],
     old_outputs: &mut [u16],
     golden_kinds: &mut [u8],
-    golden_firsts: &mut [u16],
-    golden_seconds: &mut [u16],
+    golden_counts: &mut [u8],
+    golden_slots: &mut [u16],
     golden_outputs: &mut [u16],
     nets: &mut [u16],
     weights: &mut [u16],
@@ -25,37 +25,37 @@ pub extern "C" fn records_read(
 ) -> u8
     ensures number { λ r. ⌜ r ≡ columnsReply
         (columns
-        (sideColumns (now («old_kinds» .entry)) (now («old_firsts» .entry)) (now («old_seconds» .entry)) (now («old_outputs» .entry)))
-        (sideColumns (now («golden_kinds» .entry)) (now («golden_firsts» .entry)) (now («golden_seconds» .entry)) (now («golden_outputs» .entry)))
+        (sideColumns (now («old_kinds» .entry)) (now («old_counts» .entry)) (now («old_slots» .entry)) (now («old_outputs» .entry)))
+        (sideColumns (now («golden_kinds» .entry)) (now («golden_counts» .entry)) (now («golden_slots» .entry)) (now («golden_outputs» .entry)))
         (now (nets .entry)) (now (weights .entry)))
         (now (job .entry)) .number ⌝ }
     ensures counted { λ _. ⌜ now (counts .exit) ≡ rowAfter (columnsReply
         (columns
-        (sideColumns (now («old_kinds» .entry)) (now («old_firsts» .entry)) (now («old_seconds» .entry)) (now («old_outputs» .entry)))
-        (sideColumns (now («golden_kinds» .entry)) (now («golden_firsts» .entry)) (now («golden_seconds» .entry)) (now («golden_outputs» .entry)))
+        (sideColumns (now («old_kinds» .entry)) (now («old_counts» .entry)) (now («old_slots» .entry)) (now («old_outputs» .entry)))
+        (sideColumns (now («golden_kinds» .entry)) (now («golden_counts» .entry)) (now («golden_slots» .entry)) (now («golden_outputs» .entry)))
         (now (nets .entry)) (now (weights .entry)))
         (now (job .entry))) (now (counts .entry)) ⌝ }
     ensures lent { λ _. ⌜
         columns
-        (sideColumns (now («old_kinds» .exit)) (now («old_firsts» .exit)) (now («old_seconds» .exit)) (now («old_outputs» .exit)))
-        (sideColumns (now («golden_kinds» .exit)) (now («golden_firsts» .exit)) (now («golden_seconds» .exit)) (now («golden_outputs» .exit)))
+        (sideColumns (now («old_kinds» .exit)) (now («old_counts» .exit)) (now («old_slots» .exit)) (now («old_outputs» .exit)))
+        (sideColumns (now («golden_kinds» .exit)) (now («golden_counts» .exit)) (now («golden_slots» .exit)) (now («golden_outputs» .exit)))
         (now (nets .exit)) (now (weights .exit))
         ≡ columnsAfter
         (columns
-        (sideColumns (now («old_kinds» .entry)) (now («old_firsts» .entry)) (now («old_seconds» .entry)) (now («old_outputs» .entry)))
-        (sideColumns (now («golden_kinds» .entry)) (now («golden_firsts» .entry)) (now («golden_seconds» .entry)) (now («golden_outputs» .entry)))
+        (sideColumns (now («old_kinds» .entry)) (now («old_counts» .entry)) (now («old_slots» .entry)) (now («old_outputs» .entry)))
+        (sideColumns (now («golden_kinds» .entry)) (now («golden_counts» .entry)) (now («golden_slots» .entry)) (now («golden_outputs» .entry)))
         (now (nets .entry)) (now (weights .entry)))
         (now (job .entry)) ⌝ }
 {
     let reply = records::read_columns(
         job,
         old_kinds,
-        old_firsts,
-        old_seconds,
+        old_counts,
+        old_slots,
         old_outputs,
         golden_kinds,
-        golden_firsts,
-        golden_seconds,
+        golden_counts,
+        golden_slots,
         golden_outputs,
         nets,
         weights,
@@ -82,12 +82,12 @@ pub extern "C" fn records_read(
 pub extern "C" fn records_write(
     counts: &[usize; 7],
     old_kinds: &[u8],
-    old_firsts: &[u16],
-    old_seconds: &[u16],
+    old_counts: &[u8],
+    old_slots: &[u16],
     old_outputs: &[u16],
     golden_kinds: &[u8],
-    golden_firsts: &[u16],
-    golden_seconds: &[u16],
+    golden_counts: &[u8],
+    golden_slots: &[u16],
     golden_outputs: &[u16],
     nets: &[u16],
     weights: &[u16],
@@ -96,20 +96,20 @@ pub extern "C" fn records_write(
 ) -> usize
     ensures length { λ r. ⌜ r ≡ columnsWriteReply (rowCounts (now (counts .entry)))
         (columns
-        (sideColumns (now («old_kinds» .entry)) (now («old_firsts» .entry)) (now («old_seconds» .entry)) (now («old_outputs» .entry)))
-        (sideColumns (now («golden_kinds» .entry)) (now («golden_firsts» .entry)) (now («golden_seconds» .entry)) (now («golden_outputs» .entry)))
+        (sideColumns (now («old_kinds» .entry)) (now («old_counts» .entry)) (now («old_slots» .entry)) (now («old_outputs» .entry)))
+        (sideColumns (now («golden_kinds» .entry)) (now («golden_counts» .entry)) (now («golden_slots» .entry)) (now («golden_outputs» .entry)))
         (now (nets .entry)) (now (weights .entry)))
         (now (buf .entry)) .len ⌝ }
     ensures number { λ _. ⌜ now (number .exit) ≡ columnsWriteReply (rowCounts (now (counts .entry)))
         (columns
-        (sideColumns (now («old_kinds» .entry)) (now («old_firsts» .entry)) (now («old_seconds» .entry)) (now («old_outputs» .entry)))
-        (sideColumns (now («golden_kinds» .entry)) (now («golden_firsts» .entry)) (now («golden_seconds» .entry)) (now («golden_outputs» .entry)))
+        (sideColumns (now («old_kinds» .entry)) (now («old_counts» .entry)) (now («old_slots» .entry)) (now («old_outputs» .entry)))
+        (sideColumns (now («golden_kinds» .entry)) (now («golden_counts» .entry)) (now («golden_slots» .entry)) (now («golden_outputs» .entry)))
         (now (nets .entry)) (now (weights .entry)))
         (now (buf .entry)) .number ⌝ }
     ensures lent { λ _. ⌜ now (buf .exit) ≡ columnsWritten (rowCounts (now (counts .entry)))
         (columns
-        (sideColumns (now («old_kinds» .entry)) (now («old_firsts» .entry)) (now («old_seconds» .entry)) (now («old_outputs» .entry)))
-        (sideColumns (now («golden_kinds» .entry)) (now («golden_firsts» .entry)) (now («golden_seconds» .entry)) (now («golden_outputs» .entry)))
+        (sideColumns (now («old_kinds» .entry)) (now («old_counts» .entry)) (now («old_slots» .entry)) (now («old_outputs» .entry)))
+        (sideColumns (now («golden_kinds» .entry)) (now («golden_counts» .entry)) (now («golden_slots» .entry)) (now («golden_outputs» .entry)))
         (now (nets .entry)) (now (weights .entry)))
         (now (buf .entry)) ⌝ }
 {
@@ -129,12 +129,12 @@ pub extern "C" fn records_write(
     let reply = records::write_columns(
         all,
         old_kinds,
-        old_firsts,
-        old_seconds,
+        old_counts,
+        old_slots,
         old_outputs,
         golden_kinds,
-        golden_firsts,
-        golden_seconds,
+        golden_counts,
+        golden_slots,
         golden_outputs,
         nets,
         weights,

@@ -6,7 +6,7 @@ use samples::word_at;
 
 // The buffer after a call of decide, and the sheet's length.
 pub struct Sheet {
-    pub buf: [u8; 4200],
+    pub buf: [u8; 8200],
     pub len: usize,
 }
 
@@ -32,7 +32,7 @@ fn print_verdict(verdict: engine::Verdict) {
 }
 
 // Decides with so much of the buffer lent, and prints the reply.
-pub(super) fn decided(job: &[u8], mut buf: [u8; 4200], room: usize) -> Sheet {
+pub(super) fn decided(job: &[u8], mut buf: [u8; 8200], room: usize) -> Sheet {
     let k = samples::lent(room, buf);
     let r = engine::decide(job, &mut buf[..k]);
     let verdict = r.verdict;
@@ -43,7 +43,7 @@ pub(super) fn decided(job: &[u8], mut buf: [u8; 4200], room: usize) -> Sheet {
 }
 
 // The hash of the buffer's first n bytes, and the line's end.
-pub(super) fn print_hash(buf: [u8; 4200], n: usize) {
+pub(super) fn print_hash(buf: [u8; 8200], n: usize) {
     cli::print_line(1, b"", samples::hash_front(buf, n) as u64);
 }
 

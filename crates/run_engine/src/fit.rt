@@ -1,4 +1,4 @@
-// Calls of fit, and of decide, fit and compare in a row. The buffers have 2,200 bytes.
+// Calls of fit, and of decide, fit and compare in a row. The buffers have 4,200 bytes.
 use super::compare::print_compared;
 use super::decide::decided;
 use super::decide::print_hash;
@@ -9,12 +9,12 @@ use samples::word_at;
 
 // The buffers of the sheets and of the netlists.
 pub struct Buffers {
-    pub sheets: [u8; 4200],
-    pub netlists: [u8; 4200],
+    pub sheets: [u8; 8200],
+    pub netlists: [u8; 8200],
 }
 
 // Fits with so much of the buffer lent, and prints the reply; the buffer afterwards.
-fn fitted(job: &[u8], sheet: &[u8], mut buf: [u8; 4200], room: usize) -> [u8; 4200] {
+fn fitted(job: &[u8], sheet: &[u8], mut buf: [u8; 8200], room: usize) -> [u8; 8200] {
     let k = samples::lent(room, buf);
     let r = engine::fit(job, sheet, &mut buf[..k]);
     print_number(wide(r.number));
@@ -31,10 +31,10 @@ pub(super) fn fit_call(s: &[u8]) -> bool {
         return false;
     }
     io::write_all(1, b"fit");
-    let room = least(word_at(s, 0), 2200);
+    let room = least(word_at(s, 0), 4200);
     print_hash(
         fitted(&s[4..end], &s[end..], samples::new_buffer(), room),
-        2200,
+        4200,
     );
     true
 }
@@ -46,7 +46,7 @@ fn row(job: &[u8], buffers: Buffers) -> Buffers {
     let a = decided(job, sheets, 1076);
     let sheets = a.buf;
     let k = samples::lent(a.len, sheets);
-    let netlists = fitted(job, &sheets[..k], netlists, 2075);
+    let netlists = fitted(job, &sheets[..k], netlists, 4075);
     print_compared(job, &sheets[..k]);
     Buffers { sheets, netlists }
 }
@@ -68,7 +68,7 @@ pub(super) fn row_call(s: &[u8]) -> bool {
     let buffers = row(&s[end..], row(&s[2..end], fresh));
     let sheets = buffers.sheets;
     let netlists = buffers.netlists;
-    print_number(samples::hash_front(sheets, 2200));
-    print_hash(netlists, 2200);
+    print_number(samples::hash_front(sheets, 4200));
+    print_hash(netlists, 4200);
     true
 }

@@ -18,46 +18,46 @@ pub struct Written {
 pub(super) fn read_lists(job: &[u8], lists: Lists) -> Read {
     let lens = lists.lens;
     let mut old_kinds = lists.old_kinds;
-    let mut old_firsts = lists.old_firsts;
-    let mut old_seconds = lists.old_seconds;
+    let mut old_counts = lists.old_counts;
+    let mut old_slots = lists.old_slots;
     let mut old_outputs = lists.old_outputs;
     let mut golden_kinds = lists.golden_kinds;
-    let mut golden_firsts = lists.golden_firsts;
-    let mut golden_seconds = lists.golden_seconds;
+    let mut golden_counts = lists.golden_counts;
+    let mut golden_slots = lists.golden_slots;
     let mut golden_outputs = lists.golden_outputs;
     let mut nets = lists.nets;
     let mut weights = lists.weights;
     let a = lent_bytes(old_kinds, lens, 0);
-    let b = lent_words(old_firsts, lens, 1);
-    let c = lent_words(old_seconds, lens, 2);
+    let b = lent_bytes(old_counts, lens, 1);
+    let c = lent_words(old_slots, lens, 2);
     let d = lent_words(old_outputs, lens, 3);
     let e = lent_bytes(golden_kinds, lens, 4);
-    let f = lent_words(golden_firsts, lens, 5);
-    let g = lent_words(golden_seconds, lens, 6);
+    let f = lent_bytes(golden_counts, lens, 5);
+    let g = lent_words(golden_slots, lens, 6);
     let h = lent_words(golden_outputs, lens, 7);
     let i = lent_words(nets, lens, 8);
     let j = lent_words(weights, lens, 9);
     let reply = records::read_columns(
         job,
         &mut old_kinds[..a],
-        &mut old_firsts[..b],
-        &mut old_seconds[..c],
+        &mut old_counts[..b],
+        &mut old_slots[..c],
         &mut old_outputs[..d],
         &mut golden_kinds[..e],
-        &mut golden_firsts[..f],
-        &mut golden_seconds[..g],
+        &mut golden_counts[..f],
+        &mut golden_slots[..g],
         &mut golden_outputs[..h],
         &mut nets[..i],
         &mut weights[..j],
     );
     let lists = Lists {
         old_kinds,
-        old_firsts,
-        old_seconds,
+        old_counts,
+        old_slots,
         old_outputs,
         golden_kinds,
-        golden_firsts,
-        golden_seconds,
+        golden_counts,
+        golden_slots,
         golden_outputs,
         nets,
         weights,
@@ -71,18 +71,18 @@ pub(super) fn write_lists(counts: records::Counts, lists: Lists, room: usize) ->
     let lens = lists.lens;
     let old_kinds = lists.old_kinds;
     let a = &old_kinds[..lent_bytes(old_kinds, lens, 0)];
-    let old_firsts = lists.old_firsts;
-    let b = &old_firsts[..lent_words(old_firsts, lens, 1)];
-    let old_seconds = lists.old_seconds;
-    let c = &old_seconds[..lent_words(old_seconds, lens, 2)];
+    let old_counts = lists.old_counts;
+    let b = &old_counts[..lent_bytes(old_counts, lens, 1)];
+    let old_slots = lists.old_slots;
+    let c = &old_slots[..lent_words(old_slots, lens, 2)];
     let old_outputs = lists.old_outputs;
     let d = &old_outputs[..lent_words(old_outputs, lens, 3)];
     let golden_kinds = lists.golden_kinds;
     let e = &golden_kinds[..lent_bytes(golden_kinds, lens, 4)];
-    let golden_firsts = lists.golden_firsts;
-    let f = &golden_firsts[..lent_words(golden_firsts, lens, 5)];
-    let golden_seconds = lists.golden_seconds;
-    let g = &golden_seconds[..lent_words(golden_seconds, lens, 6)];
+    let golden_counts = lists.golden_counts;
+    let f = &golden_counts[..lent_bytes(golden_counts, lens, 5)];
+    let golden_slots = lists.golden_slots;
+    let g = &golden_slots[..lent_words(golden_slots, lens, 6)];
     let golden_outputs = lists.golden_outputs;
     let h = &golden_outputs[..lent_words(golden_outputs, lens, 7)];
     let nets = lists.nets;
@@ -92,6 +92,6 @@ pub(super) fn write_lists(counts: records::Counts, lists: Lists, room: usize) ->
     let mut buf = samples::new_buffer();
     let k = samples::lent(room, buf);
     let reply = records::write_columns(counts, a, b, c, d, e, f, g, h, i, j, &mut buf[..k]);
-    let hash = samples::hash_front(buf, 4200);
+    let hash = samples::hash_front(buf, 8200);
     Written { reply, hash }
 }

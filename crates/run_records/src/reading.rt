@@ -5,6 +5,7 @@ use super::lending::read_lists;
 use super::lists::Lists;
 use super::lists::hash_lists;
 use super::lists::new_lists;
+use super::lists::whole_lists;
 use samples::least;
 use samples::print_number;
 use samples::wide;
@@ -13,7 +14,7 @@ use samples::word_at;
 // How many places are lent as the k-th of ten, of which read asks for so many: one more where short is 11, one less
 // where it is k.
 fn room(asked: usize, k: u8, short: u8) -> usize
-    requires { ⌜ (1 ≤ asked) × (asked ≤ 400) ⌝ }
+    requires { ⌜ (1 ≤ asked) × (asked ≤ 1600) ⌝ }
 {
     if short == 11 {
         return asked + 1;
@@ -26,11 +27,11 @@ fn short_lists(short: u8) -> Lists {
     new_lists([
         room(400, 1, short),
         room(400, 2, short),
-        room(400, 3, short),
+        room(1600, 3, short),
         room(32, 4, short),
         room(400, 5, short),
         room(400, 6, short),
-        room(400, 7, short),
+        room(1600, 7, short),
         room(32, 8, short),
         room(10, 9, short),
         room(10, 10, short),
@@ -66,7 +67,7 @@ pub(super) fn read_call(s: &[u8]) -> bool {
 }
 
 fn read_after(first: &[u8], second: &[u8]) {
-    let before = read_lists(first, new_lists([401; 10]));
+    let before = read_lists(first, whole_lists());
     let lists = before.lists;
     io::write_all(1, b"after");
     print_read(read_lists(second, lists));

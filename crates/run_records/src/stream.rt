@@ -13,7 +13,7 @@ pub struct Bytes {
 
 // A list of two-byte numbers.
 pub struct Words {
-    pub places: [u16; 420],
+    pub places: [u16; 1620],
     pub len: usize,
     pub end: usize,
 }
@@ -50,9 +50,9 @@ fn bytes_at(s: &[u8], from: usize) -> Bytes {
 pub(super) fn words_at(s: &[u8], from: usize) -> Words
     ensures { λ r. ⌜ Counts (r .len) (r .places) ⌝ }
 {
-    let mut places = [0u16; 420];
+    let mut places = [0u16; 1620];
     let at = least(from, 65536);
-    let len = least(word_at(s, at), 420);
+    let len = least(word_at(s, at), 1620);
     let mut i = 0usize;
     while i < len {
         places[i] = (word_at(s, at + 2 + 2 * i) % 65536) as u16;
@@ -68,22 +68,22 @@ pub(super) fn words_at(s: &[u8], from: usize) -> Words
 // The ten lists from a position on.
 pub(super) fn lists_at(s: &[u8], from: usize) -> Lists {
     let a = bytes_at(s, from);
-    let b = words_at(s, a.end);
+    let b = bytes_at(s, a.end);
     let c = words_at(s, b.end);
     let d = words_at(s, c.end);
     let e = bytes_at(s, d.end);
-    let f = words_at(s, e.end);
+    let f = bytes_at(s, e.end);
     let g = words_at(s, f.end);
     let h = words_at(s, g.end);
     let i = words_at(s, h.end);
     let j = words_at(s, i.end);
     let old_kinds = a.places;
-    let old_firsts = b.places;
-    let old_seconds = c.places;
+    let old_counts = b.places;
+    let old_slots = c.places;
     let old_outputs = d.places;
     let golden_kinds = e.places;
-    let golden_firsts = f.places;
-    let golden_seconds = g.places;
+    let golden_counts = f.places;
+    let golden_slots = g.places;
     let golden_outputs = h.places;
     let nets = i.places;
     let weights = j.places;
@@ -101,12 +101,12 @@ pub(super) fn lists_at(s: &[u8], from: usize) -> Lists {
     ];
     Lists {
         old_kinds,
-        old_firsts,
-        old_seconds,
+        old_counts,
+        old_slots,
         old_outputs,
         golden_kinds,
-        golden_firsts,
-        golden_seconds,
+        golden_counts,
+        golden_slots,
         golden_outputs,
         nets,
         weights,

@@ -2,7 +2,7 @@
 use super::lending::Written;
 use super::lending::read_lists;
 use super::lending::write_lists;
-use super::lists::new_lists;
+use super::lists::whole_lists;
 use super::stream::count_at;
 use super::stream::lists_at;
 use samples::print_number;
@@ -43,11 +43,11 @@ pub(super) fn write_call(s: &[u8]) -> bool {
 
 // A job read and written again, with the least buffer that write asks for.
 pub(super) fn again_call(s: &[u8]) -> bool {
-    let read = read_lists(s, new_lists([401; 10]));
+    let read = read_lists(s, whole_lists());
     let reply = read.reply;
     let lists = read.lists;
     io::write_all(1, b"again");
     print_number(wide(reply.number));
-    print_written(write_lists(reply.counts, lists, 4188));
+    print_written(write_lists(reply.counts, lists, 8188));
     true
 }

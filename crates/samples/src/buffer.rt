@@ -16,13 +16,13 @@ pub fn patterned(which: usize, i: usize) -> usize
 }
 
 // The pattern of list 11, which is that of the reply buffers.
-pub fn new_buffer() -> [u8; 4200]
-    ensures { λ r. ⌜ 4200 ≡ length r ⌝ }
-    ensures { λ r. ⌜ ((k : ℕ) → k < 4200 → getD r k 0 ≡ Sample·patterned 11 k % 256) ⌝ }
+pub fn new_buffer() -> [u8; 8200]
+    ensures { λ r. ⌜ 8200 ≡ length r ⌝ }
+    ensures { λ r. ⌜ ((k : ℕ) → k < 8200 → getD r k 0 ≡ Sample·patterned 11 k % 256) ⌝ }
 {
-    let mut a = [0u8; 4200];
+    let mut a = [0u8; 8200];
     let mut i = 0usize;
-    while i < 4200 {
+    while i < 8200 {
         a[i] = (patterned(11, i) % 256) as u8;
         i += 1;
     }
@@ -30,11 +30,11 @@ pub fn new_buffer() -> [u8; 4200]
 }
 
 // How many bytes of the buffer are lent where n are asked for: at most all. It takes the buffer so that the contract can speak of it.
-pub fn lent(n: usize, buf: [u8; 4200]) -> usize
-    ensures { λ r. ⌜ r ≡ min n 4200 ⌝ }
+pub fn lent(n: usize, buf: [u8; 8200]) -> usize
+    ensures { λ r. ⌜ r ≡ min n 8200 ⌝ }
     ensures { λ r. ⌜ Counts r buf ⌝ }
 {
-    least(n, 4200)
+    least(n, 8200)
 }
 
 // The hash h with one more value.
@@ -69,8 +69,8 @@ pub fn hash_words(from: usize, a: &[u16]) -> usize
 }
 
 // The hash of the buffer's first n bytes, at most all.
-pub fn hash_front(buf: [u8; 4200], n: usize) -> usize
-    ensures { λ r. ⌜ r ≡ hashed 0 (take (min n 4200) buf) ⌝ }
+pub fn hash_front(buf: [u8; 8200], n: usize) -> usize
+    ensures { λ r. ⌜ r ≡ hashed 0 (take (min n 8200) buf) ⌝ }
 {
     let k = lent(n, buf);
     hash_bytes(0, &buf[..k])

@@ -43,8 +43,8 @@ read-refusal p s h = rw h
 abbrev pub lentPlaces : Columns
 lentPlaces =
     columns
-    (sideColumns (replicate 400 0) (replicate 400 0) (replicate 400 0) (replicate 32 0))
-    (sideColumns (replicate 400 0) (replicate 400 0) (replicate 400 0) (replicate 32 0))
+    (sideColumns (replicate 400 0) (replicate 400 0) (replicate 1600 0) (replicate 32 0))
+    (sideColumns (replicate 400 0) (replicate 400 0) (replicate 1600 0) (replicate 32 0))
     (replicate 10 0) (replicate 10 0)
 
 -- what they hold after it, of the last values of read's lent parameters

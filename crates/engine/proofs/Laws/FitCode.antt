@@ -5,20 +5,23 @@ use mathlib.Core.Logic.{⊎-elim}
 use mathlib.Core.List.{List, [], _∷_, _++_, map, append-nil, map-append, List·Memᴰ as Mem}
 use mathlib.Core.Bool.{Bool, true, false, cond}
 use native.Mathlib.Nat.{add-zero, zero-add}
+use native.Mathlib.Numerals.{add-one}
 use native.Mathlib.Omega.{arith}
 use borrow.Author.Tests.{eq-eqb, ne-eqb, eqb-true, eqb-false, ltb-true, ltb-false, lt-ltb, le-ltb}
 use lib.Dec.{eqb, ltb}
-use lib.ListN.{length, getD, take, set, replicate, length-set, length-append, length-map, length-replicate, List·getD-map}
+use lib.ListN.{length, getD, take, drop, set, replicate, length-set, length-append, length-map, length-replicate, List·getD-map}
 use lib.ListN.{getD-replicate}
-use lib.Seq.{length-take-le, getD-take, getD-set-same, getD-set-other}
-use Rattle.records.specs.Bytes.{upFrom}
+use lib.Seq.{append-snoc, drop-nil, length-take-le, getD-take, getD-set-same, getD-set-other, take-length, take-nil, take-suc-set}
+use Rattle.records.specs.Bytes.{upFrom, all}
 use Rattle.records.specs.Gate.{Gate, gateOf, operands, unused}
 use Rattle.records.specs.Netlist.{netAt}
+use Rattle.records.specs.Claims.{Below}
+use Rattle.records.proofs.Laws.Accepted.{below-of-all}
 use Rattle.records.proofs.Laws.Bytes.{length-upFrom}
 use Rattle.records.proofs.Laws.Gate.{gateGood-parts}
 use Rattle.engine.specs.Choice.{keep}
 use Rattle.engine.specs.Fit.{moved}
-use Rattle.engine.specs.Inner.Packed.{fields, packed, packedFrom}
+use Rattle.engine.specs.Inner.Packed.{fields, kindOf, countOf, gateWith, packed, packedFrom}
 use Rattle.engine.specs.Inner.Tree.{Nets, GateRoom, GatesPut, TreesPut}
 use Rattle.engine.specs.Inner.Renumber.{gateIn, unpacked, oldGates, oldBase, OldHeld, indicesWith, InputsNumbered, Numbered}
 use Rattle.engine.specs.Inner.Renumber.{movedFrom, withMark, MarkedPlaced}
@@ -26,10 +29,9 @@ use Rattle.engine.specs.Inner.Fitting.{TreesPlaced}
 use Rattle.engine.specs.declared.renumber.NewSide.{NewSide}
 use Rattle.engine.specs.declared.renumber.OldSide.{OldSide}
 use Rattle.engine.proofs.Laws.Choice.{true-or-false, length-keep-le, mem-keep, mem-below, map-agree, all-true}
-use Rattle.engine.proofs.Laws.FitGates.{good-at}
+use Rattle.engine.proofs.Laws.FitGates.{noGate, good-at}
 use Rattle.engine.proofs.Laws.FitNets.{getD-defaults}
-use Rattle.engine.proofs.Laws.MiterCode.{mapped-slots}
-use Rattle.engine.proofs.Laws.Packed.{kind-lt}
+use Rattle.engine.proofs.Laws.List.{set-below}
 use Rattle.engine.proofs.Laws.Tree.{gates-put-one, gates-put-append, gates-put-same, room-kept, room-less}
 
 -- ---- keep
@@ -209,31 +211,100 @@ indicesWith-le ms base b i n h =
 
 -- ---- gates at their new numbers
 
-pub slot-kept : (k l a b : ℕ) → k < l → a ≡ cond (ltb k l) a b
-slot-kept k l a b h = rw (lt-ltb k l h)
+-- the slots ss, the first n of them at their new numbers
+abbrev movedSlots : List ℕ → ℕ → List ℕ → List ℕ
+movedSlots ns n ss = map (netAt ns) (take n ss) ++ drop n ss
 
-pub slot-moved : (k l a b : ℕ) → l ≤ k → b ≡ cond (ltb k l) a b
-slot-moved k l a b h = rw (le-ltb k l h)
+movedSlots-cons : (ns : List ℕ) (n i x : ℕ) (xs : List ℕ)
+    → movedSlots ns (n - i) (x ∷ xs) ≡ cond (ltb i n) (netAt ns x) x ∷ movedSlots ns (n - (i + 1)) xs
+movedSlots-cons ns n i x xs =
+    ⊎-elim
+    (λ (t : ltb i n ≡ true).
+    let h = ltb-true i n t in
+    let m : n - i ≡ suc (n - (i + 1)) = omega arith in
+    rw (t, m))
+    (λ (t : ltb i n ≡ false).
+    let h = ltb-false i n t in
+    let m : n - i ≡ 0 = omega arith in
+    let o : n - (i + 1) ≡ 0 = omega arith in
+    rw (t, m, o))
+    (true-or-false (ltb i n))
 
--- a slot is a net
-pub slot-net : (ns : List ℕ) → Nets 1024 ns → (k l s : ℕ) {r : ℕ} → r ≡ cond (ltb k l) (s % 1024) (getD ns (s % 1024) 0)
-    → r < 1024
-slot-net ns p k l s e =
-    let h : s % 1024 < 1024 = omega arith in
-    let q = p (s % 1024) h in
-    rw e
-    (⊎-elim
-    (λ (t : ltb k l ≡ true). rw t h)
-    (λ (t : ltb k l ≡ false). rw t q)
-    (true-or-false (ltb k l)))
+-- slot i of n that are used, or more
+pub slot-used : (i n a b : ℕ) {v : ℕ} → i < n → v ≡ a → v ≡ cond (ltb i n) a b
+slot-used i n a b h e = rw (lt-ltb i n h) e
 
--- what moved_slot gives for the two slots of the gate in c
-pub moved-in : (ns : List ℕ) (c : ℕ) {a b : ℕ} → c % 16 < 10
-    → a ≡ cond (ltb (c % 16) 2) (c / 131072 % 1024) (getD ns (c / 131072 % 1024) 0)
-    → b ≡ cond (ltb (c % 16) 4) (c / 131072 / 1024 % 1024) (getD ns (c / 131072 / 1024 % 1024) 0)
-    → gateOf (c % 16) a b ≡ moved ns (gateIn c)
-unfolding gateIn fields gateOf moved netAt
-moved-in ns c h e f = rw (e, f) (mapped-slots (netAt ns) (c % 16) (c / 131072 % 1024) (c / 131072 / 1024 % 1024) h)
+pub slot-unused : (i n a b : ℕ) {v : ℕ} → n ≤ i → v ≡ b → v ≡ cond (ltb i n) a b
+slot-unused i n a b h e = rw (le-ltb i n h) e
+
+-- the first i slots of the gate in c stand in r as they are to be, and the others, as they were, in the number rest
+pub record Moving (ns : List ℕ) (c : ℕ) (r : List ℕ) (rest i : ℕ) : Type 0 where
+  pub most : i ≤ 4
+  pub long : length r ≡ 4
+  pub below : Below 1024 r
+  pub slots : take i r ++ movedSlots ns (countOf c - i) (fields (4 - i) rest) ≡ moved ns (gateIn c) .slots
+
+module _ (ns : List ℕ) (c : ℕ) where
+  pub moving-none : Moving ns c (replicate 4 0) (c / 131072) 0
+  unfolding moved gateIn operands unused all
+  moving-none =
+      let e : countOf c - 0 ≡ countOf c = omega arith in
+      record {
+        most = omega arith;
+        long = refl;
+        below = below-of-all 1024 (omega arith) (replicate 4 0) refl;
+        slots = rw e;
+      }
+
+  module _ {r : List ℕ} {rest i : ℕ} (w : Moving ns c r rest i) where
+    -- a turn: slot i, with the value v that its use gives
+    pub moving-next : Nets 1024 ns → i < 4 → {v : ℕ} → v ≡ cond (ltb i (countOf c)) (getD ns (rest % 1024) 0) (rest % 1024)
+        → Moving ns c (set r i v) (rest / 1024) (i + 1)
+    unfolding fields netAt
+    moving-next p l {v} e =
+        let x = rest % 1024 in
+        let h : x < 1024 = omega arith in
+        let q = p x h in
+        let b : v < 1024 =
+        rw e
+        (⊎-elim
+        (λ (t : ltb i (countOf c) ≡ true). rw t q)
+        (λ (t : ltb i (countOf c) ≡ false). rw t h)
+        (true-or-false (ltb i (countOf c)))) in
+        let n = countOf c - (i + 1) in
+        let k : 4 - i ≡ suc (4 - (i + 1)) = omega arith in
+        let left = movedSlots ns n (fields (4 - (i + 1)) (rest / 1024)) in
+        record {
+          most = omega arith;
+          long = length-set r i v ∙ w .long;
+          below = set-below r i v 1024 (w .below) b;
+          slots =
+              ap (λ (z : ℕ). take z (set r i v) ++ left) (add-one i)
+              ∙ ap (λ (z : List ℕ). z ++ left) (take-suc-set r i v (omega (arith, w .long)))
+              ∙ append-snoc (take i r) v left
+              ∙ ap (λ (z : ℕ). take i r ++ (z ∷ left)) e
+              ∙ ap (λ (z : List ℕ). take i r ++ z) (sym (movedSlots-cons ns (countOf c) i x (fields (4 - (i + 1)) (rest / 1024))))
+              ∙ ap (λ (z : ℕ). take i r ++ movedSlots ns (countOf c - i) (fields z rest)) (sym k)
+              ∙ w .slots;
+        }
+
+    pub moving-all : 4 ≤ i → (r ≡ moved ns (gateIn c) .slots) × Below 1024 r
+    unfolding fields
+    moving-all l =
+        let e : i ≡ 4 = omega (arith, w .most) in
+        let n = countOf c - 4 in
+        let z : movedSlots ns n [] ≡ [] = rw (take-nil {A = ℕ} n, drop-nil {A = ℕ} n) in (
+          sym (append-nil r)
+              ∙ ap (λ (k : List ℕ). r ++ k) (sym z)
+              ∙ ap (λ (k : List ℕ). k ++ movedSlots ns n []) (sym (take-length r) ∙ ap (λ (k : ℕ). take k r) (w .long))
+              ∙ (rw e at (w .slots)),
+          w .below,
+        )
+
+  -- the gate with these slots
+  pub gate-moved : {r : List ℕ} → r ≡ moved ns (gateIn c) .slots → gateWith (kindOf c) (countOf c) r ≡ moved ns (gateIn c)
+  unfolding moved gateIn
+  gate-moved e = rw e
 
 -- ---- the loop that numbers and puts them
 
@@ -242,22 +313,15 @@ module _ (o : OldSide) (h : OldHeld o) where
   length-old =
       length-map (take (o .count) (o .gates)) gateIn ∙ length-take-le (o .count) (o .gates) (omega (arith, h .count, h .long))
 
-  pub gate-at : (i : ℕ) → i < o .count → getD (oldGates o) i (gateOf 0 0 0) ≡ gateIn (getD (o .gates) i 0)
+  pub gate-at : (i : ℕ) → i < o .count → getD (oldGates o) i noGate ≡ gateIn (getD (o .gates) i 0)
   unfolding gateIn fields gateOf
   gate-at i l =
       List·getD-map gateIn (take (o .count) (o .gates)) i 0 ∙ ap gateIn (getD-take (o .count) (o .gates) i 0 l)
 
-  -- each of them has a kind
-  pub old-kind : (i : ℕ) → i < o .count → getD (o .gates) i 0 % 16 < 10
-  unfolding gateIn
-  old-kind i l =
-      kind-lt (oldBase o + i) (gateIn (getD (o .gates) i 0))
-      (rw (gate-at i l) at (good-at (oldBase o) (oldGates o) (h .good) i (omega (arith, length-old))))
-
 movedFrom-snoc : (gs : List Gate) (ns is : List ℕ) (i : ℕ)
-    → movedFrom gs ns (is ++ (i ∷ [])) ≡ movedFrom gs ns is ++ (moved ns (getD gs i (gateOf 0 0 0)) ∷ [])
+    → movedFrom gs ns (is ++ (i ∷ [])) ≡ movedFrom gs ns is ++ (moved ns (getD gs i noGate) ∷ [])
 unfolding movedFrom
-movedFrom-snoc gs ns is i = map-append (λ k. moved ns (getD gs k (gateOf 0 0 0))) is (i ∷ [])
+movedFrom-snoc gs ns is i = map-append (λ k. moved ns (getD gs k noGate)) is (i ∷ [])
 
 pub length-movedFrom : (gs : List Gate) (ns ks : List ℕ) → length (movedFrom gs ns ks) ≡ length ks
 unfolding movedFrom
@@ -268,7 +332,7 @@ pub moved-agree : (ns ns′ : List ℕ) (g : Gate) → ((i : ℕ) → Mem i (ope
     → moved ns g ≡ moved ns′ g
 unfolding moved netAt
 moved-agree ns ns′ g h =
-    ap (λ (l : List ℕ). record { kind = g .kind; slots = l ++ unused g }) (map-agree (netAt ns) (netAt ns′) (operands g) h)
+    ap (λ (l : List ℕ). gateWith (g .kind) (g .count) (l ++ unused g)) (map-agree (netAt ns) (netAt ns′) (operands g) h)
 
 -- the gates with mark b among the first i of the old ones have their numbers in ns, and stand behind the first r₀ gates: r in all
 pub record Placing (ms codes : List ℕ) (base many n b : ℕ) (ns₀ cs₀ : List ℕ) (r₀ i : ℕ) (ns cs : List ℕ) (r : ℕ) : Type 0 where
@@ -322,7 +386,7 @@ module _ (o : OldSide) (b : ℕ) (new : NewSide) where
           map-agree _ _ (indices i)
           (λ k t.
           let p = mem-below i k .0 (mem-keep (has (o .marks) (oldBase o) b) (upFrom 0 i) k .0 t .0) in
-          let g = getD (oldGates o) k (gateOf 0 0 0) in
+          let g = getD (oldGates o) k noGate in
           let e = good-at (oldBase o) (oldGates o) (h .good) k (omega (arith, length-old o h)) in
           moved-agree ns put g
           (λ x y.

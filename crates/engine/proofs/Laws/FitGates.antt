@@ -22,7 +22,7 @@ use Rattle.engine.proofs.Laws.Eval.{Bits, bits-nil, bits-cons, bits-app
 
 -- what stands for a gate past the end of a list
 abbrev pub noGate : Gate
-noGate = gateOf 0 0 0
+noGate = gateOf 0 0 0 0 0 0
 
 -- ---- good gates
 

@@ -10,7 +10,7 @@ use Prim.Native.Nat.{ℕ, zero, suc, _+_, _-_, _≤_, _<_}
 use mathlib.Core.Path.{_≡_, refl, sym, _∙_, ap, subst}
 use mathlib.Core.Logic.{_↔_, _⊎_, inl, inr, ⊎-elim}
 use mathlib.Core.List.{List, [], _∷_, _++_, map, List·Memᴰ as Mem, List·Memᴰ·head as here, List·Memᴰ·tail as there, List·Memᴰ·not-nil as not-nil, List·Memᴰ·cases-cons as cases-cons, Memᴰ·of-map as mem-of-map}
-use mathlib.Core.Bool.{Bool, true, false, cond, _&&_}
+use mathlib.Core.Bool.{Bool, true, false, cond}
 use native.Mathlib.Nat.{zero-add}
 use native.Mathlib.Omega.{arith}
 use borrow.Author.Tests.{lt-ltb, le-ltb, ltb-true, ltb-false, eqb-true, eq-eqb, ne-eqb}
@@ -18,13 +18,13 @@ use lib.Dec.{eqb, ltb}
 use lib.ListN.{length, getD, take, drop, replicate, length-append, length-map, List·getD-append, List·getD-map}
 use lib.Seq.{getD-append-add}
 use Rattle.records.specs.Bytes.{upFrom, tabulate, all}
-use Rattle.records.specs.Gate.{Gate, gateOf, arity, operands, unused, gateValue, disj}
+use Rattle.records.specs.Gate.{Gate, operands, unused, gateValue, disj}
 use Rattle.records.specs.Netlist.{netAt, markOf, fanout}
 use Rattle.records.specs.Job.{Job}
 use Rattle.records.specs.Refusal.{gateGood, gatesGood, netlistsGood, oldNets}
 use Rattle.records.specs.Inner.{leafMarks}
 use Rattle.records.proofs.Laws.Bytes.{and-left, length-upFrom, getD-upFrom, getD-tabulate}
-use Rattle.records.proofs.Laws.Gate.{on-bit, gateGood-parts}
+use Rattle.records.proofs.Laws.Gate.{on-bit, gateGood-permits, gateGood-parts}
 use Rattle.engine.specs.Choice.{keep}
 use Rattle.engine.specs.Fit.{led, gateIndices, rank, newFreeGate, newFreeNet, trees, newGate, newNets, moved, movedGates, fitted}
 use Rattle.engine.proofs.Laws.Choice.{all-true, all-of-members, mem-keep, mem-below, keep-lt, true-or-false}
@@ -396,28 +396,26 @@ module _ (f : ℕ → ℕ) where
 
 -- a gate with its used operands renumbered by f
 abbrev pub renumbered : (ℕ → ℕ) → Gate → Gate
-renumbered f g = record { kind = g .kind; slots = map f (operands g) ++ unused g }
+renumbered f g = record { kind = g .kind; count = g .count; slots = map f (operands g) ++ unused g }
 
 module _ (f : ℕ → ℕ) (g : Gate) where
   pub operands-renumbered : operands (renumbered f g) ≡ map f (operands g)
   unfolding operands unused
-  operands-renumbered = take-moved f (arity (g .kind)) (g .slots)
+  operands-renumbered = take-moved f (g .count) (g .slots)
 
   unused-renumbered : unused (renumbered f g) ≡ unused g
   unfolding operands unused
-  unused-renumbered = drop-moved f (arity (g .kind)) (g .slots)
+  unused-renumbered = drop-moved f (g .count) (g .slots)
 
   -- a renumbered gate may drive a net above its operands' new numbers
   pub renumbered-good : (net new : ℕ) → gateGood net g ≡ true → ((i : ℕ) → Mem i (operands g) → f i < new)
       → gateGood new (renumbered f g) ≡ true
   unfolding gateGood
   renumbered-good net new e h =
-      let exists : Bool = ltb (g .kind) 10 in
-      let used : Bool = all (λ i. ltb i net) (operands g) in
       rw (
         operands-renumbered,
         unused-renumbered,
-        and-left exists used (and-left (exists && used) (all (eqb 0) (unused g)) e),
+        gateGood-permits net g e,
         all-mapped f new (operands g) h,
         gateGood-parts net g e .1,
       )
@@ -431,7 +429,7 @@ module _ (ns : List ℕ) (g : Gate) where
 module _ (j : Job) (ns ks : List ℕ) where
   pub length-moved : length (movedGates j ns ks) ≡ length ks
   unfolding movedGates
-  length-moved = length-map ks (λ k. moved ns (getD (j .old .gates) k (gateOf 0 0 0)))
+  length-moved = length-map ks (λ k. moved ns (getD (j .old .gates) k noGate))
 
   pub moved-at : (r : ℕ) → r < length ks → getD (movedGates j ns ks) r noGate ≡ moved ns (oldGate j (getD ks r 0))
   unfolding movedGates

@@ -12,7 +12,7 @@ use lib.Dec.{eqb, ltb}
 use lib.ListN.{length, getD, take, drop, length-append, length-map, List·getD-append}
 use lib.Seq.{length-take-le, getD-take, getD-drop, getD-append-add}
 use Rattle.records.specs.Bytes.{upFrom, placed}
-use Rattle.records.specs.Gate.{Gate, operands, unused}
+use Rattle.records.specs.Gate.{Gate, operands}
 use Rattle.records.specs.Netlist.{netAt}
 use Rattle.records.specs.Job.{Job}
 use Rattle.records.specs.Refusal.{gatesGood, netlistsGood, oldNets}

@@ -8,18 +8,18 @@ use mathlib.Core.Bool.{true, false}
 use native.Mathlib.Nat.{add-zero, add-comm, zero-mul, one-mul, mul-assoc, pow-suc}
 use native.Mathlib.Omega.{arith}
 use borrow.Author.Tests.{eqb-true, lt-ltb}
-use lib.Dec.{eqb, ltb}
+use lib.Dec.{eqb}
 use lib.ListN.{length, getD, take, drop, length-append, length-drop, length-map, List·getD-map}
 use lib.Seq.{getD-take, getD-drop, take-suc, length-take-le, take-length}
 use Rattle.records.specs.Bytes.{all}
-use Rattle.records.specs.Gate.{Gate, gateOf, arity, operands, unused, gateValue, conj, disj, inverted}
+use Rattle.records.specs.Gate.{Gate, gateOf, leastCount, mostCount, permits, operands, unused, gateValue, conj, disj, inverted}
 use Rattle.records.specs.Netlist.{netAt, valueOf}
 use Rattle.records.specs.Refusal.{gateGood, gatesGood}
-use Rattle.records.proofs.Laws.Bytes.{and-both, all-cons}
-use Rattle.records.proofs.Laws.Gate.{getD-all, on-bit, arity-one, arity-two, gateGood-one, gateGood-two}
+use Rattle.records.proofs.Laws.Bytes.{all-cons}
+use Rattle.records.proofs.Laws.Gate.{getD-all, on-bit}
 use Rattle.engine.specs.Choice.{same}
 use Rattle.engine.specs.Eval.{bit, numberOf}
-use Rattle.engine.specs.Tree.{column, tree}
+use Rattle.engine.specs.Tree.{constant, notOf, andOf, orOf, column, tree}
 use Rattle.engine.specs.Fit.{Trees, treesFrom}
 use Rattle.engine.proofs.Laws.Choice.{true-or-false, same-true}
 use Rattle.engine.proofs.Laws.Eval.{Bits, bits-nil, bits-cons, getD-bits, bits-map, bit-lt, netAt-lt, numberOf-lt}
@@ -30,7 +30,7 @@ use Rattle.engine.proofs.Laws.FitGates.{good-append, Consistent, consis
 
 -- the gates from net n on that choose between nets l and h by net s
 abbrev pub choosers : ℕ → ℕ → ℕ → ℕ → List Gate
-choosers s l h n = gateOf 3 s 0 ∷ gateOf 4 n l ∷ gateOf 4 s h ∷ gateOf 6 (n + 1) (n + 2) ∷ []
+choosers s l h n = notOf s ∷ andOf n l ∷ andOf s h ∷ orOf (n + 1) (n + 2) ∷ []
 
 -- two trees in a row, the first from net next on, and the gates that choose between them by net s
 abbrev pub muxed : ℕ → ℕ → List Gate → List Gate → List Gate
@@ -46,8 +46,8 @@ choosing k next is col =
     muxed (getD is k 0) next ls (tree k (next + length ls) is (drop (2 ^ k) col))
 
 pub data TreeCase (k next : ℕ) (is col : List ℕ) : List Gate → Type 0 where
-  zeros : all (eqb 0) col ≡ true → TreeCase k next is col (gateOf 0 0 0 ∷ [])
-  ones : all (eqb 1) col ≡ true → TreeCase k next is col (gateOf 1 0 0 ∷ [])
+  zeros : all (eqb 0) col ≡ true → TreeCase k next is col (constant 0 ∷ [])
+  ones : all (eqb 1) col ≡ true → TreeCase k next is col (constant 1 ∷ [])
   halves : take (2 ^ k) col ≡ drop (2 ^ k) col → TreeCase k next is col (tree k next is (take (2 ^ k) col))
   choice : TreeCase k next is col (choosing k next is col)
 
@@ -91,27 +91,26 @@ tree-some (suc k) next is col = some-case k next is col (λ n c. tree-some k n i
 
 -- ---- good gates
 
-constant-good : (net c : ℕ) → c < 2 → gatesGood net (gateOf c 0 0 ∷ []) ≡ true
-unfolding gatesGood gateGood gateOf operands unused all arity
-constant-good net c h = on-bit (λ k. gatesGood net (gateOf k 0 0 ∷ []) ≡ true) refl refl c h
+constant-good : (net c : ℕ) → c < 2 → gatesGood net (constant c ∷ []) ≡ true
+unfolding gatesGood gateGood constant gateOf permits leastCount mostCount operands unused all
+constant-good net c h = on-bit (λ k. gatesGood net (constant k ∷ []) ≡ true) refl refl c h
 
-two-good : (net k a b : ℕ) → 4 ≤ k → k ≤ 9 → a < net → b < net → gateGood net (gateOf k a b) ≡ true
-two-good net k a b l h p q =
-    gateGood-two net k a b h (arity-two k l (omega arith)) ∙ and-both (ltb a net) (ltb b net) (lt-ltb a net p) (lt-ltb b net q)
+pair-good : (net k a b : ℕ) → permits k 2 ≡ true → a < net → b < net → gateGood net (gateOf k 2 a b 0 0) ≡ true
+unfolding gateGood gateOf operands unused all
+pair-good net k a b e p q = rw (e, lt-ltb a net p, lt-ltb b net q)
 
-not-good : (net a : ℕ) → a < net → gateGood net (gateOf 3 a 0) ≡ true
-not-good net a p =
-    gateGood-one net 3 a 0 (omega arith) (arity-one 3 (omega arith) (omega arith))
-    ∙ and-both (ltb a net) (eqb 0 0) (lt-ltb a net p) refl
+not-good : (net a : ℕ) → a < net → gateGood net (notOf a) ≡ true
+unfolding gateGood notOf gateOf permits leastCount mostCount operands unused all
+not-good net a p = rw (lt-ltb a net p)
 
 mux-good : (s l h n : ℕ) → s < n → l < n → h < n → gatesGood n (choosers s l h n) ≡ true
-unfolding gatesGood
+unfolding gatesGood andOf orOf permits leastCount mostCount
 mux-good s l h n p q r =
     rw (
       not-good n s p,
-      two-good (suc n) 4 n l (omega arith) (omega arith) (omega arith) (omega arith),
-      two-good (suc (suc n)) 4 s h (omega arith) (omega arith) (omega arith) (omega arith),
-      two-good (suc (suc (suc n))) 6 (n + 1) (n + 2) (omega arith) (omega arith) (omega arith) (omega arith),
+      pair-good (suc n) 4 n l refl (omega arith) (omega arith),
+      pair-good (suc (suc n)) 4 s h refl (omega arith) (omega arith),
+      pair-good (suc (suc (suc n))) 6 (n + 1) (n + 2) refl (omega arith) (omega arith),
     )
 
 good-case : (k next : ℕ) (is col : List ℕ) {gs : List Gate} → getD is k 0 < next
@@ -225,15 +224,15 @@ module _ (ws : List ℕ) (b : Bits ws) where
       ∙ numberOf-snoc (map (netAt ws) (take k is)) (netAt ws (getD is k 0))
       ∙ ap (λ (n : ℕ). readingOf is k + netAt ws (getD is k 0) * 2 ^ n) l
 
-  constant-value : (net c : ℕ) → c < 2 → Consistent valueOf ws net (gateOf c 0 0 ∷ []) → netAt ws (net + 1 - 1) ≡ c
-  unfolding valueOf operands gateOf arity gateValue
+  constant-value : (net c : ℕ) → c < 2 → Consistent valueOf ws net (constant c ∷ []) → netAt ws (net + 1 - 1) ≡ c
+  unfolding valueOf operands constant gateOf gateValue
   constant-value net c h t =
       let e : net + 1 - 1 ≡ net + 0 = omega arith in
-      ap (netAt ws) e ∙ t .at 0 (omega arith) ∙ on-bit (λ k. valueOf ws (gateOf k 0 0) ≡ k) refl refl c h
+      ap (netAt ws) e ∙ t .at 0 (omega arith) ∙ on-bit (λ k. valueOf ws (constant k) ≡ k) refl refl c h
 
   mux-value : (s l h n : ℕ) → Consistent valueOf ws n (choosers s l h n)
       → netAt ws (n + 3) ≡ getD (netAt ws l ∷ netAt ws h ∷ []) (netAt ws s) 0
-  unfolding valueOf operands gateOf arity gateValue inverted conj disj
+  unfolding valueOf operands notOf andOf orOf gateOf gateValue inverted conj disj
   mux-value s l h n t =
       let p : netAt ws n ≡ 1 - netAt ws s = ap (netAt ws) (sym (add-zero n)) ∙ t .at 0 (omega arith) in
       let q : netAt ws (n + 1) ≡ min (netAt ws n) (min (netAt ws l) 1) = t .at 1 (omega arith) in

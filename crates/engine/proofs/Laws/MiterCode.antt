@@ -1,35 +1,33 @@
 -- Laws of the code that makes a miter (src/miter.rt): gates put one after the other, nets shifted, and the struct. Assumes nothing.
-use Prim.Native.Nat.{ℕ, zero, suc, _+_, _≤_, _<_}
+use Prim.Native.Nat.{ℕ, zero, suc, _+_, min, _≤_, _<_}
 use mathlib.Core.Path.{_≡_, refl, sym, _∙_, ap}
-use mathlib.Core.Logic.{⊎-elim}
 use mathlib.Core.List.{List, [], _∷_, _++_, map, map-append, append-assoc, append-nil}
 use mathlib.Core.Bool.{Bool, true, false, cond}
 use native.Mathlib.Nat.{add-zero, zero-add}
 use native.Mathlib.Numerals.{add-one}
 use native.Mathlib.Omega.{arith}
-use borrow.Author.Tests.{lt-ltb, ltb-true, ltb-false}
 use lib.Dec.{eqb, ltb}
 use lib.ListN.{length, getD, take, drop, set, replicate, length-append, length-map, length-set, length-replicate, take-append-drop, List·getD-map}
 use lib.Seq.{take-suc, take-suc-set, getD-take, length-take-le}
 use Rattle.records.specs.Bytes.{all}
-use Rattle.records.specs.Gate.{Gate, gateOf, arity, operands, unused}
+use Rattle.records.specs.Gate.{Gate, gateOf, operands, unused}
 use Rattle.records.specs.Job.{Job}
 use Rattle.records.specs.Refusal.{gateGood, gatesGood, oldNets, goldenNets}
-use Rattle.records.specs.Service.{gateFrom, gatesIn, noGate, countsOf, sideCountsOf}
+use Rattle.records.specs.Service.{structSlots, gateFrom, gatesIn, noGate, countsOf, sideCountsOf}
+use Rattle.records.specs.Claims.{Below}
 use Rattle.records.specs.Inner.{Within}
 use Rattle.records.specs.Parts.{PartsOf}
 use Rattle.records.specs.declared.gate.Gate.{Gate as GateStruct}
 use Rattle.records.specs.declared.job.Counts.{Counts}
 use Rattle.records.specs.declared.loading.JobParts.{JobParts}
-use Rattle.records.proofs.Laws.Gate.{arity-low, arity-one, arity-two, slots-le}
+use Rattle.records.proofs.Laws.Gate.{gateGood-kind, gateGood-count, slots-le}
 use Rattle.records.proofs.Laws.Job.{length-gatesIn}
-use Rattle.engine.specs.Inner.Packed.{packed, packedFrom, formed}
+use Rattle.engine.specs.Inner.Packed.{gateWith, packed, packedFrom, formed}
 use Rattle.engine.specs.Inner.Miter.{shiftedNet, shifted, shiftOf, miterGates, miterGoldens, codes, GateFits, GatesFit, CodesPut, NetsFit, NetsShifted, MiterRoom, MiterOf}
 use Rattle.engine.specs.declared.miter.Miter.{Miter}
-use Rattle.engine.proofs.Laws.Choice.{true-or-false, all-append, all-getD}
+use Rattle.engine.proofs.Laws.Choice.{all-append, all-getD}
 use Rattle.engine.proofs.Laws.FitGates.{good-at}
 use Rattle.engine.proofs.Laws.FitNets.{old-good}
-use Rattle.engine.proofs.Laws.Packed.{kind-lt}
 use Rattle.engine.proofs.Laws.Miter.{shiftedNet-lt, job-within, golden-good, length-miterGates, outputs-equal, old-outputs-below, golden-outputs-below}
 use Rattle.engine.proofs.Laws.List.{set-below}
 
@@ -39,38 +37,68 @@ use Rattle.engine.proofs.Laws.List.{set-below}
 pub net-lt : (n s i : ℕ) {v : ℕ} → v ≡ shiftedNet n s i → i + s < 1024 → v < 1024
 net-lt n s i e h = omega (arith, shiftedNet-lt n s (suc i) i (omega arith))
 
--- a gate whose used operands f gives, slot by slot: kinds from 2 on use the first, those from 4 on the second
-pub mapped-slots : (f : ℕ → ℕ) (k a b : ℕ) → k < 10
-    → gateOf k (cond (ltb k 2) a (f a)) (cond (ltb k 4) b (f b))
-    ≡ record { kind = k; slots = map f (operands (gateOf k a b)) ++ unused (gateOf k a b) }
-unfolding gateOf operands unused
-mapped-slots f k a b h =
-    ⊎-elim
-    (λ (e : ltb k 2 ≡ true).
-    let l : k < 2 = ltb-true k 2 e in
-    let f : ltb k 4 ≡ true = lt-ltb k 4 (omega arith) in
-    rw (e, f, arity-low k l))
-    (λ (e : ltb k 2 ≡ false).
-    let l : 2 ≤ k = ltb-false k 2 e in
-    ⊎-elim
-    (λ (f : ltb k 4 ≡ true). rw (e, f, arity-one k l (ltb-true k 4 f)))
-    (λ (f : ltb k 4 ≡ false). rw (e, f, arity-two k (ltb-false k 4 f) h))
-    (true-or-false (ltb k 4)))
-    (true-or-false (ltb k 2))
+-- the slots xs, the first n of them by f
+abbrev mapped : (ℕ → ℕ) → ℕ → List ℕ → List ℕ
+mapped f n xs = map f (take n xs) ++ drop n xs
 
-shifted-slots : (n s k a b : ℕ) → k < 10
-    → gateOf k (cond (ltb k 2) a (shiftedNet n s a)) (cond (ltb k 4) b (shiftedNet n s b)) ≡ shifted n s (gateOf k a b)
-unfolding shifted gateOf
-shifted-slots n s k a b h = mapped-slots (shiftedNet n s) k a b h
+-- .. and one more; or a slot behind them put as it is
+mapped-suc : (f : ℕ → ℕ) (xs : List ℕ) (i : ℕ) → i < length xs → set (mapped f i xs) i (f (getD xs i 0)) ≡ mapped f (suc i) xs
+mapped-suc f [] i h = let z : ⊥ = omega arith in absurd z
+mapped-suc f (x ∷ xs) zero h = refl
+mapped-suc f (x ∷ xs) (suc i) h = ap (λ (l : List ℕ). f x ∷ l) (mapped-suc f xs i (omega arith))
 
-pub packed-slots : (d n s k a b : ℕ) {x y r : ℕ} → k < 10 → x ≡ cond (ltb k 2) a (shiftedNet n s a)
-    → y ≡ cond (ltb k 4) b (shiftedNet n s b) → r ≡ packed d (gateOf k x y) → r ≡ packed d (shifted n s (gateOf k a b))
-packed-slots d n s k a b h e f q = q ∙ rw (e, f) (ap (packed d) (shifted-slots n s k a b h))
+mapped-same : (f : ℕ → ℕ) (n : ℕ) (xs : List ℕ) (i : ℕ) → n ≤ i → set (mapped f n xs) i (getD xs i 0) ≡ mapped f n xs
+mapped-same f zero [] i h = refl
+mapped-same f (suc n) [] i h = refl
+mapped-same f zero (x ∷ xs) zero h = refl
+mapped-same f zero (x ∷ xs) (suc i) h = ap (λ (l : List ℕ). x ∷ l) (mapped-same f zero xs i (omega arith))
+mapped-same f (suc n) (x ∷ xs) zero h = let z : ⊥ = omega arith in absurd z
+mapped-same f (suc n) (x ∷ xs) (suc i) h = ap (λ (l : List ℕ). f x ∷ l) (mapped-same f n xs i (omega arith))
 
--- .. whose slots fit into ten bits
-pub slot-lt : (b : Bool) (n s i : ℕ) → i + s < 1024 → cond b i (shiftedNet n s i) < 1024
-slot-lt true n s i h = omega arith
-slot-lt false n s i h = net-lt n s i refl h
+-- the slots xs in the loop over them: of the first i, those of the first k stand shifted, the others as they were
+pub record Shifting (xs : List ℕ) (k n s : ℕ) (r : List ℕ) (i : ℕ) : Type 0 where
+  pub held : length xs ≡ 4
+  pub long : length r ≡ 4
+  pub below : Below 1024 r
+  pub slots : r ≡ mapped (shiftedNet n s) (min i k) xs
+
+module _ (xs : List ℕ) (k n s : ℕ) (h : (i : ℕ) → getD xs i 0 + s < 1024) where
+  pub shifting-none : length xs ≡ 4 → Shifting xs k n s xs 0
+  shifting-none l =
+      let e : min 0 k ≡ 0 = omega arith in
+      record { held = l; long = l; below = λ i. omega (arith, h i); slots = rw e }
+
+  module _ {r : List ℕ} {i : ℕ} (w : Shifting xs k n s r i) where
+    shifting-next : (v : ℕ) → v < 1024 → set r i v ≡ mapped (shiftedNet n s) (min (i + 1) k) xs
+        → Shifting xs k n s (set r i v) (i + 1)
+    shifting-next v b e =
+        record { held = w .held; long = length-set r i v ∙ w .long; below = set-below r i v 1024 (w .below) b; slots = e }
+
+    -- a turn: slot i, which is used or not
+    pub shifting-used : i < 4 → i < k → {v : ℕ} → v ≡ shiftedNet n s (getD xs i 0) → Shifting xs k n s (set r i v) (i + 1)
+    shifting-used l u {v} e =
+        let a : min i k ≡ i = omega arith in
+        let b : min (i + 1) k ≡ suc i = omega arith in
+        shifting-next v (net-lt n s (getD xs i 0) e (h i))
+        (rw (w .slots, a, b, e) (mapped-suc (shiftedNet n s) xs i (omega (arith, w .held))))
+
+    pub shifting-unused : k ≤ i → {v : ℕ} → v ≡ getD xs i 0 → Shifting xs k n s (set r i v) (i + 1)
+    shifting-unused u {v} e =
+        let a : min i k ≡ k = omega arith in
+        let b : min (i + 1) k ≡ k = omega arith in
+        shifting-next v (omega (arith, h i)) (rw (w .slots, a, b, e) (mapped-same (shiftedNet n s) k xs i u))
+
+    pub shifting-all : k ≤ 4 → 4 ≤ i → (r ≡ mapped (shiftedNet n s) k xs) × Below 1024 r
+    shifting-all u l =
+        let e : min i k ≡ k = omega arith in
+        (rw e at (w .slots), w .below)
+
+-- the shifted gate, packed
+pub packed-shifted : (g : GateStruct) (d n s : ℕ) {ss : List ℕ} {r : ℕ}
+    → ss ≡ map (shiftedNet n s) (take (g .count) (structSlots g)) ++ drop (g .count) (structSlots g)
+    → r ≡ packed d (gateWith (g .kind) (g .count) ss) → r ≡ packed d (shifted n s (gateFrom g))
+unfolding shifted operands unused gateFrom gateOf structSlots
+packed-shifted g d n s e q = q ∙ ap (λ (l : List ℕ). packed d (gateWith (g .kind) (g .count) l)) e
 
 -- ---- gates one after the other
 
@@ -181,9 +209,9 @@ map-shiftedNet-none n (i ∷ is) = rw (shiftedNet-none n i, map-shiftedNet-none 
 pub shifted-none : (n : ℕ) (g : Gate) → shifted n 0 g ≡ g
 unfolding shifted operands unused
 shifted-none n g =
-    ap (λ (ss : List ℕ). record { kind = g .kind; slots = ss })
-    (ap (λ (l : List ℕ). l ++ drop (arity (g .kind)) (g .slots)) (map-shiftedNet-none n (take (arity (g .kind)) (g .slots)))
-    ∙ take-append-drop (arity (g .kind)) (g .slots))
+    ap (gateWith (g .kind) (g .count))
+    (ap (λ (l : List ℕ). l ++ drop (g .count) (g .slots)) (map-shiftedNet-none n (take (g .count) (g .slots)))
+    ∙ take-append-drop (g .count) (g .slots))
 
 map-shifted-none : (n : ℕ) (gs : List Gate) → map (shifted n 0) gs ≡ gs
 map-shifted-none n [] = refl
@@ -192,17 +220,17 @@ map-shifted-none n (g ∷ gs) = rw (shifted-none n g, map-shifted-none n gs)
 -- ---- slots
 
 -- .. has as many slots as before
-pub formed-mapped : (f : ℕ → ℕ) (g : Gate) → formed (record { kind = g .kind; slots = map f (operands g) ++ unused g }) ≡ formed g
+pub formed-mapped : (f : ℕ → ℕ) (g : Gate) → formed (gateWith (g .kind) (g .count) (map f (operands g) ++ unused g)) ≡ formed g
 unfolding formed operands unused
 formed-mapped f g =
-    let k = arity (g .kind) in
+    let k = g .count in
     let xs = take k (g .slots) in
     let e : length (map f xs ++ drop k (g .slots)) ≡ length (g .slots) =
     length-append (map f xs) (drop k (g .slots))
     ∙ ap (λ (i : ℕ). i + length (drop k (g .slots))) (length-map xs f)
     ∙ sym (length-append xs (drop k (g .slots)))
     ∙ ap length (take-append-drop k (g .slots)) in
-    ap (λ (i : ℕ). eqb i 2) e
+    ap (λ (i : ℕ). eqb i 4) e
 
 formed-shifted : (n s : ℕ) (g : Gate) → formed (shifted n s g) ≡ formed g
 unfolding shifted
@@ -224,23 +252,22 @@ formed-in k gs = formed-structs (take k gs)
 
 -- ---- what the two loops ask
 
-getD-gatesIn : (k : ℕ) (gs : List GateStruct) (i : ℕ) → i < k → getD (gatesIn k gs) i (gateOf 0 0 0) ≡ gateFrom (getD gs i noGate)
+getD-gatesIn : (k : ℕ) (gs : List GateStruct) (i : ℕ) → i < k → getD (gatesIn k gs) i (gateOf 0 0 0 0 0 0) ≡ gateFrom (getD gs i noGate)
 unfolding gatesIn gateFrom noGate
 getD-gatesIn k gs i h = List·getD-map gateFrom (take k gs) i noGate ∙ ap gateFrom (getD-take k gs i noGate h)
 
 -- good gates fit where their nets do
 structs-fit : (gs : List GateStruct) (k net s : ℕ) → k ≤ length gs → gatesGood net (gatesIn k gs) ≡ true
     → net + k + s ≤ 1024 → (i : ℕ) → i < k → GateFits (getD gs i noGate) s
-unfolding gateFrom gateOf
+unfolding gateFrom gateOf structSlots
 structs-fit gs k net s h good room i l =
     let g : GateStruct = getD gs i noGate in
     let e : gateGood (net + i) (gateFrom g) ≡ true =
     rw (getD-gatesIn k gs i l) at (good-at net (gatesIn k gs) good i (omega (arith, length-gatesIn k gs h))) in
-    let b = slots-le (net + i) (g .kind) (g .first) (g .second) e in
     record {
-      kind = kind-lt (net + i) (gateFrom g) e;
-      first = omega (arith, b .0);
-      second = omega (arith, b .1);
+      kind = gateGood-kind (net + i) (gateFrom g) e;
+      count = gateGood-count (net + i) (gateFrom g) e;
+      slots = λ n. omega (arith, slots-le (net + i) (gateFrom g) e n);
     }
 
 -- nets below a bound fit where it does

@@ -1,118 +1,114 @@
--- Laws of specs/Partial: a gate on completed operands, a turn of the loop over gates, what is known of a range of inputs, and
--- outputs that are known there, so that every vector rectifies every input of the range. Assumes nothing.
+-- Laws of specs/Inner/Ranges: what is known of a packed gate's operands, slot by slot; a gate on completed operands, whose value
+-- completes what is known of it; and what is known of a range of inputs. Assumes nothing.
 use Prim.Native.Nat.{ℕ, zero, suc, _+_, _-_, _*_, _/_, _%_, _^_, min, _≤_, _<_}
 use mathlib.Core.Path.{_≡_, refl, sym, _∙_, ap}
 use mathlib.Core.Logic.{_⊎_, inl, inr, ⊎-elim}
-use mathlib.Core.List.{List, [], _∷_, _++_, map}
-use mathlib.Core.Bool.{Bool, true, false, _&&_}
+use mathlib.Core.List.{List, [], _∷_, _++_, map, map-map, append-nil}
+use mathlib.Core.Bool.{true, false}
 use native.Mathlib.Nat.{zero-add, add-mul}
 use native.Mathlib.Omega.{arith}
 use borrow.Author.Tests.{lt-ltb, le-ltb, ltb-true, ltb-false}
-use lib.Dec.{ltb, eqb, lit≤}
+use lib.Dec.{ltb}
 use lib.ListN.{length, getD, take, set, length-set, List·getD-append}
 use lib.Pow.{high, shr-shr}
-use lib.Seq.{length-take-le, getD-append-add, getD-take}
+use lib.Seq.{length-take-le, getD-append-add, getD-take, take-suc-set, take-nil, append-snoc}
 use Rattle.records.specs.Bytes.{upFrom, tabulate, all, placed}
-use Rattle.records.specs.Gate.{Gate, gateOf, arity, operands, unused, gateValue}
-use Rattle.records.specs.Netlist.{netAt, valueOf, values}
+use Rattle.records.specs.Gate.{Gate, operands, gateValue}
+use Rattle.records.specs.Netlist.{netAt, valueOf}
 use Rattle.records.specs.Refusal.{gateGood}
-use Rattle.records.proofs.Laws.Bytes.{and-left, and-right, length-tabulate, getD-tabulate, tabulate-snoc, placed-nil, length-placed, take-placed, set-placed}
-use Rattle.records.proofs.Laws.Gate.{arity-two, gateGood-one, gateGood-two}
+use Rattle.records.proofs.Laws.Bytes.{all-cons, length-tabulate, getD-tabulate, tabulate-snoc, placed-nil, length-placed, take-placed, set-placed}
+use Rattle.records.proofs.Laws.Gate.{gateGood-parts}
 use Rattle.engine.specs.Eval.{bit, bits}
-use Rattle.engine.specs.Rectify.{rectifies}
-use Rattle.engine.specs.Ternary.{unknown, ternaryValue, ternaryTable, entry, Completes}
-use Rattle.engine.specs.Inner.Ranges.{Completed, partialInput, InRange}
+use Rattle.engine.specs.Ternary.{unknown, ternaryValue, Completes, CompletesAll}
+use Rattle.engine.specs.Inner.Packed.{fields, kindOf, countOf, operandsOf}
+use Rattle.engine.specs.Inner.Ranges.{knownAt, ternaryOf, codeTernary, Completed, partialInput, InRange}
 use Rattle.engine.proofs.Laws.Choice.{true-or-false}
 use Rattle.engine.proofs.Laws.Eval.{bit-lt}
-use Rattle.engine.proofs.Laws.Ternary.{entry-table, possible-completes}
+use Rattle.engine.proofs.Laws.Ternary.{knowns, knowns-map, ternaries-map, completes-unknown, completes-nil, completes-cons, possible, possible-iff}
 
--- ---- a table's entry
+-- ---- what is known of a packed gate's operands, slot by slot
 
--- any number above 1 stands for not yet known
-completes-min : (a x : ℕ) → Completes a x → Completes a (min x unknown)
-completes-min a x c = record {
-  bit = c .bit;
-  kept = λ h. let k = c .kept (omega arith) in omega arith;
-}
+-- the first i slots are read, and rest has the others: the operands read, and then those in rest, are all n of them
+abbrev pub ReadTo : (ℕ → ℕ) → ℕ → ℕ → List ℕ → ℕ → ℕ → Type 0
+ReadTo f n z r rest i = take (min n i) r ++ map f (take (4 - i) (fields (n - i) rest)) ≡ map f (take 4 (fields n z))
 
-some-completion : (x : ℕ) → Completes (x % 2) (min x unknown)
-some-completion x = record { bit = omega arith; kept = λ h. omega arith }
+module _ (f : ℕ → ℕ) (n z : ℕ) (r : List ℕ) where
+  pub read-none : ReadTo f n z r z 0
+  read-none = let e : min n 0 ≡ 0 = omega arith in let m : n - 0 ≡ n = omega arith in rw (e, m)
 
-pub entry-min : (k x y : ℕ) → entry (ternaryTable k) x y ≡ ternaryValue k (min x unknown) (min y unknown)
-unfolding entry
-entry-min k x y =
-    let i : min x unknown ≡ min (min x unknown) unknown = omega arith in
-    let j : min y unknown ≡ min (min y unknown) unknown = omega arith in
-    ap (λ (u : ℕ). getD (getD (ternaryTable k) u []) (min y unknown) 0) i
-    ∙ ap (λ (u : ℕ). getD (getD (ternaryTable k) (min (min x unknown) unknown) []) u 0) j
-    ∙ entry-table k (min x unknown) (min y unknown) (omega arith) (omega arith)
+  module _ (rest i : ℕ) (w : ReadTo f n z r rest i) where
+    pub read-used : i < n → i < 4 → length r ≡ 4 → ReadTo f n z (set r i (f (rest % 1024))) (rest / 1024) (i + 1)
+    unfolding fields
+    read-used h l e =
+        let a : min n i ≡ i = omega arith in
+        let b : min n (i + 1) ≡ suc i = omega arith in
+        let p : n - i ≡ suc (n - (i + 1)) = omega arith in
+        let q : 4 - i ≡ suc (4 - (i + 1)) = omega arith in
+        let x = f (rest % 1024) in
+        let more = map f (take (4 - (i + 1)) (fields (n - (i + 1)) (rest / 1024))) in
+        rw (b, take-suc-set r i x (omega arith), append-snoc (take i r) x more) (rw (a, p, q) at w)
 
--- a value that completions of the operands give completes the entry
-entry-completes : (k x y a b : ℕ) → Completes a (min x unknown) → Completes b (min y unknown)
-    → Completes (gateValue k (a ∷ b ∷ [])) (entry (ternaryTable k) x y)
-entry-completes k x y a b c d =
-    rw (entry-min k x y)
-    (possible-completes k (min x unknown) (min y unknown) (omega arith) (omega arith) (gateValue k (a ∷ b ∷ []))
-    (record { left = a; right = b; completesLeft = c; completesRight = d; gives = refl }))
+    pub read-unused : n ≤ i → ReadTo f n z r (rest / 1024) (i + 1)
+    unfolding fields
+    read-unused h =
+        let a : min n i ≡ n = omega arith in
+        let b : min n (i + 1) ≡ n = omega arith in
+        let p : n - i ≡ 0 = omega arith in
+        let q : n - (i + 1) ≡ 0 = omega arith in
+        rw (b, q, take-nil {A = ℕ} (4 - (i + 1))) (rw (a, p, take-nil {A = ℕ} (4 - i)) at w)
+
+    pub read-end : i ≡ 4 → take (min n 4) r ≡ map f (take 4 (fields n z))
+    read-end e = sym (append-nil (take (min n 4) r)) ∙ (rw e at w)
+
+-- ---- a packed gate
+
+take-min : (n : ℕ) (xs : List ℕ) → take (min n (length xs)) xs ≡ take n xs
+take-min zero xs = let e : min 0 (length xs) ≡ 0 = omega arith in rw e
+take-min (suc n) [] = let e : min (suc n) 0 ≡ 0 = omega arith in rw e
+take-min (suc n) (x ∷ xs) =
+    let e : min (suc n) (suc (length xs)) ≡ suc (min n (length xs)) = omega arith in rw (e, take-min n xs)
+
+-- what is known of it is its kind's value on what is known of its operands
+pub codeTernary-operands : (nets : List ℕ) (c : ℕ) (xs : List ℕ) → length xs ≡ 4
+    → take (min (countOf c) 4) xs ≡ map (netAt nets) (take 4 (operandsOf c))
+    → ternaryValue (kindOf c) (knowns (countOf c) xs) ≡ codeTernary nets c
+unfolding codeTernary knownAt
+codeTernary-operands nets c xs e w =
+    let n = countOf c in
+    let t : take n xs ≡ take (min n 4) xs = sym (take-min n xs) ∙ ap (λ (m : ℕ). take (min n m) xs) e in
+    ap (ternaryValue (kindOf c))
+    (knowns-map n xs ∙ ap (map (λ x. min x unknown)) (t ∙ w) ∙ map-map (λ x. min x unknown) (netAt nets) (take 4 (operandsOf c)))
 
 -- ---- a gate
 
-pub gateGood-kind : (net : ℕ) (g : Gate) → gateGood net g ≡ true → g .kind < 10
-unfolding gateGood
-gateGood-kind net g e =
-    let k : Bool = ltb (g .kind) 10 in
-    let u : Bool = all (λ i. ltb i net) (operands g) in
-    let z : Bool = all (eqb 0) (unused g) in
-    ltb-true (g .kind) 10 (and-left k u (and-left (k && u) z e))
-
--- a good gate of one operand reads a net below its own
-first-below : (net k a b : ℕ) → arity k ≡ 1 → k ≤ 9 → gateGood net (gateOf k a b) ≡ true → a < net
-first-below net k a b n l e =
-    ltb-true a net (and-left (ltb a net) (eqb b 0) (rw (gateGood-one net k a b l n) at e))
-
-valueOf-two : (known : List ℕ) (k a b : ℕ) → arity k ≡ 2
-    → valueOf known (gateOf k a b) ≡ gateValue k (netAt known a ∷ netAt known b ∷ [])
-unfolding valueOf operands gateOf
-valueOf-two known k a b n = rw n
+knownAt-le : (nets : List ℕ) (i : ℕ) → knownAt nets i ≤ 2
+unfolding knownAt
+knownAt-le nets i = omega arith
 
 module _ (net : ℕ) (known nets : List ℕ) (c : Completed net known nets) where
-  operand : (a : ℕ) → a < net → Completes (netAt known a) (min (getD nets a 0) unknown)
-  unfolding netAt
-  operand a h = completes-min (getD known a 0) (getD nets a 0) (c a h)
+  operand : (i : ℕ) → i < net → Completes (netAt known i) (knownAt nets i)
+  unfolding netAt knownAt
+  operand i h =
+      let v = c i h in record { bit = v .bit; kept = λ l. let e = v .kept (omega arith) in omega arith }
 
-  -- an operand that the kind has no use for may be taken to have any value
-  constant-completes : (k a b : ℕ)
-      → Completes
-      (gateValue k (getD nets a 0 % 2 ∷ getD nets b 0 % 2 ∷ []))
-      (entry (ternaryTable k) (getD nets a 0) (getD nets b 0))
-  constant-completes k a b =
-      let x = getD nets a 0 in
-      let y = getD nets b 0 in
-      entry-completes k x y (x % 2) (y % 2) (some-completion x) (some-completion y)
+  operands-complete : (os : List ℕ) → all (λ i. ltb i net) os ≡ true
+      → CompletesAll (map (netAt known) os) (map (knownAt nets) os)
+  operands-complete [] e = completes-nil
+  operands-complete (o ∷ os) e =
+      let t = all-cons (λ i. ltb i net) o os e in
+      completes-cons (netAt known o) (knownAt nets o) (map (netAt known) os) (map (knownAt nets) os)
+      (operand o (ltb-true o net (t .0)))
+      (operands-complete os (t .1))
 
-  single-completes : (k a b : ℕ) → a < net
-      → Completes (gateValue k (netAt known a ∷ getD nets b 0 % 2 ∷ [])) (entry (ternaryTable k) (getD nets a 0) (getD nets b 0))
-  single-completes k a b h =
-      let y = getD nets b 0 in
-      entry-completes k (getD nets a 0) y (netAt known a) (y % 2) (operand a h) (some-completion y)
-
-  -- the value of a good gate completes its entry
-  pub gate-completes : (k a b : ℕ) → gateGood net (gateOf k a b) ≡ true
-      → Completes (valueOf known (gateOf k a b)) (entry (ternaryTable k) (getD nets a 0) (getD nets b 0))
-  unfolding valueOf operands gateOf arity gateValue
-  gate-completes zero a b e = constant-completes 0 a b
-  gate-completes (suc zero) a b e = constant-completes 1 a b
-  gate-completes (suc (suc zero)) a b e = single-completes 2 a b (first-below net 2 a b refl (lit≤ tt) e)
-  gate-completes (suc (suc (suc zero))) a b e = single-completes 3 a b (first-below net 3 a b refl (lit≤ tt) e)
-  gate-completes (suc (suc (suc (suc j)))) a b e =
-      let k = suc (suc (suc (suc j))) in
-      let l : k < 10 = gateGood-kind net (gateOf k a b) e in
-      let n : arity k ≡ 2 = arity-two k (omega arith) (omega arith) in
-      let q = rw (gateGood-two net k a b (omega arith) n) at e in
-      rw (valueOf-two known k a b n)
-      (entry-completes k (getD nets a 0) (getD nets b 0) (netAt known a) (netAt known b)
-      (operand a (ltb-true a net (and-left (ltb a net) (ltb b net) q)))
-      (operand b (ltb-true b net (and-right (ltb a net) (ltb b net) q))))
+  -- the value of a good gate completes what is known of it
+  pub gate-completes : (g : Gate) → gateGood net g ≡ true → Completes (valueOf known g) (ternaryOf nets g)
+  unfolding valueOf ternaryOf
+  gate-completes g e =
+      let k = g .kind in
+      let vs = map (netAt known) (operands g) in
+      let xs = map (knownAt nets) (operands g) in
+      let t = ternaries-map (knownAt nets) (knownAt-le nets) (operands g) in
+      possible-iff k xs t (gateValue k vs) .0 (possible k xs t vs (operands-complete (operands g) (gateGood-parts net g e .0)))
 
 -- ---- leaves: n numbers so far from place at on
 
@@ -147,9 +143,6 @@ module _ (low prefix i : ℕ) where
 
 below-or-not : (a b : ℕ) → (b ≤ a) ⊎ (a < b)
 below-or-not a b = ⊎-elim (λ t. inr (ltb-true a b t)) (λ t. inl (ltb-false a b t)) (true-or-false (ltb a b))
-
-completes-unknown : (a : ℕ) → a < 2 → Completes a unknown
-completes-unknown a h = record { bit = h; kept = λ l. let f : ⊥ = omega arith in absurd f }
 
 -- the bits from low on of a number of the range are those of the prefix
 bit-prefix : (low prefix x i : ℕ) → InRange low prefix x → low ≤ i → bit i x ≡ bit (i - low) prefix

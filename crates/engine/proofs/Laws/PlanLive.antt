@@ -162,7 +162,7 @@ live-closed ms d (g ∷ gs) a b h l (suc i) n e =
     let r = live-closed ms (suc d) gs (good-rest d g gs a) (t .1) (omega arith) l i (omega arith)
     (subst (λ (k : ℕ). marked (liveFrom ms (packedFrom (suc d) gs)) k ≡ true) (sym m)
     (whole-from ms d g gs a (t .0) (omega arith) l (d + suc i) (omega arith) e)) in
-    let is = operands (getD gs i (gateOf 0 0 0)) in
+    let is = operands (getD gs i (gateOf 0 0 0 0 0 0)) in
     all-of-members (marked (liveFrom ms (packedFrom d (g ∷ gs)))) is
     (λ k q.
     whole-has ms d g gs a (t .0) (omega arith) l k (all-true (marked (liveFrom ms (packedFrom (suc d) gs))) is r k q))

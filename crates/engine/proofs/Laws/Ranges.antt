@@ -1,39 +1,38 @@
--- Laws of partial evaluation on packed gates: a packed gate's entry is the gate's, a turn of the loop over gates, the values that
--- complete what is known of all nets, and outputs that are known in a range, so that every vector rectifies every input of it.
--- Assumes nothing.
-use Prim.Native.Nat.{ℕ, zero, suc, _+_, _*_, _/_, _%_, min, _≤_, _<_}
+-- Laws of partial evaluation on packed gates: what is known of a packed gate is what is known of the gate, a turn of the loop over
+-- gates, the values that complete what is known of all nets, and outputs that are known in a range, so that every vector rectifies
+-- every input of it. Assumes nothing.
+use Prim.Native.Nat.{ℕ, zero, suc, _+_, min, _≤_, _<_}
 use mathlib.Core.Path.{_≡_, refl, sym, _∙_, ap}
-use mathlib.Core.List.{List, [], _∷_, _++_, map}
+use mathlib.Core.List.{List, [], _∷_, _++_, map, map-map}
 use mathlib.Core.Logic.{⊎-elim}
 use mathlib.Core.Bool.{Bool, true, false, _&&_, true≢false}
 use native.Mathlib.Nat.{add-zero, eq-or-lt-of-le}
 use native.Mathlib.Numerals.{add-one}
 use native.Mathlib.Omega.{arith}
-use borrow.Author.Tests.{ltb-true, eqb-true}
-use lib.Dec.{ltb, eqb}
-use lib.ListN.{length, getD, take, set, length-append, drop-of-length-le, List·getD-append, List·getD-map}
-use lib.Seq.{slice, slice-cons, length-take-le, getD-at, getD-take}
-use Rattle.records.specs.Bytes.{upFrom, tabulate, all, flat, placed}
-use Rattle.records.specs.Gate.{Gate, gateOf, arity, operands, conj, disj, parity, inverted, gateValue}
+use borrow.Author.Tests.{ltb-true}
+use lib.Dec.{ltb}
+use lib.ListN.{length, getD, take, set, length-append, drop-of-length-le, List·getD-append}
+use lib.Seq.{slice, slice-cons, length-take-le, take-all, getD-at, getD-take}
+use Rattle.records.specs.Bytes.{tabulate, all, placed}
+use Rattle.records.specs.Gate.{Gate, operands}
 use Rattle.records.specs.Netlist.{netAt, extended, valueOf, values}
 use Rattle.records.specs.Job.{Job}
 use Rattle.records.specs.Refusal.{gateGood, gatesGood}
 use Rattle.records.proofs.Laws.Bytes.{all-cons, length-tabulate, length-placed}
-use Rattle.records.proofs.Laws.Gate.{arity-le, slots-le}
+use Rattle.records.proofs.Laws.Gate.{gateGood-count}
 use Rattle.engine.specs.Inner.Packed.{own, packed, packedFrom, formed, evaluated}
 use Rattle.engine.specs.Inner.Miter.{miterGates, miterGoldens, miterNets, miterValues, codes}
 use Rattle.engine.specs.Inner.Plan.{PlanHeld, PlannedOf}
 use Rattle.engine.specs.declared.plan.Plan.{Plan}
 use Rattle.engine.specs.Eval.{bits}
 use Rattle.engine.specs.Rectify.{rectifies}
-use Rattle.engine.specs.Ternary.{unknown, completions, agreed, ternaryValue, ternaryTable, entry, Completes}
-use Rattle.engine.specs.Inner.Ranges.{ternaryOf, codeTernary, Completed, InRange, Known}
-use Rattle.engine.proofs.Laws.Choice.{all-iff-below, same-refl}
-use Rattle.engine.proofs.Laws.EvalWords.{map-take}
+use Rattle.engine.specs.Ternary.{unknown, ternaryValue, Completes}
+use Rattle.engine.specs.Inner.Ranges.{knownAt, ternaryOf, codeTernary, Completed, InRange, Known}
+use Rattle.engine.proofs.Laws.Choice.{same-refl}
 use Rattle.engine.proofs.Laws.Fitted.{length-bits}
 use Rattle.engine.proofs.Laws.Miter.{miter-good, miter-nets, outputs-nets, goldens-nets, rectifies-miter}
-use Rattle.engine.proofs.Laws.Packed.{packed-of, packed-kind}
-use Rattle.engine.proofs.Laws.Partial.{entry-min, gateGood-kind, gate-completes, map-take-agree}
+use Rattle.engine.proofs.Laws.Packed.{packed-kind, packed-operands, length-operands}
+use Rattle.engine.proofs.Laws.Partial.{gate-completes, map-take-agree}
 use Rattle.engine.proofs.Laws.FitGates.{netAt-extended}
 use Rattle.engine.proofs.Laws.Run.{keep-ext, good-first, good-rest, Follows, partOf, run-part}
 
@@ -53,98 +52,32 @@ module _ (F : List ℕ → ℕ → ℕ) (vs cs : List ℕ) (i to : ℕ) (l : to 
       let e : length (take to cs) ≤ i = omega arith in
       ap (evaluated F vs) (drop-of-length-le (take to cs) e)
 
--- ---- what stands in a slot that is not used plays no part
+-- ---- a gate
 
--- the used ones of two operands of kind k
-used : ℕ → ℕ → ℕ → List ℕ
-used k x y = take (arity k) (x ∷ y ∷ [])
+module _ (vs : List ℕ) (g : Gate) where
+  -- what is known of a gate by what stands at its operands
+  ternaryOf-operands : ternaryOf vs g ≡ ternaryValue (g .kind) (map (λ x. min x unknown) (map (netAt vs) (operands g)))
+  unfolding ternaryOf knownAt
+  ternaryOf-operands =
+      ap (ternaryValue (g .kind)) (sym (map-map (λ x. min x unknown) (netAt vs) (operands g)))
 
--- the kind's value on the used ones alone: computed at every kind
-sameUsed : ℕ → ℕ → ℕ → Bool
-sameUsed k x y = eqb (ternaryValue k x y) (ternaryValue k (getD (used k x y) 0 0) (getD (used k x y) 1 0))
-
-used-test : all (λ k. all (λ x. all (sameUsed k x) (upFrom 0 3)) (upFrom 0 3)) (upFrom 0 10) ≡ true
-unfolding sameUsed used arity all upFrom ternaryValue agreed completions flat gateValue conj disj parity inverted
-used-test = refl
-
-ternaryValue-used : (k x y : ℕ) → k < 10 → x < 3 → y < 3
-    → ternaryValue k x y ≡ ternaryValue k (getD (used k x y) 0 0) (getD (used k x y) 1 0)
-unfolding sameUsed
-ternaryValue-used k x y h i j =
-    eqb-true (ternaryValue k x y) (ternaryValue k (getD (used k x y) 0 0) (getD (used k x y) 1 0))
-    (all-iff-below (sameUsed k x) 3 .0
-    (all-iff-below (λ u. all (sameUsed k u) (upFrom 0 3)) 3 .0
-    (all-iff-below (λ l. all (λ u. all (sameUsed l u) (upFrom 0 3)) (upFrom 0 3)) 10 .0 used-test k h)
-    x
-    i)
-    y
-    j)
-
-used-min : (k x y i : ℕ) → getD (used k (min x unknown) (min y unknown)) i 0 ≡ min (getD (used k x y) i 0) unknown
-unfolding used
-used-min k x y i =
-    ap (λ (l : List ℕ). getD l i 0) (sym (map-take (λ a. min a unknown) (arity k) (x ∷ y ∷ [])))
-    ∙ List·getD-map (λ a. min a unknown) (used k x y) i 0
-
-entry-used : (k x y : ℕ) → k < 10
-    → entry (ternaryTable k) x y ≡ entry (ternaryTable k) (getD (used k x y) 0 0) (getD (used k x y) 1 0)
-entry-used k x y h =
-    entry-min k x y
-    ∙ ternaryValue-used k (min x unknown) (min y unknown) h (omega arith) (omega arith)
-    ∙ rw (used-min k x y 0, used-min k x y 1) (sym (entry-min k (getD (used k x y) 0 0) (getD (used k x y) 1 0)))
-
--- ---- a packed gate
-
--- a gate by its two slots
-formed-slots : (k : ℕ) (ss : List ℕ) → length ss ≡ 2
-    → record { kind = k; slots = ss } ≡ gateOf k (getD ss 0 0) (getD ss 1 0)
-unfolding gateOf
-formed-slots k [] e = let z : ⊥ = omega arith in absurd z
-formed-slots k (s ∷ []) e = let z : ⊥ = omega arith in absurd z
-formed-slots k (s ∷ t ∷ []) e = refl
-formed-slots k (s ∷ t ∷ u ∷ ss) e = let z : ⊥ = omega arith in absurd z
-
-pub formed-gate : (g : Gate) → formed g ≡ true → g ≡ gateOf (g .kind) (getD (g .slots) 0 0) (getD (g .slots) 1 0)
-unfolding formed
-formed-gate g e = formed-slots (g .kind) (g .slots) (eqb-true (length (g .slots)) 2 e)
-
--- the slots of a number made of a kind, a count, a net and two slots
-slots-of : (c k n d a b : ℕ) → c ≡ k + 16 * n + 128 * d + 131072 * a + 134217728 * b → k < 16 → n < 8 → d < 1024
-    → a < 1024 → b < 1024
-    → (c / 131072 % 1024 ≡ a) × (c / 134217728 % 1024 ≡ b)
-slots-of c k n d a b e h i j l m = (omega arith, omega arith)
-
-module _ (vs : List ℕ) (k a b : ℕ) where
-  -- what is known of a gate by its slots
-  ternaryOf-slots : k < 10 → ternaryOf vs (gateOf k a b) ≡ entry (ternaryTable k) (netAt vs a) (netAt vs b)
-  unfolding ternaryOf gateOf operands used
-  ternaryOf-slots h =
-      rw (map-take (netAt vs) (arity k) (a ∷ b ∷ [])) (sym (entry-used k (netAt vs a) (netAt vs b) h))
-
-  packed-slots : (d : ℕ) → gateGood d (gateOf k a b) ≡ true → formed (gateOf k a b) ≡ true → d < 1024
-      → codeTernary vs (packed d (gateOf k a b)) ≡ ternaryOf vs (gateOf k a b)
-  unfolding codeTernary gateOf
-  packed-slots d e f h =
-      let l : k < 10 = gateGood-kind d (gateOf k a b) e in
-      let n = arity-le k in
-      let m = slots-le d k a b e in
-      let s = slots-of (packed d (gateOf k a b)) k (arity k) d a b (packed-of d k a b) (omega arith) (omega arith) h
-      (omega (arith, m .0)) (omega (arith, m .1)) in
-      rw (s .0, s .1, packed-kind d (gateOf k a b) e f h) (sym (ternaryOf-slots l))
+  ternary-packed : (d : ℕ) → gateGood d g ≡ true → formed g ≡ true → d < 1024 → codeTernary vs (packed d g) ≡ ternaryOf vs g
+  unfolding codeTernary ternaryOf
+  ternary-packed d e f h =
+      let n : length (operands g) ≤ 4 = omega (arith, length-operands d g e f h, gateGood-count d g e) in
+      rw (packed-kind d g e f h, packed-operands d g e f h, take-all 4 (operands g) n)
 
 -- the packed gate is the gate, on any places
 pub ternary-follows : Follows ternaryOf codeTernary (λ vs. Unit {0})
-unfolding ternaryOf
 ternary-follows =
     record {
       local =
           λ vs ws g h.
-          ap (λ (us : List ℕ). entry (ternaryTable (g .kind)) (getD us 0 0) (getD us 1 0)) h;
+          ternaryOf-operands vs g
+          ∙ ap (λ (us : List ℕ). ternaryValue (g .kind) (map (λ x. min x unknown) us)) h
+          ∙ sym (ternaryOf-operands ws g);
       keeps = λ vs c i. tt;
-      packs =
-          λ vs d g i e f h.
-          let q = formed-gate g f in
-          rw q (packed-slots vs (g .kind) (getD (g .slots) 0 0) (getD (g .slots) 1 0) d (rw q at e) (rw q at f) h);
+      packs = λ vs d g i e f h. ternary-packed vs g d e f h;
     }
 
 -- ---- values that complete what is known
@@ -162,34 +95,21 @@ completed-append k vs ns v w e f c d i l =
     last : i < suc k → i ≤ k
     last q = omega arith
 
--- the value of a good gate completes its entry
-gate-completed : (d : ℕ) (g : Gate) (known nets : List ℕ) → gateGood d g ≡ true → formed g ≡ true → Completed d known nets
-    → Completes (valueOf known g) (ternaryOf nets g)
-unfolding gateOf netAt
-gate-completed d g known nets e f c =
-    let q = formed-gate g f in
-    let k = g .kind in
-    let a = getD (g .slots) 0 0 in
-    let b = getD (g .slots) 1 0 in
-    rw q
-    (rw (ternaryOf-slots nets k a b (gateGood-kind d g e)) (gate-completes d known nets c k a b (rw q at e)))
-
 -- whatever values complete what is known of the leaves, the values of all nets complete what is known of them
-pub extended-completed : (d : ℕ) (gs : List Gate) (known nets : List ℕ) → gatesGood d gs ≡ true → all formed gs ≡ true
+pub extended-completed : (d : ℕ) (gs : List Gate) (known nets : List ℕ) → gatesGood d gs ≡ true
     → length known ≡ d → length nets ≡ d → Completed d known nets
     → Completed (d + length gs) (extended valueOf known gs) (extended ternaryOf nets gs)
 unfolding extended
-extended-completed d [] known nets a b e f c = rw add-zero c
-extended-completed d (g ∷ gs) known nets a b e f c =
-    let t = all-cons formed g gs b in
+extended-completed d [] known nets a e f c = rw add-zero c
+extended-completed d (g ∷ gs) known nets a e f c =
     let n : d + length (g ∷ gs) ≡ suc d + length gs = omega arith in
     let v = valueOf known g in
     let w = ternaryOf nets g in
     rw n
-    (extended-completed (suc d) gs (known ++ (v ∷ [])) (nets ++ (w ∷ [])) (good-rest d g gs a) (t .1)
+    (extended-completed (suc d) gs (known ++ (v ∷ [])) (nets ++ (w ∷ [])) (good-rest d g gs a)
     (omega (arith, length-append known (v ∷ [])))
     (omega (arith, length-append nets (w ∷ [])))
-    (completed-append d known nets v w e f c (gate-completed d g known nets (good-first d g gs a) (t .0) c)))
+    (completed-append d known nets v w e f c (gate-completes d known nets c g (good-first d g gs a))))
 
 -- ---- places
 
@@ -248,7 +168,7 @@ module _ (j : Job) (is : List ℕ) (p : Plan) (gates : List ℕ) (o : PlannedOf 
       l
       h in
       rw (base-part, r)
-      (extended-completed d gs leaves (take d nets) g (o .forms) e t (λ k u. rw (getD-take d nets k 0 u) (c k u)) i l)
+      (extended-completed d gs leaves (take d nets) g e t (λ k u. rw (getD-take d nets k 0 u) (c k u)) i l)
 
   -- outputs that are known, and equal, in the places of all live nets are equal in the values that complete the leaves
   outputs-settled : (leaves nets : List ℕ) → length leaves ≡ j .inputs + j .targets → length nets ≡ 1024

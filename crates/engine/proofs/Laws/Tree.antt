@@ -14,11 +14,12 @@ use lib.Seq.{append-snoc, drop-cons, drop-drop, drop-set-lt, take-nil, take-suc-
 use lib.Seq.{getD-take, getD-drop}
 use lib.Pow.{pow-pos, pow-mono}
 use Rattle.records.specs.Bytes.{all, placed}
-use Rattle.records.specs.Gate.{Gate, gateOf}
+use Rattle.records.specs.Gate.{Gate}
+use Rattle.records.specs.Claims.{Below}
 use Rattle.records.proofs.Laws.Bytes.{and-both}
 use Rattle.engine.specs.Choice.{same}
 use Rattle.engine.specs.Eval.{bit}
-use Rattle.engine.specs.Tree.{column, tree, treeSize}
+use Rattle.engine.specs.Tree.{constant, notOf, andOf, orOf, column, tree, treeSize}
 use Rattle.engine.specs.Inner.Packed.{packed, packedFrom}
 use Rattle.engine.specs.Fit.{Trees, treesFrom}
 use Rattle.engine.specs.Inner.Tree.{GateRoom, GatesPut, TablePart, columnPart, startBy, treeStart, mux, treesSize, supportTrees, TreesPut}
@@ -75,10 +76,18 @@ pub gates-put-same : {base count r : ℕ} {cs cs′ : List ℕ} {gs hs : List Ga
     → GatesPut base count cs hs r cs′
 gates-put-same {base} {count} {r} {cs} {cs′} p e = subst (λ (l : List Gate). GatesPut base count cs l r cs′) e p
 
+-- the slots of a gate of two operands at most
+pub pair-below : (a b : ℕ) → a < 1024 → b < 1024 → Below 1024 (a ∷ b ∷ 0 ∷ 0 ∷ [])
+pair-below a b p q zero = p
+pair-below a b p q (suc zero) = q
+pair-below a b p q (suc (suc zero)) = omega arith
+pair-below a b p q (suc (suc (suc zero))) = omega arith
+pair-below a b p q (suc (suc (suc (suc i)))) = omega arith
+
 -- the four stores of a multiplexer
 pub mux-put : (base count s l h : ℕ) (cs : List ℕ) → GateRoom base (count + 4) cs → h + 1 ≡ base + count → {w x y z : ℕ}
-    → w ≡ packed (h + 1) (gateOf 3 s 0) → x ≡ packed (h + 1 + 1) (gateOf 4 (h + 1) l)
-    → y ≡ packed (h + 1 + 2) (gateOf 4 s h) → z ≡ packed (h + 1 + 3) (gateOf 6 (h + 1 + 1) (h + 1 + 2))
+    → w ≡ packed (h + 1) (notOf s) → x ≡ packed (h + 1 + 1) (andOf (h + 1) l)
+    → y ≡ packed (h + 1 + 2) (andOf s h) → z ≡ packed (h + 1 + 3) (orOf (h + 1 + 1) (h + 1 + 2))
     → GatesPut base count cs (mux s l h) (count + 4) (set (set (set (set cs count w) (count + 1) x) (count + 2) y) (count + 3) z)
 unfolding mux
 mux-put base count s l h cs r e {w} {x} {y} {z} p q u v =
@@ -91,10 +100,10 @@ mux-put base count s l h cs r e {w} {x} {y} {z} p q u v =
     let n₁ : h + 1 + 1 ≡ base + a = omega arith in
     let n₂ : h + 1 + 2 ≡ base + b = omega arith in
     let n₃ : h + 1 + 3 ≡ base + d = omega arith in
-    let g₀ = gateOf 3 s 0 in
-    let g₁ = gateOf 4 (h + 1) l in
-    let g₂ = gateOf 4 s h in
-    let g₃ = gateOf 6 (h + 1 + 1) (h + 1 + 2) in
+    let g₀ = notOf s in
+    let g₁ = andOf (h + 1) l in
+    let g₂ = andOf s h in
+    let g₃ = orOf (h + 1 + 1) (h + 1 + 2) in
     let w′ : w ≡ packed (base + count) g₀ = p ∙ ap (λ (n : ℕ). packed n g₀) e in
     let x′ : x ≡ packed (base + a) g₁ = q ∙ ap (λ (n : ℕ). packed n g₁) n₁ in
     let y′ : y ≡ packed (base + b) g₂ = u ∙ ap (λ (n : ℕ). packed n g₂) n₂ in
@@ -248,7 +257,7 @@ tree-branch : (k next : ℕ) (is col : List ℕ) → let low = take (2 ^ k) col 
     let ls = tree k next is low in
     let hs = tree k (next + length ls) is high in
     tree (suc k) next is col
-    ≡ branch (all (eqb 0) col) (all (eqb 1) col) (same low high) (gateOf 0 0 0 ∷ []) (gateOf 1 0 0 ∷ []) ls
+    ≡ branch (all (eqb 0) col) (all (eqb 1) col) (same low high) (constant 0 ∷ []) (constant 1 ∷ []) ls
     (ls ++ hs ++ mux (getD is k 0) (next + length ls - 1) (next + length ls + length hs - 1))
 unfolding tree branch mux
 tree-branch k next is col = refl
@@ -326,7 +335,7 @@ by-split false false true q = let f : _≡_ {A = ℕ} 0 1 = cc in let n : ⊥ = 
 by-split false false false q = (refl, refl, refl)
 
 pub tree-constant : (k next : ℕ) (is col : List ℕ) (x : ℕ) → treeStart k col ≡ TreeStart.Constant x
-    → tree k next is col ≡ gateOf x 0 0 ∷ []
+    → tree k next is col ≡ constant x ∷ []
 unfolding tree branch treeStart startBy
 tree-constant zero next is col x q =
     by-constant (all (eqb 0) col) true true x q
@@ -440,7 +449,7 @@ mux-nets base low high p q r =
     }
 
 -- a constant is one of the first two kinds
-pub kind-constant : (k : ℕ) (col : List ℕ) (x : ℕ) → treeStart k col ≡ TreeStart.Constant x → x < 10
+pub kind-constant : (k : ℕ) (col : List ℕ) (x : ℕ) → treeStart k col ≡ TreeStart.Constant x → x < 2
 unfolding treeStart startBy
 kind-constant zero col x q = by-constant (all (eqb 0) col) true true x q (λ z n. omega arith) (λ z o n. omega arith)
 kind-constant (suc k) col x q =

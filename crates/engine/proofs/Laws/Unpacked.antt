@@ -1,60 +1,33 @@
 -- Laws of the gates in packed numbers (specs/Fitting, gateIn): good gates packed are those gates again; those of a patched netlist
--- have two slots. Assumes nothing.
-use Prim.Native.Nat.{ℕ, zero, suc, _+_, _-_, _*_, _/_, _%_, _^_, _≤_, _<_}
+-- have four slots. Assumes nothing.
+use Prim.Native.Nat.{ℕ, zero, suc, _+_, _^_, _≤_, _<_}
 use mathlib.Core.Path.{_≡_, refl, ap}
 use mathlib.Core.List.{List, [], _∷_, _++_, map}
 use mathlib.Core.Bool.{true}
 use native.Mathlib.Omega.{arith}
-use borrow.Author.Tests.{eqb-true}
 use lib.ListN.{length, getD, take, drop}
 use Rattle.records.specs.Bytes.{all}
-use Rattle.records.specs.Gate.{Gate, gateOf, arity}
+use Rattle.records.specs.Gate.{Gate, gateOf}
 use Rattle.records.specs.Netlist.{netAt}
 use Rattle.records.specs.Job.{Job}
 use Rattle.records.specs.Refusal.{gateGood, gatesGood}
 use Rattle.records.proofs.Laws.Bytes.{all-cons}
-use Rattle.records.proofs.Laws.Gate.{arity-le, slots-le}
-use Rattle.engine.specs.Tree.{column, tree}
+use Rattle.engine.specs.Tree.{constant, notOf, andOf, orOf, column, tree}
 use Rattle.engine.specs.Fit.{treesFrom, trees, newFreeNet, newNets, gateIndices, moved, movedGates, fitted}
 use Rattle.engine.specs.Inner.Packed.{fields, packed, packedFrom, formed}
 use Rattle.engine.specs.Inner.Renumber.{gateIn}
 use Rattle.engine.proofs.Laws.Choice.{all-append}
+use Rattle.engine.proofs.Laws.FitGates.{noGate}
 use Rattle.engine.proofs.Laws.FitTree.{TreeCase, zeros, ones, halves, choice, tree-case}
 use Rattle.engine.proofs.Laws.MiterCode.{formed-mapped}
-use Rattle.engine.proofs.Laws.Packed.{kind-lt, packed-of}
+use Rattle.engine.proofs.Laws.Packed.{packed-kind, packed-count, packed-slots}
 use Rattle.engine.proofs.Laws.Run.{good-first, good-rest}
 
 -- ---- unpacking
 
--- the parts of a number made of a kind, a count, a net and two slots
-record Slots (c k a b : ℕ) : Type 0 where
-  kind : c % 16 ≡ k
-  first : c / 131072 % 1024 ≡ a
-  second : c / 131072 / 1024 % 1024 ≡ b
-
-slots : (k n d a b : ℕ) → k < 16 → n < 8 → d < 1024 → a < 1024 → b < 1024
-    → Slots (k + 16 * n + 128 * d + 131072 * a + 134217728 * b) k a b
-slots k n d a b h i j l m =
-    let c = k + 16 * n + 128 * d + 131072 * a + 134217728 * b in
-    let e : c / 131072 ≡ a + 1024 * b = omega arith in
-    record { kind = omega arith; first = rw e (omega arith); second = rw e (omega arith) }
-
-in-packed-slots : (d k : ℕ) (ss : List ℕ) → length ss ≡ 2 → gateGood d (record { kind = k; slots = ss }) ≡ true → d < 1024
-    → gateIn (packed d (record { kind = k; slots = ss })) ≡ record { kind = k; slots = ss }
-unfolding gateIn fields gateOf
-in-packed-slots d k [] l e h = let z : ⊥ = omega arith in absurd z
-in-packed-slots d k (a ∷ []) l e h = let z : ⊥ = omega arith in absurd z
-in-packed-slots d k (a ∷ b ∷ []) l e h =
-    let n = kind-lt d (gateOf k a b) e in
-    let m = slots-le d k a b e in
-    let r = arity-le k in
-    let s = slots k (arity k) d a b (omega arith) (omega arith) h (omega arith) (omega arith) in
-    rw (packed-of d k a b, s .kind, s .first, s .second)
-in-packed-slots d k (a ∷ b ∷ x ∷ ss) l e h = let z : ⊥ = omega arith in absurd z
-
 gateIn-packed : (d : ℕ) (g : Gate) → gateGood d g ≡ true → formed g ≡ true → d < 1024 → gateIn (packed d g) ≡ g
-unfolding formed
-gateIn-packed d g e f h = in-packed-slots d (g .kind) (g .slots) (eqb-true (length (g .slots)) 2 f) e h
+unfolding gateIn
+gateIn-packed d g e f h = rw (packed-kind d g e f h, packed-count d g e f h, packed-slots d g e f h)
 
 pub gates-unpacked : (d : ℕ) (gs : List Gate) → gatesGood d gs ≡ true → all formed gs ≡ true → d + length gs ≤ 1024
     → map gateIn (packedFrom d gs) ≡ gs
@@ -72,9 +45,9 @@ unfolding packedFrom
 length-packedFrom d [] = refl
 length-packedFrom d (g ∷ gs) = ap suc (length-packedFrom (suc d) gs)
 
--- ---- the gates of a patched netlist have two slots
+-- ---- the gates of a patched netlist have four slots
 
-formed-at : (gs : List Gate) → all formed gs ≡ true → (k : ℕ) → formed (getD gs k (gateOf 0 0 0)) ≡ true
+formed-at : (gs : List Gate) → all formed gs ≡ true → (k : ℕ) → formed (getD gs k noGate) ≡ true
 unfolding formed gateOf
 formed-at [] e k = refl
 formed-at (g ∷ gs) e zero = all-cons formed g gs e .0
@@ -84,11 +57,11 @@ formed-moved : (j : Job) → all formed (j .old .gates) ≡ true → (ns ks : Li
 unfolding movedGates all moved
 formed-moved j e ns [] = refl
 formed-moved j e ns (k ∷ ks) =
-    rw (formed-mapped (netAt ns) (getD (j .old .gates) k (gateOf 0 0 0)), formed-at (j .old .gates) e k) (formed-moved j e ns ks)
+    rw (formed-mapped (netAt ns) (getD (j .old .gates) k noGate), formed-at (j .old .gates) e k) (formed-moved j e ns ks)
 
 formed-case : (k next : ℕ) (is col : List ℕ) {gs : List Gate}
     → ((n : ℕ) (c : List ℕ) → all formed (tree k n is c) ≡ true) → TreeCase k next is col gs → all formed gs ≡ true
-unfolding all formed gateOf
+unfolding all formed constant notOf andOf orOf gateOf
 formed-case k next is col ih (zeros z) = refl
 formed-case k next is col ih (ones o) = refl
 formed-case k next is col ih (halves e) = ih next (take (2 ^ k) col)
@@ -100,7 +73,7 @@ formed-case k next is col ih choice =
     refl
 
 formed-tree : (k next : ℕ) (is col : List ℕ) → all formed (tree k next is col) ≡ true
-unfolding tree all formed gateOf
+unfolding tree all formed constant gateOf
 formed-tree zero next is col = refl
 formed-tree (suc k) next is col = formed-case k next is col (λ n c. formed-tree k n is c) (tree-case k next is col)
 
@@ -123,7 +96,7 @@ fitted-formed j is t e =
     (all-append formed xs ys (formed-moved j e ns (gateIndices j 0)) (formed-trees (j .targets) 0 _ (map (newFreeNet j) is) t))
     (formed-moved j e ns (gateIndices j 1))
 
--- the gates in numbers have two slots
+-- the gates in numbers have four slots
 pub formed-in : (cs : List ℕ) → all formed (map gateIn cs) ≡ true
 unfolding all formed gateIn fields
 formed-in [] = refl

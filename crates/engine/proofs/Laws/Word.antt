@@ -6,10 +6,6 @@ use lib.Arith.{digits-div}
 use lib.Bits.{bitAnd, bitOr, bitXor, differ, and-step, or-step, xor-step, and-shr, or-shr, xor-shr}
 use lib.Pow.{pow-pos, pow-add, split, shr-lt, ones-split}
 use native.Mathlib.Nat.{add-mul, mod-lt, zero-div, div-one}
-use mathlib.Core.List.{[], _∷_}
-use mathlib.Core.Logic.{_⊎_, inl, inr}
-use lib.ListN.{take}
-use Rattle.records.specs.Gate.{arity, gateValue, inverted}
 use Rattle.engine.specs.Eval.{bit}
 
 -- the lowest bit of a number made of a number and a bit
@@ -87,19 +83,3 @@ bit-zero i = ap (λ (x : ℕ). x % 2) (zero-div (2 ^ i))
 
 pub bit-ones : (i : ℕ) → i < 64 → bit i (2 ^ 64 - 1) ≡ 1
 bit-ones i h = bit-not i 0 h (omega arith) ∙ ap (λ (v : ℕ). 1 - v) (bit-zero i)
-
--- ---- bits as the gates' values
-
--- kind k on the operand values x and y
-abbrev pub applied : ℕ → ℕ → ℕ → ℕ
-applied k x y = gateValue k (take (arity k) (x ∷ y ∷ []))
-
-pub at-kind : (x y : ℕ) {k n v : ℕ} → k ≡ n → v ≡ applied n x y → v ≡ applied k x y
-at-kind x y e p = rw e p
-
--- nand, nor and xnor invert the value of the kind before
-pub inverts : (k x y v : ℕ) → (k ≡ 4) ⊎ ((k ≡ 6) ⊎ (k ≡ 8)) → v ≡ applied k x y → 1 - v ≡ applied (k + 1) x y
-unfolding gateValue arity inverted
-inverts k x y v (inl e) p = rw (p, e)
-inverts k x y v (inr (inl e)) p = rw (p, e)
-inverts k x y v (inr (inr e)) p = rw (p, e)

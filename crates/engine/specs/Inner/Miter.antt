@@ -25,7 +25,7 @@ use Rattle.records.specs.Bytes.{all}
 use Rattle.records.specs.Gate.{Gate, operands, unused}
 use Rattle.records.specs.Netlist.{values}
 use Rattle.records.specs.Job.{Job}
-use Rattle.records.specs.Service.{gatesIn, noGate}
+use Rattle.records.specs.Service.{structSlots, gatesIn, noGate}
 use Rattle.records.specs.Claims.{Below, PartsGood}
 use Rattle.records.specs.Parts.{PartsOf}
 use Rattle.records.specs.declared.gate.Gate.{Gate as GateStruct}
@@ -38,7 +38,7 @@ unfoldable pub shiftedNet : ℕ → ℕ → ℕ → ℕ
 shiftedNet n s i = cond (ltb i n) i (i + s)
 
 unfoldable pub shifted : ℕ → ℕ → Gate → Gate
-shifted n s g = record { kind = g .kind; slots = map (shiftedNet n s) (operands g) ++ unused g }
+shifted n s g = record { kind = g .kind; count = g .count; slots = map (shiftedNet n s) (operands g) ++ unused g }
 
 unfoldable pub shiftOf : Job → ℕ
 shiftOf j = j .targets + length (j .old .gates)
@@ -62,8 +62,8 @@ codes j = packedFrom (j .inputs + j .targets) (miterGates j)
 
 pub record GateFits (g : GateStruct) (s : ℕ) : Type 0 where
   pub kind : g .kind < 10
-  pub first : g .first + s < 1024
-  pub second : g .second + s < 1024
+  pub count : g .count ≤ 4
+  pub slots : (i : ℕ) → getD (structSlots g) i 0 + s < 1024
 
 pub record GatesFit (gs : List GateStruct) (k s base at : ℕ) (out : List ℕ) : Type 0 where
   pub held : length gs ≡ 400

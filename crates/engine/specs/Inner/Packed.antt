@@ -4,9 +4,10 @@
 --   kindOf c, countOf c, own c, operandsOf c     a packed gate's parts, from its lowest bit on: its kind (4 bits), how many operands
 --                    it has (3), the net that it drives (10), the nets of its operands (10 each)
 --   slotsNumber ss   operand slots as one number, ten bits each
+--   gateWith k n ss  the gate of kind k with n operands and the slots ss
 --   packed d g       gate g, driving net d, in one number
 --   packedFrom d gs  the gates gs, which drive d, d + 1, ..
---   formed g         gate g has a slot for each operand that a kind may have
+--   formed g         gate g has all its operand slots
 --   operation c, inverts c     a kind is an operation (from 2 on: and, or, parity) and, if it is odd, an inversion
 --   joined op x y    the operation on two values
 --   folded op vs     the operation over the values vs, first to last; 0 of none
@@ -17,7 +18,7 @@ use mathlib.Core.List.{List, [], _∷_, map}
 use mathlib.Core.Bool.{Bool, cond}
 use lib.Dec.{eqb}
 use lib.ListN.{length, set}
-use Rattle.records.specs.Gate.{Gate, operands}
+use Rattle.records.specs.Gate.{Gate, slotCount}
 use Rattle.records.specs.Netlist.{netAt}
 
 unfoldable pub fields : ℕ → ℕ → List ℕ
@@ -40,15 +41,18 @@ unfoldable pub slotsNumber : List ℕ → ℕ
 slotsNumber [] = 0
 slotsNumber (s ∷ ss) = s + 1024 * slotsNumber ss
 
+abbrev pub gateWith : ℕ → ℕ → List ℕ → Gate
+gateWith k n ss = record { kind = k; count = n; slots = ss }
+
 unfoldable pub packed : ℕ → Gate → ℕ
-packed d g = g .kind + 16 * length (operands g) + 128 * d + 131072 * slotsNumber (g .slots)
+packed d g = g .kind + 16 * g .count + 128 * d + 131072 * slotsNumber (g .slots)
 
 unfoldable pub packedFrom : ℕ → List Gate → List ℕ
 packedFrom d [] = []
 packedFrom d (g ∷ gs) = packed d g ∷ packedFrom (suc d) gs
 
 unfoldable pub formed : Gate → Bool
-formed g = eqb (length (g .slots)) 2
+formed g = eqb (length (g .slots)) slotCount
 
 -- ---- values
 

@@ -50,7 +50,7 @@ marked ms i = not (eqb (netAt ms i) 0)
 
 abbrev pub Closed : (ℕ → Bool) → ℕ → List Gate → Type 0
 Closed live base gs =
-    (i : ℕ) → i < length gs → live (base + i) ≡ true → all live (operands (getD gs i (gateOf 0 0 0))) ≡ true
+    (i : ℕ) → i < length gs → live (base + i) ≡ true → all live (operands (getD gs i (gateOf 0 0 0 0 0 0))) ≡ true
 
 abbrev pub Agrees : Job → (ℕ → Bool) → ℕ → ℕ → List ℕ → Type 0
 Agrees j live x v vs = (i : ℕ) → i < miterNets j → live i ≡ true → netAt vs i ≡ netAt (miterValues j x v) i

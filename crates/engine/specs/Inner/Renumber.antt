@@ -16,19 +16,19 @@ use mathlib.Core.Bool.{true}
 use lib.Dec.{eqb}
 use lib.ListN.{length, getD, take}
 use Rattle.records.specs.Bytes.{upFrom, all}
-use Rattle.records.specs.Gate.{Gate, gateOf}
+use Rattle.records.specs.Gate.{Gate, slotCount, gateOf}
 use Rattle.records.specs.Netlist.{netAt, fanout}
 use Rattle.records.specs.Refusal.{gatesGood}
 use Rattle.engine.specs.Choice.{keep}
 use Rattle.engine.specs.Fit.{moved}
-use Rattle.engine.specs.Inner.Packed.{fields, kindOf}
+use Rattle.engine.specs.Inner.Packed.{fields, kindOf, countOf}
 use Rattle.engine.specs.Inner.Tree.{Nets, GatesPut}
 use Rattle.engine.specs.declared.renumber.OldSide.{OldSide}
 use Rattle.engine.specs.declared.renumber.NewSide.{NewSide}
 use Rattle.engine.specs.Inner.Choose.{before}
 
 unfoldable pub gateIn : ℕ → Gate
-gateIn c = record { kind = kindOf c; slots = fields 2 (c / 131072) }
+gateIn c = record { kind = kindOf c; count = countOf c; slots = fields slotCount (c / 131072) }
 
 abbrev pub unpacked : ℕ → List ℕ → List Gate
 unpacked n cs = map gateIn (take n cs)
@@ -64,7 +64,7 @@ pub record Numbered (ms : List ℕ) (base b n first : ℕ) (before after : List 
   pub others : (i : ℕ) → (i < n → getD ms (base + i) 0 ≡ b → ⊥) → getD after (base + i) 0 ≡ getD before (base + i) 0
 
 unfoldable pub movedFrom : List Gate → List ℕ → List ℕ → List Gate
-movedFrom gs ns ks = map (λ k. moved ns (getD gs k (gateOf 0 0 0))) ks
+movedFrom gs ns ks = map (λ k. moved ns (getD gs k (gateOf 0 0 0 0 0 0))) ks
 
 abbrev pub withMark : OldSide → ℕ → List ℕ
 withMark o b = indicesWith (o .marks) (oldBase o) b (o .count)

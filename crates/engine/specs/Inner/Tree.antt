@@ -17,9 +17,9 @@ use mathlib.Core.Bool.{Bool, cond}
 use lib.Dec.{eqb}
 use lib.ListN.{length, getD, take, drop}
 use Rattle.records.specs.Bytes.{all, placed}
-use Rattle.records.specs.Gate.{Gate, gateOf}
+use Rattle.records.specs.Gate.{Gate}
 use Rattle.engine.specs.Choice.{same}
-use Rattle.engine.specs.Tree.{column, treeSize}
+use Rattle.engine.specs.Tree.{notOf, andOf, orOf, column, treeSize}
 use Rattle.engine.specs.Fit.{Trees, treesFrom}
 use Rattle.engine.specs.Inner.Packed.{packedFrom}
 use Rattle.engine.specs.declared.tree.TreeStart.{TreeStart}
@@ -42,9 +42,8 @@ unfoldable pub treeStart : ℕ → List ℕ → TreeStart
 treeStart zero col = cond (all (eqb 0) col) (TreeStart.Constant 0) (TreeStart.Constant 1)
 treeStart (suc k) col = startBy (all (eqb 0) col) (all (eqb 1) col) (same (take (2 ^ k) col) (drop (2 ^ k) col))
 
--- kinds: 3 not, 4 and, 6 or
 unfoldable pub mux : ℕ → ℕ → ℕ → List Gate
-mux s l h = gateOf 3 s 0 ∷ gateOf 4 (h + 1) l ∷ gateOf 4 s h ∷ gateOf 6 (h + 1 + 1) (h + 1 + 2) ∷ []
+mux s l h = notOf s ∷ andOf (h + 1) l ∷ andOf s h ∷ orOf (h + 1 + 1) (h + 1 + 2) ∷ []
 
 unfoldable pub treesSize : ℕ → ℕ → ℕ → List ℕ → ℕ
 treesSize zero j k tb = 0

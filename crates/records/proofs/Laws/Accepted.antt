@@ -11,7 +11,7 @@ use lib.Dec.{T, leb, ltb, eqb, lit<}
 use lib.ListN.{length, getD, take, drop, length-map, List·getD-map}
 use lib.Seq.{ext-getD}
 use Rattle.records.specs.Bytes.{upFrom, all, flat, tabulate, bytePair, placed, field, nth}
-use Rattle.records.specs.Gate.{Gate, gateOf, arity, operands, unused, disj}
+use Rattle.records.specs.Gate.{Gate, gateOf, leastCount, mostCount, permits, operands, unused, disj}
 use Rattle.records.specs.Netlist.{Netlist, netAt, extended, markOf, fanout}
 use Rattle.records.specs.Job.{Candidate, Job, gateAt, gatesOf, netlistOf, jobTags, jobWhole, jobOf, gateBytes, candidateBytes, jobBytes}
 use Rattle.records.specs.Refusal.{sideCountsGood, countsGood, gateGood, gatesGood, netlistsGood, oldNets, goldenNets, outputsGood, ascending, candidateGood, candidatesGood, longestJob, Test, firstFailing, partTests, jobTests, jobRefusal}
@@ -27,7 +27,7 @@ use Rattle.records.proofs.Laws.Counts.{countsWithin-facts, countsWithin
 use Rattle.records.proofs.Laws.Field.{whole-end, startOf-suc, startOf-position}
 use Rattle.records.proofs.Laws.Shape.{JobWhole, jobWhole-facts, length-gatesOf, length-netsOf, length-candidatesOf}
 use Rattle.records.proofs.Laws.Job.{length-placed-front, take-placed-front, drop-placed-front, getD-placed-front, SideBounds, held-bounds, held-true, countsOf-jobFrom}
-use Rattle.records.proofs.Laws.RoundTrip.{All, all-tabulate, Two, TwoEach, gates-structs, two-jobFrom, read-write, write-read, jobRefusal-jobBytes}
+use Rattle.records.proofs.Laws.RoundTrip.{All, all-tabulate, Four, FourEach, gates-structs, four-jobFrom, read-write, write-read, jobRefusal-jobBytes}
 
 -- ---- tests in a row
 
@@ -167,12 +167,12 @@ longest s e =
     (countsWithin-facts (countsOf (jobOf s)) (countsWithin-countsOf (jobOf s) ∙ c))
 
 -- good parts take no more bytes
-pub length-good : (j : Job) → TwoEach j → PartsGood j → length (jobBytes j) ≤ longestJob
+pub length-good : (j : Job) → FourEach j → PartsGood j → length (jobBytes j) ≤ longestJob
 length-good j w g = longest (jobBytes j) (jobRefusal-jobBytes j w ∙ none-of-passes (partTests j) (parts-pass j g))
 
 -- every count at its range's end: gates are constant zeros, outputs net 0, candidates the first nets
 longestSide : Netlist
-longestSide = record { gates = tabulate 400 (λ i. gateOf 0 0 0); outputs = tabulate 32 (λ i. 0) }
+longestSide = record { gates = tabulate 400 (λ i. gateOf 0 0 0 0 0 0); outputs = tabulate 32 (λ i. 0) }
 
 longestParts : Job
 longestParts =
@@ -184,17 +184,17 @@ longestParts =
       candidates = tabulate 10 (λ i. record { net = i; weight = 0 });
     }
 
-two-longest : TwoEach longestParts
+four-longest : FourEach longestParts
 unfolding longestParts longestSide gateOf
-two-longest = record { old = all-tabulate Two _ (λ i. refl) 400; golden = all-tabulate Two _ (λ i. refl) 400 }
+four-longest = record { old = all-tabulate Four _ (λ i. refl) 400; golden = all-tabulate Four _ (λ i. refl) 400 }
 
 tests-longest : firstFailing (partTests longestParts) ≡ 0
 unfolding partTests firstFailing longestParts longestSide tabulate upFrom all
-    countsGood sideCountsGood netlistsGood gatesGood gateGood gateOf operands unused arity outputsGood oldNets goldenNets
+    countsGood sideCountsGood netlistsGood gatesGood gateGood permits leastCount mostCount gateOf operands unused outputsGood oldNets goldenNets
     candidatesGood candidateGood ascending netAt fanout extended markOf disj
 tests-longest = refl
 
-bytes-longest : (all (λ x. ltb x 256) (jobBytes longestParts) ≡ true) × (length (jobBytes longestParts) ≡ 4188)
+bytes-longest : (all (λ x. ltb x 256) (jobBytes longestParts) ≡ true) × (length (jobBytes longestParts) ≡ 8188)
 unfolding all jobBytes field flat bytePair gateBytes candidateBytes gateOf longestParts longestSide tabulate upFrom
 bytes-longest = (refl, refl)
 
@@ -209,7 +209,7 @@ longest-met =
     let s = jobBytes longestParts in (
       s,
       below-of-all 256 (omega arith) s (bytes-longest .0),
-      jobRefusal-jobBytes longestParts two-longest ∙ tests-longest,
+      jobRefusal-jobBytes longestParts four-longest ∙ tests-longest,
       bytes-longest .1,
     )
 
@@ -238,12 +238,12 @@ tabulate-list d xs f h =
     let n = length-tabulate (length xs) f in
     ext-getD d (tabulate (length xs) f) xs n (λ i l. getD-tabulate (length xs) f i d (omega arith) ∙ h i (omega arith))
 
-gatesIn-placed : (ps : List GateStruct) (gs : List Gate) → All Two gs
+gatesIn-placed : (ps : List GateStruct) (gs : List Gate) → All Four gs
     → gatesIn (length gs) (placed ps 0 (map structOf gs)) ≡ gs
 unfolding gatesIn
 gatesIn-placed ps gs w = rw (take-column structOf ps gs) (gates-structs gs w)
 
-netlistFrom-filled : (p : SidePlaces) (l : Netlist) → All Two (l .gates)
+netlistFrom-filled : (p : SidePlaces) (l : Netlist) → All Four (l .gates)
     → netlistFrom (sideCountsOf l) (filledSide p l) ≡ l
 unfolding netlistFrom sideCountsOf filledSide
 netlistFrom-filled p l w =
@@ -264,7 +264,7 @@ candidatesFrom-filled ns ws cs =
     ))
 
 -- the places of a read job hold its parts
-pub jobFrom-filled : (p : Places) (j : Job) → TwoEach j → jobFrom (countsOf j) (filled p j) ≡ j
+pub jobFrom-filled : (p : Places) (j : Job) → FourEach j → jobFrom (countsOf j) (filled p j) ≡ j
 unfolding jobFrom countsOf filled
 jobFrom-filled p j w =
     rw (
@@ -291,9 +291,9 @@ held-filled p j =
 
 -- ---- what can hold a job's parts: places, columns
 
-pub two-jobOf : (s : List ℕ) → TwoEach (jobOf s)
+pub four-jobOf : (s : List ℕ) → FourEach (jobOf s)
 unfolding jobOf netlistOf gatesOf gateAt gateOf
-two-jobOf s = record { old = all-tabulate Two _ (λ i. refl) _; golden = all-tabulate Two _ (λ i. refl) _ }
+four-jobOf s = record { old = all-tabulate Four _ (λ i. refl) _; golden = all-tabulate Four _ (λ i. refl) _ }
 
 -- whether there is room for any job, a job put there, whether counts are held, and the job that is held with them
 pub record Holder (P : Type 0) : Type 0 where
@@ -301,10 +301,10 @@ pub record Holder (P : Type 0) : Type 0 where
   pub put : P → Job → P
   pub holds : Counts → P → Bool
   pub job : Counts → P → Job
-  pub two : (c : Counts) (p : P) → TwoEach (job c p)
+  pub four : (c : Counts) (p : P) → FourEach (job c p)
   pub countsOf-job : (c : Counts) (p : P) → holds c p ≡ true → countsOf (job c p) ≡ c
-  pub holds-put : (p : P) (j : Job) → holds (countsOf j) (put p j) ≡ true
-  pub job-put : (p : P) (j : Job) → TwoEach j → job (countsOf j) (put p j) ≡ j
+  pub holds-put : (p : P) (j : Job) → FourEach j → holds (countsOf j) (put p j) ≡ true
+  pub job-put : (p : P) (j : Job) → FourEach j → job (countsOf j) (put p j) ≡ j
 
 module _ {P : Type 0} (k : Holder P) where
   -- the number and the counts that reading replies, and what is held afterwards
@@ -333,10 +333,10 @@ module _ {P : Type 0} (k : Holder P) where
 
   -- what is read is held
   pub held-in : (p : P) (s : List ℕ) → readNumberIn p s ≡ 0 → k .holds (countsIn p s) (readIn p s) ≡ true
-  held-in p s e = rw (eq-eqb (readNumberIn p s) 0 e) (k .holds-put p (jobOf s))
+  held-in p s e = rw (eq-eqb (readNumberIn p s) 0 e) (k .holds-put p (jobOf s) (four-jobOf s))
 
   pub given-in : (p : P) (s : List ℕ) → readNumberIn p s ≡ 0 → k .job (countsIn p s) (readIn p s) ≡ jobOf s
-  given-in p s e = rw (eq-eqb (readNumberIn p s) 0 e) (k .job-put p (jobOf s) (two-jobOf s))
+  given-in p s e = rw (eq-eqb (readNumberIn p s) 0 e) (k .job-put p (jobOf s) (four-jobOf s))
 
   -- read, then write
   pub write-read-in : (p : P) (s : List ℕ) → Below 256 s → readNumberIn p s ≡ 0 → (d : List ℕ) → longestJob ≤ length d
@@ -347,10 +347,10 @@ module _ {P : Type 0} (k : Holder P) where
       let u = job-accepts (k .room p) s .0 e in
       let c = countsOf (jobOf s) in
       let q = k .put p (jobOf s) in
-      let f : k .job c q ≡ jobOf s = k .job-put p (jobOf s) (two-jobOf s) in
+      let f : k .job c q ≡ jobOf s = k .job-put p (jobOf s) (four-jobOf s) in
       let r : jobBytes (k .job c q) ≡ s = ap jobBytes f ∙ write-read s b (u .1) in
       let n : writeNumberIn c q d ≡ 0 =
-      parts-accept (length d) (k .holds c q) (k .job c q) .1 (h, k .holds-put p (jobOf s), rw f (u .2)) in
+      parts-accept (length d) (k .holds c q) (k .job c q) .1 (h, k .holds-put p (jobOf s) (four-jobOf s), rw f (u .2)) in
       rw (eq-eqb (readNumberIn p s) 0 e)
       (n, rw (eq-eqb (writeNumberIn c q d) 0 n) (ap length r), rw (eq-eqb (writeNumberIn c q d) 0 n) (ap (placed d 0) r))
 
@@ -361,7 +361,7 @@ module _ {P : Type 0} (k : Holder P) where
   read-write-in c p d e q h =
       let u = parts-accept (length d) (k .holds c p) (k .job c p) .0 e in
       let s = jobBytes (k .job c p) in
-      let w = read-write (k .job c p) (k .two c p) in
+      let w = read-write (k .job c p) (k .four c p) in
       let n : readNumberIn q s ≡ 0 = job-accepts (k .room q) s .1 (h, w .0, rw (w .1) (u .2)) in
       let m : countsIn q s ≡ c = rw (eq-eqb (readNumberIn q s) 0 n) (ap countsOf (w .1) ∙ k .countsOf-job c p (u .1)) in
       let f : k .job c (readIn q s) ≡ k .job c p =
@@ -386,9 +386,9 @@ inPlaces =
       put = filled;
       holds = held;
       job = jobFrom;
-      two = two-jobFrom;
+      four = four-jobFrom;
       countsOf-job = λ c p h. countsOf-jobFrom (held-bounds c p h);
-      holds-put = held-filled;
+      holds-put = λ p j w. held-filled p j;
       job-put = jobFrom-filled;
     }
 

@@ -1,21 +1,22 @@
 -- Laws of read_columns and write_columns: gate structs split into columns and joined from them, and the replies over columns from
 -- those of read and write. Assumes nothing.
-use Prim.Native.Nat.{ℕ, _≤_, _<_}
+use Prim.Native.Nat.{ℕ, suc, _+_, _≤_, _<_}
 use mathlib.Core.Path.{_≡_, refl, sym, _∙_, ap}
 use mathlib.Core.List.{List, [], _∷_, map, map-map}
 use mathlib.Core.Bool.{Bool, true, false, true≢false, _&&_}
+use native.Mathlib.Numerals.{add-one}
 use native.Mathlib.Omega.{arith}
 use borrow.Author.Tests.{eqb-true, eqb-false, ne-eqb, lt-leb, le-leb}
 use lib.Dec.{leb, eqb}
-use lib.ListN.{length, getD, take, length-map, length-replicate}
-use Rattle.records.specs.Bytes.{tabulate, placed}
+use lib.ListN.{length, getD, set, take, length-map, length-replicate}
+use Rattle.records.specs.Bytes.{tabulate, flat, placed}
 use Rattle.records.specs.Gate.{Gate}
 use Rattle.records.specs.Netlist.{Netlist}
 use Rattle.records.specs.Job.{jobOf}
 use Rattle.records.specs.Refusal.{firstFailing}
 use Rattle.records.specs.Service.{SidePlaces, Places, sidePlaces, places, gateFrom, structOf, sideCountsOf, countsOf, noCounts, sideRoomy, roomy, filledSide, filled, readNumber, readReply, readPlaces, gatesIn, netlistFrom, jobFrom, sideHeld, held, writeReply, writtenBytes}
 use Rattle.records.specs.Columns.{SideColumns, Columns, sideColumns, columns, sideColumnsRoomy, columnsRoomy, sideColumnsFilled, columnsFilled, columnsNumber, columnsReply, columnsAfter, gatesFrom, columnsNetlist, columnsJob, sideColumnsHeld, columnsHeld, columnsWriteNumber, columnsWriteReply, columnsWritten}
-use Rattle.records.specs.Inner.{countsWithin, Within, noGate, noGates, refusedRead, columnsHold, ColumnsHold, Split, structsFrom}
+use Rattle.records.specs.Inner.{countsWithin, Within, noGate, noGates, refusedRead, columnsHold, ColumnsHold, structSlots, Split, structsFrom}
 use Rattle.records.specs.declared.gate.Gate.{Gate as GateStruct}
 use Rattle.records.specs.declared.columns.GatesRead.{GatesRead}
 use Rattle.records.specs.declared.job.SideCounts.{SideCounts}
@@ -24,9 +25,10 @@ use Rattle.records.specs.declared.reading.ReadReply.{ReadReply}
 use Rattle.records.specs.declared.writing.WriteReply.{WriteReply}
 use Rattle.records.proofs.Laws.Bytes.{row-at, and-left, false-of, length-tabulate, map-tabulate, tabulate-take, placed-nil}
 use Rattle.records.proofs.Laws.Counts.{columnsHold-facts, countsWithin-facts, countsWithin-countsOf}
-use Rattle.records.proofs.Laws.Job.{Filled, length-placed-front, take-placed-front}
-use Rattle.records.proofs.Laws.Accepted.{read-accepts, read-refuses, read-counts, read-places}
-use Rattle.records.proofs.Laws.ReadColumns.{sides-held, columns-write}
+use Rattle.records.proofs.Laws.Job.{sets-placed, Filled, Put, length-placed-front, take-placed-front}
+use Rattle.records.proofs.Laws.RoundTrip.{All, Four}
+use Rattle.records.proofs.Laws.Accepted.{four-jobOf, read-accepts, read-refuses, read-counts, read-places}
+use Rattle.records.proofs.Laws.ReadColumns.{slots-structs, sides-held, columns-write}
 use Rattle.records.proofs.Laws.Reply.{write-counts}
 
 -- ---- gate structs and columns
@@ -35,43 +37,70 @@ pub length-noGates : length noGates ≡ 400
 unfolding noGates
 length-noGates = length-replicate 400 noGate
 
--- the gates that columns must hold, at most m, from a list of n
-pub splits-of : (n m count k x y : ℕ) → count ≤ n → count ≤ m → columnsHold m k x y ≡ true → ColumnsHold n count k x y
-splits-of n m count k x y h l e =
-    let t = columnsHold-facts m k x y e in
-    record { gates = h; kinds = omega (arith, t .0); firsts = omega (arith, t .1); seconds = omega (arith, t .2) }
+-- the gates that columns must hold, at most m, from a list of so many
+pub splits-of : (most m count k n s : ℕ) → count ≤ most → count ≤ m → columnsHold m k n s ≡ true → ColumnsHold most count k n s
+splits-of most m count k n s h l e =
+    let t = columnsHold-facts m k n s e in
+    record { gates = h; kinds = omega (arith, t .0); counts = omega (arith, t .1); slots = omega (arith, t .2) }
 
--- a loop that has put part f of the first gates at a column's start
-pub column-split : (f : GateStruct → ℕ) (gs : List GateStruct) (d₀ d : List ℕ) (i count : ℕ)
-    → i ≡ count → count ≤ length gs → Filled d₀ d i (λ k. f (getD gs k noGate)) → d ≡ placed d₀ 0 (map f (take count gs))
-column-split f gs d₀ d i count e h w =
-    w .1
-    ∙ ap (λ (n : ℕ). placed d₀ 0 (tabulate n (λ k. f (getD gs k noGate)))) e
-    ∙ ap (placed d₀ 0)
-    (sym (map-tabulate count (λ k. getD gs k noGate) f) ∙ ap (map f) (tabulate-take noGate gs count h))
+-- a gate's stores to the slots
+pub slots-placed : (d : List ℕ) (at : ℕ) (g : GateStruct) → at + 4 ≤ length d
+    → set (set (set (set d at (g .first)) (at + 1) (g .second)) (at + 2) (g .third)) (at + 3) (g .fourth)
+    ≡ placed d at (structSlots g)
+unfolding structSlots
+slots-placed d at g h =
+    let e : at + 2 ≡ suc (suc at) = omega arith in
+    let f : at + 3 ≡ suc (suc (suc at)) = omega arith in
+    rw (add-one, e, f) (sets-placed d at (g .first ∷ g .second ∷ g .third ∷ g .fourth ∷ []) (omega arith))
+
+-- a loop that has put what F gives for the first gates at a column's start
+module _ (gs : List GateStruct) (d₀ d : List ℕ) (i count : ℕ) (e : i ≡ count) (h : count ≤ length gs) where
+  taken-split : (F : List GateStruct → List ℕ) → d ≡ placed d₀ 0 (F (tabulate i (λ k. getD gs k noGate)))
+      → d ≡ placed d₀ 0 (F (take count gs))
+  taken-split F w = w ∙ ap (λ (z : List GateStruct). placed d₀ 0 (F z)) (rw e (tabulate-take noGate gs count h))
+
+  pub column-split : (f : GateStruct → ℕ) → Filled d₀ d i (λ k. f (getD gs k noGate)) → d ≡ placed d₀ 0 (map f (take count gs))
+  column-split f w =
+      taken-split (map f) (w .1 ∙ ap (placed d₀ 0) (sym (map-tabulate i (λ k. getD gs k noGate) f)))
+
+  pub slots-split : Put structSlots (λ k. getD gs k noGate) d₀ 0 d i → d ≡ placed d₀ 0 (flat structSlots (take count gs))
+  slots-split w = taken-split (flat structSlots) (w .1)
 
 -- a netlist's columns once the first gates are split into them: as filled from a netlist, or as they were
-module _ (q : SideColumns) {gs : List GateStruct} {count : ℕ} {ks xs ys : List ℕ}
-    (t : Split gs count (q .kinds) (q .firsts) (q .seconds) ks xs ys) (os : List ℕ) where
-  side-filled : (l : Netlist) → take count gs ≡ map structOf (l .gates) → os ≡ placed (q .outputs) 0 (l .outputs)
-      → sideColumns ks xs ys os ≡ sideColumnsFilled q l
+module _ (q : SideColumns) {gs : List GateStruct} {count : ℕ} {ks ns ss : List ℕ}
+    (t : Split gs count (q .kinds) (q .counts) (q .slots) ks ns ss) (os : List ℕ) where
+  side-filled : (l : Netlist) → All Four (l .gates) → take count gs ≡ map structOf (l .gates)
+      → os ≡ placed (q .outputs) 0 (l .outputs) → sideColumns ks ns ss os ≡ sideColumnsFilled q l
   unfolding sideColumnsFilled structOf
-  side-filled l e o = rw (column _ _ _ (t .kinds), column _ _ _ (t .firsts), column _ _ _ (t .seconds), o)
+  side-filled l w e o =
+      rw (
+        column (map (λ (g : GateStruct). g .kind)) _ _ _ (map-map (λ (g : GateStruct). g .kind) structOf (l .gates)) (t .kinds),
+        column (map (λ (g : GateStruct). g .count)) _ _ _ (map-map (λ (g : GateStruct). g .count) structOf (l .gates)) (t .counts),
+        column (flat structSlots) _ _ _ (slots-structs (l .gates) w) (t .slots),
+        o,
+      )
     where
-      column : (f : GateStruct → ℕ) (d d′ : List ℕ) → d′ ≡ placed d 0 (map f (take count gs))
-          → d′ ≡ placed d 0 (map (λ (g : Gate). f (structOf g)) (l .gates))
-      column f d d′ p =
-          p ∙ ap (λ (z : List GateStruct). placed d 0 (map f z)) e ∙ ap (placed d 0) (map-map f structOf (l .gates))
+      column : (F : List GateStruct → List ℕ) (d d′ xs : List ℕ) → F (map structOf (l .gates)) ≡ xs
+          → d′ ≡ placed d 0 (F (take count gs)) → d′ ≡ placed d 0 xs
+      column F d d′ xs h p = p ∙ ap (λ (z : List GateStruct). placed d 0 (F z)) e ∙ ap (placed d 0) h
 
-  side-left : count ≡ 0 → os ≡ q .outputs → sideColumns ks xs ys os ≡ q
-  side-left z o = rw (column _ _ _ (t .kinds), column _ _ _ (t .firsts), column _ _ _ (t .seconds), o)
+  side-left : count ≡ 0 → os ≡ q .outputs → sideColumns ks ns ss os ≡ q
+  unfolding flat
+  side-left z o =
+      rw (
+        column (map (λ (g : GateStruct). g .kind)) refl _ _ (t .kinds),
+        column (map (λ (g : GateStruct). g .count)) refl _ _ (t .counts),
+        column (flat structSlots) refl _ _ (t .slots),
+        o,
+      )
     where
-      column : (f : GateStruct → ℕ) (d d′ : List ℕ) → d′ ≡ placed d 0 (map f (take count gs)) → d′ ≡ d
-      column f d d′ p = p ∙ ap (λ (n : ℕ). placed d 0 (map f (take n gs))) z ∙ placed-nil d 0
+      column : (F : List GateStruct → List ℕ) → F [] ≡ [] → (d d′ : List ℕ) → d′ ≡ placed d 0 (F (take count gs)) → d′ ≡ d
+      column F h d d′ p =
+          p ∙ ap (λ (n : ℕ). placed d 0 (F (take n gs))) z ∙ ap (placed d 0) h ∙ placed-nil d 0
 
 -- the columns of q hold n gates
 abbrev pub sideHolds : SideColumns → ℕ → Bool
-sideHolds q n = columnsHold n (length (q .kinds)) (length (q .firsts)) (length (q .seconds))
+sideHolds q n = columnsHold n (length (q .kinds)) (length (q .counts)) (length (q .slots))
 
 -- ---- read_columns
 
@@ -198,26 +227,26 @@ module _ (p : Columns) (s : List ℕ) (r : GatesRead) {b d n w : List ℕ} (e : 
 
   pub old-splits : sideHolds (p .old) 400 ≡ true
       → ColumnsHold (length (r .old)) (r .reply .counts .old .gates)
-      (length (p .old .kinds)) (length (p .old .firsts)) (length (p .old .seconds))
+      (length (p .old .kinds)) (length (p .old .counts)) (length (p .old .slots))
   old-splits h = splits-of _ 400 _ _ _ _ (gates-read .0) (gates-read .1) h
 
   pub golden-splits : sideHolds (p .golden) 400 ≡ true
       → ColumnsHold (length (r .golden)) (r .reply .counts .golden .gates)
-      (length (p .golden .kinds)) (length (p .golden .firsts)) (length (p .golden .seconds))
+      (length (p .golden .kinds)) (length (p .golden .counts)) (length (p .golden .slots))
   golden-splits h = splits-of _ 400 _ _ _ _ (gates-read .2) (gates-read .3) h
 
   -- the reply and the columns, once the gates are split
-  pub read-columns-ends : {ks xs ys gks gxs gys : List ℕ} → sideHolds (p .old) 400 ≡ true → sideHolds (p .golden) 400 ≡ true
-      → Split (r .old) (r .reply .counts .old .gates) (p .old .kinds) (p .old .firsts) (p .old .seconds) ks xs ys
-      → Split (r .golden) (r .reply .counts .golden .gates) (p .golden .kinds) (p .golden .firsts) (p .golden .seconds) gks gxs gys
+  pub read-columns-ends : {ks ns ss gks gns gss : List ℕ} → sideHolds (p .old) 400 ≡ true → sideHolds (p .golden) 400 ≡ true
+      → Split (r .old) (r .reply .counts .old .gates) (p .old .kinds) (p .old .counts) (p .old .slots) ks ns ss
+      → Split (r .golden) (r .reply .counts .golden .gates) (p .golden .kinds) (p .golden .counts) (p .golden .slots) gks gns gss
       → (r .reply ≡ columnsReply p s)
-      × (columns (sideColumns ks xs ys b) (sideColumns gks gxs gys d) n w ≡ columnsAfter p s)
+      × (columns (sideColumns ks ns ss b) (sideColumns gks gns gss d) n w ≡ columnsAfter p s)
   unfolding readReply columnsReply columnsAfter columnsFilled filled
-  read-columns-ends {ks} {xs} {ys} {gks} {gxs} {gys} h g o k =
+  read-columns-ends {ks} {ns} {ss} {gks} {gns} {gss} h g o k =
       (e ∙ rw (number-readInto p h g s), pick (eqb (readNumber (readInto p) s) 0) refl)
     where
       pick : (t : Bool) → eqb (readNumber (readInto p) s) 0 ≡ t
-          → columns (sideColumns ks xs ys b) (sideColumns gks gxs gys d) n w ≡ columnsAfter p s
+          → columns (sideColumns ks ns ss b) (sideColumns gks gns gss d) n w ≡ columnsAfter p s
       pick true t =
           let z = eqb-true (readNumber (readInto p) s) 0 t in
           let f₁ = found-old z in
@@ -225,8 +254,8 @@ module _ (p : Columns) (s : List ℕ) (r : GatesRead) {b d n w : List ℕ} (e : 
           rw (
             number-readInto p h g s,
             t,
-            side-filled (p .old) o b (jobOf s .old) (found-take f₁) (f₁ .outputs),
-            side-filled (p .golden) k d (jobOf s .golden) (found-take f₂) (f₂ .outputs),
+            side-filled (p .old) o b (jobOf s .old) (four-jobOf s .old) (found-take f₁) (f₁ .outputs),
+            side-filled (p .golden) k d (jobOf s .golden) (four-jobOf s .golden) (found-take f₂) (f₂ .outputs),
             ap (λ (x : Places). x .nets) (places-read z),
             ap (λ (x : Places). x .weights) (places-read z),
           )
@@ -251,24 +280,24 @@ side-held k q = refl
 
 -- a netlist's gates joined from its columns
 abbrev pub joinedSide : SideCounts → SideColumns → SidePlaces
-joinedSide k q = sidePlaces (placed noGates 0 (structsFrom (k .gates) (q .kinds) (q .firsts) (q .seconds))) (q .outputs)
+joinedSide k q = sidePlaces (placed noGates 0 (structsFrom (k .gates) (q .kinds) (q .counts) (q .slots))) (q .outputs)
 
 module _ (k : SideCounts) (q : SideColumns) where
-  joined-count : k .gates ≡ length (structsFrom (k .gates) (q .kinds) (q .firsts) (q .seconds))
+  joined-count : k .gates ≡ length (structsFrom (k .gates) (q .kinds) (q .counts) (q .slots))
   unfolding structsFrom
   joined-count = sym (length-tabulate (k .gates) _)
 
   joined-room : k .gates ≤ length (joinedSide k q .gates)
-  joined-room = omega (arith, joined-count, length-placed-front noGates (structsFrom (k .gates) (q .kinds) (q .firsts) (q .seconds)))
+  joined-room = omega (arith, joined-count, length-placed-front noGates (structsFrom (k .gates) (q .kinds) (q .counts) (q .slots)))
 
   held-joined : sideHolds q (k .gates) ≡ true → sideHeld k (joinedSide k q) ≡ sideColumnsHeld k q
   unfolding sideHeld
   held-joined h = rw (le-leb _ _ joined-room, side-held k q, h)
 
-  gates-joined : gatesIn (k .gates) (joinedSide k q .gates) ≡ gatesFrom (k .gates) (q .kinds) (q .firsts) (q .seconds)
+  gates-joined : gatesIn (k .gates) (joinedSide k q .gates) ≡ gatesFrom (k .gates) (q .kinds) (q .counts) (q .slots)
   unfolding gatesIn gatesFrom gateFrom structsFrom
   gates-joined =
-      let gs = structsFrom (k .gates) (q .kinds) (q .firsts) (q .seconds) in
+      let gs = structsFrom (k .gates) (q .kinds) (q .counts) (q .slots) in
       ap (λ (n : ℕ). map gateFrom (take n (placed noGates 0 gs))) joined-count
       ∙ ap (map gateFrom) (take-placed-front noGates gs)
       ∙ map-tabulate (k .gates) _ gateFrom
@@ -314,14 +343,14 @@ module _ (c : Counts) (p : Columns) where
     unfolding columnsWriteReply columnsWritten
     put-other n e h = (rw (e, ne-eqb n 0 h), rw (e, ne-eqb n 0 h))
 
-    pub put-short : length d < 4188 → (record { number = 1; len = 0 } ≡ columnsWriteReply c p d) × (d ≡ columnsWritten c p d)
+    pub put-short : length d < 8188 → (record { number = 1; len = 0 } ≡ columnsWriteReply c p d) × (d ≡ columnsWritten c p d)
     unfolding columnsWriteNumber firstFailing
-    put-short h = put-other 1 (rw (lt-leb 4188 (length d) h)) (λ z. omega arith)
+    put-short h = put-other 1 (rw (lt-leb 8188 (length d) h)) (λ z. omega arith)
 
-    module _ (l : 4188 ≤ length d) where
+    module _ (l : 8188 ≤ length d) where
       unheld : columnsHeld c p ≡ false → (record { number = 3; len = 0 } ≡ columnsWriteReply c p d) × (d ≡ columnsWritten c p d)
       unfolding columnsWriteNumber firstFailing
-      unheld e = put-other 3 (rw (le-leb 4188 (length d) l, e)) (λ z. omega arith)
+      unheld e = put-other 3 (rw (le-leb 8188 (length d) l, e)) (λ z. omega arith)
 
       pub unheld-old : sideHolds (p .old) (c .old .gates) ≡ false
           → (record { number = 3; len = 0 } ≡ columnsWriteReply c p d) × (d ≡ columnsWritten c p d)

@@ -1,10 +1,10 @@
 -- Laws of counts and of a check's answer: tests as inequalities. Assumes nothing.
-use Prim.Native.Nat.{ℕ, _%_, _≤_}
+use Prim.Native.Nat.{ℕ, _*_, _/_, _%_, _≤_}
 use mathlib.Core.Path.{_≡_, refl}
 use mathlib.Core.Bool.{Bool, true, false, _&&_}
 use mathlib.Core.List.{List, [], _∷_}
 use native.Mathlib.Omega.{arith}
-use borrow.Author.Tests.{le-leb, leb-true, eqb-true, eq-eqb}
+use borrow.Author.Tests.{le-leb, lt-leb, leb-true, leb-false, eqb-true, eq-eqb}
 use lib.Dec.{leb, eqb}
 use lib.ListN.{getD}
 use Rattle.records.specs.Job.{Job}
@@ -102,9 +102,9 @@ spans-none = refl
 
 pub record LengthsGood (ns : List ℕ) : Type 0 where
   pub sizes : getD ns 0 0 ≡ 2
-  pub old : getD ns 1 0 % 5 ≡ 0
+  pub old : getD ns 1 0 % 10 ≡ 0
   pub outputs : getD ns 2 0 % 2 ≡ 0
-  pub golden : getD ns 3 0 % 5 ≡ 0
+  pub golden : getD ns 3 0 % 10 ≡ 0
   pub goldens : getD ns 4 0 % 2 ≡ 0
   pub candidates : getD ns 5 0 % 4 ≡ 0
 
@@ -113,9 +113,9 @@ unfolding lengthsGood
 lengthsGood-facts ns h =
     let t =
     row-at (eqb (getD ns 0 0) 2)
-    (eqb (getD ns 1 0 % 5) 0
+    (eqb (getD ns 1 0 % 10) 0
     ∷ eqb (getD ns 2 0 % 2) 0
-    ∷ eqb (getD ns 3 0 % 5) 0
+    ∷ eqb (getD ns 3 0 % 10) 0
     ∷ eqb (getD ns 4 0 % 2) 0
     ∷ eqb (getD ns 5 0 % 4) 0
     ∷ [])
@@ -196,8 +196,20 @@ module _ (n : Counts) (a b c d e f : ℕ) where
   holds-true =
       six-true (n .old .gates) a (n .old .outputs) b (n .golden .gates) c (n .golden .outputs) d (n .candidates) e (n .candidates) f
 
-pub columnsHold-facts : (count k x y : ℕ) → columnsHold count k x y ≡ true → (count ≤ k) × (count ≤ x) × (count ≤ y)
+pub columnsHold-facts : (count k n s : ℕ) → columnsHold count k n s ≡ true → (count ≤ k) × (count ≤ n) × (4 * count ≤ s)
 unfolding columnsHold
-columnsHold-facts count k x y h =
-    let t = row-at (leb count k) (leb count x ∷ leb count y ∷ []) h in
+columnsHold-facts count k n s h =
+    let t = row-at (leb count k) (leb count n ∷ leb (4 * count) s ∷ []) h in
     (leb-true _ _ (t 0), leb-true _ _ (t 1), leb-true _ _ (t 2))
+
+-- the code's test, which multiplies nothing
+leb-quarter : (count s : ℕ) → leb count (s / 4) ≡ leb (4 * count) s
+leb-quarter count s = pick (leb (4 * count) s) refl
+  where
+    pick : (b : Bool) → leb (4 * count) s ≡ b → leb count (s / 4) ≡ b
+    pick true e = let h = leb-true (4 * count) s e in le-leb count (s / 4) (omega arith)
+    pick false e = let h = leb-false (4 * count) s e in lt-leb count (s / 4) (omega arith)
+
+pub columnsHold-quarter : (count k n s : ℕ) → (leb count k && leb count n && leb count (s / 4)) ≡ columnsHold count k n s
+unfolding columnsHold
+columnsHold-quarter count k n s = rw (leb-quarter count s)

@@ -1,20 +1,27 @@
--- Laws of specs/Gate and of a good gate: arities by kind, the test of a gate by its arity, and values. Assumes nothing.
-use Prim.Native.Nat.{ℕ, zero, suc, _+_, _*_, _-_, _%_, _≤_, _<_}
+-- Laws of specs/Gate and of a good gate: operand counts by kind, the tests of a gate, and values, which the plain kinds (the even ones)
+-- carry. Assumes nothing.
+use Prim.Native.Nat.{ℕ, zero, suc, _+_, _*_, _-_, _%_, min, _≤_, _<_}
 use mathlib.Core.Path.{_≡_, refl, sym, _∙_, ap}
 use mathlib.Core.Logic.{_⊎_, inl, inr, ⊎-elim}
-use mathlib.Core.List.{List, [], _∷_, _++_}
-use mathlib.Core.Bool.{Bool, true, false, _&&_, and-true}
+use mathlib.Core.List.{List, [], _∷_, _++_, map}
+use mathlib.Core.Bool.{Bool, true, false, cond, _&&_, and-assoc}
+use native.Mathlib.Nat.{le-antisymm}
+use native.Mathlib.Numerals.{add-one}
 use native.Mathlib.Omega.{arith}
-use borrow.Author.Tests.{lt-ltb, le-ltb, ltb-true, leb-true, eqb-true}
-use lib.ListN.{getD, take, drop, replicate, length-replicate, getD-replicate, List·getD-append, List·getD-eq-default}
-use lib.Seq.{getD-drop}
+use borrow.Author.Tests.{lt-ltb, le-ltb, le-leb, ltb-true, ltb-false, leb-true, eqb-true, eqb-false}
+use lib.ListN.{length, getD, take, drop, replicate, length-replicate, getD-replicate, length-take, length-map, List·getD-append, List·getD-eq-default, List·getD-map, drop-of-length-le}
+use lib.Seq.{getD-drop, getD-take, take-nil, drop-nil, drop-cons}
 use lib.Dec.{leb, ltb, eqb, eqb·zero-suc, eqb·suc-zero, lit≤}
 use Rattle.records.specs.Bytes.{upFrom, tabulate, all}
-use Rattle.records.specs.Gate.{Gate, gateOf, arity, operands, unused, conj, disj, parity, inverted, gateValue}
+use Rattle.records.specs.Gate.{Gate, gateOf, leastCount, mostCount, permits, operands, unused, conj, disj, parity, inverted, gateValue}
 use Rattle.records.specs.Netlist.{netAt, valueOf}
 use Rattle.records.specs.Refusal.{gateGood}
-use Rattle.records.specs.Claims.{assignments, TruthTable}
-use Rattle.records.proofs.Laws.Bytes.{and-left, and-right, all-cons}
+use Rattle.records.specs.Claims.{permittedCounts, assignments, TruthTable, OperandsFold, OddInverts}
+use Rattle.records.proofs.Laws.Bytes.{and-left, and-right, false-of, all-cons}
+
+true-or-false : (b : Bool) → (b ≡ true) ⊎ (b ≡ false)
+true-or-false true = inl refl
+true-or-false false = inr refl
 
 -- ---- tables
 
@@ -36,65 +43,186 @@ getD-all p [] e z k = z
 getD-all p (x ∷ t) e z zero = all-cons p x t e .0
 getD-all p (x ∷ t) e z (suc k) = getD-all p t (all-cons p x t e .1) z k
 
--- ---- arities
+-- what holds of the first n entries holds of each of them
+getD-all-take : (p : ℕ → Bool) (n : ℕ) (t : List ℕ) → all p (take n t) ≡ true
+    → (k : ℕ) → k < n → k < length t → p (getD t k 0) ≡ true
+getD-all-take p (suc n) (x ∷ t) e zero h l = all-cons p x (take n t) e .0
+getD-all-take p (suc n) (x ∷ t) e (suc k) h l =
+    getD-all-take p n t (all-cons p x (take n t) e .1) k (omega arith) (omega arith)
+getD-all-take p zero t e k h l = let f : ⊥ = omega arith in absurd f
+getD-all-take p (suc n) [] e k h l = let f : ⊥ = omega arith in absurd f
 
-arities : List ℕ
-arities = 0 ∷ 0 ∷ 1 ∷ 1 ∷ 2 ∷ 2 ∷ 2 ∷ 2 ∷ 2 ∷ 2 ∷ []
+-- a turn of a loop that counts up, and of one that counts down
+drop-next : (t : List ℕ) (i : ℕ) → i < length t → drop i t ≡ getD t i 0 ∷ drop (i + 1) t
+drop-next t i h = rw (add-one, drop-cons t i 0)
 
-pub arity-low : (k : ℕ) → k < 2 → arity k ≡ 0
-unfolding arity arities
-arity-low k h = getD-run arities 0 2 0 (drop 2 arities) refl k (omega arith) h
+pub drop-back : (t : List ℕ) (i : ℕ) → 0 < i → i ≤ length t → drop (i - 1) t ≡ getD t (i - 1) 0 ∷ drop i t
+drop-back t i z h =
+    let e : i - 1 + 1 ≡ i = omega arith in
+    drop-next t (i - 1) (omega arith) ∙ ap (λ (k : ℕ). getD t (i - 1) 0 ∷ drop k t) e
 
-pub arity-one : (k : ℕ) → 2 ≤ k → k < 4 → arity k ≡ 1
-unfolding arity arities
-arity-one k l h = getD-run arities 2 2 1 (drop 4 arities) refl k l h
+-- ---- operand counts
 
-pub arity-two : (k : ℕ) → 4 ≤ k → k < 10 → arity k ≡ 2
-unfolding arity arities
-arity-two k l h = getD-run arities 4 6 2 [] refl k l h
+leasts : List ℕ
+leasts = 0 ∷ 0 ∷ 1 ∷ 1 ∷ 2 ∷ 2 ∷ 2 ∷ 2 ∷ 2 ∷ 2 ∷ []
 
-pub arity-high : (k : ℕ) → 10 ≤ k → arity k ≡ 0
-unfolding arity arities
-arity-high k h = List·getD-eq-default arities 0 h
+mosts : List ℕ
+mosts = 0 ∷ 0 ∷ 1 ∷ 1 ∷ 4 ∷ 4 ∷ 4 ∷ 4 ∷ 4 ∷ 4 ∷ []
 
-pub arity-le : (k : ℕ) → arity k ≤ 2
-unfolding arity arities all
-arity-le k = leb-true (arity k) 2 (getD-all (λ v. leb v 2) arities refl refl k)
+-- the constants have no operand, buf and not have one, the others two to four
+pub count-none : (k : ℕ) → k < 2 → (leastCount k ≡ 0) × (mostCount k ≡ 0)
+unfolding leastCount mostCount leasts mosts
+count-none k h = (
+  getD-run leasts 0 2 0 (drop 2 leasts) refl k (omega arith) h,
+  getD-run mosts 0 2 0 (drop 2 mosts) refl k (omega arith) h,
+)
+
+pub count-one : (k : ℕ) → 2 ≤ k → k < 4 → (leastCount k ≡ 1) × (mostCount k ≡ 1)
+unfolding leastCount mostCount leasts mosts
+count-one k l h = (getD-run leasts 2 2 1 (drop 4 leasts) refl k l h, getD-run mosts 2 2 1 (drop 4 mosts) refl k l h)
+
+pub count-many : (k : ℕ) → 4 ≤ k → k < 10 → (leastCount k ≡ 2) × (mostCount k ≡ 4)
+unfolding leastCount mostCount leasts mosts
+count-many k l h = (getD-run leasts 4 6 2 [] refl k l h, getD-run mosts 4 6 4 [] refl k l h)
+
+pub mostCount-le : (k : ℕ) → mostCount k ≤ 4
+unfolding mostCount mosts all
+mostCount-le k = leb-true (mostCount k) 4 (getD-all (λ v. leb v 4) mosts refl refl k)
+
+-- from a to a is a
+leb-both : (a n : ℕ) → (leb a n && leb n a) ≡ eqb n a
+leb-both a n = ⊎-elim same other (true-or-false (eqb n a))
+  where
+    same : eqb n a ≡ true → (leb a n && leb n a) ≡ eqb n a
+    same e =
+        let h = eqb-true n a e in
+        let p : leb a n ≡ true = le-leb a n (omega arith) in
+        let q : leb n a ≡ true = le-leb n a (omega arith) in
+        rw (e, p, q)
+
+    other : eqb n a ≡ false → (leb a n && leb n a) ≡ eqb n a
+    other e =
+        let h = eqb-false n a e in
+        rw e
+        (false-of (leb a n && leb n a)
+        (λ t. h (le-antisymm (leb-true n a (and-right (leb a n) (leb n a) t)) (leb-true a n (and-left (leb a n) (leb n a) t)))))
+
+module _ (k n : ℕ) where
+  -- a kind that exists, and its least and most operands
+  pub permits-parts : permits k n ≡ true → (k < 10) × (leastCount k ≤ n) × (n ≤ mostCount k)
+  unfolding permits
+  permits-parts e =
+      let a : Bool = ltb k 10 in
+      let b : Bool = leb (leastCount k) n in
+      let c : Bool = leb n (mostCount k) in
+      let ab = and-left (a && b) c e in (
+        ltb-true k 10 (and-left a b ab),
+        leb-true (leastCount k) n (and-right a b ab),
+        leb-true n (mostCount k) (and-right (a && b) c e),
+      )
+
+  pub permits-kind : permits k n ≡ true → k < 10
+  permits-kind e = permits-parts e .0
+
+  pub permits-count : permits k n ≡ true → n ≤ 4
+  permits-count e = let h = mostCount-le k in omega (arith, permits-parts e .2)
+
+  -- the same as a test, where the kind's least and most operands are known
+  pub permits-many : (a b : ℕ) → k < 10 → (leastCount k ≡ a) × (mostCount k ≡ b) → permits k n ≡ (leb a n && leb n b)
+  unfolding permits
+  permits-many a b h e = let t : ltb k 10 ≡ true = lt-ltb k 10 h in rw (t, e .0, e .1)
+
+  pub permits-one : (a : ℕ) → k < 10 → (leastCount k ≡ a) × (mostCount k ≡ a) → permits k n ≡ eqb n a
+  permits-one a h e = permits-many a a h e ∙ leb-both a n
+
+  pub permits-high : 10 ≤ k → permits k n ≡ false
+  unfolding permits
+  permits-high h = let t : ltb k 10 ≡ false = le-ltb k 10 h in rw t
 
 -- ---- the test of a gate
 
-zero-eqb : (n : ℕ) → eqb 0 n ≡ eqb n 0
+pub zero-eqb : (n : ℕ) → eqb 0 n ≡ eqb n 0
 zero-eqb zero = refl
 zero-eqb (suc n) = eqb·zero-suc n ∙ sym (eqb·suc-zero n)
 
-module _ (net k a b : ℕ) (h : k ≤ 9) where
-  exists : ltb k 10 ≡ true
-  exists = lt-ltb k 10 (omega arith)
+-- the slots xs of a gate that drives net and uses the first n of them
+abbrev pub slotsGood : ℕ → ℕ → List ℕ → Bool
+slotsGood net n xs = all (λ i. ltb i net) (take n xs) && all (eqb 0) (drop n xs)
 
-  pub gateGood-none : arity k ≡ 0 → gateGood net (gateOf k a b) ≡ (eqb a 0 && eqb b 0)
-  unfolding gateGood gateOf operands unused all
-  gateGood-none e = rw (exists, e) (simp (and-true, zero-eqb))
+module _ (net : ℕ) (g : Gate) where
+  pub gateGood-slots : gateGood net g ≡ (permits (g .kind) (g .count) && slotsGood net (g .count) (g .slots))
+  unfolding gateGood operands unused
+  gateGood-slots =
+      and-assoc
+      (permits (g .kind) (g .count))
+      (all (λ i. ltb i net) (take (g .count) (g .slots)))
+      (all (eqb 0) (drop (g .count) (g .slots)))
 
-  pub gateGood-one : arity k ≡ 1 → gateGood net (gateOf k a b) ≡ (ltb a net && eqb b 0)
-  unfolding gateGood gateOf operands unused all
-  gateGood-one e = rw (exists, e) (simp (and-true, zero-eqb))
+  pub gateGood-refused : permits (g .kind) (g .count) ≡ false → gateGood net g ≡ false
+  unfolding gateGood
+  gateGood-refused e = rw e
 
-  pub gateGood-two : arity k ≡ 2 → gateGood net (gateOf k a b) ≡ (ltb a net && ltb b net)
-  unfolding gateGood gateOf operands unused all
-  gateGood-two e = rw (exists, e) (simp and-true)
+  pub gateGood-permitted : permits (g .kind) (g .count) ≡ true → gateGood net g ≡ slotsGood net (g .count) (g .slots)
+  gateGood-permitted e = gateGood-slots ∙ rw e
 
-pub gateGood-high : (net k a b : ℕ) → 9 < k → gateGood net (gateOf k a b) ≡ false
-unfolding gateGood gateOf
-gateGood-high net k a b h = let t : ltb k 10 ≡ false = le-ltb k 10 h in rw t
+  module _ (e : gateGood net g ≡ true) where
+    pub gateGood-permits : permits (g .kind) (g .count) ≡ true
+    gateGood-permits =
+        let p : Bool = permits (g .kind) (g .count) in
+        and-left p (slotsGood net (g .count) (g .slots)) (sym gateGood-slots ∙ e)
 
-pub gateGood-parts : (net : ℕ) (g : Gate) → gateGood net g ≡ true
-    → (all (λ i. ltb i net) (operands g) ≡ true) × (all (eqb 0) (unused g) ≡ true)
-unfolding gateGood
-gateGood-parts net g e =
-    let k : Bool = ltb (g .kind) 10 in
-    let u : Bool = all (λ i. ltb i net) (operands g) in
-    let z : Bool = all (eqb 0) (unused g) in
-    (and-right k u (and-left (k && u) z e), and-right (k && u) z e)
+    -- used operands below net, unused slots 0
+    pub gateGood-parts : (all (λ i. ltb i net) (operands g) ≡ true) × (all (eqb 0) (unused g) ≡ true)
+    unfolding operands unused
+    gateGood-parts =
+        let u : Bool = all (λ i. ltb i net) (operands g) in
+        let z : Bool = all (eqb 0) (unused g) in
+        let t : (u && z) ≡ true = sym (gateGood-permitted gateGood-permits) ∙ e in
+        (and-left u z t, and-right u z t)
+
+    pub gateGood-kind : g .kind < 10
+    gateGood-kind = permits-kind (g .kind) (g .count) gateGood-permits
+
+    pub gateGood-count : g .count ≤ 4
+    gateGood-count = permits-count (g .kind) (g .count) gateGood-permits
+
+    pub operand-lt : (i : ℕ) → i < g .count → i < length (g .slots) → getD (g .slots) i 0 < net
+    unfolding operands
+    operand-lt i h l =
+        ltb-true (getD (g .slots) i 0) net
+        (getD-all-take (λ j. ltb j net) (g .count) (g .slots) (gateGood-parts .0) i h l)
+
+slotsGood-cons : (net n i x : ℕ) (xs : List ℕ)
+    → slotsGood net (n - i) (x ∷ xs) ≡ (cond (ltb i n) (ltb x net) (eqb 0 x) && slotsGood net (n - (i + 1)) xs)
+unfolding all
+slotsGood-cons net n i x xs = ⊎-elim used left (true-or-false (ltb i n))
+  where
+    used : ltb i n ≡ true
+        → slotsGood net (n - i) (x ∷ xs) ≡ (cond (ltb i n) (ltb x net) (eqb 0 x) && slotsGood net (n - (i + 1)) xs)
+    used t =
+        let h = ltb-true i n t in
+        let m : n - i ≡ suc (n - (i + 1)) = omega arith in
+        rw (t, m)
+        (and-assoc (ltb x net) (all (λ j. ltb j net) (take (n - (i + 1)) xs)) (all (eqb 0) (drop (n - (i + 1)) xs)))
+
+    left : ltb i n ≡ false
+        → slotsGood net (n - i) (x ∷ xs) ≡ (cond (ltb i n) (ltb x net) (eqb 0 x) && slotsGood net (n - (i + 1)) xs)
+    left t =
+        let h = ltb-false i n t in
+        let m : n - i ≡ 0 = omega arith in
+        let o : n - (i + 1) ≡ 0 = omega arith in
+        rw (t, m, o)
+
+-- a turn of the loop over the slots: slot i, and those after it
+pub slotsGood-drop : (net n i : ℕ) (xs : List ℕ) → i < length xs
+    → slotsGood net (n - i) (drop i xs)
+    ≡ (cond (ltb i n) (ltb (getD xs i 0) net) (eqb 0 (getD xs i 0)) && slotsGood net (n - (i + 1)) (drop (i + 1) xs))
+slotsGood-drop net n i xs h =
+    ap (slotsGood net (n - i)) (drop-next xs i h) ∙ slotsGood-cons net n i (getD xs i 0) (drop (i + 1) xs)
+
+pub slotsGood-end : (net n i : ℕ) (xs : List ℕ) → length xs ≤ i → slotsGood net n (drop i xs) ≡ true
+unfolding all
+slotsGood-end net n i xs h = rw (drop-of-length-le xs {i = i} h, take-nil {A = ℕ} n, drop-nil {A = ℕ} n)
 
 -- each element is at most net where the first n are below it and the others 0
 used-or-zero : (net n : ℕ) (xs : List ℕ) → all (λ i. ltb i net) (take n xs) ≡ true → all (eqb 0) (drop n xs) ≡ true
@@ -108,60 +236,129 @@ used-or-zero net (suc n) (x ∷ xs) u z (suc j) =
     used-or-zero net n xs (all-cons (λ i. ltb i net) x (take n xs) u .1) z j
 
 -- what stands in the slots of a good gate is at most its net
-pub slots-le : (net k a b : ℕ) → gateGood net (gateOf k a b) ≡ true → (a ≤ net) × (b ≤ net)
-unfolding gateOf operands unused
-slots-le net k a b e =
-    let t = gateGood-parts net (gateOf k a b) e in
-    let f = used-or-zero net (arity k) (a ∷ b ∷ []) (t .0) (t .1) in
-    (f 0, f 1)
+pub slots-le : (net : ℕ) (g : Gate) → gateGood net g ≡ true → (j : ℕ) → getD (g .slots) j 0 ≤ net
+unfolding operands unused
+slots-le net g e = let t = gateGood-parts net g e in used-or-zero net (g .count) (g .slots) (t .0) (t .1)
 
 -- ---- values
 
--- the value of kind k on the lowest bits of a and b
-abbrev pub applied : ℕ → ℕ → ℕ → ℕ
-applied k a b = gateValue k (take (arity k) (a % 2 ∷ b % 2 ∷ []))
-
--- what holds of 0 and 1 holds of lowest bits
+-- what holds of 0 and 1 holds of bits
 pub on-bit : (P : ℕ → Type 0) → P 0 → P 1 → (x : ℕ) → x < 2 → P x
 on-bit P p q zero h = p
 on-bit P p q (suc zero) h = q
 on-bit P p q (suc (suc x)) h = let f : ⊥ = omega arith in absurd f
 
-on-bits : (P : ℕ → ℕ → Type 0) → P 0 0 → P 0 1 → P 1 0 → P 1 1 → (a b : ℕ) → P (a % 2) (b % 2)
-on-bits P p q r s a b =
-    let h : a % 2 < 2 = omega arith in
-    let l : b % 2 < 2 = omega arith in
-    on-bit (λ x. P x (b % 2)) (on-bit (P 0) p q (b % 2) l) (on-bit (P 1) r s (b % 2) l) (a % 2) h
+pub on-bits : (P : ℕ → ℕ → Type 0) → P 0 0 → P 0 1 → P 1 0 → P 1 1 → (x y : ℕ) → x < 2 → y < 2 → P x y
+on-bits P p q r s x y h l = on-bit (λ x. P x y) (on-bit (P 0) p q y l) (on-bit (P 1) r s y l) x h
 
-pub product-le : (a b : ℕ) → (a % 2) * (b % 2) ≤ 1
-product-le = on-bits (λ x y. x * y ≤ 1) (lit≤ tt) (lit≤ tt) (lit≤ tt) (lit≤ tt)
+-- v is the value of kind k on x and y
+abbrev pub Gives : ℕ → ℕ → ℕ → ℕ → Type 0
+Gives k x y v = (v ≡ gateValue k (x ∷ y ∷ [])) × (v < 2)
 
-pub conj-bits : (a b : ℕ) → (a % 2) * (b % 2) ≡ conj (a % 2 ∷ b % 2 ∷ [])
-unfolding conj
-conj-bits = on-bits (λ x y. x * y ≡ conj (x ∷ y ∷ [])) refl refl refl refl
+pub and-bits : (x y : ℕ) → x < 2 → y < 2 → Gives 4 x y (x * y)
+unfolding gateValue conj
+and-bits = on-bits (λ x y. Gives 4 x y (x * y)) (refl, lit≤ tt) (refl, lit≤ tt) (refl, lit≤ tt) (refl, lit≤ tt)
 
-pub disj-bits : (a b : ℕ) → (a % 2 + b % 2 + (a % 2) * (b % 2)) % 2 ≡ disj (a % 2 ∷ b % 2 ∷ [])
-unfolding disj
-disj-bits = on-bits (λ x y. (x + y + x * y) % 2 ≡ disj (x ∷ y ∷ [])) refl refl refl refl
+pub or-bits : (x y : ℕ) → x < 2 → y < 2 → Gives 6 x y ((x + y + x * y) % 2)
+unfolding gateValue disj
+or-bits = on-bits (λ x y. Gives 6 x y ((x + y + x * y) % 2)) (refl, lit≤ tt) (refl, lit≤ tt) (refl, lit≤ tt) (refl, lit≤ tt)
 
-pub parity-bits : (a b : ℕ) → (a % 2 + b % 2) % 2 ≡ parity (a % 2 ∷ b % 2 ∷ [])
-unfolding parity
-parity-bits = on-bits (λ x y. (x + y) % 2 ≡ parity (x ∷ y ∷ [])) refl refl refl refl
+pub xor-bits : (x y : ℕ) → x < 2 → y < 2 → Gives 8 x y ((x + y) % 2)
+unfolding gateValue parity
+xor-bits = on-bits (λ x y. Gives 8 x y ((x + y) % 2)) (refl, lit≤ tt) (refl, lit≤ tt) (refl, lit≤ tt) (refl, lit≤ tt)
 
--- k is none of 1, .. n, as the last arm of a match has it
-abbrev pub NoneOf : ℕ → ℕ → Type 0
-NoneOf zero k = Unit {0}
-NoneOf (suc n) k = NoneOf n k × (k ≡ suc n → ⊥)
+-- what holds of 0 and two above any even number holds of even numbers
+by-two : (P : ℕ → Type 0) → P 0 → ((k : ℕ) → k % 2 ≡ 0 → P (suc (suc k))) → (k : ℕ) → k % 2 ≡ 0 → P k
+by-two P z s zero e = z
+by-two P z s (suc zero) e = let f : ⊥ = omega arith in absurd f
+by-two P z s (suc (suc k)) e = s k (omega arith)
 
-zero-or-above : (n k : ℕ) → NoneOf n k → (k ≡ 0) ⊎ (n < k)
-zero-or-above zero zero t = inl refl
-zero-or-above zero (suc k) t = inr (omega arith)
-zero-or-above (suc n) k t = ⊎-elim inl (λ l. inr (omega (arith, t .1))) (zero-or-above n k (t .0))
+-- what holds of each plain kind and of what is no kind holds of even numbers
+pub on-plain : (P : ℕ → Type 0) → P 0 → P 2 → P 4 → P 6 → P 8 → ((k : ℕ) → 10 ≤ k → P k) → (k : ℕ) → k % 2 ≡ 0 → P k
+on-plain P a b c d e h =
+    let second : ℕ → Type 0 = λ k. P (suc (suc k)) in
+    let fourth : ℕ → Type 0 = λ k. second (suc (suc k)) in
+    let sixth : ℕ → Type 0 = λ k. fourth (suc (suc k)) in
+    let eighth : ℕ → Type 0 = λ k. sixth (suc (suc k)) in
+    by-two P a (by-two second b (by-two fourth c (by-two sixth d (by-two eighth e (λ k p. h _ (omega arith))))))
 
-pub gateValue-other : (k : ℕ) (vs : List ℕ) → NoneOf 9 k → gateValue k vs ≡ 0
+pub gateValue-high : (k : ℕ) (vs : List ℕ) → 10 ≤ k → gateValue k vs ≡ 0
+unfolding tabulate upFrom gateValue
+gateValue-high k vs h = List·getD-eq-default (tabulate 10 (λ j. gateValue j vs)) 0 h
+
+-- k is none of the numbers, the last first, as the last arm of a match has it
+abbrev pub NoneOf : List ℕ → ℕ → Type 0
+NoneOf [] k = Unit {0}
+NoneOf (n ∷ ns) k = NoneOf ns k × (k ≡ n → ⊥)
+
+pub gateValue-other : (vs : List ℕ) (k : ℕ) → k % 2 ≡ 0 → NoneOf (8 ∷ 6 ∷ 4 ∷ 2 ∷ []) k → gateValue k vs ≡ 0
 unfolding gateValue
-gateValue-other k vs t = ⊎-elim (λ e. rw e) (λ l. let h : 10 ≤ k = l in rw List·getD-eq-default) (zero-or-above 9 k t)
+gateValue-other vs =
+    on-plain (λ k. NoneOf (8 ∷ 6 ∷ 4 ∷ 2 ∷ []) k → gateValue k vs ≡ 0) (λ n. refl) (λ n. absurd (n .0 .0 .0 .1 refl))
+    (λ n. absurd (n .0 .0 .1 refl)) (λ n. absurd (n .0 .1 refl)) (λ n. absurd (n .1 refl)) (λ k h n. gateValue-high k vs h)
+
+-- and of no operands is 1, each other plain kind of none 0
+pub gateValue-nil : (k : ℕ) → k % 2 ≡ 0 → (k ≡ 4 → ⊥) → gateValue k [] ≡ 0
+unfolding gateValue disj parity
+gateValue-nil =
+    on-plain (λ k. (k ≡ 4 → ⊥) → gateValue k [] ≡ 0) (λ n. refl) (λ n. refl) (λ n. absurd (n refl)) (λ n. refl) (λ n. refl)
+    (λ k h n. gateValue-high k [] h)
+
+conj-le : (vs : List ℕ) → conj vs ≤ 1
+unfolding conj
+conj-le [] = omega arith
+conj-le (v ∷ vs) = let h = conj-le vs in omega arith
+
+parity-lt : (vs : List ℕ) → parity vs < 2
+unfolding parity
+parity-lt [] = omega arith
+parity-lt (v ∷ vs) = omega arith
+
+pub operands-fold : OperandsFold
+unfolding gateValue conj disj parity
+operands-fold k v vs =
+    let b = conj-le vs in
+    let c = parity-lt vs in
+    on-plain (λ k. gateValue k (v ∷ vs) ≡ gateValue k (v ∷ gateValue k vs ∷ [])) refl refl (omega arith) (omega arith) (omega arith)
+    (λ k h. gateValue-high k (v ∷ vs) h ∙ sym (gateValue-high k (v ∷ gateValue k vs ∷ []) h))
+    k
+
+pub odd-inverts : OddInverts
+unfolding gateValue inverted
+odd-inverts k vs =
+    on-plain (λ k. k < 10 → gateValue (suc k) vs ≡ inverted (gateValue k vs)) (λ h. refl) (λ h. refl) (λ h. refl) (λ h. refl)
+    (λ h. refl) (λ k l h. let f : ⊥ = omega arith in absurd f)
+    k
+
+-- ---- the value of a gate, from its last operand to its first
+
+-- the lowest bits of the first count operands
+abbrev pub lowest : ℕ → List ℕ → List ℕ
+lowest count xs = take count (map (λ v. v % 2) xs)
+
+pub length-lowest : (count : ℕ) (xs : List ℕ) → length (lowest count xs) ≡ min count (length xs)
+length-lowest count xs = simp (length-take, length-map)
+
+getD-lowest : (count : ℕ) (xs : List ℕ) (i : ℕ) → i < count → getD (lowest count xs) i 0 ≡ getD xs i 0 % 2
+getD-lowest count xs i h =
+    getD-take count (map (λ v. v % 2) xs) i 0 h ∙ List·getD-map {A = ℕ} {B = ℕ} (λ v. v % 2) xs i 0
+
+module _ (k : ℕ) (e : k % 2 ≡ 0) (count : ℕ) (xs : List ℕ) where
+  -- before the first turn
+  pub fold-none : (i r : ℕ) → i ≡ length (lowest count xs) → r ≡ gateValue k [] → r ≡ gateValue k (drop i (lowest count xs))
+  fold-none i r h q = q ∙ ap (gateValue k) (sym (drop-of-length-le (lowest count xs) {i = i} (omega arith)))
+
+  -- a turn
+  pub fold-back : (i r : ℕ) → 0 < i → i ≤ length (lowest count xs) → r ≡ gateValue k (drop i (lowest count xs))
+      → gateValue k (getD xs (i - 1) 0 % 2 ∷ r ∷ []) ≡ gateValue k (drop (i - 1) (lowest count xs))
+  fold-back i r z h q =
+      let l : i - 1 < count = omega (arith, length-lowest count xs) in
+      let a : getD xs (i - 1) 0 % 2 ≡ getD (lowest count xs) (i - 1) 0 = sym (getD-lowest count xs (i - 1) l) in
+      rw (a, q)
+      (sym
+      (ap (gateValue k) (drop-back (lowest count xs) i z h)
+      ∙ operands-fold k (getD (lowest count xs) (i - 1) 0) (drop i (lowest count xs)) e))
 
 pub truth-table : TruthTable
-unfolding tabulate upFrom assignments valueOf netAt operands gateOf arity gateValue conj disj parity inverted
+unfolding tabulate upFrom permittedCounts assignments valueOf netAt operands gateOf leastCount mostCount gateValue conj disj parity inverted
 truth-table = refl

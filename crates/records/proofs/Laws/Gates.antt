@@ -12,11 +12,11 @@ use Rattle.records.specs.Service.{gateFrom, gatesIn}
 use Rattle.records.specs.Inner.{noGate, structAt, structsAt, gatesBytes}
 use Rattle.records.specs.declared.gate.Gate.{Gate}
 use Rattle.records.proofs.Laws.Bytes.{length-tabulate, placed-nil, length-placed}
-use Rattle.records.proofs.Laws.Job.{flat-snoc, placed-then, filled-none, filled-next, length-gateBytes, length-gatesBytes}
+use Rattle.records.proofs.Laws.Job.{flat-snoc, placed-then, filled-none, filled-next, length-structBytes, length-gatesBytes}
 
 module _ (d : List Gate) (s : List ℕ) (at : ℕ) where
   abbrev g : ℕ → Gate
-  g i = structAt s (at + 5 * i)
+  g i = structAt s (at + 10 * i)
 
   pub structs-none : placed d 0 (structsAt s at 0) ≡ d
   unfolding structsAt
@@ -27,7 +27,7 @@ module _ (d : List Gate) (s : List ℕ) (at : ℕ) where
   length-structs n h = length-placed d 0 (structsAt s at n) (omega (arith, length-tabulate n g))
 
   pub structs-next : (i : ℕ) → i < length d
-      → set (placed d 0 (structsAt s at i)) i (structAt s (at + 5 * i)) ≡ placed d 0 (structsAt s at (i + 1))
+      → set (placed d 0 (structsAt s at i)) i (structAt s (at + 10 * i)) ≡ placed d 0 (structsAt s at (i + 1))
   unfolding structsAt
   structs-next i h =
       filled-next d g (placed d 0 (structsAt s at i)) i (g i) h refl (length-structs i (omega arith), refl) .1
@@ -42,7 +42,7 @@ module _ (d : List ℕ) (at : ℕ) (gs : List Gate) where
   unfolding gatesBytes gatesIn flat
   bytes-none = placed-nil d at
 
-  pub length-bytes : (n : ℕ) → n ≤ length gs → at + 5 * n ≤ length d → length (with-bytes n) ≡ length d
+  pub length-bytes : (n : ℕ) → n ≤ length gs → at + 10 * n ≤ length d → length (with-bytes n) ≡ length d
   length-bytes n h r = length-placed d at (gatesBytes n gs) (omega (arith, length-gatesBytes n gs h))
 
   gatesBytes-snoc : (i : ℕ) → i < length gs → gatesBytes (i + 1) gs ≡ gatesBytes i gs ++ gateBytes (gateFrom (getD gs i noGate))
@@ -53,11 +53,10 @@ module _ (d : List ℕ) (at : ℕ) (gs : List Gate) where
       ∙ ap (flat gateBytes) (map-append gateFrom (take i gs) (getD gs i noGate ∷ []))
       ∙ flat-snoc gateBytes (map gateFrom (take i gs)) (gateFrom (getD gs i noGate))
 
-  pub bytes-next : (i : ℕ) → i < length gs → at + 5 * i + 5 ≤ length d
-      → placed (with-bytes i) (at + 5 * i) (gateBytes (gateFrom (getD gs i noGate))) ≡ with-bytes (i + 1)
-  unfolding gateFrom
+  pub bytes-next : (i : ℕ) → i < length gs → at + 10 * i + 10 ≤ length d
+      → placed (with-bytes i) (at + 10 * i) (gateBytes (gateFrom (getD gs i noGate))) ≡ with-bytes (i + 1)
   bytes-next i h r =
       let g : Gate = getD gs i noGate in
-      placed-then d at (gatesBytes i gs) (gateBytes (gateFrom g)) (at + 5 * i) (omega (arith, length-gatesBytes i gs (omega arith)))
-      (omega (arith, length-gateBytes (g .kind) (g .first) (g .second))) refl refl
+      placed-then d at (gatesBytes i gs) (gateBytes (gateFrom g)) (at + 10 * i) (omega (arith, length-gatesBytes i gs (omega arith)))
+      (omega (arith, length-structBytes g)) refl refl
       ∙ ap (placed d at) (sym (gatesBytes-snoc i h))

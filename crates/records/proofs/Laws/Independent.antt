@@ -1,6 +1,6 @@
 -- Laws of what a call leaves alone: what stands behind its reply stays, and plays no part in it, and neither does what was held before.
 -- One law over what can hold a job's parts for each; places and columns are instances. Assumes nothing.
-use Prim.Native.Nat.{ℕ, _≤_, _<_}
+use Prim.Native.Nat.{ℕ, _+_, _*_, _≤_, _<_}
 use mathlib.Core.Path.{_≡_, refl, sym, _∙_, ap}
 use mathlib.Core.List.{List, map}
 use mathlib.Core.Bool.{Bool, true, false, cond}
@@ -13,15 +13,16 @@ use Rattle.records.specs.Bytes.{placed}
 use Rattle.records.specs.Gate.{Gate}
 use Rattle.records.specs.Netlist.{Netlist}
 use Rattle.records.specs.Job.{Candidate, Job, jobOf, jobBytes}
-use Rattle.records.specs.Service.{SidePlaces, Places, sidePlaces, places, slotOf, structOf, sideCountsOf, countsOf, noCounts, sideRoomy, roomy, filledSide, filled, readNumber, readReply, readPlaces, gatesIn, netlistFrom, candidatesFrom, jobFrom, writeNumber, writeReply, writtenBytes, sheetRoomy, sheetNumber, sheetReply}
+use Rattle.records.specs.Service.{SidePlaces, Places, sidePlaces, places, structOf, sideCountsOf, countsOf, noCounts, sideRoomy, roomy, filledSide, filled, readNumber, readReply, readPlaces, gatesIn, netlistFrom, candidatesFrom, jobFrom, writeNumber, writeReply, writtenBytes, sheetRoomy, sheetNumber, sheetReply}
 use Rattle.records.specs.Columns.{SideColumns, Columns, sideColumns, columns, sideColumnsRoomy, columnsRoomy, sideColumnsFilled, columnsFilled, columnsNumber, columnsReply, columnsAfter, gatesFrom, columnsNetlist, columnsJob, columnsWriteNumber, columnsWriteReply, columnsWritten}
 use Rattle.records.specs.Claims.{sideBehind, behind, ReadKeeps, WriteKeeps, SideAlike, Alike, sideUpTo, upTo, ReadIndependent, WriteIndependent, SheetIndependent, sideColumnsBehind, columnsBehind, ColumnsKeeps, ColumnsWriteKeeps, SideColumnsAlike, ColumnsAlike, sideColumnsUpTo, columnsUpTo, ColumnsIndependent, ColumnsWriteIndependent}
 use Rattle.records.specs.declared.job.SideCounts.{SideCounts}
 use Rattle.records.specs.declared.job.Counts.{Counts}
 use Rattle.records.proofs.Laws.Bytes.{tabulate-ext}
 use Rattle.records.proofs.Laws.Job.{take-placed-front, drop-placed-front}
-use Rattle.records.proofs.Laws.Accepted.{parts-accept, length-good, take-column, drop-column, Holder, readNumberIn, countsIn, readIn, writeNumberIn, lengthIn, writtenIn, inPlaces}
-use Rattle.records.proofs.Laws.ReadColumns.{inColumns}
+use Rattle.records.proofs.Laws.RoundTrip.{All, Four, FourEach}
+use Rattle.records.proofs.Laws.Accepted.{parts-accept, length-good, four-jobOf, take-column, drop-column, Holder, readNumberIn, countsIn, readIn, writeNumberIn, lengthIn, writtenIn, inPlaces}
+use Rattle.records.proofs.Laws.ReadColumns.{slotColumn, take-slots, drop-slots, inColumns}
 
 -- ---- lists
 
@@ -33,25 +34,25 @@ getD-taken {A} k d xs ys e i h = sym (getD-take k xs i d h) ∙ ap (λ (l : List
 
 module _ {P : Type 0} (k : Holder P) where
   module _ (part : Counts → P → P) (p : P) (s : List ℕ) where
-    -- a part that no job put there alters
-    read-keeps-in : ((j : Job) → part (countsOf j) (k .put p j) ≡ part (countsOf j) p)
+    -- a part that the job put there does not alter
+    read-keeps-in : part (countsOf (jobOf s)) (k .put p (jobOf s)) ≡ part (countsOf (jobOf s)) p
         → part (countsIn k p s) (readIn k p s) ≡ part (countsIn k p s) p
     read-keeps-in h = go (eqb (readNumberIn k p s) 0)
       where
         go : (b : Bool) → let c = cond b (countsOf (jobOf s)) noCounts in part c (cond b (k .put p (jobOf s)) p) ≡ part c p
-        go true = h (jobOf s)
+        go true = h
         go false = refl
 
-    -- a part that is the same in p and q, whatever job is put there
+    -- a part that is the same in p and q, and once the job is put there
     read-same-in : (q : P) → k .room p ≡ k .room q → part noCounts p ≡ part noCounts q
-        → ((j : Job) → part (countsOf j) (k .put p j) ≡ part (countsOf j) (k .put q j))
+        → part (countsOf (jobOf s)) (k .put p (jobOf s)) ≡ part (countsOf (jobOf s)) (k .put q (jobOf s))
         → part (countsIn k p s) (readIn k p s) ≡ part (countsIn k p s) (readIn k q s)
     read-same-in q e z h = rw e (go (eqb (readNumberIn k q s) 0))
       where
         go : (b : Bool)
             → let c = cond b (countsOf (jobOf s)) noCounts in
             part c (cond b (k .put p (jobOf s)) p) ≡ part c (cond b (k .put q (jobOf s)) q)
-        go true = h (jobOf s)
+        go true = h
         go false = z
 
   module _ (c : Counts) (p : P) (d : List ℕ) where
@@ -63,7 +64,7 @@ module _ {P : Type 0} (k : Holder P) where
             (n ≤ length d) × (drop n (cond b (placed d 0 (jobBytes (k .job c p))) d) ≡ drop n d)
         go true e =
             let u = parts-accept (length d) (k .holds c p) (k .job c p) .0 (eqb-true (writeNumberIn k c p d) 0 e) in
-            (omega (arith, length-good (k .job c p) (k .two c p) (u .2)), drop-placed-front d (jobBytes (k .job c p)))
+            (omega (arith, length-good (k .job c p) (k .four c p) (u .2)), drop-placed-front d (jobBytes (k .job c p)))
         go false e = (omega arith, refl)
 
     write-same-in : (q : P) (e : List ℕ) → k .holds c p ≡ k .holds c q → k .job c p ≡ k .job c q → length d ≡ length e
@@ -152,7 +153,7 @@ jobFrom-upTo c p q e =
 
 pub read-keeps : ReadKeeps
 unfolding readReply readPlaces readNumber
-read-keeps p s = read-keeps-in inPlaces behind p s (behind-filled p)
+read-keeps p s = read-keeps-in inPlaces behind p s (behind-filled p (jobOf s))
 
 pub write-keeps : WriteKeeps
 unfolding writeReply writtenBytes writeNumber
@@ -162,7 +163,7 @@ pub read-independent : ReadIndependent
 unfolding readReply readPlaces readNumber upTo sideUpTo noCounts
 read-independent p q s a =
     let e = roomy-alike a in
-    (rw e, read-same-in inPlaces upTo p s q e refl (λ j. upTo-filled p j ∙ sym (upTo-filled q j)))
+    (rw e, read-same-in inPlaces upTo p s q e refl (upTo-filled p (jobOf s) ∙ sym (upTo-filled q (jobOf s))))
 
 pub write-independent : WriteIndependent
 unfolding writeReply writtenBytes writeNumber
@@ -173,16 +174,16 @@ write-independent c p q d e h u l =
 
 abbrev sideColumnsOf : Netlist → SideColumns
 sideColumnsOf l =
-    sideColumns (map (λ (g : Gate). g .kind) (l .gates)) (map (slotOf 0) (l .gates)) (map (slotOf 1) (l .gates)) (l .outputs)
+    sideColumns (map (λ (g : Gate). g .kind) (l .gates)) (map (λ (g : Gate). g .count) (l .gates)) (slotColumn (l .gates)) (l .outputs)
 
-module _ (p : SideColumns) (l : Netlist) where
+module _ (p : SideColumns) (l : Netlist) (w : All Four (l .gates)) where
   sideColumnsUpTo-filled : sideColumnsUpTo (sideCountsOf l) (sideColumnsFilled p l) ≡ sideColumnsOf l
   unfolding sideColumnsUpTo sideCountsOf sideColumnsFilled
   sideColumnsUpTo-filled =
       rw (
         take-column (λ (g : Gate). g .kind) (p .kinds) (l .gates),
-        take-column (slotOf 0) (p .firsts) (l .gates),
-        take-column (slotOf 1) (p .seconds) (l .gates),
+        take-column (λ (g : Gate). g .count) (p .counts) (l .gates),
+        take-slots (p .slots) (l .gates) w,
         take-placed-front (p .outputs) (l .outputs),
       )
 
@@ -191,20 +192,20 @@ module _ (p : SideColumns) (l : Netlist) where
   sideColumnsBehind-filled =
       rw (
         drop-column (λ (g : Gate). g .kind) (p .kinds) (l .gates),
-        drop-column (slotOf 0) (p .firsts) (l .gates),
-        drop-column (slotOf 1) (p .seconds) (l .gates),
+        drop-column (λ (g : Gate). g .count) (p .counts) (l .gates),
+        drop-slots (p .slots) (l .gates) w,
         drop-placed-front (p .outputs) (l .outputs),
       )
 
-module _ (p : Columns) (j : Job) where
+module _ (p : Columns) (j : Job) (w : FourEach j) where
   columnsUpTo-filled : columnsUpTo (countsOf j) (columnsFilled p j)
       ≡ columns (sideColumnsOf (j .old)) (sideColumnsOf (j .golden)) (map (λ (c : Candidate). c .net) (j .candidates))
       (map (λ (c : Candidate). c .weight) (j .candidates))
   unfolding columnsUpTo countsOf columnsFilled
   columnsUpTo-filled =
       rw (
-        sideColumnsUpTo-filled (p .old) (j .old),
-        sideColumnsUpTo-filled (p .golden) (j .golden),
+        sideColumnsUpTo-filled (p .old) (j .old) (w .old),
+        sideColumnsUpTo-filled (p .golden) (j .golden) (w .golden),
         take-column (λ (c : Candidate). c .net) (p .nets) (j .candidates),
         take-column (λ (c : Candidate). c .weight) (p .weights) (j .candidates),
       )
@@ -213,30 +214,35 @@ module _ (p : Columns) (j : Job) where
   unfolding columnsBehind countsOf columnsFilled
   columnsBehind-filled =
       rw (
-        sideColumnsBehind-filled (p .old) (j .old),
-        sideColumnsBehind-filled (p .golden) (j .golden),
+        sideColumnsBehind-filled (p .old) (j .old) (w .old),
+        sideColumnsBehind-filled (p .golden) (j .golden) (w .golden),
         drop-column (λ (c : Candidate). c .net) (p .nets) (j .candidates),
         drop-column (λ (c : Candidate). c .weight) (p .weights) (j .candidates),
       )
 
 sideColumnsRoomy-alike : {p q : SideColumns} → SideColumnsAlike p q → sideColumnsRoomy p ≡ sideColumnsRoomy q
 unfolding sideColumnsRoomy
-sideColumnsRoomy-alike a = rw (a .kinds, a .firsts, a .seconds, a .outputs)
+sideColumnsRoomy-alike a = rw (a .kinds, a .counts, a .slots, a .outputs)
 
 columnsRoomy-alike : {p q : Columns} → ColumnsAlike p q → columnsRoomy p ≡ columnsRoomy q
 unfolding columnsRoomy
 columnsRoomy-alike a = rw (sideColumnsRoomy-alike (a .old), sideColumnsRoomy-alike (a .golden), a .nets, a .weights)
 
 module _ (c : SideCounts) (p q : SideColumns) (e : sideColumnsUpTo c p ≡ sideColumnsUpTo c q) where
-  gatesFrom-upTo : gatesFrom (c .gates) (p .kinds) (p .firsts) (p .seconds) ≡ gatesFrom (c .gates) (q .kinds) (q .firsts) (q .seconds)
+  gatesFrom-upTo : gatesFrom (c .gates) (p .kinds) (p .counts) (p .slots) ≡ gatesFrom (c .gates) (q .kinds) (q .counts) (q .slots)
   unfolding gatesFrom sideColumnsUpTo
   gatesFrom-upTo =
+      let slot : (i : ℕ) → i < 4 * c .gates → getD (p .slots) i 0 ≡ getD (q .slots) i 0 =
+      getD-taken (4 * c .gates) 0 (p .slots) (q .slots) (ap (λ (x : SideColumns). x .slots) e) in
       tabulate-ext (c .gates) _ _
       (λ i h.
       rw (
         getD-taken (c .gates) 0 (p .kinds) (q .kinds) (ap (λ (x : SideColumns). x .kinds) e) i h,
-        getD-taken (c .gates) 0 (p .firsts) (q .firsts) (ap (λ (x : SideColumns). x .firsts) e) i h,
-        getD-taken (c .gates) 0 (p .seconds) (q .seconds) (ap (λ (x : SideColumns). x .seconds) e) i h,
+        getD-taken (c .gates) 0 (p .counts) (q .counts) (ap (λ (x : SideColumns). x .counts) e) i h,
+        slot (4 * i) (omega arith),
+        slot (4 * i + 1) (omega arith),
+        slot (4 * i + 2) (omega arith),
+        slot (4 * i + 3) (omega arith),
       ))
 
   columnsNetlist-upTo : columnsNetlist c p ≡ columnsNetlist c q
@@ -255,7 +261,7 @@ columnsJob-upTo c p q e =
 
 pub columns-keeps : ColumnsKeeps
 unfolding columnsReply columnsAfter columnsNumber
-columns-keeps p s = read-keeps-in inColumns columnsBehind p s (columnsBehind-filled p)
+columns-keeps p s = read-keeps-in inColumns columnsBehind p s (columnsBehind-filled p (jobOf s) (four-jobOf s))
 
 pub columns-write-keeps : ColumnsWriteKeeps
 unfolding columnsWriteReply columnsWritten columnsWriteNumber
@@ -265,7 +271,10 @@ pub columns-independent : ColumnsIndependent
 unfolding columnsReply columnsAfter columnsNumber columnsUpTo sideColumnsUpTo noCounts
 columns-independent p q s a =
     let e = columnsRoomy-alike a in
-    (rw e, read-same-in inColumns columnsUpTo p s q e refl (λ j. columnsUpTo-filled p j ∙ sym (columnsUpTo-filled q j)))
+    let w = four-jobOf s in (
+      rw e,
+      read-same-in inColumns columnsUpTo p s q e refl (columnsUpTo-filled p (jobOf s) w ∙ sym (columnsUpTo-filled q (jobOf s) w)),
+    )
 
 pub columns-write-independent : ColumnsWriteIndependent
 unfolding columnsWriteReply columnsWritten columnsWriteNumber

@@ -120,14 +120,21 @@ placed-then d at xs ys p q h e f =
     ∙ placed-placed d at xs ys (omega arith)
 
 -- a gate's stores, a candidate's, a field's
-pub gate-placed : (d : List ℕ) {d₁ d₂ : List ℕ} (p k a b : ℕ) → p + 5 ≤ length d
-    → d₁ ≡ placed (set d p k) (p + 1) (bytePair a) → d₂ ≡ placed d₁ (p + 3) (bytePair b)
-    → d₂ ≡ placed d p (gateBytes (gateOf k a b))
+pub gate-placed : (d : List ℕ) {d₁ d₂ d₃ d₄ : List ℕ} (p k n w x y z : ℕ) → p + 10 ≤ length d
+    → d₁ ≡ placed (set (set d p k) (p + 1) n) (p + 2) (bytePair w)
+    → d₂ ≡ placed d₁ (p + 4) (bytePair x) → d₃ ≡ placed d₂ (p + 6) (bytePair y) → d₄ ≡ placed d₃ (p + 8) (bytePair z)
+    → d₄ ≡ placed d p (gateBytes (gateOf k n w x y z))
 unfolding gateBytes gateOf bytePair flat
-gate-placed d p k a b h e f =
-    placed-then d p (k ∷ bytePair a) (bytePair b) (p + 3) refl (omega arith)
-    (placed-then d p (k ∷ []) (bytePair a) (p + 1) refl (omega arith) (sets-placed d p (k ∷ []) (omega arith)) e)
-    f
+gate-placed d p k n w x y z h e₁ e₂ e₃ e₄ =
+    let s : set (set d p k) (p + 1) n ≡ placed d p (k ∷ n ∷ []) =
+    rw add-one (sets-placed d p (k ∷ n ∷ []) (omega arith)) in
+    placed-then d p (k ∷ n ∷ flat bytePair (w ∷ x ∷ y ∷ [])) (bytePair z) (p + 8) refl (omega arith)
+    (placed-then d p (k ∷ n ∷ flat bytePair (w ∷ x ∷ [])) (bytePair y) (p + 6) refl (omega arith)
+    (placed-then d p (k ∷ n ∷ bytePair w) (bytePair x) (p + 4) refl (omega arith)
+    (placed-then d p (k ∷ n ∷ []) (bytePair w) (p + 2) refl (omega arith) s e₁)
+    e₂)
+    e₃)
+    e₄
 
 pub candidate-placed : (d : List ℕ) {d₁ d₂ : List ℕ} (p : ℕ) (c : Candidate) → p + 4 ≤ length d
     → d₁ ≡ placed d p (bytePair (c .net)) → d₂ ≡ placed d₁ (p + 2) (bytePair (c .weight))
@@ -193,23 +200,26 @@ pub length-bytePair : (x : ℕ) → length (bytePair x) ≡ 2
 unfolding bytePair
 length-bytePair x = refl
 
-pub length-gateBytes : (k a b : ℕ) → length (gateBytes (gateOf k a b)) ≡ 5
-unfolding gateBytes gateOf bytePair flat
-length-gateBytes k a b = refl
+pub length-gateBytes : (g : Gate) → length (g .slots) ≡ 4 → length (gateBytes g) ≡ 10
+unfolding gateBytes
+length-gateBytes g e = omega (arith, length-flat bytePair 2 length-bytePair (g .slots))
+
+pub length-structBytes : (g : GateStruct) → length (gateBytes (gateFrom g)) ≡ 10
+unfolding gateFrom gateOf
+length-structBytes g = length-gateBytes (gateFrom g) refl
 
 pub length-candidateBytes : (c : Candidate) → length (candidateBytes c) ≡ 4
 unfolding candidateBytes bytePair
 length-candidateBytes c = refl
 
--- gates that have two operand slots take five bytes each
-abbrev pub FiveEach : List Gate → Type 0
-FiveEach gs = length (flat gateBytes gs) ≡ 5 * length gs
+-- gates that have four operand slots take ten bytes each
+abbrev pub TenEach : List Gate → Type 0
+TenEach gs = length (flat gateBytes gs) ≡ 10 * length gs
 
-five-each : (gs : List GateStruct) → FiveEach (map gateFrom gs)
-unfolding gateFrom
-five-each gs =
-    length-flat-map gateBytes gateFrom 5 (λ g. length-gateBytes (g .kind) (g .first) (g .second)) gs
-    ∙ ap (λ (m : ℕ). 5 * m) (sym (length-map gs gateFrom))
+ten-each : (gs : List GateStruct) → TenEach (map gateFrom gs)
+ten-each gs =
+    length-flat-map gateBytes gateFrom 10 length-structBytes gs
+    ∙ ap (λ (m : ℕ). 10 * m) (sym (length-map gs gateFrom))
 
 pub length-outputs : (xs : List ℕ) → length (flat bytePair xs) ≡ 2 * length xs
 length-outputs = length-flat bytePair 2 length-bytePair
@@ -218,9 +228,9 @@ pub length-candidates : (cs : List Candidate) → length (flat candidateBytes cs
 length-candidates = length-flat candidateBytes 4 length-candidateBytes
 
 abbrev pub jobSize : Counts → ℕ
-jobSize c = 20 + 5 * c .old .gates + 2 * c .old .outputs + 5 * c .golden .gates + 2 * c .golden .outputs + 4 * c .candidates
+jobSize c = 20 + 10 * c .old .gates + 2 * c .old .outputs + 10 * c .golden .gates + 2 * c .golden .outputs + 4 * c .candidates
 
-pub length-jobBytes : (j : Job) → FiveEach (j .old .gates) → FiveEach (j .golden .gates)
+pub length-jobBytes : (j : Job) → TenEach (j .old .gates) → TenEach (j .golden .gates)
     → length (jobBytes j) ≡ jobSize (countsOf j)
 unfolding jobBytes countsOf sideCountsOf
 length-jobBytes j e e′ =
@@ -270,18 +280,18 @@ module _ (c : Counts) (p : Places) where
 -- ---- what stands in places: how many parts, how many bytes
 
 module _ (k : ℕ) (gs : List GateStruct) where
-  five-in : FiveEach (gatesIn k gs)
+  ten-in : TenEach (gatesIn k gs)
   unfolding gatesIn
-  five-in = five-each (take k gs)
+  ten-in = ten-each (take k gs)
 
   module _ (h : k ≤ length gs) where
     pub length-gatesIn : length (gatesIn k gs) ≡ k
     unfolding gatesIn
     length-gatesIn = length-map (take k gs) gateFrom ∙ length-take-le k gs h
 
-    pub length-gatesBytes : length (gatesBytes k gs) ≡ 5 * k
+    pub length-gatesBytes : length (gatesBytes k gs) ≡ 10 * k
     unfolding gatesBytes
-    length-gatesBytes = five-in ∙ rw length-gatesIn
+    length-gatesBytes = ten-in ∙ rw length-gatesIn
 
 pub length-candidatesFrom : (k : ℕ) (ns ws : List ℕ) → length (candidatesFrom k ns ws) ≡ k
 unfolding candidatesFrom
@@ -303,7 +313,7 @@ module _ {c : Counts} {p : Places} (b : JobBounds c p) where
   pub length-jobFrom : length (jobBytes (jobFrom c p)) ≡ jobSize c
   unfolding jobFrom netlistFrom
   length-jobFrom =
-      length-jobBytes (jobFrom c p) (five-in (c .old .gates) (p .old .gates)) (five-in (c .golden .gates) (p .golden .gates))
+      length-jobBytes (jobFrom c p) (ten-in (c .old .gates) (p .old .gates)) (ten-in (c .golden .gates) (p .golden .gates))
       ∙ ap jobSize countsOf-jobFrom
 
   pub jobFrom-short : Within c → length (jobBytes (jobFrom c p)) ≤ longestJob

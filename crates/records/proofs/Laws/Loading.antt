@@ -18,8 +18,8 @@ use Rattle.records.specs.declared.reading.ReadReply.{ReadReply}
 use Rattle.records.specs.declared.loading.JobParts.{JobParts}
 use Rattle.records.proofs.Laws.Bytes.{length-placed}
 use Rattle.records.proofs.Laws.Counts.{countsWithin-facts, countsWithin-countsOf}
-use Rattle.records.proofs.Laws.RoundTrip.{TwoEach}
-use Rattle.records.proofs.Laws.Accepted.{read-accepts, read-counts, read-places, two-jobOf, jobFrom-filled}
+use Rattle.records.proofs.Laws.RoundTrip.{FourEach}
+use Rattle.records.proofs.Laws.Accepted.{read-accepts, read-counts, read-places, four-jobOf, jobFrom-filled}
 use Rattle.records.proofs.Laws.Columns.{length-noGates}
 
 -- ---- load
@@ -68,7 +68,7 @@ loaded-check s = ap (λ (n : ℕ). checkOf (eqb n 0)) (number-empty s)
 length-front : {A : Type 0} (n : ℕ) (d xs : List A) → length d ≡ n → length xs ≤ n → length (placed d 0 xs) ≡ n
 length-front n d xs e h = length-placed d 0 xs (omega (arith, e, h)) ∙ e
 
-module _ (j : Job) (w : TwoEach j) (g : PartsGood j) (r : ReadReply) (c : Check) (e : r .counts ≡ countsOf j) where
+module _ (j : Job) (w : FourEach j) (g : PartsGood j) (r : ReadReply) (c : Check) (e : r .counts ≡ countsOf j) where
   within : Within (countsOf j)
   within = countsWithin-facts (countsOf j) (countsWithin-countsOf j ∙ g .counts)
 
@@ -112,4 +112,4 @@ loaded-parts s e =
     let r = readReply emptyPlaces s in
     let u = read-accepts emptyPlaces s .0 n in
     rw (read-places emptyPlaces s n)
-    (filled-parts (jobOf s) (two-jobOf s) (u .2) r (checkOf (eqb (r .number) 0)) (read-counts emptyPlaces s n))
+    (filled-parts (jobOf s) (four-jobOf s) (u .2) r (checkOf (eqb (r .number) 0)) (read-counts emptyPlaces s n))

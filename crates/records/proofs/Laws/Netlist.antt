@@ -3,25 +3,26 @@ use Prim.Native.Nat.{ℕ, suc, _+_, _-_, _/_, max, _≤_, _<_}
 use mathlib.Core.Path.{_≡_, refl, sym, _∙_, ap}
 use mathlib.Core.List.{List, [], _∷_, _++_, map, append-assoc, append-nil}
 use mathlib.Core.Bool.{Bool, true, _&&_}
-use native.Mathlib.Nat.{max-zero}
 use native.Mathlib.Omega.{arith}
 use borrow.Author.Tests.{ltb-true}
 use lib.Dec.{ltb}
-use lib.ListN.{length, getD, take, drop, set, replicate, length-replicate, replicate-append-replicate}
-use lib.Seq.{getD-take, take-at, take-suc-set}
+use lib.ListN.{length, getD, take, drop, set, replicate, length-take, drop-of-length-le, length-replicate, replicate-append-replicate}
+use lib.Seq.{length-take-le, getD-take, take-at, take-suc-set}
 use Rattle.records.specs.Bytes.{all}
-use Rattle.records.specs.Gate.{Gate, gateOf, arity, operands, disj}
+use Rattle.records.specs.Gate.{Gate, gateOf, operands, disj}
 use Rattle.records.specs.Netlist.{netAt, extended, markOf}
 use Rattle.records.specs.Job.{gateAt, gatesOf}
 use Rattle.records.specs.Refusal.{gateGood, gatesGood}
-use Rattle.records.specs.Inner.{leafMarks}
+use Rattle.records.specs.Service.{gateFrom}
+use Rattle.records.specs.Inner.{leafMarks, structSlots}
+use Rattle.records.specs.declared.gate.Gate.{Gate as GateStruct}
 use Rattle.records.proofs.Laws.Bytes.{and-left, and-right, all-cons, drop-tabulate, drop-tabulate-past}
-use Rattle.records.proofs.Laws.Gate.{gateGood-parts}
+use Rattle.records.proofs.Laws.Gate.{drop-back, gateGood-parts, gateGood-count, operand-lt}
 
-module _ (s : List ℕ) (i : ℕ) (h : i < length s / 5) where
+module _ (s : List ℕ) (i : ℕ) (h : i < length s / 10) where
   drop-gates : drop i (gatesOf s) ≡ gateAt s i ∷ drop (i + 1) (gatesOf s)
   unfolding gatesOf
-  drop-gates = drop-tabulate (length s / 5) (gateAt s) i h
+  drop-gates = drop-tabulate (length s / 10) (gateAt s) i h
 
   -- the gates from i on are good where gate i is, and those after it
   pub gatesGood-drop : (base : ℕ)
@@ -41,24 +42,35 @@ module _ (s : List ℕ) (i : ℕ) (h : i < length s / 5) where
       let t : (g && gs) ≡ true = sym (gatesGood-drop base) ∙ e in
       (and-left g gs t, and-right g gs t)
 
-pub drop-gates-past : (s : List ℕ) (i : ℕ) → length s / 5 ≤ i → drop i (gatesOf s) ≡ []
+pub drop-gates-past : (s : List ℕ) (i : ℕ) → length s / 10 ≤ i → drop i (gatesOf s) ≡ []
 unfolding gatesOf
-drop-gates-past s i h = drop-tabulate-past (length s / 5) (gateAt s) i h
+drop-gates-past s i h = drop-tabulate-past (length s / 10) (gateAt s) i h
+
+-- the used slots of a good gate struct, where there are at least as many nets as its own
+pub slots-lt : (net : ℕ) (g : GateStruct) (nets : ℕ) → net ≤ nets → gateGood net (gateFrom g) ≡ true
+    → (g .count ≤ 4) × ((i : ℕ) → i < g .count → getD (structSlots g) i 0 < nets)
+unfolding gateFrom gateOf structSlots
+slots-lt net g nets h e =
+    let n = gateGood-count net (gateFrom g) e in
+    (n, λ i l. let m : i < 4 = omega arith in omega (arith, operand-lt net (gateFrom g) e i l m))
 
 -- ---- marks
 
-module _ (known : List ℕ) (k a b : ℕ) where
-  pub markOf-none : arity k ≡ 0 → markOf known (gateOf k a b) ≡ 0
-  unfolding markOf operands gateOf disj
-  markOf-none e = rw e
+-- a turn of the loop over a gate's operands, from the last: the greater of operand i - 1's mark and of that of those after it
+pub disj-back : (known : List ℕ) (count : ℕ) (xs : List ℕ) (i : ℕ) → 0 < i → i ≤ count → count ≤ length xs
+    → disj (map (netAt known) (drop (i - 1) (take count xs)))
+    ≡ max (getD known (getD xs (i - 1) 0) 0) (disj (map (netAt known) (drop i (take count xs))))
+unfolding disj netAt
+disj-back known count xs i z h l =
+    let n = length-take-le count xs l in
+    let a = getD-take count xs (i - 1) 0 (omega arith) in
+    rw (drop-back (take count xs) i z (omega arith), a)
 
-  pub markOf-one : arity k ≡ 1 → markOf known (gateOf k a b) ≡ getD known a 0
-  unfolding markOf operands gateOf disj netAt
-  markOf-one e = rw (e, max-zero)
-
-  pub markOf-two : arity k ≡ 2 → markOf known (gateOf k a b) ≡ max (getD known a 0) (getD known b 0)
-  unfolding markOf operands gateOf disj netAt
-  markOf-two e = rw (e, max-zero)
+pub disj-none : (known : List ℕ) (count : ℕ) (xs : List ℕ) → disj (map (netAt known) (drop count (take count xs))) ≡ 0
+unfolding disj
+disj-none known count xs =
+    let h : length (take count xs) ≤ count = omega (arith, length-take count xs) in
+    rw (drop-of-length-le (take count xs) {i = count} h)
 
 -- leaves: before the first target all is 0, and each further target is 1
 pub leafMarks-none : (n size : ℕ) → n ≤ size → take (n + 0) (replicate size 0) ≡ leafMarks n 0
@@ -97,7 +109,7 @@ unfolding markOf
 markOf-take n known g h = ap disj (netAt-take n known (operands g) (gateGood-parts n g h .0))
 
 -- a turn of the loop that marks: the mark of gate i, stored at its net, extends those before it
-pub extended-drop : (s : List ℕ) (i : ℕ) → i < length s / 5 → (base : ℕ) (marks : List ℕ) → base + i < length marks
+pub extended-drop : (s : List ℕ) (i : ℕ) → i < length s / 10 → (base : ℕ) (marks : List ℕ) → base + i < length marks
     → gateGood (base + i) (gateAt s i) ≡ true
     → extended markOf (take (base + i) marks) (drop i (gatesOf s))
     ≡ extended markOf (take (base + (i + 1)) (set marks (base + i) (markOf marks (gateAt s i)))) (drop (i + 1) (gatesOf s))

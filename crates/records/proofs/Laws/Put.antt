@@ -159,19 +159,19 @@ length-headed d at t n h e = ap length e ∙ length-placed d at (t ∷ bytePair 
 
 -- the steps of put_side
 module _ (d : List ℕ) {d₁ : List ℕ} (at t : ℕ) (c : SideCounts) (os : List ℕ)
-    (n : length d ≡ 4188) (h : SidePut 4188 at t c (length os)) (e₁ : d₁ ≡ placed d at (t ∷ bytePair (5 * c .gates))) where
-  pub side-first : length d₁ ≡ 4188
-  side-first = length-headed d at t (5 * c .gates) (omega arith) e₁ ∙ n
+    (n : length d ≡ 8188) (h : SidePut 8188 at t c (length os)) (e₁ : d₁ ≡ placed d at (t ∷ bytePair (10 * c .gates))) where
+  pub side-first : length d₁ ≡ 8188
+  side-first = length-headed d at t (10 * c .gates) (omega arith) e₁ ∙ n
 
-  module _ {d₂ : List ℕ} (e₂ : d₂ ≡ placed d₁ (at + 3 + 5 * c .gates) ((t + 1) ∷ bytePair (2 * c .outputs))) where
-    pub side-second : length d₂ ≡ 4188
+  module _ {d₂ : List ℕ} (e₂ : d₂ ≡ placed d₁ (at + 3 + 10 * c .gates) ((t + 1) ∷ bytePair (2 * c .outputs))) where
+    pub side-second : length d₂ ≡ 8188
     side-second =
-        length-headed d₁ (at + 3 + 5 * c .gates) (t + 1) (2 * c .outputs) (omega (arith, side-first)) e₂ ∙ side-first
+        length-headed d₁ (at + 3 + 10 * c .gates) (t + 1) (2 * c .outputs) (omega (arith, side-first)) e₂ ∙ side-first
 
-    pub side-done : {d₃ : List ℕ} → d₃ ≡ spread d₂ (at + 3 + 5 * c .gates + 3) 2 (c .outputs) (λ i. getD os i 0)
-        → (length d₃ ≡ 4188) × SideDone d at t c os (at + 3 + 5 * c .gates + 3 + 2 * c .outputs) d₃
+    pub side-done : {d₃ : List ℕ} → d₃ ≡ spread d₂ (at + 3 + 10 * c .gates + 3) 2 (c .outputs) (λ i. getD os i 0)
+        → (length d₃ ≡ 8188) × SideDone d at t c os (at + 3 + 10 * c .gates + 3 + 2 * c .outputs) d₃
     side-done {d₃} e₃ =
-        let b : ℕ = at + 3 + 5 * c .gates in
+        let b : ℕ = at + 3 + 10 * c .gates in
         let ys : List ℕ = flat bytePair (take (c .outputs) os) in
         let m : 2 * c .outputs ≡ length ys = sym (length-outputs _ ∙ rw (length-take-le (c .outputs) os (h .held))) in
         let w = spread-two d₂ (b + 3) (c .outputs) (λ i. getD os i 0) (omega (arith, side-second)) in
@@ -227,7 +227,7 @@ module _ (d : List ℕ) where
 
   -- the steps of put_rest; b and e are where the netlists' fields end
   pub job-done : {d₁ d₂ d₃ d₄ d₅ d₆ d₇ : List ℕ} {b e : ℕ} {c : Counts} {p : Places}
-      → JobBounds c p → Within c → GatesPut c (p .old .gates) (p .golden .gates) d → 4188 ≤ length d
+      → JobBounds c p → Within c → GatesPut c (p .old .gates) (p .golden .gates) d → 8188 ≤ length d
       → d₁ ≡ placed d 0 (1 ∷ bytePair 2) → d₂ ≡ placed d₁ 3 (c .inputs ∷ c .targets ∷ [])
       → SideDone d₂ 5 2 (c .old) (p .old .outputs) b d₃
       → SideDone d₃ b 4 (c .golden) (p .golden .outputs) e d₄
@@ -244,8 +244,8 @@ module _ (d : List ℕ) where
       let ys : List ℕ = flat bytePair (take (c .golden .outputs) (p .golden .outputs)) in
       let cs : List ℕ = flat candidateBytes (candidatesFrom (c .candidates) (p .nets) (p .weights)) in
       let nf : length f ≡ 5 = length-field 1 (c .inputs ∷ c .targets ∷ []) in
-      let ng : length gs ≡ 5 * c .old .gates = length-gatesBytes _ _ (o .old .gates) in
-      let nh : length hs ≡ 5 * c .golden .gates = length-gatesBytes _ _ (o .golden .gates) in
+      let ng : length gs ≡ 10 * c .old .gates = length-gatesBytes _ _ (o .old .gates) in
+      let nh : length hs ≡ 10 * c .golden .gates = length-gatesBytes _ _ (o .golden .gates) in
       let nx : length xs ≡ 2 * c .old .outputs = length-outputs _ ∙ rw (length-take-le _ _ (o .old .outputs)) in
       let ny : length ys ≡ 2 * c .golden .outputs = length-outputs _ ∙ rw (length-take-le _ _ (o .golden .outputs)) in
       let nc : length cs ≡ 4 * c .candidates = length-candidates _ ∙ rw length-candidatesFrom in
@@ -258,12 +258,12 @@ module _ (d : List ℕ) where
       let le = e₄ .end in
       let st : b + 3 ≡ startsOf c .golden = omega arith in
       let w₃ : d₃ ≡ placed d 0 s =
-      side-around f 5 2 (5 * c .old .gates) gs xs
+      side-around f 5 2 (10 * c .old .gates) gs xs
       (field-placed d 0 1 2 (c .inputs ∷ c .targets ∷ []) 3 refl refl (omega arith) e₁ e₂)
       (sym nf) (sym ng) (omega arith) (g .old) (e₃ .bytes) in
       let w₄ : d₄ ≡ placed d 0 z =
-      side-around s b 4 (5 * c .golden .gates) hs ys w₃ (omega arith) (sym nh) (omega arith)
-      (ap (λ (k : ℕ). take (5 * c .golden .gates) (drop k d)) st ∙ g .golden) (e₄ .bytes) in
+      side-around s b 4 (10 * c .golden .gates) hs ys w₃ (omega arith) (sym nh) (omega arith)
+      (ap (λ (k : ℕ). take (10 * c .golden .gates) (drop k d)) st ∙ g .golden) (e₄ .bytes) in
       let k : length d₄ ≡ length d = ap length w₄ ∙ length-placed d 0 z (omega arith) in
       let l = length-headed d₄ e 6 (4 * c .candidates) (omega arith) e₅ in
       let w₇ : d₇ ≡ placed d 0 (jobBytes (jobFrom c p)) =

@@ -1,25 +1,29 @@
 -- Laws of specs/Columns: what read_columns and write_columns accept, columns that hold a job's parts, both services one after the other,
 -- and beside read and write. Assumes nothing.
-use Prim.Native.Nat.{ℕ, zero, suc}
-use mathlib.Core.Path.{_≡_, refl, sym}
-use mathlib.Core.List.{List, [], _∷_, map}
+use Prim.Native.Nat.{ℕ, zero, suc, _+_, _*_, _≤_, _<_}
+use mathlib.Core.Path.{_≡_, refl, sym, _∙_, ap}
+use mathlib.Core.List.{List, [], _∷_, _++_, map}
 use mathlib.Core.Bool.{true}
+use native.Mathlib.Nat.{add-zero, zero-add, mul-zero, mul-suc}
+use native.Mathlib.Omega.{arith}
 use borrow.Author.Tests.{leb-true, le-leb, eq-eqb, ne-eqb}
 use lib.Dec.{leb}
-use lib.ListN.{length, getD}
-use lib.Seq.{length-take-le}
-use Rattle.records.specs.Bytes.{placed}
+use lib.ListN.{length, getD, take, drop, length-map, List·getD-append}
+use lib.Seq.{length-take-le, getD-drop, drop-at}
+use Rattle.records.specs.Bytes.{flat, placed}
 use Rattle.records.specs.Gate.{Gate, gateOf}
 use Rattle.records.specs.Netlist.{Netlist}
 use Rattle.records.specs.Job.{Candidate, Job, jobOf}
-use Rattle.records.specs.Service.{slotOf, sideCountsOf, countsOf, readNumber, readReply, writeNumber, writeReply, writtenBytes}
+use Rattle.records.specs.Service.{slotOf, structOf, sideCountsOf, countsOf, readNumber, readReply, writeNumber, writeReply, writtenBytes}
 use Rattle.records.specs.Columns.{SideColumns, Columns, columnsRoomy, sideColumnsFilled, columnsFilled, columnsNumber, columnsReply, columnsAfter, gatesFrom, columnsNetlist, columnsJob, sideColumnsHeld, columnsHeld, columnsWriteNumber, columnsWriteReply, columnsWritten}
+use Rattle.records.specs.Inner.{structSlots}
 use Rattle.records.specs.Claims.{ColumnsRead, ColumnsAccepts, ColumnsRefuses, ColumnsGiven, ColumnsWithin, ColumnsWrite, ColumnsWriteAccepts, ColumnsWriteRefuses, ColumnsReadWrite, ColumnsWriteRead}
+use Rattle.records.specs.declared.gate.Gate.{Gate as GateStruct}
 use Rattle.records.specs.declared.job.SideCounts.{SideCounts}
 use Rattle.records.specs.declared.job.Counts.{Counts}
 use Rattle.records.proofs.Laws.Bytes.{and-both, row-at, length-tabulate}
-use Rattle.records.proofs.Laws.Job.{length-placed-front, take-placed-front, length-candidatesFrom}
-use Rattle.records.proofs.Laws.RoundTrip.{All, all-tabulate, Two, TwoEach, two-slots}
+use Rattle.records.proofs.Laws.Job.{length-flat, length-placed-front, take-placed-front, drop-placed-front, getD-placed-front, length-candidatesFrom}
+use Rattle.records.proofs.Laws.RoundTrip.{All, all-tabulate, Four, FourEach, four-slots}
 use Rattle.records.proofs.Laws.Accepted.{job-accepts, parts-accept, column-room, getD-column, tabulate-list, candidatesFrom-filled, Holder, held-in, given-in, write-read-in, read-write-in}
 
 -- ---- what is accepted
@@ -49,6 +53,61 @@ module _ (p : Columns) (s : List ℕ) (e : columnsNumber p s ≡ 0) where
   unfolding columnsAfter
   columns-after = rw (eq-eqb (columnsNumber p s) 0 e)
 
+-- ---- slots: one list, four a gate
+
+-- element j of piece i, where pieces of one size stand one after the other
+getD-pieces : {A : Type 0} (f : A → List ℕ) (k : ℕ) (d : A) (xs : List A) → All (λ (x : A). length (f x) ≡ k) xs
+    → (i j : ℕ) → i < length xs → j < k → getD (flat f xs) (k * i + j) 0 ≡ getD (f (getD xs i d)) j 0
+unfolding flat
+getD-pieces f k d [] w i j h l = let z : ⊥ = omega arith in absurd z
+getD-pieces f k d (x ∷ xs) w zero j h l =
+    rw (mul-zero, zero-add) (List·getD-append (f x) (flat f xs) 0 j (omega (arith, w .0)))
+getD-pieces f k d (x ∷ xs) w (suc i) j h l =
+    let e : k * suc i + j ≡ k + (k * i + j) = omega (arith, mul-suc k i) in
+    ap (λ (n : ℕ). getD (f x ++ flat f xs) n 0) e
+    ∙ sym (getD-drop k (f x ++ flat f xs) (k * i + j) 0)
+    ∙ ap (λ (r : List ℕ). getD r (k * i + j) 0) (drop-at (f x) (flat f xs) k (w .0))
+    ∙ getD-pieces f k d xs (w .1) i j (omega arith) l
+
+abbrev pub slotColumn : List Gate → List ℕ
+slotColumn gs = flat (λ (g : Gate). g .slots) gs
+
+pub length-structSlots : (g : GateStruct) → length (structSlots g) ≡ 4
+unfolding structSlots
+length-structSlots g = refl
+
+struct-slots : (g : Gate) → Four g → structSlots (structOf g) ≡ g .slots
+unfolding structSlots structOf slotOf gateOf
+struct-slots g w = sym (ap (λ (x : Gate). x .slots) (four-slots g w))
+
+-- the slots of gates as structs
+pub slots-structs : (gs : List Gate) → All Four gs → flat structSlots (map structOf gs) ≡ slotColumn gs
+unfolding flat
+slots-structs [] w = refl
+slots-structs (g ∷ gs) w = rw (struct-slots g (w .0), slots-structs gs (w .1))
+
+module _ (ss : List ℕ) (gs : List Gate) (w : All Four gs) where
+  length-slots : length (slotColumn gs) ≡ 4 * length gs
+  length-slots =
+      ap length (sym (slots-structs gs w))
+      ∙ length-flat structSlots 4 length-structSlots (map structOf gs)
+      ∙ ap (λ (n : ℕ). 4 * n) (length-map gs structOf)
+
+  slots-room : 4 * length gs ≤ length (placed ss 0 (slotColumn gs))
+  slots-room = rw (← length-slots) (length-placed-front ss (slotColumn gs))
+
+  pub take-slots : take (4 * length gs) (placed ss 0 (slotColumn gs)) ≡ slotColumn gs
+  take-slots = rw (← length-slots) (take-placed-front ss (slotColumn gs))
+
+  pub drop-slots : drop (4 * length gs) (placed ss 0 (slotColumn gs)) ≡ drop (4 * length gs) ss
+  drop-slots = rw (← length-slots) (drop-placed-front ss (slotColumn gs))
+
+  getD-slots : (d : Gate) (i j : ℕ) → i < length gs → j < 4
+      → getD (placed ss 0 (slotColumn gs)) (4 * i + j) 0 ≡ getD (getD gs i d .slots) j 0
+  getD-slots d i j h l =
+      getD-placed-front ss (slotColumn gs) (4 * i + j) 0 (omega (arith, length-slots))
+      ∙ getD-pieces (λ (g : Gate). g .slots) 4 d gs w i j h l
+
 -- ---- columns that hold the parts
 
 all-getD : {A : Type 0} (P : A → Type 0) (d : A) → P d → (xs : List A) → All P xs → (i : ℕ) → P (getD xs i d)
@@ -56,30 +115,33 @@ all-getD P d z [] a i = z
 all-getD P d z (x ∷ xs) a zero = a .0
 all-getD P d z (x ∷ xs) a (suc i) = all-getD P d z xs (a .1) i
 
-gatesFrom-placed : (ks xs ys : List ℕ) (gs : List Gate) → All Two gs
+gatesFrom-placed : (ks ns ss : List ℕ) (gs : List Gate) → All Four gs
     → gatesFrom (length gs)
-    (placed ks 0 (map (λ (g : Gate). g .kind) gs)) (placed xs 0 (map (slotOf 0) gs)) (placed ys 0 (map (slotOf 1) gs))
+    (placed ks 0 (map (λ (g : Gate). g .kind) gs)) (placed ns 0 (map (λ (g : Gate). g .count) gs)) (placed ss 0 (slotColumn gs))
     ≡ gs
-unfolding gatesFrom gateOf slotOf
-gatesFrom-placed ks xs ys gs w =
-    let none : Gate = gateOf 0 0 0 in
+unfolding gatesFrom gateOf
+gatesFrom-placed ks ns ss gs w =
+    let none : Gate = gateOf 0 0 0 0 0 0 in
     tabulate-list none gs _
     (λ i h.
     rw (
       getD-column (λ (g : Gate). g .kind) ks gs none 0 refl i h,
-      getD-column (slotOf 0) xs gs none 0 refl i h,
-      getD-column (slotOf 1) ys gs none 0 refl i h,
+      getD-column (λ (g : Gate). g .count) ns gs none 0 refl i h,
+      ap (λ (n : ℕ). getD (placed ss 0 (slotColumn gs)) n 0) (sym (add-zero (4 * i))) ∙ getD-slots ss gs w none i 0 h (omega arith),
+      getD-slots ss gs w none i 1 h (omega arith),
+      getD-slots ss gs w none i 2 h (omega arith),
+      getD-slots ss gs w none i 3 h (omega arith),
     )
-    (sym (two-slots (getD gs i none) (all-getD Two none refl gs w i))))
+    (sym (four-slots (getD gs i none) (all-getD Four none refl gs w i))))
 
-columnsNetlist-filled : (p : SideColumns) (l : Netlist) → All Two (l .gates)
+columnsNetlist-filled : (p : SideColumns) (l : Netlist) → All Four (l .gates)
     → columnsNetlist (sideCountsOf l) (sideColumnsFilled p l) ≡ l
 unfolding columnsNetlist sideCountsOf sideColumnsFilled
 columnsNetlist-filled p l w =
-    rw (gatesFrom-placed (p .kinds) (p .firsts) (p .seconds) (l .gates) w, take-placed-front (p .outputs) (l .outputs))
+    rw (gatesFrom-placed (p .kinds) (p .counts) (p .slots) (l .gates) w, take-placed-front (p .outputs) (l .outputs))
 
 -- the columns of a read job hold its parts
-pub columnsJob-filled : (p : Columns) (j : Job) → TwoEach j → columnsJob (countsOf j) (columnsFilled p j) ≡ j
+pub columnsJob-filled : (p : Columns) (j : Job) → FourEach j → columnsJob (countsOf j) (columnsFilled p j) ≡ j
 unfolding columnsJob countsOf columnsFilled
 columnsJob-filled p j w =
     rw (
@@ -88,43 +150,46 @@ columnsJob-filled p j w =
       candidatesFrom-filled (p .nets) (p .weights) (j .candidates),
     )
 
-sideColumnsHeld-filled : (p : SideColumns) (l : Netlist) → sideColumnsHeld (sideCountsOf l) (sideColumnsFilled p l) ≡ true
+sideColumnsHeld-filled : (p : SideColumns) (l : Netlist) → All Four (l .gates)
+    → sideColumnsHeld (sideCountsOf l) (sideColumnsFilled p l) ≡ true
 unfolding sideColumnsHeld sideCountsOf sideColumnsFilled
-sideColumnsHeld-filled p l =
+sideColumnsHeld-filled p l w =
     and-both _ _
     (and-both _ _
     (and-both _ _
     (le-leb _ _ (column-room (λ (g : Gate). g .kind) (p .kinds) (l .gates)))
-    (le-leb _ _ (column-room (slotOf 0) (p .firsts) (l .gates))))
-    (le-leb _ _ (column-room (slotOf 1) (p .seconds) (l .gates))))
+    (le-leb _ _ (column-room (λ (g : Gate). g .count) (p .counts) (l .gates))))
+    (le-leb _ _ (slots-room (p .slots) (l .gates) w)))
     (le-leb _ _ (length-placed-front (p .outputs) (l .outputs)))
 
-pub columnsHeld-filled : (p : Columns) (j : Job) → columnsHeld (countsOf j) (columnsFilled p j) ≡ true
+pub columnsHeld-filled : (p : Columns) (j : Job) → FourEach j → columnsHeld (countsOf j) (columnsFilled p j) ≡ true
 unfolding columnsHeld countsOf columnsFilled
-columnsHeld-filled p j =
+columnsHeld-filled p j w =
     and-both _ _
     (and-both _ _
-    (and-both _ _ (sideColumnsHeld-filled (p .old) (j .old)) (sideColumnsHeld-filled (p .golden) (j .golden)))
+    (and-both _ _
+    (sideColumnsHeld-filled (p .old) (j .old) (w .old))
+    (sideColumnsHeld-filled (p .golden) (j .golden) (w .golden)))
     (le-leb _ _ (column-room (λ (c : Candidate). c .net) (p .nets) (j .candidates))))
     (le-leb _ _ (column-room (λ (c : Candidate). c .weight) (p .weights) (j .candidates)))
 
 -- ---- the job that columns hold
 
-two-gatesFrom : (k : ℕ) (ks xs ys : List ℕ) → All Two (gatesFrom k ks xs ys)
+four-gatesFrom : (k : ℕ) (ks ns ss : List ℕ) → All Four (gatesFrom k ks ns ss)
 unfolding gatesFrom gateOf
-two-gatesFrom k ks xs ys = all-tabulate Two _ (λ i. refl) k
+four-gatesFrom k ks ns ss = all-tabulate Four _ (λ i. refl) k
 
-pub two-columnsJob : (c : Counts) (p : Columns) → TwoEach (columnsJob c p)
+pub four-columnsJob : (c : Counts) (p : Columns) → FourEach (columnsJob c p)
 unfolding columnsJob columnsNetlist
-two-columnsJob c p = record { old = two-gatesFrom _ _ _ _; golden = two-gatesFrom _ _ _ _ }
+four-columnsJob c p = record { old = four-gatesFrom _ _ _ _; golden = four-gatesFrom _ _ _ _ }
 
 sideCountsOf-columns : (c : SideCounts) (p : SideColumns) → sideColumnsHeld c p ≡ true → sideCountsOf (columnsNetlist c p) ≡ c
 unfolding sideCountsOf columnsNetlist gatesFrom sideColumnsHeld
 sideCountsOf-columns c p h =
     let t =
     row-at (leb (c .gates) (length (p .kinds)))
-    (leb (c .gates) (length (p .firsts))
-    ∷ leb (c .gates) (length (p .seconds))
+    (leb (c .gates) (length (p .counts))
+    ∷ leb (4 * c .gates) (length (p .slots))
     ∷ leb (c .outputs) (length (p .outputs))
     ∷ [])
     h in
@@ -159,7 +224,7 @@ inColumns =
       put = columnsFilled;
       holds = columnsHeld;
       job = columnsJob;
-      two = two-columnsJob;
+      four = four-columnsJob;
       countsOf-job = countsOf-columnsJob;
       holds-put = columnsHeld-filled;
       job-put = columnsJob-filled;

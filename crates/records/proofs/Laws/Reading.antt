@@ -40,20 +40,23 @@ module _ {s : List ℕ} {n at to : ℕ} (p : IsPart s n at to) where
   unfolding word
   word-in i j e h = rw (byte-in i j e (omega arith), byte-in (i + 1) (j + 1) (omega arith) h)
 
-  struct-in : (i : ℕ) → i < length (nth n s) / 5 → structAt s (at + 5 * i) ≡ structOf (gateAt (nth n s) i)
+  struct-in : (i : ℕ) → i < length (nth n s) / 10 → structAt s (at + 10 * i) ≡ structOf (gateAt (nth n s) i)
   unfolding structAt structOf gateAt gateOf slotOf
   struct-in i h =
       rw (
-        byte-in (5 * i) (at + 5 * i) refl (omega arith),
-        word-in (5 * i + 1) (at + 5 * i + 1) (omega arith) (omega arith),
-        word-in (5 * i + 3) (at + 5 * i + 3) (omega arith) (omega arith),
+        byte-in (10 * i) (at + 10 * i) refl (omega arith),
+        byte-in (10 * i + 1) (at + 10 * i + 1) (omega arith) (omega arith),
+        word-in (10 * i + 2) (at + 10 * i + 2) (omega arith) (omega arith),
+        word-in (10 * i + 4) (at + 10 * i + 4) (omega arith) (omega arith),
+        word-in (10 * i + 6) (at + 10 * i + 6) (omega arith) (omega arith),
+        word-in (10 * i + 8) (at + 10 * i + 8) (omega arith) (omega arith),
       )
 
-  structs-in : (count : ℕ) → count ≡ length (nth n s) / 5 → structsAt s at count ≡ map structOf (gatesOf (nth n s))
+  structs-in : (count : ℕ) → count ≡ length (nth n s) / 10 → structsAt s at count ≡ map structOf (gatesOf (nth n s))
   unfolding structsAt gatesOf
   structs-in count e =
-      rw e (tabulate-ext (length (nth n s) / 5) (λ i. structAt s (at + 5 * i)) (λ i. structOf (gateAt (nth n s) i)) struct-in)
-      ∙ sym (map-tabulate (length (nth n s) / 5) (gateAt (nth n s)) structOf)
+      rw e (tabulate-ext (length (nth n s) / 10) (λ i. structAt s (at + 10 * i)) (λ i. structOf (gateAt (nth n s) i)) struct-in)
+      ∙ sym (map-tabulate (length (nth n s) / 10) (gateAt (nth n s)) structOf)
 
 -- the gate spans of a whole job
 module _ (s : List ℕ) (c : Counts) (l : Laid s c) (k : GateSpans) (g : k ≡ gateSpans c) where
@@ -66,9 +69,9 @@ module _ (s : List ℕ) (c : Counts) (l : Laid s c) (k : GateSpans) (g : k ≡ g
       }
   laid-spans = g ∙ spans-within c (l .within)
 
-  spans-end : (k .old + 5 * k .«old_count» ≤ length s)
+  spans-end : (k .old + 10 * k .«old_count» ≤ length s)
       × (k .«old_count» ≤ 400)
-      × (k .golden + 5 * k .«golden_count» ≤ length s)
+      × (k .golden + 10 * k .«golden_count» ≤ length s)
       × (k .«golden_count» ≤ 400)
   unfolding startsOf
   spans-end =
@@ -124,8 +127,8 @@ module _ (r : ReadReply) (s : List ℕ) {b d e f : ℕ} (h : RestFits r s b d e 
       ≡ record {
         inputs = getD s 3 0;
         targets = getD s 4 0;
-        old = record { gates = length (nth 1 s) / 5; outputs = length (nth 2 s) / 2 };
-        golden = record { gates = length (nth 3 s) / 5; outputs = length (nth 4 s) / 2 };
+        old = record { gates = length (nth 1 s) / 10; outputs = length (nth 2 s) / 2 };
+        golden = record { gates = length (nth 3 s) / 10; outputs = length (nth 4 s) / 2 };
         candidates = length (nth 5 s) / 4;
       }
   counted = laid-counts s (r .counts) (h .laid z)
@@ -214,16 +217,16 @@ module _ (p : Places) (s : List ℕ) where
     spans-refused k g h = g ∙ ap gateSpans (refused h) ∙ spans-none
 
   pub spans-fit : (r : ReadReply) (k : GateSpans) → r ≡ checked → k ≡ gateSpans (r .counts)
-      → (k .old + 5 * k .«old_count» ≤ length s)
+      → (k .old + 10 * k .«old_count» ≤ length s)
       × (k .«old_count» ≤ length (p .old .gates))
-      × (k .golden + 5 * k .«golden_count» ≤ length s)
+      × (k .golden + 10 * k .«golden_count» ≤ length s)
       × (k .«golden_count» ≤ length (p .golden .gates))
   spans-fit r k e g = pick (eqb (r .number) 0) refl
     where
       pick : (t : Bool) → eqb (r .number) 0 ≡ t
-          → (k .old + 5 * k .«old_count» ≤ length s)
+          → (k .old + 10 * k .«old_count» ≤ length s)
           × (k .«old_count» ≤ length (p .old .gates))
-          × (k .golden + 5 * k .«golden_count» ≤ length s)
+          × (k .golden + 10 * k .«golden_count» ≤ length s)
           × (k .«golden_count» ≤ length (p .golden .gates))
       pick true h =
           let a = accepted r e (eqb-true (r .number) 0 h) in

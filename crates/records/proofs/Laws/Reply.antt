@@ -94,14 +94,14 @@ module _ (c : Counts) (p : Places) (d : List ℕ) where
   unfolding writeReply writtenBytes
   write-other n e h = (rw (e, ne-eqb n 0 h), rw (e, ne-eqb n 0 h))
 
-  pub write-short : length d < 4188 → (record { number = 1; len = 0 } ≡ writeReply c p d) × (d ≡ writtenBytes c p d)
+  pub write-short : length d < 8188 → (record { number = 1; len = 0 } ≡ writeReply c p d) × (d ≡ writtenBytes c p d)
   unfolding writeNumber firstFailing
-  write-short h = write-other 1 (rw (lt-leb 4188 (length d) h)) (λ z. omega arith)
+  write-short h = write-other 1 (rw (lt-leb 8188 (length d) h)) (λ z. omega arith)
 
-  module _ (h : 4188 ≤ length d) where
+  module _ (h : 8188 ≤ length d) where
     pub unheld : held c p ≡ false → (record { number = 3; len = 0 } ≡ writeReply c p d) × (d ≡ writtenBytes c p d)
     unfolding writeNumber firstFailing
-    unheld e = write-other 3 (rw (le-leb 4188 (length d) h, e)) (λ z. omega arith)
+    unheld e = write-other 3 (rw (le-leb 8188 (length d) h, e)) (λ z. omega arith)
 
     -- a count outside its range is 3, whether or not the places hold the counts
     pub write-counts : countsWithin c ≡ false → (record { number = 3; len = 0 } ≡ writeReply c p d) × (d ≡ writtenBytes c p d)
@@ -113,12 +113,12 @@ module _ (c : Counts) (p : Places) (d : List ℕ) where
         pick true k =
             let g : countsGood (jobFrom c p) ≡ false =
             sym (countsWithin-countsOf (jobFrom c p)) ∙ ap countsWithin (countsOf-jobFrom (held-bounds c p k)) ∙ e in
-            write-other 3 (rw (le-leb 4188 (length d) h, k, g)) (λ z. omega arith)
+            write-other 3 (rw (le-leb 8188 (length d) h, k, g)) (λ z. omega arith)
 
     module _ (k : held c p ≡ true) where
       write-tested : writeNumber c p d ≡ firstFailing (partTests (jobFrom c p))
       unfolding writeNumber firstFailing
-      write-tested = rw (le-leb 4188 (length d) h, k)
+      write-tested = rw (le-leb 8188 (length d) h, k)
 
       pub write-refused : (n : ℕ) → checkedOf (jobBytes (jobFrom c p)) ≡ Refused n
           → (record { number = n; len = 0 } ≡ writeReply c p d) × (d ≡ writtenBytes c p d)

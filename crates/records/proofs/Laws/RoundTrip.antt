@@ -54,9 +54,8 @@ below-take n [] (suc k) b i = b i
 below-take n (x ∷ xs) (suc k) b zero = b 0
 below-take n (x ∷ xs) (suc k) b (suc i) = below-take n xs k (λ j. b (suc j)) i
 
-two : (xs : List ℕ) → length xs ≡ 2 → getD xs 0 0 ∷ getD xs 1 0 ∷ [] ≡ xs
-unfolding tabulate upFrom
-two xs e = tabulate-getD xs 2 (omega arith) ∙ take-all 2 xs (omega arith)
+listed : (n : ℕ) (xs : List ℕ) → length xs ≡ n → tabulate n (λ i. getD xs i 0) ≡ xs
+listed n xs e = tabulate-getD xs n (omega arith) ∙ take-all n xs (omega arith)
 
 module _ {A : Type 0} (f : ℕ → A) where
   map-upFrom-suc : (a n : ℕ) → map f (upFrom (suc a) n) ≡ map (λ i. f (suc i)) (upFrom a n)
@@ -165,31 +164,38 @@ candidateFormat =
       write = λ s b l. rw (bytePair-word s 0 b, bytePair-word s 2 b) (tabulate-getD s 4 l);
     }
 
--- a gate has two operand slots
-abbrev pub Two : Gate → Type 0
-Two g = length (g .slots) ≡ 2
+-- a gate has four operand slots
+abbrev pub Four : Gate → Type 0
+Four g = length (g .slots) ≡ 4
 
-pub two-slots : (g : Gate) → Two g → g ≡ gateOf (g .kind) (getD (g .slots) 0 0) (getD (g .slots) 1 0)
-unfolding gateOf
-two-slots g e = ap (λ (xs : List ℕ). record { kind = g .kind; slots = xs }) (sym (two (g .slots) e))
+pub four-slots : (g : Gate) → Four g
+    → g ≡ gateOf (g .kind) (g .count) (getD (g .slots) 0 0) (getD (g .slots) 1 0) (getD (g .slots) 2 0) (getD (g .slots) 3 0)
+unfolding gateOf tabulate upFrom
+four-slots g e = ap (λ (xs : List ℕ). record { kind = g .kind; count = g .count; slots = xs }) (sym (listed 4 (g .slots) e))
 
-gate-read : (k a b : ℕ) (r : List ℕ) → gateAt (gateBytes (gateOf k a b) ++ r) 0 ≡ gateOf k a b
+gate-read : (k n w x y z : ℕ) (r : List ℕ) → gateAt (gateBytes (gateOf k n w x y z) ++ r) 0 ≡ gateOf k n w x y z
 unfolding gateBytes gateAt gateOf word bytePair flat
-gate-read k a b r = rw (div-add-mod a 256, div-add-mod b 256)
+gate-read k n w x y z r = rw (div-add-mod w 256, div-add-mod x 256, div-add-mod y 256, div-add-mod z 256)
 
-pub gateFormat : Format 5 Two gateBytes gateAt
+pub gateFormat : Format 10 Four gateBytes gateAt
 unfolding gateBytes gateAt gateOf flat tabulate upFrom
 gateFormat =
+    let at : (s : List ℕ) (i j : ℕ) → word s (10 * suc i + j) ≡ word (drop 10 s) (10 * i + j) =
+    λ s i j. word-from s 10 (10 * suc i + j) (10 * i + j) (omega arith) in
     record {
-      size = λ g t. rw (two-slots g t) (length-gateBytes (g .kind) (getD (g .slots) 0 0) (getD (g .slots) 1 0));
+      size = length-gateBytes;
       next = λ s i.
           rw (
-            getD-from s 5 (5 * suc i) (5 * i) (omega arith),
-            word-from s 5 (5 * suc i + 1) (5 * i + 1) (omega arith),
-            word-from s 5 (5 * suc i + 3) (5 * i + 3) (omega arith),
+            getD-from s 10 (10 * suc i) (10 * i) (omega arith),
+            getD-from s 10 (10 * suc i + 1) (10 * i + 1) (omega arith),
+            at s i 2,
+            at s i 4,
+            at s i 6,
+            at s i 8,
           );
-      read = λ g t r. rw (two-slots g t) (gate-read (g .kind) (getD (g .slots) 0 0) (getD (g .slots) 1 0) r);
-      write = λ s b l. rw (bytePair-word s 1 b, bytePair-word s 3 b) (tabulate-getD s 5 l);
+      read = λ g t r. rw (four-slots g t) (gate-read _ _ _ _ _ _ r);
+      write = λ s b l.
+          rw (bytePair-word s 2 b, bytePair-word s 4 b, bytePair-word s 6 b, bytePair-word s 8 b) (tabulate-getD s 10 l);
     }
 
 -- ---- fields
@@ -285,7 +291,7 @@ pub jobBytes-joined : (j : Job) → jobBytes j ≡ joined 1 (bodies j)
 unfolding jobBytes joined
 jobBytes-joined j = simp (append-assoc, append-nil)
 
-gatesOf-flat : (gs : List Gate) → All Two gs → gatesOf (flat gateBytes gs) ≡ gs
+gatesOf-flat : (gs : List Gate) → All Four gs → gatesOf (flat gateBytes gs) ≡ gs
 unfolding gatesOf
 gatesOf-flat gs g = read-flat gateFormat (omega arith) gs g
 
@@ -297,15 +303,15 @@ candidatesOf-flat : (cs : List Candidate) → candidatesOf (flat candidateBytes 
 unfolding candidatesOf
 candidatesOf-flat cs = read-flat candidateFormat (omega arith) cs (all-any cs)
 
--- both netlists' gates have two slots
-pub record TwoEach (j : Job) : Type 0 where
-  pub old : All Two (j .old .gates)
-  pub golden : All Two (j .golden .gates)
+-- both netlists' gates have four slots
+pub record FourEach (j : Job) : Type 0 where
+  pub old : All Four (j .old .gates)
+  pub golden : All Four (j .golden .gates)
 
 nth-jobBytes : (j : Job) (k : ℕ) → T (ltb k 6) → nth k (jobBytes j) ≡ getD (bodies j) k []
 nth-jobBytes j k h = ap (nth k) (jobBytes-joined j) ∙ nth-joined 1 (bodies j) k (lit< h)
 
-module _ (j : Job) (w : TwoEach j) where
+module _ (j : Job) (w : FourEach j) where
   pub jobWhole-jobBytes : jobWhole (jobBytes j) ≡ true
   unfolding upFrom
   jobWhole-jobBytes =
@@ -331,7 +337,7 @@ module _ (j : Job) (w : TwoEach j) where
       rw (n 0 tt, n 1 tt, n 2 tt, n 3 tt, n 4 tt, n 5 tt) (simp (o, g, netsOf-flat, candidatesOf-flat))
 
 -- a job written from its parts reads back as those parts
-pub read-write : (j : Job) → TwoEach j → (jobWhole (jobBytes j) ≡ true) × (jobOf (jobBytes j) ≡ j)
+pub read-write : (j : Job) → FourEach j → (jobWhole (jobBytes j) ≡ true) × (jobOf (jobBytes j) ≡ j)
 read-write j w = (jobWhole-jobBytes j w, jobOf-jobBytes j w)
 
 module _ (s : List ℕ) (b : Below 256 s) (w : JobWhole s) where
@@ -339,7 +345,7 @@ module _ (s : List ℕ) (b : Below 256 s) (w : JobWhole s) where
   unfolding jobOf netlistOf gatesOf netsOf candidatesOf tabulate upFrom
   bodies-jobOf =
       rw (
-        two (nth 0 s) (w .sizes),
+        listed 2 (nth 0 s) (w .sizes),
         flat-read gateFormat (omega arith) (nth 1 s) (below-nth 1 s b) (w .old),
         flat-read netFormat (omega arith) (nth 2 s) (below-nth 2 s b) (w .outputs),
         flat-read gateFormat (omega arith) (nth 3 s) (below-nth 3 s b) (w .golden),
@@ -355,7 +361,7 @@ write-read s b h =
     jobBytes-joined (jobOf s) ∙ ap (joined 1) (bodies-jobOf s b w) ∙ joined-nth 1 6 s b (w .fields)
 
 -- a job's bytes are refused as its parts are
-pub jobRefusal-jobBytes : (j : Job) → TwoEach j → jobRefusal (jobBytes j) ≡ firstFailing (partTests j)
+pub jobRefusal-jobBytes : (j : Job) → FourEach j → jobRefusal (jobBytes j) ≡ firstFailing (partTests j)
 unfolding jobRefusal jobTests firstFailing
 jobRefusal-jobBytes j w = let e = read-write j w in rw (e .0, e .1)
 
@@ -365,24 +371,24 @@ pub structOf-gateFrom : (g : GateStruct) → structOf (gateFrom g) ≡ g
 unfolding structOf gateFrom gateOf slotOf
 structOf-gateFrom g = refl
 
-pub gateFrom-structOf : (g : Gate) → Two g → gateFrom (structOf g) ≡ g
+pub gateFrom-structOf : (g : Gate) → Four g → gateFrom (structOf g) ≡ g
 unfolding structOf gateFrom slotOf
-gateFrom-structOf g t = sym (two-slots g t)
+gateFrom-structOf g t = sym (four-slots g t)
 
-pub gates-structs : (gs : List Gate) → All Two gs → map gateFrom (map structOf gs) ≡ gs
+pub gates-structs : (gs : List Gate) → All Four gs → map gateFrom (map structOf gs) ≡ gs
 gates-structs [] w = refl
 gates-structs (g ∷ gs) w = rw (gateFrom-structOf g (w .0), gates-structs gs (w .1))
 
 -- ---- parts from places
 
-two-gatesIn : (k : ℕ) (gs : List GateStruct) → All Two (gatesIn k gs)
+four-gatesIn : (k : ℕ) (gs : List GateStruct) → All Four (gatesIn k gs)
 unfolding gatesIn gateFrom gateOf
-two-gatesIn k gs = all-map Two gateFrom (λ g. refl) (take k gs)
+four-gatesIn k gs = all-map Four gateFrom (λ g. refl) (take k gs)
 
-pub two-jobFrom : (c : Counts) (p : Places) → TwoEach (jobFrom c p)
+pub four-jobFrom : (c : Counts) (p : Places) → FourEach (jobFrom c p)
 unfolding jobFrom netlistFrom
-two-jobFrom c p =
-    record { old = two-gatesIn (c .old .gates) (p .old .gates); golden = two-gatesIn (c .golden .gates) (p .golden .gates) }
+four-jobFrom c p =
+    record { old = four-gatesIn (c .old .gates) (p .old .gates); golden = four-gatesIn (c .golden .gates) (p .golden .gates) }
 
 pub written-refusal : (c : Counts) (p : Places) → jobRefusal (jobBytes (jobFrom c p)) ≡ firstFailing (partTests (jobFrom c p))
-written-refusal c p = jobRefusal-jobBytes (jobFrom c p) (two-jobFrom c p)
+written-refusal c p = jobRefusal-jobBytes (jobFrom c p) (four-jobFrom c p)

@@ -27,9 +27,9 @@ use Rattle.records.proofs.Laws.Field.{startOf-suc, startOf-le, nth-slic
 pub record JobWhole (s : List ℕ) : Type 0 where
   pub fields : whole jobTags s ≡ true
   pub sizes : length (nth 0 s) ≡ 2
-  pub old : length (nth 1 s) % 5 ≡ 0
+  pub old : length (nth 1 s) % 10 ≡ 0
   pub outputs : length (nth 2 s) % 2 ≡ 0
-  pub golden : length (nth 3 s) % 5 ≡ 0
+  pub golden : length (nth 3 s) % 10 ≡ 0
   pub goldens : length (nth 4 s) % 2 ≡ 0
   pub candidates : length (nth 5 s) % 4 ≡ 0
 
@@ -39,9 +39,9 @@ jobWhole-facts s h =
     let t =
     row-at (whole jobTags s)
     (eqb (length (nth 0 s)) 2
-    ∷ eqb (length (nth 1 s) % 5) 0
+    ∷ eqb (length (nth 1 s) % 10) 0
     ∷ eqb (length (nth 2 s) % 2) 0
-    ∷ eqb (length (nth 3 s) % 5) 0
+    ∷ eqb (length (nth 3 s) % 10) 0
     ∷ eqb (length (nth 4 s) % 2) 0
     ∷ eqb (length (nth 5 s) % 4) 0
     ∷ [])
@@ -71,9 +71,9 @@ jobWhole-true s h =
 
 -- ---- counts
 
-pub length-gatesOf : (s : List ℕ) → length (gatesOf s) ≡ length s / 5
+pub length-gatesOf : (s : List ℕ) → length (gatesOf s) ≡ length s / 10
 unfolding gatesOf
-length-gatesOf s = length-tabulate (length s / 5) _
+length-gatesOf s = length-tabulate (length s / 10) _
 
 pub length-netsOf : (s : List ℕ) → length (netsOf s) ≡ length s / 2
 unfolding netsOf
@@ -100,8 +100,8 @@ module _ (s : List ℕ) (w : JobWhole s) where
       ≡ record {
         inputs = getD s 3 0;
         targets = getD s 4 0;
-        old = record { gates = length (nth 1 s) / 5; outputs = length (nth 2 s) / 2 };
-        golden = record { gates = length (nth 3 s) / 5; outputs = length (nth 4 s) / 2 };
+        old = record { gates = length (nth 1 s) / 10; outputs = length (nth 2 s) / 2 };
+        golden = record { gates = length (nth 3 s) / 10; outputs = length (nth 4 s) / 2 };
         candidates = length (nth 5 s) / 4;
       }
   unfolding countsOf sideCountsOf jobOf netlistOf
@@ -125,9 +125,9 @@ module _ (s : List ℕ) (w : Walk) (h : Walks s 1 6 w) where
       let n = walk-lens (j .fields) in
       record {
         sizes = n 0 (omega arith) ∙ j .sizes;
-        old = ap (λ (x : ℕ). x % 5) (n 1 (omega arith)) ∙ j .old;
+        old = ap (λ (x : ℕ). x % 10) (n 1 (omega arith)) ∙ j .old;
         outputs = ap (λ (x : ℕ). x % 2) (n 2 (omega arith)) ∙ j .outputs;
-        golden = ap (λ (x : ℕ). x % 5) (n 3 (omega arith)) ∙ j .golden;
+        golden = ap (λ (x : ℕ). x % 10) (n 3 (omega arith)) ∙ j .golden;
         goldens = ap (λ (x : ℕ). x % 2) (n 4 (omega arith)) ∙ j .goldens;
         candidates = ap (λ (x : ℕ). x % 4) (n 5 (omega arith)) ∙ j .candidates;
       }
@@ -139,9 +139,9 @@ module _ (s : List ℕ) (w : Walk) (h : Walks s 1 6 w) where
       record {
         fields = f;
         sizes = sym (n 0 (omega arith)) ∙ g .sizes;
-        old = ap (λ (x : ℕ). x % 5) (sym (n 1 (omega arith))) ∙ g .old;
+        old = ap (λ (x : ℕ). x % 10) (sym (n 1 (omega arith))) ∙ g .old;
         outputs = ap (λ (x : ℕ). x % 2) (sym (n 2 (omega arith))) ∙ g .outputs;
-        golden = ap (λ (x : ℕ). x % 5) (sym (n 3 (omega arith))) ∙ g .golden;
+        golden = ap (λ (x : ℕ). x % 10) (sym (n 3 (omega arith))) ∙ g .golden;
         goldens = ap (λ (x : ℕ). x % 2) (sym (n 4 (omega arith))) ∙ g .goldens;
         candidates = ap (λ (x : ℕ). x % 4) (sym (n 5 (omega arith))) ∙ g .candidates;
       }
@@ -187,8 +187,8 @@ pub record Stands (s : List ℕ) (r : Starts) : Type 0 where
   pub candidates-end : r .end ≡ startOf 5 s + length (nth 5 s)
   pub room : r .end ≤ length s
 
-records-five : (g n : ℕ) → g ≡ n / 5 → n % 5 ≡ 0 → 5 * g ≡ n
-records-five g n e h = omega arith
+records-ten : (g n : ℕ) → g ≡ n / 10 → n % 10 ≡ 0 → 10 * g ≡ n
+records-ten g n e h = omega arith
 
 records-two : (g n : ℕ) → g ≡ n / 2 → n % 2 ≡ 0 → 2 * g ≡ n
 records-two g n e h = omega arith
@@ -214,20 +214,20 @@ module _ (s : List ℕ) (c : Counts) (l : Laid s c) where
       ≡ record {
         inputs = getD s 3 0;
         targets = getD s 4 0;
-        old = record { gates = length (nth 1 s) / 5; outputs = length (nth 2 s) / 2 };
-        golden = record { gates = length (nth 3 s) / 5; outputs = length (nth 4 s) / 2 };
+        old = record { gates = length (nth 1 s) / 10; outputs = length (nth 2 s) / 2 };
+        golden = record { gates = length (nth 3 s) / 10; outputs = length (nth 4 s) / 2 };
         candidates = length (nth 5 s) / 4;
       }
   laid-counts = l .counts ∙ counts-at s laid-whole
 
-  old-bytes : 5 * c .old .gates ≡ length (nth 1 s)
-  old-bytes = records-five _ _ (ap (λ (x : Counts). x .old .gates) laid-counts) (laid-whole .old)
+  old-bytes : 10 * c .old .gates ≡ length (nth 1 s)
+  old-bytes = records-ten _ _ (ap (λ (x : Counts). x .old .gates) laid-counts) (laid-whole .old)
 
   outputs-bytes : 2 * c .old .outputs ≡ length (nth 2 s)
   outputs-bytes = records-two _ _ (ap (λ (x : Counts). x .old .outputs) laid-counts) (laid-whole .outputs)
 
-  golden-bytes : 5 * c .golden .gates ≡ length (nth 3 s)
-  golden-bytes = records-five _ _ (ap (λ (x : Counts). x .golden .gates) laid-counts) (laid-whole .golden)
+  golden-bytes : 10 * c .golden .gates ≡ length (nth 3 s)
+  golden-bytes = records-ten _ _ (ap (λ (x : Counts). x .golden .gates) laid-counts) (laid-whole .golden)
 
   goldens-bytes : 2 * c .golden .outputs ≡ length (nth 4 s)
   goldens-bytes = records-two _ _ (ap (λ (x : Counts). x .golden .outputs) laid-counts) (laid-whole .goldens)
@@ -315,7 +315,7 @@ module _ (s : List ℕ) (c : Counts) (l : Laid s c) where
       ap (λ (b : Bool). ascending (map (λ (x : Candidate). x .net) (candidatesOf (nth 5 s))) && b)
       (all-ext _ _ (λ (x : Candidate). unmarked n (oldNets (jobOf s)) (x .net) marks _ (e ∙ laid-nets) (f ∙ rw (laid-inputs, laid-targets))) (candidatesOf (nth 5 s)))
 
-  pub laid-old : c .old .gates ≡ length (nth 1 s) / 5
+  pub laid-old : c .old .gates ≡ length (nth 1 s) / 10
   laid-old = ap (λ (x : Counts). x .old .gates) laid-counts
 
 -- ---- what the shape and the checks of a job answer

@@ -31,7 +31,7 @@ use Rattle.records.proofs.Laws.Reply.{write-short, write-counts, unheld
 record PlanAccepted (c : Counts) (p : Places) (d : List ℕ) (w : WritePlan) : Type 0 where
   pub number : w .number ≡ 0
   pub counts : w .counts ≡ c
-  pub size : 4188 ≤ length d
+  pub size : 8188 ≤ length d
   pub within : Within c
   pub bounds : JobBounds c p
 
@@ -53,7 +53,7 @@ module _ (c : Counts) (p : Places) (d : List ℕ) where
       (holds c (length (p .old .gates)) (length (p .old .outputs)) (length (p .golden .gates)) (length (p .golden .outputs)) (length (p .nets)) (length (p .weights)))
 
   -- by its three tests
-  plan-of : (s t u : Bool) → leb 4188 (length d) ≡ s → countsWithin c ≡ t → held c p ≡ u
+  plan-of : (s t u : Bool) → leb 8188 (length d) ≡ s → countsWithin c ≡ t → held c p ≡ u
       → PlanAccepted c p d planned ⊎ PlanRefused c p d planned
   unfolding planOf firstFailing
   plan-of false t u e f g =
@@ -76,7 +76,7 @@ module _ (c : Counts) (p : Places) (d : List ℕ) where
       }))
 
   plan : (w : WritePlan) → w ≡ planned → PlanAccepted c p d w ⊎ PlanRefused c p d w
-  plan w e = rw e (plan-of (leb 4188 (length d)) (countsWithin c) (held c p) refl refl refl)
+  plan w e = rw e (plan-of (leb 8188 (length d)) (countsWithin c) (held c p) refl refl refl)
 
   accepted : (w : WritePlan) → w ≡ planned → w .number ≡ 0 → PlanAccepted c p d w
   accepted w e a = ⊎-elim (λ q. q) (λ q. absurd (q .number a)) (plan w e)
@@ -89,15 +89,15 @@ module _ (c : Counts) (p : Places) (d : List ℕ) where
   spans-accepted w k q g = g ∙ ap gateSpans (q .counts) ∙ spans-within c (q .within)
 
   pub spans-held : (w : WritePlan) (k : GateSpans) → w ≡ planned → k ≡ gateSpans (w .counts)
-      → (k .old + 5 * k .«old_count» ≤ 4188)
+      → (k .old + 10 * k .«old_count» ≤ 8188)
       × (k .«old_count» ≤ length (p .old .gates))
-      × (k .golden + 5 * k .«golden_count» ≤ 4188)
+      × (k .golden + 10 * k .«golden_count» ≤ 8188)
       × (k .«golden_count» ≤ length (p .golden .gates))
   unfolding startsOf
   spans-held w k e g =
       ⊎-elim (λ q. rw (spans-accepted w k q g) (omega arith)) (λ q. rw (g ∙ ap gateSpans (q .counts) ∙ spans-none) (omega arith)) (plan w e)
 
-  pub rest-held : (w : WritePlan) (n : ℕ) → w ≡ planned → n ≡ 4188
+  pub rest-held : (w : WritePlan) (n : ℕ) → w ≡ planned → n ≡ 8188
       → RestHeld w (length (p .old .outputs)) (length (p .golden .outputs)) (length (p .nets)) (length (p .weights)) n (length d)
   rest-held w n e z =
       record {
@@ -117,7 +117,7 @@ module _ (c : Counts) (p : Places) (d : List ℕ) where
         size = λ a. accepted w e a .size;
       }
 
-  pub gates-put : (w : WritePlan) (k : GateSpans) (z z′ z″ : List ℕ) → w ≡ planned → k ≡ gateSpans (w .counts) → length z ≡ 4188
+  pub gates-put : (w : WritePlan) (k : GateSpans) (z z′ z″ : List ℕ) → w ≡ planned → k ≡ gateSpans (w .counts) → length z ≡ 8188
       → z′ ≡ placed z (k .old) (gatesBytes (k .«old_count») (p .old .gates))
       → z″ ≡ placed z′ (k .golden) (gatesBytes (k .«golden_count») (p .golden .gates))
       → w .number ≡ 0 → GatesPut (w .counts) (p .old .gates) (p .golden .gates) z″
@@ -128,18 +128,18 @@ module _ (c : Counts) (p : Places) (d : List ℕ) where
       let b = q .bounds in
       let gs : List ℕ = gatesBytes (c .old .gates) (p .old .gates) in
       let hs : List ℕ = gatesBytes (c .golden .gates) (p .golden .gates) in
-      let ng : length gs ≡ 5 * c .old .gates = length-gatesBytes _ _ (b .old .gates) in
-      let nh : length hs ≡ 5 * c .golden .gates = length-gatesBytes _ _ (b .golden .gates) in
+      let ng : length gs ≡ 10 * c .old .gates = length-gatesBytes _ _ (b .old .gates) in
+      let nh : length hs ≡ 10 * c .golden .gates = length-gatesBytes _ _ (b .golden .gates) in
       let x′ : z′ ≡ placed z 8 gs = rw s at x in
       let y′ : z″ ≡ placed z′ (startsOf c .golden) hs = rw s at y in
       let m : length z′ ≡ length z = ap length x′ ∙ length-placed z 8 gs (omega arith) in
       rw (q .counts)
       (record {
         old =
-            ap (λ (l : List ℕ). take (5 * c .old .gates) (drop 8 l)) y′
-            ∙ part-placed-before z′ (startsOf c .golden) hs (omega arith) 8 (5 * c .old .gates) (omega arith)
-            ∙ placed-stands z 8 (5 * c .old .gates) gs ng (omega arith) x′;
-        golden = placed-stands z′ (startsOf c .golden) (5 * c .golden .gates) hs nh (omega arith) y′;
+            ap (λ (l : List ℕ). take (10 * c .old .gates) (drop 8 l)) y′
+            ∙ part-placed-before z′ (startsOf c .golden) hs (omega arith) 8 (10 * c .old .gates) (omega arith)
+            ∙ placed-stands z 8 (10 * c .old .gates) gs ng (omega arith) x′;
+        golden = placed-stands z′ (startsOf c .golden) (10 * c .golden .gates) hs nh (omega arith) y′;
         held = (b .old .gates, b .golden .gates);
       })
 

@@ -6,7 +6,7 @@ use mathlib.Core.List.{List}
 use mathlib.Core.Logic.{⊎-elim}
 use native.Mathlib.Omega.{arith}
 use Rattle.engine.specs.Inner.Tree.{GateRoom}
-use Rattle.engine.proofs.Laws.FitCode.{old-kind, Placing, PlacingOf, placing-none, placing-skip, placing-all}
+use Rattle.engine.proofs.Laws.FitCode.{Placing, PlacingOf, placing-none, placing-skip, placing-all}
 use Rattle.engine.proofs.Laws.FitCode.{placing-room, placing-nets, placing-next}
 use Rattle.engine.proofs.renumber.place_marked.Statement.{statement}
 use Rattle.engine.proofs.renumber.place_marked.Tie as tie
@@ -51,7 +51,6 @@ moved-code-requires c κs =
     let s = start l in
     let a = s .args in
     let h = s .pre .0 .0 in (
-      old-kind (a .old) h (l .loop .i) (t .before .loop-test .taken),
       omega (arith, room t .nets),
       placing-nets (a .old) (a .mark) (a .new) (l .loop .inv) h (t .before .loop-test .taken) (t .if1 .taken) (s .pre .0 .1)
           (omega (arith, s .pre .1 .room))

@@ -3,16 +3,16 @@
 use borrow.Author.Needs.{needs}
 use mathlib.Core.Path.{sym}
 use mathlib.Core.List.{[]}
-use Rattle.records.specs.Bytes.{upFrom, tabulate, all, flat}
+use Rattle.records.specs.Bytes.{upFrom, tabulate, all}
 use Rattle.records.specs.Gate.{conj, disj, parity, inverted, gateValue}
 use Rattle.records.proofs.Laws.Bytes.{getD-tabulate}
-use Rattle.engine.specs.Ternary.{completions, agreed, ternaryValue, ternaryTable}
+use Rattle.engine.specs.Ternary.{completionsOf, agreed, ternaryValue, ternaryTable}
 use Rattle.engine.proofs.Laws.Ternary.{ternaryTable-high}
 use Rattle.engine.proofs.ternary.ternary_table.Statement.{statement}
 use Rattle.engine.proofs.ternary.ternary_table.Tie as tie
 
 returns : tie.Need-returns
-unfolding tabulate upFrom ternaryTable ternaryValue agreed completions flat all gateValue conj disj parity inverted
+unfolding tabulate upFrom ternaryTable ternaryValue agreed completionsOf all gateValue conj disj parity inverted
 returns c = getD-tabulate 10 ternaryTable (c .before .before .args .kind) [] (c .before .if1 .taken)
 
 returns-2 : tie.Need-returns-2

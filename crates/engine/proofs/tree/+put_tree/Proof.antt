@@ -16,7 +16,7 @@ use Rattle.engine.proofs.tree.put_tree.Reads as put-tree
 use Rattle.engine.proofs.tree.put_tree.Kinds as put-tree-kinds
 use Rattle.engine.proofs.tree.+put_tree.Lts-put_tree as put-tree-lts
 use Rattle.engine.proofs.choose.reading_count.Reads as reading-count-reads
-use Rattle.engine.proofs.tree.add_gate.Reads as add-gate-reads
+use Rattle.engine.proofs.tree.put_constant.Reads as put-constant-reads
 use Rattle.engine.proofs.tree.put_mux.Reads as put-mux-reads
 use Rattle.engine.proofs.tree.tree_start.Reads as tree-start-reads
 use Rattle.engine.proofs.tree.+put_tree.{statement}
@@ -37,8 +37,8 @@ abbrev calls : ℕ → put-tree-lts.Claims
 calls t = (
   tree-start-reads.Asked,
   tree-start-reads.Learnt,
-  add-gate-reads.Asked,
-  add-gate-reads.Learnt,
+  put-constant-reads.Asked,
+  put-constant-reads.Learnt,
   put-tree-below t,
   put-tree.Post,
   reading-count-reads.Asked,
@@ -104,13 +104,13 @@ put-tree-tree-start-requires t c κs = c .before .pre .1 .0 .0
 put-tree-enum-known-start : (t : ℕ) → put-tree-lts.Need-enum-known-start (calls t) (put-tree-at t) put-tree.Post
 put-tree-enum-known-start t c = search needs
 
-put-tree-add-gate-requires : (t : ℕ) → put-tree-lts.Need-add-gate-requires (calls t) (put-tree-at t) put-tree.Post
-put-tree-add-gate-requires t c κs =
+put-tree-put-constant-requires : (t : ℕ) → put-tree-lts.Need-put-constant-requires (calls t) (put-tree-at t) put-tree.Post
+put-tree-put-constant-requires t c κs =
     let w = c .before .before in
     let s = w .before .before .before .before in
     let q = constant t w in (
       room-constant (s .args .count) (s .args .k) (columnAt t s) _ q (s .pre .1 .1),
-      (kind-constant (s .args .k) (columnAt t s) _ q, omega arith, omega arith),
+      kind-constant (s .args .k) (columnAt t s) _ q,
     )
 
 put-tree-enum-told : (t : ℕ) → put-tree-lts.Need-enum-told (calls t) (put-tree-at t) put-tree.Post
@@ -226,7 +226,7 @@ put-tree-returns t c =
     let w = c .before .before .before in
     let s = w .before .before .before .before in
     let a = s .args in
-    gates-put-same (c .add-gate .ensures)
+    gates-put-same (c .put-constant .ensures)
     (sym (tree-constant (a .k) (a .base + a .count) (a .t5) (columnAt t s) _ (constant t w)))
 
 put-tree-returns-2 : (t : ℕ) → put-tree-lts.Need-returns-2 (calls t) (put-tree-at t) put-tree.Post
@@ -253,7 +253,7 @@ pub +put-tree-spec : {M : Type 1} → statement M
     put-tree.Post
     (put-tree-tree-start-requires t)
     (put-tree-enum-known-start t)
-    (put-tree-add-gate-requires t)
+    (put-tree-put-constant-requires t)
     (put-tree-enum-told t)
     (put-tree-sub-put-tree t)
     (put-tree-put-tree-requires t)

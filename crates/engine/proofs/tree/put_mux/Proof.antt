@@ -1,11 +1,14 @@
 -- `engine::tree::put_mux` meets its contract. Assumes nothing.
 use native.Mathlib.Omega.{arith}
 use denote.Ref.{now}
-use Rattle.engine.proofs.Laws.Tree.{mux-put}
+use Rattle.records.specs.Gate.{gateOf}
+use Rattle.engine.specs.Tree.{notOf, andOf, orOf}
+use Rattle.engine.proofs.Laws.Tree.{pair-below, mux-put}
 use Rattle.engine.proofs.tree.put_mux.Statement.{statement}
 use Rattle.engine.proofs.tree.put_mux.Tie as tie
 
 returns : tie.Need-returns
+unfolding notOf andOf orOf gateOf
 returns c =
     let s = c .before .before .before .before in
     let a = s .args in
@@ -18,8 +21,14 @@ returns c =
 pub put-mux-spec : {M : Type 1} → statement M
 put-mux-spec =
     tie.close
-    (tie.spec (λ c. omega arith) (λ c κs. omega arith) (λ c. omega arith) (λ c. omega arith) (λ c. omega arith)
-    (λ c κs. omega arith) (λ c. omega arith) (λ c. omega arith) (λ c. omega arith) (λ c. omega arith)
-    (λ c κs. omega arith) (λ c. omega arith) (λ c. omega arith) (λ c. omega arith) (λ c. omega arith)
-    (λ c. omega arith) (λ c. omega arith) (λ c κs. omega arith) (λ c. omega arith) (λ c. omega arith)
-    (λ c. omega arith) (λ c. omega arith) returns)
+    (tie.spec (λ c. omega arith)
+    (λ c κs. (omega arith, omega arith, omega arith, pair-below _ _ (omega arith) (omega arith)))  -- pack-requires
+    (λ c. omega arith) (λ c. omega arith) (λ c. omega arith) (λ c. omega arith) (λ c. omega arith)
+    (λ c κs. (omega arith, omega arith, omega arith, pair-below _ _ (omega arith) (omega arith)))  -- pack-requires-2
+    (λ c. omega arith) (λ c. omega arith) (λ c. omega arith) (λ c. omega arith) (λ c. omega arith)
+    (λ c κs. (omega arith, omega arith, omega arith, pair-below _ _ (omega arith) (omega arith)))  -- pack-requires-3
+    (λ c. omega arith) (λ c. omega arith) (λ c. omega arith) (λ c. omega arith) (λ c. omega arith)
+    (λ c. omega arith) (λ c. omega arith) (λ c. omega arith)
+    (λ c κs. (omega arith, omega arith, omega arith, pair-below _ _ (omega arith) (omega arith)))  -- pack-requires-4
+    (λ c. omega arith) (λ c. omega arith) (λ c. omega arith) (λ c. omega arith)
+    returns)

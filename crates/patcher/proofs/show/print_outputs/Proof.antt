@@ -5,10 +5,10 @@ use Rattle.patcher.proofs.show.print_outputs.Statement.{statement}
 use Rattle.patcher.proofs.show.print_outputs.Tie as tie
 
 abbrev Inv-loop : tie.InvT-loop
-Inv-loop count side i₀ i = Unit {0}
+Inv-loop count outputs i₀ i = Unit {0}
 
 abbrev μ-loop : tie.MeasureT-loop
-μ-loop count side i₀ i = count - i
+μ-loop count outputs i₀ i = count - i
 
 pub print-outputs-spec : {M : Type 1} → statement M
 print-outputs-spec =

@@ -1,6 +1,6 @@
 -- `records::columns::joined` meets its contract: after i turns the first i gates of the columns stand at the start.
 -- Assumes nothing.
-use Prim.Native.Nat.{ℕ, _-_, _≤_}
+use Prim.Native.Nat.{ℕ, _+_, _*_, _-_, _≤_}
 use mathlib.Core.Path.{_≡_, refl}
 use mathlib.Core.List.{List}
 use native.Mathlib.Omega.{arith}
@@ -14,26 +14,34 @@ use Rattle.records.proofs.columns.joined.Tie as tie
 
 -- gate i of columns
 abbrev gate : List ℕ → List ℕ → List ℕ → ℕ → Gate
-gate kinds firsts seconds i = record { kind = getD kinds i 0; first = getD firsts i 0; second = getD seconds i 0 }
+gate kinds counts slots i =
+    record {
+      kind = getD kinds i 0;
+      count = getD counts i 0;
+      first = getD slots (4 * i) 0;
+      second = getD slots (4 * i + 1) 0;
+      third = getD slots (4 * i + 2) 0;
+      fourth = getD slots (4 * i + 3) 0;
+    }
 
 abbrev Inv-loop : tie.InvT-loop
-Inv-loop kinds firsts seconds count gates₀ i₀ gates i = (i ≤ count) × Filled noGates gates i (gate kinds firsts seconds)
+Inv-loop kinds counts slots count gates₀ i₀ gates i = (i ≤ count) × Filled noGates gates i (gate kinds counts slots)
 
 abbrev μ-loop : tie.MeasureT-loop
-μ-loop kinds firsts seconds count gates₀ i₀ gates i = count - i
+μ-loop kinds counts slots count gates₀ i₀ gates i = count - i
 
 loop-holds : tie.Need-loop-holds Inv-loop μ-loop
 unfolding noGates noGate
 loop-holds c =
     let a = c .args in
-    (omega arith, filled-none noGates (gate (a .kinds .now) (a .firsts .now) (a .seconds .now)))
+    (omega arith, filled-none noGates (gate (a .kinds .now) (a .counts .now) (a .slots .now)))
 
 loop-again : tie.Need-loop-again Inv-loop μ-loop
 loop-again c =
-    let l = c .before .before .before .before .loop in
-    let a = c .before .before .before .before .before .args in (
+    let l = c .before .before .before .before .before .before .before .loop in
+    let a = c .before .before .before .before .before .before .before .before .args in (
       omega arith,
-      filled-next noGates (gate (a .kinds .now) (a .firsts .now) (a .seconds .now)) (l .gates) (l .k) _
+      filled-next noGates (gate (a .kinds .now) (a .counts .now) (a .slots .now)) (l .gates) (l .k) _
           (omega (arith, length-noGates)) refl (l .inv .1),
     )
 
@@ -49,4 +57,6 @@ pub joined-spec : {M : Type 1} → statement M
 joined-spec =
     tie.close
     (tie.spec Inv-loop μ-loop loop-holds (λ c. omega arith) (λ c. omega arith) (λ c. omega arith) (λ c. omega arith)
-    (λ c. omega arith) (λ c. omega arith) (λ c. omega arith) (λ c. omega arith) (λ c. omega arith) loop-again returns)
+    (λ c. omega arith) (λ c. omega arith) (λ c. omega arith) (λ c. omega arith) (λ c. omega arith) (λ c. omega arith)
+    (λ c. omega arith) (λ c. omega arith) (λ c. omega arith) (λ c. omega arith) (λ c. omega arith) (λ c. omega arith)
+    (λ c. omega arith) (λ c. omega arith) loop-again returns)

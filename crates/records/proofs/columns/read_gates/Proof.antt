@@ -79,14 +79,14 @@ Gates = Array G.the-row 400
 
 -- the machine values of `noGate` and of `noGates`
 abbrev none : Val
-none = vstruct (ofList (vint w8 0 ∷ vint w16 0 ∷ vint w16 0 ∷ []))
+none = vstruct (ofList (vint w8 0 ∷ vint w8 0 ∷ vint w16 0 ∷ vint w16 0 ∷ vint w16 0 ∷ vint w16 0 ∷ []))
 
 abbrev nones : Val
 nones = arrayVal (replicate 400 none)
 
 none-is : Is G.the-row noGate (none ∷ [])
 unfolding noGate
-none-is = LL.owes G.the-type G′.the-laws noGate ((refl, lit< tt), ((refl, lit< tt), ((refl, lit< tt), tt)))
+none-is = LL.owes G.the-type G′.the-laws noGate ((refl, lit< tt), ((refl, lit< tt), ((refl, lit< tt), ((refl, lit< tt), ((refl, lit< tt), ((refl, lit< tt), tt))))))
 
 -- the result, its machine value, and what the struct's relation asks of them
 abbrev found : ReadReply → List Gate → List Gate → GatesRead
@@ -163,7 +163,7 @@ module _ {M : Type 1} (𝓤 : URA M) (H : Heap 𝓤) (A : Atoms 𝓤) (W : Given
         qed W ((‵ (flft (κs .0) (qs .0)) ⊛ (‵ (flft (κs .1 .0) (qs .1 .0)) ⊛ raw more)) ∷ ‵ (owns (typesAt (read-gates.signature .params) κs) a vals) ∷ []) ∵ enter ! C Λ code.function (flat (typesAt (read-gates.signature .params) κs) vals) _ $
         arrives ! (slice-typed (are .0 .0 .1 .0), (slice-typed (are .1 .0 .0 .1 .0), (slice-typed (are .1 .1 .0 .0 .1 .0), (slice-typed (are .1 .1 .1 .0 .0 .1 .0), (slice-typed (are .1 .1 .1 .1 .0 .0 .1 .0), tt))))) (λ bs. let l₇ = bs .1 .1 .1 .1 .1 .1 .1 .0 in let l₈ = bs .1 .1 .1 .1 .1 .1 .1 .1 .0 in
         -- [_23; …; _0; …; the tokens; what the parameters own]: the arrays are made, and the slices
-        lets ! 34 (agg ! (and-then ! (lit ! tt) (and-then ! (lit ! tt) (and-then ! (lit ! tt) (no-more !))))) refl (LL.lawful G.the-type G′.the-laws 𝓤 H A W .typed noGate _ none-is .0) $
+        lets ! 34 (agg ! (and-then ! (lit ! tt) (and-then ! (lit ! tt) (and-then ! (lit ! tt) (and-then ! (lit ! tt) (and-then ! (lit ! tt) (and-then ! (lit ! tt) (no-more !)))))))) refl (LL.lawful G.the-type G′.the-laws 𝓤 H A W .typed noGate _ none-is .0) $
         use0 W (‵ (Gates .own noGates (nones ∷ []))) none-owned $ facts ! Gates (Is Gates) (shows 𝓤 H A Gates) noGates (nones ∷ []) (λ none-is′.
         lets ! 32 (rep ! 400 (var ! 34 refl)) refl (gates .typed noGates _ none-is′ .0) $
         lets ! 30 (rep ! 400 (var ! 34 refl)) refl (gates .typed noGates _ none-is′ .0) $

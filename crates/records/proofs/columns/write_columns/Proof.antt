@@ -16,8 +16,8 @@ abbrev lent : tie.Start → Columns
 lent c =
     let a = c .args in
     columns
-    (sideColumns (now (a .old-kinds)) (now (a .old-firsts)) (now (a .old-seconds)) (now (a .old-outputs)))
-    (sideColumns (now (a .golden-kinds)) (now (a .golden-firsts)) (now (a .golden-seconds)) (now (a .golden-outputs)))
+    (sideColumns (now (a .old-kinds)) (now (a .old-counts)) (now (a .old-slots)) (now (a .old-outputs)))
+    (sideColumns (now (a .golden-kinds)) (now (a .golden-counts)) (now (a .golden-slots)) (now (a .golden-outputs)))
     (now (a .nets))
     (now (a .weights))
 

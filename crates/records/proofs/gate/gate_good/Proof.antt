@@ -1,60 +1,91 @@
--- `records::gate::gate_good` meets its contract: each arm of the match is the gate's test at that arity.
+-- `records::gate::gate_good` meets its contract. The loop's invariant: the slots from i on are good exactly when all are.
 -- Assumes nothing.
-use borrow.Author.Tests.{lt-ltb, le-ltb, eq-eqb, ne-eqb}
-use mathlib.Core.Path.{_≡_, sym, _∙_}
+use borrow.Author.Needs.{needs}
+use borrow.Author.Tests.{not-true, not-false}
+use lib.ListN.{length, drop}
 use mathlib.Core.Bool.{_&&_}
+use mathlib.Core.Path.{_≡_, sym, _∙_, ap}
 use native.Mathlib.Omega.{arith}
-use lib.Dec.{ltb, eqb}
-use Rattle.records.specs.Gate.{arity, gateOf}
+use Prim.Native.Nat.{_+_, _-_}
+use Rattle.records.specs.Gate.{gateOf}
 use Rattle.records.specs.Refusal.{gateGood}
-use Rattle.records.proofs.Laws.Gate.{arity-le, gateGood-none, gateGood-one, gateGood-two, gateGood-high}
+use Rattle.records.specs.Service.{gateFrom}
+use Rattle.records.specs.Inner.{structSlots}
+use Rattle.records.proofs.Laws.Gate.{slotsGood, slotsGood-drop, slotsGood-end, gateGood-refused, gateGood-permitted}
 use Rattle.records.proofs.gate.gate_good.Statement.{statement}
 use Rattle.records.proofs.gate.gate_good.Tie as tie
 
-returns : tie.Need-returns
-returns c = let x = c .before .args in sym (gateGood-high (x .net) (x .kind) (x .a) (x .b) (c .if1 .taken))
+abbrev Inv-loop : tie.InvT-loop
+Inv-loop net slots count i₀ i = slotsGood net (count - i) (drop i slots) ≡ slotsGood net count slots
 
--- ---- the three arms
+abbrev μ-loop : tie.MeasureT-loop
+μ-loop net slots count i₀ i = 4 - i
 
-none : (c : tie.At-match-keys1) → let x = c .before .before .before .args in
-    gateGood (x .net) (gateOf (x .kind) (x .a) (x .b)) ≡ (eqb (x .a) 0 && eqb (x .b) 0)
-none c =
-    let x = c .before .before .before .args in
-    let e = sym (c .before .operand-count .ensures) ∙ c .match .keys1 in
-    gateGood-none (x .net) (x .kind) (x .a) (x .b) (c .before .before .if1 .left) e
+returns : tie.Need-returns Inv-loop μ-loop
+unfolding gateFrom gateOf
+returns c =
+    let x = c .before .before .args in
+    let p = c .before .permits in
+    sym (gateGood-refused (x .net) (gateFrom (x .gate)) (sym (p .ensures) ∙ not-true (p .result) (c .if1 .taken)))
 
-one : (c : tie.At-match-keys2) → let x = c .before .before .before .args in
-    gateGood (x .net) (gateOf (x .kind) (x .a) (x .b)) ≡ (ltb (x .a) (x .net) && eqb (x .b) 0)
-one c =
-    let x = c .before .before .before .args in
-    let e = sym (c .before .operand-count .ensures) ∙ c .match .keys2 in
-    gateGood-one (x .net) (x .kind) (x .a) (x .b) (c .before .before .if1 .left) e
+loop-holds : tie.Need-loop-holds Inv-loop μ-loop
+loop-holds c =
+    let x = c .before .before .before .before .args in
+    let e : x .gate .count - 0 ≡ x .gate .count = omega arith in
+    rw e
 
-two : (c : tie.At-match-rest) → let x = c .before .before .before .args in
-    gateGood (x .net) (gateOf (x .kind) (x .a) (x .b)) ≡ (ltb (x .a) (x .net) && ltb (x .b) (x .net))
-two c =
-    let x = c .before .before .before .args in
-    let e : arity (x .kind) ≡ 2 = omega (arith, arity-le (x .kind)) in
-    gateGood-two (x .net) (x .kind) (x .a) (x .b) (c .before .before .if1 .left) e
+-- a gate that is permitted is good where its slots are
+good : (c : tie.At-loop Inv-loop μ-loop) → let x = c .before .before .before .before .before .args in
+    let slots = c .before .before .slots-of .result in
+    gateGood (x .net) (gateFrom (x .gate)) ≡ slotsGood (x .net) (x .gate .count - c .loop .i) (drop (c .loop .i) slots)
+unfolding gateFrom gateOf structSlots
+good c =
+    let x = c .before .before .before .before .before .args in
+    let p = c .before .before .before .before .permits in
+    let t = not-false (p .result) (c .before .before .before .if1 .left) in
+    gateGood-permitted (x .net) (gateFrom (x .gate)) (sym (p .ensures) ∙ t)
+    ∙ ap (slotsGood (x .net) (x .gate .count)) (sym (c .before .before .slots-of .ensures))
+    ∙ sym (c .loop .inv)
 
-returns-2 : tie.Need-returns-2
-returns-2 c = rw (none (c .before), eq-eqb _ _ (c .if2 .taken))
+-- four slots
+four : (c : tie.At-loop Inv-loop μ-loop) → length (c .before .before .slots-of .result) ≡ 4
+unfolding structSlots
+four c = ap length (c .before .before .slots-of .ensures)
 
-returns-3 : tie.Need-returns-3
-returns-3 c = rw (none (c .before), ne-eqb _ _ (c .if2 .left))
+-- the slots are good where slot i is, and those after it
+turn : (c : tie.After-slot-good Inv-loop μ-loop) → let l = c .before .before in
+    let x = l .before .before .before .before .before .args in
+    let slots = l .before .before .slots-of .result in
+    let i = l .loop .i in
+    gateGood (x .net) (gateFrom (x .gate))
+    ≡ (c .slot-good .result && slotsGood (x .net) (x .gate .count - (i + 1)) (drop (i + 1) slots))
+turn c =
+    let l = c .before .before in
+    let x = l .before .before .before .before .before .args in
+    let n = four l in
+    good l
+    ∙ slotsGood-drop (x .net) (x .gate .count) (l .loop .i) (l .before .before .slots-of .result) (omega arith)
+    ∙ rw (c .slot-good .ensures)
 
-returns-4 : tie.Need-returns-4
-returns-4 c = rw (one (c .before), lt-ltb _ _ (c .if3 .taken))
+returns-2 : tie.Need-returns-2 Inv-loop μ-loop
+returns-2 c = rw (turn (c .before), not-true (c .before .slot-good .result) (c .if2 .taken))
 
-returns-5 : tie.Need-returns-5
-returns-5 c = rw (one (c .before), le-ltb _ _ (c .if3 .left))
+loop-again : tie.Need-loop-again Inv-loop μ-loop
+loop-again c =
+    let l = c .before .before .before in
+    let s = c .before .slot-good in
+    sym (rw (not-false (s .result) (c .if2 .left)) at (turn (c .before))) ∙ good l ∙ l .loop .inv
 
-returns-6 : tie.Need-returns-6
-returns-6 c = rw (two (c .before), lt-ltb _ _ (c .if4 .taken))
-
-returns-7 : tie.Need-returns-7
-returns-7 c = rw (two (c .before), le-ltb _ _ (c .if4 .left))
+returns-3 : tie.Need-returns-3 Inv-loop μ-loop
+returns-3 c =
+    let l = c .before in
+    let x = l .before .before .before .before .before .args in
+    let n = four l in
+    let i = l .loop .i in
+    sym (good l ∙ slotsGood-end (x .net) (x .gate .count - i) i (l .before .before .slots-of .result) (omega arith))
 
 pub gate-good-spec : {M : Type 1} → statement M
 gate-good-spec =
-    tie.close (tie.spec returns (λ c κs. tt) returns-2 returns-3 returns-4 returns-5 returns-6 returns-7)
+    tie.close
+    (tie.spec Inv-loop μ-loop (λ c κs. tt) returns (λ c κs. tt) (λ c. omega arith) loop-holds (λ c. omega arith)
+    (λ c. omega arith) (λ c. search needs) (λ c κs. tt) returns-2 (λ c. omega arith) (λ c. omega arith) loop-again returns-3)

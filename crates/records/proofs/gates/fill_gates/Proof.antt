@@ -108,7 +108,7 @@ module _ {M : Type 1} (𝓤 : URA M) (H : Heap 𝓤) (A : Atoms 𝓤) (W : Given
   Done = Ends 𝓤 H A W fill-gates.ended (fill-gates.clauses 𝓤 H A mem run) ((κs, qs, tt, a, vals), tt)
 
   abbrev gate : ℕ → Gate
-  gate i = structAt (s .now) (at + 5 * i)
+  gate i = structAt (s .now) (at + 10 * i)
 
   abbrev upto : ℕ → List Gate
   upto i = placed ys 0 (structsAt (s .now) at i)
@@ -119,9 +119,9 @@ module _ {M : Type 1} (𝓤 : URA M) (H : Heap 𝓤) (A : Atoms 𝓤) (W : Given
 
   -- what `gate_at`'s triple binds outside in turn i
   abbrev to-gate : ℕ → GateAt 𝓤 H A mem run .Ghost
-  to-gate i = (((κs .0, tt), (qs .0, tt), tt, (s, (at + 5 * i, tt)), (v ∷ [], (vint w64 (at + 5 * i) ∷ [], tt))), tt)
+  to-gate i = (((κs .0, tt), (qs .0, tt), tt, (s, (at + 10 * i, tt)), (v ∷ [], (vint w64 (at + 10 * i) ∷ [], tt))), tt)
 
-  module _ (are : Are (typesAt (fill-gates.signature .params) κs) (Ises (typesAt (fill-gates.signature .params) κs)) a vals) (held : (at + 5 * n ≤ length (s .now)) × (n ≤ length ys)) where
+  module _ (are : Are (typesAt (fill-gates.signature .params) κs) (Ises (typesAt (fill-gates.signature .params) κs)) a vals) (held : (at + 10 * n ≤ length (s .now)) × (n ≤ length ys)) where
     room : Room R (length ys)
     room = are .1 .1 .1 .0 .0 .1
 
@@ -140,20 +140,20 @@ module _ {M : Type 1} (𝓤 : URA M) (H : Heap 𝓤) (A : Atoms 𝓤) (W : Given
       below : i .0 < n
       below = ltb→lt (i .0) n less
 
-      inside : at + 5 * i .0 + 5 ≤ length (s .now)
+      inside : at + 10 * i .0 + 10 ≤ length (s .now)
       inside = omega (arith, below, held)
 
-      five : Fits w64 (5 * i .0)
-      five = record { fits = omega (arith, inside, count) }
+      offset : Fits w64 (10 * i .0)
+      offset = record { fits = omega (arith, inside, count) }
 
-      from-at : Fits w64 (at + 5 * i .0)
+      from-at : Fits w64 (at + 10 * i .0)
       from-at = record { fits = omega (arith, inside, count) }
 
       placeable : i .0 < length ys
       placeable = omega (arith, below, held)
 
-      six : Fits w64 (i .0 * 6)
-      six = record { fits = omega (arith, placeable, room .1) }
+      scaled : Fits w64 (i .0 * 10)
+      scaled = record { fits = omega (arith, placeable, room .1) }
 
       more : Fits w64 (i .0 + 1)
       more = record { fits = omega (arith, placeable, room .0) }
@@ -195,16 +195,16 @@ module _ {M : Type 1} (𝓤 : URA M) (H : Heap 𝓤) (A : Atoms 𝓤) (W : Given
           lets ! 16 (bin ! (var ! 18 refl) (var ! 22 refl) tt) refl (tt, tt) $
           tests ! (var ! 16 refl)
           (λ less.
-          lets ! 12 (bin ! (lit ! tt) (var ! 18 refl) (five i less)) refl (tt, five i less) $
+          lets ! 12 (bin ! (lit ! tt) (var ! 18 refl) (offset i less)) refl (tt, offset i less) $
           lets ! 10 (bin ! (var ! 24 refl) (var ! 12 refl) (from-at i less)) refl (tt, from-at i less) $
-          move ! (1 ∷ []) $ copied ! (κs .0) u8 s (v ∷ []) $ number ! (at + 5 * i .0) (from-at i less .fits) $ move ! (3 ∷ 1 ∷ 0 ∷ []) $
+          move ! (1 ∷ []) $ copied ! (κs .0) u8 s (v ∷ []) $ number ! (at + 10 * i .0) (from-at i less .fits) $ move ! (3 ∷ 1 ∷ 0 ∷ []) $
           calls-giving ! (fmOf 𝓤 H (W .laws) 𝓣) gate-at.ended (gate-at.clauses 𝓤 H A mem run) known (to-gate (i .0)) (factI 𝓤 _ (emp 𝓤) (inside i less)) G′.lowers (gate (i .0)) (λ r e. id⊢ 𝓤 _)
           (and-then ! (var ! 26 refl) (and-then ! (var ! 10 refl) (no-more !))) (λ is.
           let typed = LL.lawful G.the-type G′.the-laws 𝓤 H A W .typed (gate (i .0)) _ is .0 in
           land ! (from ! (stop !)) (init ! 14 refl typed) $
-          lets ! 8 (bin ! (var ! 18 refl) (lit ! tt) (six i less)) refl (tt, six i less) $
+          lets ! 8 (bin ! (var ! 18 refl) (lit ! tt) (scaled i less)) refl (tt, scaled i less) $
           lets ! 6 (bin ! (piece ! 20 refl refl refl) (var ! 8 refl) tt) refl (tt, tt) $
-          rewrite ! 6 (λ (j : ℕ). ‵ (fat fullShare tyPtr (bs .1 .1 .1 .1 .1 .1 .1 .1 .1 .1 .1 .0) 0 (vptr b j))) (sym (place-is 6 o (i .0))) refl $
+          rewrite ! 6 (λ (j : ℕ). ‵ (fat fullShare tyPtr (bs .1 .1 .1 .1 .1 .1 .1 .1 .1 .1 .1 .0) 0 (vptr b j))) (sym (place-is 10 o (i .0))) refl $
           -- the gate is stored
           move ! (2 ∷ []) $ elem-out ! R (Is R) (shows 𝓤 H A R) (LL.vals G.the-type G′.the-laws) (LL.tells G.the-type G′.the-laws) fullShare (upto (i .0)) (i .0) (gate (i .0)) b o (stored i less) (λ _.
           assigns ! (of-opd ! (var ! 16 refl)) (from ! (hop ! (look ! 8 refl) (stop !))) (store-raw ! 0 refl typed) $
@@ -232,7 +232,7 @@ fill-gates-meets : {M : Type 1} (𝓤 : URA M) (H : Heap 𝓤) (A : Atoms 𝓤) 
 fill-gates-meets 𝓤 H A W mem run 𝓣 known =
     meets 𝓤 H A W fill-gates.ended (fill-gates.clauses 𝓤 H A mem run) (WpFn 𝓤 H (𝓣 .C) (𝓣 .Λ) code.function) (WpFn-mono 𝓤 H (W .laws) 𝓣 code.function) spells
     (λ κs. (shr-slice-tells (named 0) (κs .0) u8, (uint-tells w64, (uint-tells w64, (mut-slice-tells (named 1) (κs .1 .0) R, tt)))))
-    (λ κs qs bounds a g are. needs 𝓤 ((a .1 .0 + 5 * a .1 .1 .0 ≤ length (a .0 .now)) × (a .1 .1 .0 ≤ length (a .1 .1 .1 .0 .now))) _ (λ held. walk 𝓤 H A W mem run κs qs a are held 𝓣 known))
+    (λ κs qs bounds a g are. needs 𝓤 ((a .1 .0 + 10 * a .1 .1 .0 ≤ length (a .0 .now)) × (a .1 .1 .0 ≤ length (a .1 .1 .1 .0 .now))) _ (λ held. walk 𝓤 H A W mem run κs qs a are held 𝓣 known))
 
 pub fill-gates-spec : {M : Type 1} → stated.statement M
 unfolding code.routine tablesOf

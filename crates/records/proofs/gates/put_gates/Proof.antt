@@ -130,9 +130,9 @@ module _ {M : Type 1} (𝓤 : URA M) (H : Heap 𝓤) (A : Atoms 𝓤) (W : Given
 
   -- what `put_gate`'s triple binds outside in turn i: buf lent again for the lifetime ν, under the name δ
   abbrev to-put : ℕ → GName → ℕ → PutGate 𝓤 H A mem run .Ghost
-  to-put ν δ i = (((ν ∷ [], tt), (fullShare, tt), tt, (slice b′ o′ δ (put i), (at + 5 * i, (gate i, tt))), (s ∷ [], (vint w64 (at + 5 * i) ∷ [], (G′.lowered (gate i) ∷ [], tt)))), tt)
+  to-put ν δ i = (((ν ∷ [], tt), (fullShare, tt), tt, (slice b′ o′ δ (put i), (at + 10 * i, (gate i, tt))), (s ∷ [], (vint w64 (at + 10 * i) ∷ [], (G′.lowered (gate i) ∷ [], tt)))), tt)
 
-  module _ (are : Are (typesAt (put-gates.signature .params) κs) (Ises (typesAt (put-gates.signature .params) κs)) a vals) (held : (at + 5 * n ≤ length d) × (n ≤ length gs)) where
+  module _ (are : Are (typesAt (put-gates.signature .params) κs) (Ises (typesAt (put-gates.signature .params) κs)) a vals) (held : (at + 10 * n ≤ length d) × (n ≤ length gs)) where
     room : Room R (length gs)
     room = are .0 .0 .1
 
@@ -151,25 +151,25 @@ module _ {M : Type 1} (𝓤 : URA M) (H : Heap 𝓤) (A : Atoms 𝓤) (W : Given
       below : i .0 < n
       below = ltb→lt (i .0) n less
 
-      inside : at + 5 * i .0 + 5 ≤ length d
+      inside : at + 10 * i .0 + 10 ≤ length d
       inside = omega (arith, below, held)
 
-      five : Fits w64 (5 * i .0)
-      five = record { fits = omega (arith, inside, room′ .0) }
+      offset : Fits w64 (10 * i .0)
+      offset = record { fits = omega (arith, inside, room′ .0) }
 
-      from-at : Fits w64 (at + 5 * i .0)
+      from-at : Fits w64 (at + 10 * i .0)
       from-at = record { fits = omega (arith, inside, room′ .0) }
 
       read : i .0 < length gs
       read = omega (arith, below, held)
 
-      six : Fits w64 (i .0 * 6)
-      six = record { fits = omega (arith, read, room .1) }
+      scaled : Fits w64 (i .0 * 10)
+      scaled = record { fits = omega (arith, read, room .1) }
 
       more : Fits w64 (i .0 + 1)
       more = record { fits = omega (arith, read, room .0) }
 
-      within : at + 5 * i .0 + 5 ≤ length (put (i .0))
+      within : at + 10 * i .0 + 10 ≤ length (put (i .0))
       within = omega (arith, inside, same (i .0) (i .1))
 
     module _ (𝓣 : Tables 𝓤 H) (known : Triple 𝓤 (𝓣 .C #put-gate) (PutGate 𝓤 H A mem run)) (p : Share) (bs : Homes (code.function .locals)) where
@@ -204,11 +204,11 @@ module _ {M : Type 1} (𝓤 : URA M) (H : Heap 𝓤) (A : Atoms 𝓤) (W : Given
           tests ! (var ! 20 refl)
           (λ less.
           relends ! 24 16 14 refl refl refl (tt, tt) refl refl refl (slice-typed (room′ .0)) $
-          lets ! 12 (bin ! (lit ! tt) (var ! 22 refl) (five i less)) refl (tt, five i less) $
+          lets ! 12 (bin ! (lit ! tt) (var ! 22 refl) (offset i less)) refl (tt, offset i less) $
           lets ! 10 (bin ! (var ! 26 refl) (var ! 12 refl) (from-at i less)) refl (tt, from-at i less) $
-          lets ! 8 (bin ! (var ! 22 refl) (lit ! tt) (six i less)) refl (tt, six i less) $
+          lets ! 8 (bin ! (var ! 22 refl) (lit ! tt) (scaled i less)) refl (tt, scaled i less) $
           lets ! 6 (bin ! (piece ! 30 refl refl refl) (var ! 8 refl) tt) refl (tt, tt) $
-          rewrite ! 6 (λ (j : ℕ). ‵ (fat fullShare tyPtr (bs .1 .1 .1 .1 .1 .1 .1 .1 .1 .1 .1 .1 .1 .0) 0 (vptr b j))) (sym (place-is 6 o (i .0))) refl $
+          rewrite ! 6 (λ (j : ℕ). ‵ (fat fullShare tyPtr (bs .1 .1 .1 .1 .1 .1 .1 .1 .1 .1 .1 .1 .1 .0) 0 (vptr b j))) (sym (place-is 10 o (i .0))) refl $
           -- the gate is read
           elem-out ! R (Is R) (shows 𝓤 H A R) (LL.vals G.the-type G′.the-laws) (LL.tells G.the-type G′.the-laws) p gs (i .0) noGate b o (read i less) (λ is.
           lets ! 6 (of-opd ! (load ! (from ! (hop ! (look ! 8 refl) (stop !))) (look-raw ! 0 refl))) refl (LL.lawful G.the-type G′.the-laws 𝓤 H A W .typed (gate (i .0)) _ is .0) $
@@ -217,9 +217,9 @@ module _ {M : Type 1} (𝓤 : URA M) (H : Heap 𝓤) (A : Atoms 𝓤) (W : Given
           lft-new ! tt (λ ν. move ! (2 ∷ 3 ∷ []) $
           use2 W (later (some (λ (δ : GName). ‵ (MutSlice (named 0) (ν ∷ []) u8 .own (slice b′ o′ δ (put (i .0))) (s ∷ [])) ⊛ ‵ (LentAgain u8 (κs .1 .0) (ν ∷ []) (qs .1 .0) (buf .name) b′ o′ (put (i .0)) (s ∷ []) δ))))
           (lends-again u8 (κs .1 .0) (ν ∷ []) (qs .1 .0) (buf .name) b′ o′ (put (i .0)) (s ∷ []) 𝓤 H A W (named 1) (named 0)) $ await ! tt $ pick ! (λ δ. split ! $
-          owned ! R (Is R) (LL.makes G.the-type G′.the-plain 𝓤 H A) (gate (i .0)) (G′.lowered (gate (i .0)) ∷ []) is $ owned ! usize (Is usize) (uint-makes 𝓤 H A W w64) (at + 5 * i .0) (vint w64 (at + 5 * i .0) ∷ []) (refl, from-at i less .fits) $ move ! (4 ∷ 2 ∷ 0 ∷ 1 ∷ []) $
+          owned ! R (Is R) (LL.makes G.the-type G′.the-plain 𝓤 H A) (gate (i .0)) (G′.lowered (gate (i .0)) ∷ []) is $ owned ! usize (Is usize) (uint-makes 𝓤 H A W w64) (at + 10 * i .0) (vint w64 (at + 10 * i .0) ∷ []) (refl, from-at i less .fits) $ move ! (4 ∷ 2 ∷ 0 ∷ 1 ∷ []) $
           calls ! (fmOf 𝓤 H (W .laws) 𝓣) put-gate.ended (put-gate.clauses 𝓤 H A mem run) known (to-put ν δ (i .0)) (factI 𝓤 _ (emp 𝓤) (within i less))
-          (λ r zs. zs .0 ≡ placed (put (i .0)) (at + 5 * i .0) (gateBytes (gateFrom (gate (i .0))))) (λ r zs. id⊢ 𝓤 _)
+          (λ r zs. zs .0 ≡ placed (put (i .0)) (at + 10 * i .0) (gateBytes (gateFrom (gate (i .0))))) (λ r zs. id⊢ 𝓤 _)
           (and-then ! (var ! 14 refl) (and-then ! (var ! 10 refl) (and-then ! (var ! 4 refl) (no-more !)))) (λ u r zs e is′.
           -- [ν's token; the last bytes; what is kept of buf; the row; what shuts it; the locals]: the lifetime is ended, and buf comes back
           land ! (from ! (stop !)) (init ! 19 refl (nothing-lawful 𝓤 H A W .typed r _ is′ .0)) $ lft-end ! tt $ move ! (1 ∷ []) $ fsplit ! $ move ! (1 ∷ []) $ feqL ! (λ l. move ! (1 ∷ 2 ∷ 0 ∷ []) $
@@ -247,7 +247,7 @@ put-gates-meets : {M : Type 1} (𝓤 : URA M) (H : Heap 𝓤) (A : Atoms 𝓤) �
 put-gates-meets 𝓤 H A W mem run 𝓣 known =
     meets 𝓤 H A W put-gates.ended (put-gates.clauses 𝓤 H A mem run) (WpFn 𝓤 H (𝓣 .C) (𝓣 .Λ) code.function) (WpFn-mono 𝓤 H (W .laws) 𝓣 code.function) spells
     (λ κs. (shr-slice-tells (named 0) (κs .0) R, (uint-tells w64, (uint-tells w64, (mut-slice-tells (named 1) (κs .1 .0) u8, tt)))))
-    (λ κs qs bounds a g are. needs 𝓤 ((a .1 .1 .0 + 5 * a .1 .0 ≤ length (a .1 .1 .1 .0 .now)) × (a .1 .0 ≤ length (a .0 .now))) _ (λ held. walk 𝓤 H A W mem run κs qs a are held 𝓣 known))
+    (λ κs qs bounds a g are. needs 𝓤 ((a .1 .1 .0 + 10 * a .1 .0 ≤ length (a .1 .1 .1 .0 .now)) × (a .1 .0 ≤ length (a .0 .now))) _ (λ held. walk 𝓤 H A W mem run κs qs a are held 𝓣 known))
 
 pub put-gates-spec : {M : Type 1} → stated.statement M
 unfolding code.routine tablesOf

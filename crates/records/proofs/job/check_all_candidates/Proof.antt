@@ -43,7 +43,7 @@ fanout-marks-requires c κs =
     let p = c .before .before .before .before .before .pre in
     let e = at (c .before .before .before) .old .is in
     let w = p .laid .within in
-    let n : k .inputs + k .targets + length (nth 1 s) / 5 ≤ 424 = omega (arith, laid-old s k (p .laid), w .inputs, w .targets, w .old .gates) in
+    let n : k .inputs + k .targets + length (nth 1 s) / 10 ≤ 424 = omega (arith, laid-old s k (p .laid), w .inputs, w .targets, w .old .gates) in
     let g : gatesGood (k .inputs + k .targets) (gatesOf (nth 1 s)) ≡ true =
     and-left _ (gatesGood (k .inputs) (gatesOf (nth 3 s))) (sym (netlists-checks s k (p .laid)) ∙ p .good) in
     (rw e n, rw e g)
@@ -66,8 +66,8 @@ returns c =
     let t = at v in
     let m = c .before .before .before .before .before .fanout-marks .result in
     let n = k .inputs + k .targets + k .old .gates in
-    let o : k .inputs + k .targets + length (nth 1 s) / 5 ≡ n = omega (arith, laid-old s k (p .laid)) in
-    let f : take (k .inputs + k .targets + length (nth 1 s) / 5) m ≡ fanout (k .inputs) (k .targets) (gatesOf (nth 1 s)) =
+    let o : k .inputs + k .targets + length (nth 1 s) / 10 ≡ n = omega (arith, laid-old s k (p .laid)) in
+    let f : take (k .inputs + k .targets + length (nth 1 s) / 10) m ≡ fanout (k .inputs) (k .targets) (gatesOf (nth 1 s)) =
     rw (t .old .is) at (c .before .before .before .before .before .fanout-marks .ensures) in
     c .check-candidates .ensures
     ∙ ap (λ (l : List ℕ). checkOf (unmarkedAscending n m (candidatesOf l))) (t .candidates .is)

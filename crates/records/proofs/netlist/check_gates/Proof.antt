@@ -11,7 +11,8 @@ use native.Mathlib.Omega.{arith}
 use Prim.Native.Nat.{ℕ, _+_, _-_}
 use Rattle.records.specs.Job.{gateAt, gatesOf}
 use Rattle.records.specs.Refusal.{gatesGood}
-use Rattle.records.specs.Inner.{checkOf}
+use Rattle.records.specs.Service.{gateFrom}
+use Rattle.records.specs.Inner.{checkOf, structAt}
 use Rattle.records.proofs.Laws.Netlist.{gatesGood-drop, drop-gates-past}
 use Rattle.records.proofs.netlist.check_gates.Statement.{statement}
 use Rattle.records.proofs.netlist.check_gates.Tie as tie
@@ -30,16 +31,16 @@ loop-holds : tie.Need-loop-holds Inv-loop μ-loop
 loop-holds c = rw add-zero
 
 -- all are good where gate i is, and those after it
-turn : (c : tie.After-gate-good Inv-loop μ-loop) → let l = c .before .before .before .before .before in
+turn : (c : tie.After-gate-good Inv-loop μ-loop) → let l = c .before .before .before in
     let x = l .before .before .args in
     gatesGood (x .base) (gatesOf (now (x .s))) ≡ (c .gate-good .result && good (x .base) (now (x .s)) (l .loop .i + 1))
-unfolding gateAt
+unfolding gateAt gateFrom structAt
 turn c =
-    let l = c .before .before .before .before .before in
+    let l = c .before .before .before in
     let x = l .before .before .args in
     sym (l .loop .inv)
-    ∙ gatesGood-drop (now (x .s)) (l .loop .i) (c .before .before .before .before .loop-test .taken) (x .base)
-    ∙ rw (c .gate-good .ensures, c .before .word-at2 .ensures, c .before .before .word-at .ensures)
+    ∙ gatesGood-drop (now (x .s)) (l .loop .i) (c .before .before .loop-test .taken) (x .base)
+    ∙ rw (c .gate-good .ensures, c .before .gate-at .ensures)
 
 returns : tie.Need-returns Inv-loop μ-loop
 unfolding checkOf
@@ -55,6 +56,5 @@ returns-2 c = rw (← (c .before .loop .inv), drop-gates-past _ _ (c .loop-test 
 pub check-gates-spec : {M : Type 1} → statement M
 check-gates-spec =
     tie.close
-    (tie.spec Inv-loop μ-loop loop-holds (λ c. omega arith) (λ c. omega arith) (λ c. omega arith)
-    (λ c κs. omega arith) (λ c. omega arith) (λ c κs. omega arith) (λ c. omega arith) (λ c κs. tt) returns
+    (tie.spec Inv-loop μ-loop loop-holds (λ c. omega arith) (λ c κs. omega arith) (λ c. omega arith) (λ c κs. tt) returns
     (λ c. omega arith) (λ c. omega arith) loop-again returns-2)

@@ -1,19 +1,18 @@
 -- `records::netlist::fanout_marks` meets its contract. The loop's invariant: the marks so far, extended by the gates
 -- from i on, are the fanout, and those gates are good, so that gate i's operands have their marks. Assumes nothing.
 use denote.Ref.{now}
-use lib.ListN.{length, getD, take, drop, length-set}
+use lib.ListN.{length, take, drop, length-set}
 use mathlib.Core.Bool.{true}
 use mathlib.Core.Path.{_≡_, _∙_, sym}
 use native.Mathlib.Nat.{add-zero}
 use native.Mathlib.Omega.{arith}
-use Prim.Native.Nat.{_+_, _-_, _*_, _/_, _≤_}
-use Rattle.records.specs.Bytes.{word}
+use Prim.Native.Nat.{_+_, _-_, _/_, _≤_}
 use Rattle.records.specs.Netlist.{extended, markOf, fanout}
 use Rattle.records.specs.Job.{gateAt, gatesOf}
 use Rattle.records.specs.Refusal.{gateGood, gatesGood}
-use Rattle.records.specs.Inner.{leafMarks}
-use Rattle.records.proofs.Laws.Gate.{slots-le}
-use Rattle.records.proofs.Laws.Netlist.{gatesGood-both, drop-gates-past, extended-drop}
+use Rattle.records.specs.Service.{gateFrom}
+use Rattle.records.specs.Inner.{leafMarks, structAt}
+use Rattle.records.proofs.Laws.Netlist.{gatesGood-both, slots-lt, drop-gates-past, extended-drop}
 use Rattle.records.proofs.netlist.fanout_marks.Statement.{statement}
 use Rattle.records.proofs.netlist.fanout_marks.Tie as tie
 
@@ -44,25 +43,22 @@ good c =
     gatesGood-both (now (x .s)) (l .i) (c .loop-test .taken) (x .inputs + x .targets) (l .inv .2)
 
 gate-mark-requires : tie.Need-gate-mark-requires Inv-loop μ-loop
-unfolding gateAt
+unfolding gateAt gateFrom structAt
 gate-mark-requires c κs =
-    let t = c .before .before .before .before in
+    let t = c .before .before in
     let x = t .before .before .before .before .args in
-    let i = t .before .loop .i in
-    let s = now (x .s) in
-    let net = x .inputs + x .targets + i in
-    let le = slots-le net (getD s (5 * i) 0) (word s (5 * i + 1)) (word s (5 * i + 3)) (good t .0) in
-    omega (arith, le, c .before .before .word-at .ensures, c .before .word-at2 .ensures)
+    let net = x .inputs + x .targets + t .before .loop .i in
+    slots-lt net (c .gate-at .result) 424 (omega arith) (rw (c .gate-at .ensures) (good t .0))
 
 loop-again : tie.Need-loop-again Inv-loop μ-loop
-unfolding gateAt
+unfolding gateAt gateFrom structAt
 loop-again c =
-    let t = c .before .before .before .before .before in
+    let t = c .before .before .before in
     let x = t .before .before .before .before .args in
     let l = t .before .loop in
     let s = now (x .s) in
     let e : c .gate-mark .result ≡ markOf (l .marks) (gateAt s (l .i)) =
-    c .gate-mark .ensures ∙ rw (c .before .before .before .word-at .ensures, c .before .before .word-at2 .ensures) in
+    c .gate-mark .ensures ∙ rw (c .before .gate-at .ensures) in
     let more = extended-drop s (l .i) (t .loop-test .taken) (x .inputs + x .targets) (l .marks) (omega arith) (good t .0) in
     (omega arith, length-set (l .marks) _ _ ∙ l .inv .1, good t .1, rw e (sym more ∙ l .inv .3))
 
@@ -71,12 +67,12 @@ unfolding extended
 returns c =
     let s = now (c .before .before .before .before .args .s) in
     let l = c .before .loop in
-    let e : length s / 5 ≡ l .i = omega arith in
+    let e : length s / 10 ≡ l .i = omega arith in
     rw e (rw (drop-gates-past s (l .i) (c .loop-test .left)) at (l .inv .3))
 
 pub fanout-marks-spec : {M : Type 1} → statement M
 fanout-marks-spec =
     tie.close
     (tie.spec Inv-loop μ-loop (λ c κs. omega arith) (λ c. omega arith) loop-holds (λ c. omega arith)
-    (λ c. omega arith) (λ c. omega arith) (λ c κs. omega arith) (λ c. omega arith) (λ c κs. omega arith)
-    gate-mark-requires (λ c. omega arith) (λ c. omega arith) (λ c. omega arith) (λ c. omega arith) loop-again returns)
+    (λ c κs. omega arith) gate-mark-requires (λ c. omega arith) (λ c. omega arith) (λ c. omega arith) (λ c. omega arith)
+    loop-again returns)

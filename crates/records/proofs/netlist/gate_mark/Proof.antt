@@ -1,47 +1,57 @@
--- `records::netlist::gate_mark` meets its contract: each arm of the match is the gate's mark at that arity.
+-- `records::netlist::gate_mark` meets its contract. The loop's invariant: r is the greatest mark of the operands from i on.
 -- Assumes nothing.
-use borrow.Author.Needs.{needs}
 use denote.Ref.{now}
-use lib.ListN.{getD}
-use mathlib.Core.Path.{_≡_, _∙_, sym}
+use lib.ListN.{length, getD, take, drop}
+use mathlib.Core.List.{map}
+use mathlib.Core.Path.{_≡_, sym, _∙_, ap}
 use native.Mathlib.Omega.{arith}
-use Prim.Native.Nat.{max}
-use Rattle.records.specs.Gate.{arity, gateOf}
-use Rattle.records.specs.Netlist.{markOf}
-use Rattle.records.proofs.Laws.Gate.{arity-le}
-use Rattle.records.proofs.Laws.Netlist.{markOf-none, markOf-one, markOf-two}
+use Prim.Native.Nat.{_-_, _≤_, _<_}
+use Rattle.records.specs.Gate.{gateOf, operands, disj}
+use Rattle.records.specs.Netlist.{netAt, markOf}
+use Rattle.records.specs.Service.{gateFrom}
+use Rattle.records.specs.Inner.{structSlots}
+use Rattle.records.proofs.Laws.Netlist.{disj-none, disj-back}
 use Rattle.records.proofs.netlist.gate_mark.Statement.{statement}
 use Rattle.records.proofs.netlist.gate_mark.Tie as tie
 
-returns : tie.Need-returns
+abbrev Inv-loop : tie.InvT-loop
+Inv-loop marks slots r₀ i₀ r i = (i ≤ i₀) × (r ≡ disj (map (netAt marks) (drop i (take i₀ slots))))
+
+abbrev μ-loop : tie.MeasureT-loop
+μ-loop marks slots r₀ i₀ r i = i
+
+-- operand i - 1 is a net that has a mark
+marked : (c : tie.In-loop Inv-loop μ-loop) → getD (c .before .before .before .slots-of .result) (c .before .loop .i - 1) 0 < 424
+marked c =
+    let s = c .before .before .before in
+    rw (s .slots-of .ensures) (s .before .pre .1 (c .before .loop .i - 1) (omega arith))
+
+loop-holds : tie.Need-loop-holds Inv-loop μ-loop
+loop-holds c =
+    let x = c .before .before .args in
+    (omega arith, sym (disj-none (now (x .marks)) (x .gate .count) (c .before .slots-of .result)))
+
+loop-again : tie.Need-loop-again Inv-loop μ-loop
+unfolding structSlots
+loop-again c =
+    let l = c .before .before .before in
+    let s = l .before .before in
+    let x = s .before .args in
+    let n : length (s .slots-of .result) ≡ 4 = ap length (s .slots-of .ensures) in
+    let t = l .loop in
+    let more = disj-back (now (x .marks)) (x .gate .count) (s .slots-of .result) (t .i) (omega arith) (t .inv .0) (omega arith) in
+    (omega arith, c .greater .ensures ∙ rw (t .inv .1) (sym more))
+
+returns : tie.Need-returns Inv-loop μ-loop
+unfolding markOf gateFrom gateOf operands structSlots
 returns c =
-    let x = c .before .before .args in
-    let e = sym (c .before .operand-count .ensures) ∙ c .match .keys1 in
-    sym (markOf-none (now (x .marks)) (x .kind) (x .a) (x .b) e)
-
-returns-2 : tie.Need-returns-2
-returns-2 c =
-    let x = c .before .before .before .args in
-    let e = sym (c .before .before .operand-count .ensures) ∙ c .before .match .keys2 in
-    sym (markOf-one (now (x .marks)) (x .kind) (x .a) (x .b) e)
-
--- the last arm
-two : (c : tie.At-match-rest) → let x = c .before .before .args in
-    let marks = now (x .marks) in
-    markOf marks (gateOf (x .kind) (x .a) (x .b)) ≡ max (getD marks (x .a) 0) (getD marks (x .b) 0)
-two c =
-    let x = c .before .before .args in
-    let e : arity (x .kind) ≡ 2 = omega (arith, arity-le (x .kind)) in
-    markOf-two (now (x .marks)) (x .kind) (x .a) (x .b) e
-
-returns-3 : tie.Need-returns-3
-returns-3 c = sym (two (c .before .before .before) ∙ omega arith)
-
-returns-4 : tie.Need-returns-4
-returns-4 c = sym (two (c .before .before .before) ∙ omega arith)
+    let l = c .before in
+    let z : l .loop .i ≡ 0 = omega arith in
+    (rw (z, l .before .before .slots-of .ensures) at (l .loop .inv .1))
 
 pub gate-mark-spec : {M : Type 1} → statement M
 gate-mark-spec =
     tie.close
-    (tie.spec (λ c κs. tt) (λ c. search needs) (λ c. search needs) (λ c. search needs) returns returns-2 returns-3
-    returns-4)
+    (tie.spec Inv-loop μ-loop (λ c κs. tt) (λ c. omega arith) loop-holds (λ c. omega arith) (λ c. omega arith)
+    (λ c. omega arith) (λ c. record { fits = omega (arith, marked c) }) marked (λ c κs. tt) (λ c. omega arith) loop-again
+    returns)

@@ -19,7 +19,7 @@ abbrev Inv-loop : tie.InvT-loop
 Inv-loop at size xs count bytes₀ p₀ i₀ bytes p i =
     (i ≤ count)
     × (p ≡ at + size * i)
-    × (length bytes ≡ 4188)
+    × (length bytes ≡ 8188)
     × (bytes ≡ spread bytes₀ at size i (λ k. getD xs k 0))
 
 abbrev μ-loop : tie.MeasureT-loop

@@ -13,22 +13,22 @@ use Rattle.records.proofs.put.put_rest.Tie as tie
 abbrev start : tie.After-headed → tie.Start
 start w = w .before .before .before .before .before
 
-long : (s : tie.Start) → length (s .args .bytes) ≡ 4188
+long : (s : tie.Start) → length (s .args .bytes) ≡ 8188
 long s = search needs
 
 -- the first field's bytes
 abbrev sized : tie.After-put-side → tie.After-headed
 sized w = w .before .before .before
 
-first : (w : tie.After-headed) → length (w .headed .result) ≡ 4188
+first : (w : tie.After-headed) → length (w .headed .result) ≡ 8188
 first w =
     let n = long (start w) in
     length-headed (start w .args .bytes) 0 1 2 (omega (arith, n)) (w .headed .ensures) ∙ n
 
 -- the netlists' fields end within the bytes, which keep their length, as they do with the heads and the nets
 within : (w : tie.After-put-side2)
-    → (w .put-side2 .result .len + 3 + 4 * start (sized (w .before)) .args .counts .candidates ≤ 4188)
-    × (length (w .put-side2 .result .bytes) ≡ 4188)
+    → (w .put-side2 .result .len + 3 + 4 * start (sized (w .before)) .args .counts .candidates ≤ 8188)
+    × (length (w .put-side2 .result .bytes) ≡ 8188)
 within w =
     let v = w .before in
     let b = start (sized v) .pre in
@@ -36,13 +36,13 @@ within w =
     let g = w .put-side2 .ensures .1 .end in
     (omega (arith, o, g), w .put-side2 .ensures .0)
 
-headed : (w : tie.After-headed2) → length (w .headed2 .result) ≡ 4188
+headed : (w : tie.After-headed2) → length (w .headed2 .result) ≡ 8188
 headed w =
     let v = w .before .before in
     let k = within v in
     length-headed (v .put-side2 .result .bytes) (v .put-side2 .result .len) 6 _ (omega (arith, k)) (w .headed2 .ensures) ∙ k .1
 
-netted : (w : tie.After-put-column) → length (w .put-column .result) ≡ 4188
+netted : (w : tie.After-put-column) → length (w .put-column .result) ≡ 8188
 netted w =
     let v = w .before in
     let k = within (v .before .before) in

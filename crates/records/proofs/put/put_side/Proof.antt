@@ -8,13 +8,13 @@ use Rattle.records.proofs.put.put_side.Statement.{statement}
 use Rattle.records.proofs.put.put_side.Tie as tie
 
 -- the heads keep the bytes' length
-first : (w : tie.After-headed) → length (w .headed .result) ≡ 4188
+first : (w : tie.After-headed) → length (w .headed .result) ≡ 8188
 first w =
     let s = w .before .before .before .before .before in
     let a = s .args in
     side-first (a .job .bytes) (a .job .len) (a .tag) (a .counts) (now (a .outputs)) (s .pre .0) (s .pre .1) (w .headed .ensures)
 
-second : (w : tie.After-headed2) → length (w .headed2 .result) ≡ 4188
+second : (w : tie.After-headed2) → length (w .headed2 .result) ≡ 8188
 second w =
     let v = w .before in
     let s = v .before .before .before .before .before in

@@ -116,7 +116,7 @@ module _ {M : Type 1} (𝓤 : URA M) (H : Heap 𝓤) (A : Atoms 𝓤) (W : Given
   abbrev spans : GateSpans
   spans = gateSpans (reply .counts)
 
-  fit : (spans .old + 5 * spans .«old_count» ≤ length (job .now)) × (spans .«old_count» ≤ length (x₁ .now)) × (spans .golden + 5 * spans .«golden_count» ≤ length (job .now)) × (spans .«golden_count» ≤ length (x₃ .now))
+  fit : (spans .old + 10 * spans .«old_count» ≤ length (job .now)) × (spans .«old_count» ≤ length (x₁ .now)) × (spans .golden + 10 * spans .«golden_count» ≤ length (job .now)) × (spans .«golden_count» ≤ length (x₃ .now))
   fit = spans-fit p (job .now) reply spans refl refl
 
   -- what each callee's triple binds outside
@@ -164,7 +164,7 @@ module _ {M : Type 1} (𝓤 : URA M) (H : Heap 𝓤) (A : Atoms 𝓤) (W : Given
   module _ (𝓣 : Tables 𝓤 H) (known-check : Triple 𝓤 (𝓣 .C #check-read) (CheckRead 𝓤 H A mem run)) (known-spans : Triple 𝓤 (𝓣 .C #gate-spans) (Spans 𝓤 H A mem run))
       (known-fill : Triple 𝓤 (𝓣 .C #fill-gates) (Fill 𝓤 H A mem run)) (known-rest : Triple 𝓤 (𝓣 .C #fill-rest) (Rest 𝓤 H A mem run)) where
     -- a call of `fill_gates`: [κ₀'s token; κ's; what job owns; what x owns]
-    fills : {K : Type 0} {Γ : List (Item 𝓤)} {E : Env 𝓤 H} {c : After 𝓤 H} {xs : List Operand} {d : Place} {rest : Body} → K → (κ : Lft) (q : Share) (x : RefT (List Gate)) (i n : ℕ) → i < 2 ^ 64 → n < 2 ^ 64 → (i + 5 * n ≤ length (job .now)) × (n ≤ length (x .now))
+    fills : {K : Type 0} {Γ : List (Item 𝓤)} {E : Env 𝓤 H} {c : After 𝓤 H} {xs : List Operand} {d : Place} {rest : Body} → K → (κ : Lft) (q : Share) (x : RefT (List Gate)) (i n : ℕ) → i < 2 ^ 64 → n < 2 ^ 64 → (i + 10 * n ≤ length (job .now)) × (n ≤ length (x .now))
         → Opds K W (raw (Fill 𝓤 H A mem run .pre (to-fill κ q x i n)) ∷ ‵ (ShrSlice (named 0) (κs .0) u8 .own job (mach job ∷ [])) ∷ Γ) E xs (Fill 𝓤 H A mem run .args (to-fill κ q x i n))
         → ((u : Val) (gs : List Gate) → T (hasTy tyUnit u) × WT u → gs ≡ placed (x .now) 0 (structsAt (job .now) i n)
         → Seq K W (‵ (flft (κs .0) (qs .0)) ∷ ‵ (flft κ q) ∷ Left G.the-row x gs ∷ ‵ (ShrSlice (named 0) (κs .0) u8 .own job (mach job ∷ [])) ∷ Γ) (lands (𝓣 .C) (𝓣 .Λ) E d u rest c))

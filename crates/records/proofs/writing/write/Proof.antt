@@ -103,14 +103,14 @@ tells κs = (
 )
 
 -- the scratch: its size, its cell at b, and what it owns at the bytes z
-size : Fits w64 4188
+size : Fits w64 8188
 size = record { fits = lit< tt }
 
 abbrev Cell : ℕ → Val → Fml
-Cell b v = fat fullShare (tyArray (tyInt w8) 4188) b 0 v
+Cell b v = fat fullShare (tyArray (tyInt w8) 8188) b 0 v
 
 abbrev Own : List ℕ → Val → Fml
-Own z v = Array u8 4188 .own z (v ∷ [])
+Own z v = Array u8 8188 .own z (v ∷ [])
 
 module _ {M : Type 1} (𝓤 : URA M) (H : Heap 𝓤) (A : Atoms 𝓤) (mem : Memory → SProp 𝓤) (run : Routine → Fun 𝓤) where
   -- the contracts that the proof cites
@@ -129,20 +129,20 @@ module _ {M : Type 1} (𝓤 : URA M) (H : Heap 𝓤) (A : Atoms 𝓤) (mem : Mem
   -- ---- `put_gates` on the scratch: it is lent for the lifetime α of the call
   module _ (W : Given 𝓤 H A) (𝓣 : Tables 𝓤 H) (known : Triple 𝓤 (𝓣 .C #put-gates) PutGates) (κ : Lft) (q : Share) (g : RefT (List Gate)) (n at b : ℕ) (z : List ℕ) where
     abbrev to-put : ℕ → GName → PutGates .Ghost
-    to-put α γ = (((κ, (α ∷ [], tt)), (q, (fullShare, tt)), tt, (g, (n, (at, (slice b 0 γ z, tt)))), (slice-vals g, (vint w64 n ∷ [], (vint w64 at ∷ [], (sliceVal (b, 0) 4188 ∷ [], tt))))), tt)
+    to-put α γ = (((κ, (α ∷ [], tt)), (q, (fullShare, tt)), tt, (g, (n, (at, (slice b 0 γ z, tt)))), (slice-vals g, (vint w64 n ∷ [], (vint w64 at ∷ [], (sliceVal (b, 0) 8188 ∷ [], tt))))), tt)
 
-    puts : {Γ : List (Item 𝓤)} {E : Env 𝓤 H} {post : Post 𝓤 H} {xs : List Operand} {dst : Place} {rest : Body} (v : Val) → n < 2 ^ 64 → at < 2 ^ 64 → (at + 5 * n ≤ length z) × (n ≤ length (g .now))
-        → ((α : ℕ) (γ : GName) → Opds (Go {0}) W (raw (PutGates .pre (to-put α γ)) ∷ ‵ (flent (α ∷ []) (Held u8 4188 b 0 γ)) ∷ Γ) E xs (PutGates .args (to-put α γ)))
+    puts : {Γ : List (Item 𝓤)} {E : Env 𝓤 H} {post : Post 𝓤 H} {xs : List Operand} {dst : Place} {rest : Body} (v : Val) → n < 2 ^ 64 → at < 2 ^ 64 → (at + 10 * n ≤ length z) × (n ≤ length (g .now))
+        → ((α : ℕ) (γ : GName) → Opds (Go {0}) W (raw (PutGates .pre (to-put α γ)) ∷ ‵ (flent (α ∷ []) (Held u8 8188 b 0 γ)) ∷ Γ) E xs (PutGates .args (to-put α γ)))
         → ((u v′ : Val) (z′ : List ℕ) → length z′ ≡ length z → z′ ≡ placed z at (gatesBytes n (g .now)) → T (hasTy tyUnit u) × WT u → Sq W (‵ (Cell b v′) ∷ ‵ (Own z′ v′) ∷ ‵ (flft κ q) ∷ Γ) (lands (𝓣 .C) (𝓣 .Λ) E dst u rest post))
         → Sq W (‵ (Cell b v) ∷ ‵ (Own z v) ∷ ‵ (flft κ q) ∷ ‵ (ShrSlice (named 0) κ G.the-row .own g (slice-vals g)) ∷ Γ) (runs (𝓣 .C) (𝓣 .Λ) E (seq (call #put-gates xs dst) rest) post)
     puts v n-fits at-fits held os k =
-        lft-new ! tt (λ α. move ! (1 ∷ 2 ∷ []) $ lends ! tt u8 tt 4188 (lit< tt, lit< tt) (named 1) (α ∷ []) b 0 z v (λ γ.
+        lft-new ! tt (λ α. move ! (1 ∷ 2 ∷ []) $ lends ! tt u8 tt 8188 (lit< tt, lit< tt) (named 1) (α ∷ []) b 0 z v (λ γ.
         owned ! usize (Is usize) (uint-makes 𝓤 H A W w64) at (vint w64 at ∷ []) (refl, at-fits) $ owned ! usize (Is usize) (uint-makes 𝓤 H A W w64) n (vint w64 n ∷ []) (refl, n-fits) $
         -- [n; at; the slice; the lender's part; α; κ; gates]
         move ! (5 ∷ 4 ∷ 6 ∷ 0 ∷ 1 ∷ 2 ∷ []) $
         calls ! (fmOf 𝓤 H (W .laws) 𝓣) put-gates.ended (put-gates.clauses 𝓤 H A mem run) known (to-put α γ) (factI 𝓤 _ (emp 𝓤) held) (λ r zs. zs .1 .1 .1 .0 ≡ placed z at (gatesBytes n (g .now))) (λ r zs. id⊢ 𝓤 _) (os α γ) (λ u r zs e is.
         move ! (1 ∷ []) $ lft-end ! tt $ move ! (2 ∷ []) $ fsplit ! $ move ! (1 ∷ []) $ feqL ! (λ l. move ! (1 ∷ 3 ∷ 0 ∷ []) $
-        returned ! tt u8 4188 b 0 (α ∷ []) γ (zs .1 .1 .1 .0) (λ v′. k u v′ (zs .1 .1 .1 .0) l e (nothing-lawful 𝓤 H A W .typed r _ is .0))))))
+        returned ! tt u8 8188 b 0 (α ∷ []) γ (zs .1 .1 .1 .0) (λ v′. k u v′ (zs .1 .1 .1 .0) l e (nothing-lawful 𝓤 H A W .typed r _ is .0))))))
 
 module _ {M : Type 1} (𝓤 : URA M) (H : Heap 𝓤) (A : Atoms 𝓤) (W : Given 𝓤 H A) (mem : Memory → SProp 𝓤) (run : Routine → Fun 𝓤) (κs : Lfts 7) (qs : Shares 7) (a : Args write.signature κs) where
   abbrev old : RefT (List Gate)
@@ -182,13 +182,13 @@ module _ {M : Type 1} (𝓤 : URA M) (H : Heap 𝓤) (A : Atoms 𝓤) (W : Given
   Post′ = Ends 𝓤 H A W write.ended (write.clauses 𝓤 H A mem run) ((κs, qs, tt, a, vals), tt)
 
   abbrev zeros : List ℕ
-  zeros = replicate 4188 0
+  zeros = replicate 8188 0
 
   abbrev zeros-val : Val
-  zeros-val = arrayVal (replicate 4188 (vint w8 0))
+  zeros-val = arrayVal (replicate 8188 (vint w8 0))
 
   zeros-owned : ent 𝓤 (emp 𝓤) (sem 𝓤 H A (Own zeros zeros-val))
-  zeros-owned = via 𝓤 (sem 𝓤 H A (u8 .own 0 (vint w8 0 ∷ []))) (uint-makes 𝓤 H A W w8 0 (vint w8 0 ∷ []) (refl, lit< tt)) (array-repeat 𝓤 H A W u8 (uint-copy 𝓤 H A W w8) 4188 0 (vint w8 0))
+  zeros-owned = via 𝓤 (sem 𝓤 H A (u8 .own 0 (vint w8 0 ∷ []))) (uint-makes 𝓤 H A W w8 0 (vint w8 0 ∷ []) (refl, lit< tt)) (array-repeat 𝓤 H A W u8 (uint-copy 𝓤 H A W w8) 8188 0 (vint w8 0))
 
   -- what the callees' triples bind outside
   abbrev count : {X : Type 0} → RefT (List X) → ℕ
@@ -248,12 +248,12 @@ module _ {M : Type 1} (𝓤 : URA M) (H : Heap 𝓤) (A : Atoms 𝓤) (W : Given
         calls-giving ! (fmOf 𝓤 H (W .laws) 𝓣) gate-spans.ended (gate-spans.clauses 𝓤 H A mem run) known-spans to-spans (id⊢ 𝓤 _) S′.lowers spans (λ r e. id⊢ 𝓤 _) (and-then ! (piece ! 35 {τ = N′.mir} {d = 8} refl refl refl) (no-more !)) (λ spans-is.
         let fits = LL.owed S.the-type S′.the-laws spans _ spans-is in
         let ok = spans-held (a .0) held (buf .now) plan spans refl refl in
-        let full : length zeros ≡ 4188 = length-replicate {A = ℕ} 4188 0 in
-        let bytes = array-lawful 𝓤 H A W u8 (uint-lawful 𝓤 H A W w8) 4188 in
+        let full : length zeros ≡ 8188 = length-replicate {A = ℕ} 8188 0 in
+        let bytes = array-lawful 𝓤 H A W u8 (uint-lawful 𝓤 H A W w8) 8188 in
         land ! (from ! (stop !)) (init ! 32 refl (LL.lawful S.the-type S′.the-laws 𝓤 H A W .typed spans _ spans-is .0)) $
         -- the scratch is made, and the old gates are put
-        use0 W (‵ (Own zeros zeros-val)) zeros-owned $ facts ! (Array u8 4188) (Is (Array u8 4188)) (shown-by 𝓤 H A (Array u8 4188)) zeros (zeros-val ∷ []) (λ zeros-is.
-        lets ! 30 (rep ! 4188 (lit ! tt)) refl (bytes .typed zeros _ zeros-is .0) $
+        use0 W (‵ (Own zeros zeros-val)) zeros-owned $ facts ! (Array u8 8188) (Is (Array u8 8188)) (shown-by 𝓤 H A (Array u8 8188)) zeros (zeros-val ∷ []) (λ zeros-is.
+        lets ! 30 (rep ! 8188 (lit ! tt)) refl (bytes .typed zeros _ zeros-is .0) $
         lets ! 12 (addr ! (from ! (stop !))) refl (tt, tt) $
         lets ! 10 (agg ! (and-then ! (var ! 12 refl) (and-then ! (big ! size) (no-more !)))) refl (tt, (tt, (size, tt))) $
         use0 W (‵ (Own zeros zeros-val)) zeros-owned $ move ! (31 ∷ 0 ∷ 55 ∷ 63 ∷ []) $
@@ -264,7 +264,7 @@ module _ {M : Type 1} (𝓤 : URA M) (H : Heap 𝓤) (A : Atoms 𝓤) (W : Given
         lets ! 9 (agg ! (and-then ! (var ! 11 refl) (and-then ! (big ! size) (no-more !)))) refl (tt, (tt, (size, tt))) $ move ! (0 ∷ 1 ∷ 57 ∷ 64 ∷ []) $
         puts 𝓤 H A mem run W 𝓣 known-put (κs .1 .1 .0) (qs .1 .1 .0) golden (spans .«golden_count») (spans .golden) b z₁ v₁ (fits .1 .1 .1 .0 .1) (fits .1 .1 .0 .1) (omega (arith, ok .2, full, l₁), ok .3)
         (λ α γ. and-then ! (var ! 46 refl) (and-then ! (piece ! 34 {d = 24} refl refl refl) (and-then ! (piece ! 34 refl refl refl) (and-then ! (var ! 9 refl) (no-more !))))) (λ u₂ v₂ z₂ l₂ e₂ ok₂.
-        land ! (from ! (stop !)) (store ! 18 refl ok₂) $ move ! (1 ∷ []) $ peeks ! (Array u8 4188) (Is (Array u8 4188)) (shown-by 𝓤 H A (Array u8 4188)) z₂ (v₂ ∷ []) (λ z₂-is.
+        land ! (from ! (stop !)) (store ! 18 refl ok₂) $ move ! (1 ∷ []) $ peeks ! (Array u8 8188) (Is (Array u8 8188)) (shown-by 𝓤 H A (Array u8 8188)) z₂ (v₂ ∷ []) (λ z₂-is.
         -- [what the scratch owns; the scratch; two tokens; the other locals; …]: `write_rest`, with a copy of the scratch
         lets ! 8 (of-opd ! (var ! 1 refl)) refl (bytes .typed z₂ _ z₂-is .0) $ relends ! 39 6 4 refl refl refl (tt, tt) refl refl refl (slice-typed fit-8) $
         owned ! P.the-row (Is P.the-row) (LL.makes P.the-type P′.the-plain 𝓤 H A) plan (P′.lowered plan ∷ []) plan-is $

@@ -17,7 +17,7 @@ abbrev put : tie.After-check-job → tie.After-put-rest
 put k = k .before .before .before
 
 -- the job fits its bytes
-short : (w : tie.After-put-rest) → (w .put-rest .result .len ≤ length (w .put-rest .result .bytes)) × (w .put-rest .result .len ≤ 4188)
+short : (w : tie.After-put-rest) → (w .put-rest .result .len ≤ length (w .put-rest .result .bytes)) × (w .put-rest .result .len ≤ 8188)
 short w = let e = w .put-rest .ensures in (omega (arith, e .0, e .1), e .0)
 
 returns : tie.Need-returns

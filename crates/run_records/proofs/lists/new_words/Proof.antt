@@ -8,7 +8,7 @@ abbrev Inv-loop : tie.InvT-loop
 Inv-loop which list₀ i₀ list i = Unit {0}
 
 abbrev μ-loop : tie.MeasureT-loop
-μ-loop which list₀ i₀ list i = 420 - i
+μ-loop which list₀ i₀ list i = 1620 - i
 
 pub new-words-spec : {M : Type 1} → statement M
 new-words-spec =

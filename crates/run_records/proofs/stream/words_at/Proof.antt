@@ -9,7 +9,7 @@ use Rattle.run_records.proofs.stream.words_at.Statement.{statement}
 use Rattle.run_records.proofs.stream.words_at.Tie as tie
 
 abbrev Inv-loop : tie.InvT-loop
-Inv-loop s from places₀ at len i₀ places i = (length places ≡ 420) × (i ≤ 420)
+Inv-loop s from places₀ at len i₀ places i = (length places ≡ 1620) × (i ≤ 1620)
 
 abbrev μ-loop : tie.MeasureT-loop
 μ-loop s from places₀ at len i₀ places i = len - i

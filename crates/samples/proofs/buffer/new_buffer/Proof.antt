@@ -11,10 +11,10 @@ use Rattle.samples.proofs.buffer.new_buffer.Statement.{statement}
 use Rattle.samples.proofs.buffer.new_buffer.Tie as tie
 
 abbrev Inv-loop : tie.InvT-loop
-Inv-loop a₀ i₀ a i = (length a ≡ 4200) × (i ≤ 4200) × ((k : ℕ) → k < i → getD a k 0 ≡ patterned 11 k % 256)
+Inv-loop a₀ i₀ a i = (length a ≡ 8200) × (i ≤ 8200) × ((k : ℕ) → k < i → getD a k 0 ≡ patterned 11 k % 256)
 
 abbrev μ-loop : tie.MeasureT-loop
-μ-loop a₀ i₀ a i = 4200 - i
+μ-loop a₀ i₀ a i = 8200 - i
 
 loop-holds : tie.Need-loop-holds Inv-loop μ-loop
 loop-holds c = (omega arith, omega arith, below-none _)
@@ -22,7 +22,7 @@ loop-holds c = (omega arith, omega arith, below-none _)
 loop-again : tie.Need-loop-again Inv-loop μ-loop
 loop-again c =
     let l = c .before .before .loop in
-    let e : length (l .a) ≡ 4200 = l .inv .0 in
+    let e : length (l .a) ≡ 8200 = l .inv .0 in
     let x = c .patterned .result % 256 in (
       omega (arith, length-set (l .a) (l .i) x),
       omega arith,
