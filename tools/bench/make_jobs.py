@@ -370,9 +370,9 @@ def parity(x):
 
 
 def fits():
-    """A table whose column for target t is the parity of the lowest heights[t] support nets: 5 * 2^height - 4 gates. The
-    old netlist has one gate."""
-    for heights in ((0, 0, 0, 0), (2, 0, 0, 0), (3, 2, 1, 0), (4, 3, 1, 0), (5, 4, 1, 0), (6, 0, 0, 0), (6, 4, 1, 0)):
+    """A table whose column for target t is the parity of the lowest heights[t] support nets: 5 * 2^(height - 1) - 4 gates, or
+    1 for height 0. The old netlist has one gate."""
+    for heights in ((0, 0, 0, 0), (3, 0, 0, 0), (4, 3, 2, 0), (5, 4, 2, 0), (6, 5, 2, 0), (7, 0, 0, 0), (7, 5, 2, 0)):
         n, k = 10, max(heights)
         columns = [[parity(r % 2**height) for r in range(2**k)] for height in heights]
         table = [sum(column[r] << t for t, column in enumerate(columns)) for r in range(2**k)]

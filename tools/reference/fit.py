@@ -1,4 +1,4 @@
-"""Fit (document 01, "Fitting and comparing"; card 6 of document 02): the patched netlist of a job and a patch sheet by anyone.
+"""Fit (document 01, "Fitting and comparing"; cards 2 and 6 of document 02): the patched netlist of a job and a patch sheet by anyone.
 
     fit(job_data, sheet_data, buffer_length)   (0, the three fields) or (1 to 9, b"")
     patched(job, patch)                        the patched netlist, of any size
@@ -9,6 +9,7 @@ from compare import accepted
 from job import Gate, Netlist
 
 LONGEST_NETLIST = 4075
+ZERO, ONE, BUF, NOT, AND, OR = 0, 1, 2, 3, 4, 6
 
 
 def emit(gates, first_net, gate):
@@ -18,22 +19,47 @@ def emit(gates, first_net, gate):
 
 
 def tree(gates, first_net, support, column):
-    """Appends the tree of a column over the support's new nets; the net of its root."""
+    """Appends the tree of a column over the support's new nets; the net of its root. A half that is constant, where the halves
+    differ, has no gate of its own."""
+
+    def put(kind, *operands):
+        return emit(gates, first_net, Gate.of(kind, *operands))
+
+    def build(half):
+        return tree(gates, first_net, support[:-1], half)
+
     if not any(column):
-        return emit(gates, first_net, Gate.of(0))
+        return put(ZERO)
     if all(column):
-        return emit(gates, first_net, Gate.of(1))
+        return put(ONE)
     s = support[-1]
-    half = len(column) // 2
-    low, high = column[:half], column[half:]
+    low, high = column[: len(column) // 2], column[len(column) // 2 :]
     if low == high:
-        return tree(gates, first_net, support[:-1], low)
-    low_net = tree(gates, first_net, support[:-1], low)
-    high_net = tree(gates, first_net, support[:-1], high)
-    not_s = emit(gates, first_net, Gate.of(3, s))
-    low_part = emit(gates, first_net, Gate.of(4, not_s, low_net))
-    high_part = emit(gates, first_net, Gate.of(4, s, high_net))
-    return emit(gates, first_net, Gate.of(6, low_part, high_part))
+        return build(low)
+    if not any(low) and all(high):
+        return put(BUF, s)
+    if all(low) and not any(high):
+        return put(NOT, s)
+    if not any(low):
+        high_net = build(high)
+        return put(AND, s, high_net)
+    if not any(high):
+        low_net = build(low)
+        not_s = put(NOT, s)
+        return put(AND, not_s, low_net)
+    if all(low):
+        high_net = build(high)
+        not_s = put(NOT, s)
+        return put(OR, not_s, high_net)
+    if all(high):
+        low_net = build(low)
+        return put(OR, s, low_net)
+    low_net = build(low)
+    high_net = build(high)
+    not_s = put(NOT, s)
+    low_part = put(AND, not_s, low_net)
+    high_part = put(AND, s, high_net)
+    return put(OR, low_part, high_part)
 
 
 def patched(job, patch):

@@ -108,12 +108,78 @@ def patch_of(rng, job, table):
     return sheets.Patch(patch.support, table, patch.cost, patch.vectors)
 
 
+# ---- splits and sizes
+
+
+# How many gates a split has besides the trees of its other halves, by which halves are constant (card 2); those where both are
+SPLITS = {"L 0, H 1": 1, "L 1, H 0": 1, "L 0": 1, "H 0": 2, "L 1": 2, "H 1": 1, "neither": 4}
+BOTH = ["L 0, H 1", "L 1, H 0"]
+
+
+def is_constant(bits):
+    return len(set(bits)) == 1
+
+
+def halves(bits):
+    return bits[: len(bits) // 2], bits[len(bits) // 2 :]
+
+
+def split_of(low, high):
+    """The name of a split into two halves that differ."""
+    return ", ".join(f"{name} {half[0]}" for name, half in (("L", low), ("H", high)) if is_constant(half)) or "neither"
+
+
+def splits(bits):
+    """The splits of a column's tree, each with the place of its net in the support."""
+    if not is_constant(bits):
+        low, high = halves(bits)
+        yield from splits(low)
+        if low != high:
+            yield from splits(high)
+            yield split_of(low, high), len(low).bit_length() - 1
+
+
+def columns_of(job, patch):
+    return [[entry >> t & 1 for entry in patch.table] for t in range(job.targets)]
+
+
 def column_size(bits):
-    """How many gates a column's tree has, by the document's words."""
-    if len(set(bits)) == 1:
+    """How many gates a column's tree has, by the card's words."""
+    return 1 if is_constant(bits) else sum(SPLITS[name] for name, _ in splits(bits))
+
+
+def size_before(bits):
+    """How many it had before the card, with a gate for each constant half."""
+    if is_constant(bits):
         return 1
-    low, high = bits[: len(bits) // 2], bits[len(bits) // 2 :]
-    return column_size(low) if low == high else column_size(low) + column_size(high) + 4
+    low, high = halves(bits)
+    return size_before(low) if low == high else size_before(low) + size_before(high) + 4
+
+
+def lifted(rng, bits, k):
+    """The bits as one half of a column, this as one of the next, up to 2^k bits; the other half is the same, constant, or one
+    of the nets. The tree has few gates more."""
+    while len(bits) < 2**k:
+        place = rng.randrange(len(bits).bit_length() - 1)
+        net = [reading >> place & 1 for reading in range(len(bits))]
+        other = rng.choice([bits, [rng.randrange(2)] * len(bits), net])
+        bits = rng.choice([bits + other, other + bits])
+    return bits
+
+
+def split_column(rng, name, place):
+    """2^(place + 1) bits that are split so."""
+
+    def half(side):
+        if side in name:
+            return [int(name[name.index(side) + 2])] * 2**place
+        return lifted(rng, rng.choice([[0, 1], [1, 0]]), place)
+
+    while True:
+        low, high = half("L"), half("H")
+        if low != high:
+            assert split_of(low, high) == name
+            return low + high
 
 
 # ---- the classes: (name, job, patch)
@@ -139,7 +205,7 @@ def changed_patches(rng, accepted):
 
 
 def any_tables(rng, accepted):
-    """Any table over 0 to 10 nets; of more than 6 or 7 the netlist is mostly too large."""
+    """Any table over 0 to 10 nets; of more than 7 or 8 the netlist is mostly too large."""
     for k in range(11):
         for m in range(5):
             job = roomy_job(rng, m, rng.randrange(12, 30), rng.randrange(k, 11))
@@ -181,6 +247,46 @@ def one_net_tables(rng):
             yield "columns of one net", job, patch_of(rng, job, table_of_columns(columns, k))
 
 
+def small_columns(rng):
+    """Every column over 0 to 3 nets."""
+    for k in range(4):
+        columns = [[value >> reading & 1 for reading in range(2**k)] for value in range(2 ** 2**k)]
+        rng.shuffle(columns)
+        for first in range(0, len(columns), 4):
+            these = columns[first : first + 4]
+            job = roomy_job(rng, len(these), rng.randrange(4, 12), k)
+            yield "every column over up to 3 nets", job, patch_of(rng, job, table_of_columns(these, k))
+
+
+def split_tables(rng):
+    """Each split on each of the support nets, the highest or behind splits on those above."""
+    for k in range(1, 11):
+        columns = []
+        for place in range(k):
+            for name in SPLITS if place else BOTH:
+                columns.append(lifted(rng, split_column(rng, name, place), k))
+        rng.shuffle(columns)
+        while columns:
+            m = min(rng.choice([1, 3, 4, 4, 4, 4]), len(columns))
+            these, columns = columns[:m], columns[m:]
+            job = roomy_job(rng, m, rng.randrange(6, 16), k)
+            yield "each split on each net", job, patch_of(rng, job, table_of_columns(these, k))
+
+
+def one_reading_tables(rng):
+    """Columns that are constant but for one reading: a split on every net, each with a constant half."""
+    for k in range(1, 11):
+        for _ in range(2):
+            readings = [0, 2**k - 1, rng.randrange(2**k), rng.randrange(2**k)]
+            columns = []
+            for place in readings:
+                rest = rng.randrange(2)
+                columns.append([rest ^ (reading == place) for reading in range(2**k)])
+            rng.shuffle(columns)
+            job = roomy_job(rng, 4, rng.randrange(6, 16), k)
+            yield "constant but for one reading", job, patch_of(rng, job, table_of_columns(columns, k))
+
+
 def no_input_jobs(rng):
     """Net 0 is a target and the filler of unused operands."""
     for turn in range(60):
@@ -212,7 +318,7 @@ def at_limit(rng, accepted):
     turn = 0
     while turn < 36:
         k, m = rng.randrange(11), rng.randrange(5)
-        columns = [column(rng, k, rng.choice([0.1, 0.3]), rng.choice([0.2, 0.6])) for _ in range(m)]
+        columns = [column(rng, k, rng.choice([0, 0.1]), rng.choice([0.1, 0.5])) for _ in range(m)]
         left = jobs.MAX_GATES - sum(column_size(bits) for bits in columns)
         if left >= k + (m == 0):
             turn += 1
@@ -227,18 +333,41 @@ def at_limit(rng, accepted):
                 yield f"{400 + extra} gates, decide's own", with_dead_gates(rng, job, 400 + extra - size), patch
 
 
+def smaller_now(rng):
+    """Number 9 before the card, and now fitted: netlists that had 401 gates, and with few old gates those that had many."""
+    for k in range(1, 11):
+        for m in (rng.randrange(1, 3), rng.randrange(3, 5)):
+            while True:
+                columns = [column(rng, k, rng.choice([0.1, 0.3]), rng.choice([0.2, 0.6])) for _ in range(m)]
+                before, now = sum(map(size_before, columns)), sum(map(column_size, columns))
+                if now < before <= 401 - k and (k < 6 or before > 150):
+                    break
+            job = roomy_job(rng, m, 401 - before, k)
+            yield "401 gates before card 2", job, patch_of(rng, job, table_of_columns(columns, k))
+    for k in range(7, 11):
+        for m in range(1, 5):
+            for _ in range(2):
+                old = rng.randrange(k + 4, 30)
+                while True:
+                    columns = [column(rng, k, rng.choice([0, 0.1, 0.3]), rng.choice([0.1, 0.3, 0.6])) for _ in range(m)]
+                    if sum(map(column_size, columns)) <= 400 - old < sum(map(size_before, columns)):
+                        break
+                job = roomy_job(rng, m, old, k)
+                yield "too large before card 2", job, patch_of(rng, job, table_of_columns(columns, k))
+
+
 def tall_trees(rng):
-    """Parities: for each number of nets and targets the longest trees, up to 20,464 gates."""
+    """Parities: for each number of nets and targets the longest trees, up to 10,224 gates."""
     for k in range(11):
         for m in range(1, 5):
             job = roomy_job(rng, m, rng.randrange(k + 4, 40), rng.randrange(k, 11))
             columns = [tall_column(rng, k) for _ in range(m)]
             yield "longest trees", job, patch_of(rng, job, table_of_columns(columns, k))
-    for total in (397, 398, 399, 400, 401, 402):  # trees of 316 gates over six nets and 36 over three
-        job = roomy_job(rng, 2, total - 316 - 36, 6)
-        columns = [tall_column(rng, 6), [bin(reading & 7).count("1") & 1 for reading in range(64)]]
+    for total in (397, 398, 399, 400, 401, 402):  # trees of 316 gates over seven nets and 36 over four
+        job = roomy_job(rng, 2, total - 316 - 36, 7)
+        columns = [tall_column(rng, 7), [bin(reading & 15).count("1") & 1 for reading in range(128)]]
         rng.shuffle(columns)
-        yield "longest trees and old gates", job, patch_of(rng, job, table_of_columns(columns, 6))
+        yield "longest trees and old gates", job, patch_of(rng, job, table_of_columns(columns, 7))
 
 
 def full_size(rng):
@@ -288,10 +417,14 @@ def good_parts(rng, accepted):
         shaped_tables(rng),
         constant_tables(rng),
         one_net_tables(rng),
+        small_columns(rng),
+        split_tables(rng),
+        one_reading_tables(rng),
         no_input_jobs(rng),
         no_target_jobs(rng),
         bare_jobs(rng),
         at_limit(rng, accepted),
+        smaller_now(rng),
         tall_trees(rng),
         full_size(rng),
         wide_jobs(rng),
@@ -313,7 +446,7 @@ def netlist_in(fields):
 def check_fitted(job, patch):
     """The number is 0 or 9. The netlist of the reply, as it stands, has the driven outputs on every input."""
     number, fields = fit(encode(job), sheets.encode(patch))
-    size = len(job.old.gates) + sum(column_size([entry >> t & 1 for entry in patch.table]) for t in range(job.targets))
+    size = len(job.old.gates) + sum(map(column_size, columns_of(job, patch)))
     assert number == (9 if size > jobs.MAX_GATES else 0), job
     if number == 0:
         n, netlist = netlist_in(fields)
@@ -371,12 +504,12 @@ def short_calls(rng, accepted, parts):
     a = encode(rj.job_a())
     sheet = decide(a).verdict.sheet
     small = [(job, patch) for _, job, patch in parts if len(encode(job)) < 300 and len(patch.table) <= 32]
-    for lent in (0, 1, 72, 73, 1076, LONGEST_NETLIST - 1, LONGEST_NETLIST, LONGEST_NETLIST + 1, BUFFER):
+    for lent in (0, 1, 32, 33, 1076, LONGEST_NETLIST - 1, LONGEST_NETLIST, LONGEST_NETLIST + 1, BUFFER):
         yield "lent bytes", fit_call(a, sheet, lent)
         yield "lent bytes", fit_call(b"", b"", lent)
         yield "lent bytes", fit_call(a, b"", lent)
         yield "lent bytes", fit_call(encode(rj.damaged(rng, rj.job_a(), [rng.choice(rj.ALL_DAMAGES)])), sheet, lent)
-    large = [(job, patch) for name, job, patch in parts if name == "longest trees" and len(patch.support) == 7]
+    large = [(job, patch) for name, job, patch in parts if name == "longest trees" and len(patch.support) == 8]
     for job, patch in rng.sample(small, 20) + large[:1]:
         yield "a byte too few lent", fit_call(encode(job), sheets.encode(patch), LONGEST_NETLIST - 1)
 
@@ -410,6 +543,16 @@ def row_calls(rng, accepted):
 # ---- what the calls cover
 
 
+def check_splits(parts):
+    """Netlists that are fitted have each split on each net of 1 to 10."""
+    found = set()
+    for _, job, patch in parts:
+        if not too_large(job, patch):
+            for bits in columns_of(job, patch):
+                found |= {(len(patch.support), place, name) for name, place in splits(bits)}
+    assert found == {(k, place, name) for k in range(1, 11) for place in range(k) for name in (SPLITS if place else BOTH)}
+
+
 def covered(parts):
     found = Counter()
     for _, job, patch in parts:
@@ -441,6 +584,8 @@ def covered(parts):
         )
         found["differs from the golden netlist"] += compare.smallest_difference(job, patch) is not None
         found["4,075 bytes"] += len(fields) == LONGEST_NETLIST
+        for name in {name for bits in columns_of(job, patch) for name, _ in splits(bits)}:
+            found["a split, constant halves: " + name] += 1
     return found
 
 
@@ -471,6 +616,7 @@ def made():
     rng = random.Random(SEED)
     accepted = list(rd.quota_jobs(rng))
     parts = list(good_parts(rng, accepted))
+    check_splits(parts)
     named = list(accepted_calls(rng, parts)) + list(damaged_calls(rng, accepted, parts))
     named += list(short_calls(rng, accepted, parts)) + list(row_calls(rng, accepted))
     rng.shuffle(named)

@@ -17,6 +17,7 @@ pub mod FitPlaced
 pub mod FitSheet
 pub mod FitTree
 pub mod Fitted
+pub mod Join
 pub mod Kernel
 pub mod Leaves
 pub mod Loop

@@ -1,20 +1,22 @@
 -- What specs/Claims.antt promises of the engine's definitions. Assumes nothing.
-use Prim.Native.Nat.{ℕ}
+use Prim.Native.Nat.{ℕ, _+_}
 use mathlib.Core.Path.{_≡_, _∙_, ap}
 use mathlib.Core.Logic.{inl, inr, ⊎-elim}
 use mathlib.Core.List.{List}
 use mathlib.Core.Bool.{true}
+use native.Mathlib.Omega.{arith}
 use Rattle.records.specs.Job.{Job}
 use Rattle.engine.specs.Choice.{any}
 use Rattle.engine.specs.Rectify.{rectifies, vectorLoop}
 use Rattle.engine.specs.Support.{sound, candidateNets, subsets, chosen, tableOf}
 use Rattle.engine.specs.Verdict.{patch, blind, blindReading, ruling}
-use Rattle.engine.specs.Claims.{In, Rectifiable, TernaryKnown, TernaryUnknown, TernaryListKnown, TernaryListUnknown, TernaryFold, TernaryInverts, LoopEnds, EveryTable, Readings, PatchExactly, PatchTable, LeastCost, UnfixableExactly, BlindExactly}
+use Rattle.engine.specs.Claims.{In, Rectifiable, TernaryKnown, TernaryUnknown, TernaryListKnown, TernaryListUnknown, TernaryFold, TernaryInverts, LoopEnds, EveryTable, Readings, PatchExactly, PatchTable, LeastCost, UnfixableExactly, BlindExactly, HalvesEqual}
 use Rattle.engine.proofs.Laws.Choice.{any-iff-member, none-or-some}
 use Rattle.engine.proofs.Laws.Ternary.{entry-known-iff, entry-unknown-iff, list-known-iff, list-unknown-iff, fold-more, fold-inverts}
 use Rattle.engine.proofs.Laws.Support.{golden-iff, golden-iff-readings, golden-of-sound, carries-of-sound, sound-of-carries, sound-iff-subset-carries, reading-vector, rectifiable-of-carries}
 use Rattle.engine.proofs.Laws.Best.{chosen-sound, chosen-least}
 use Rattle.engine.proofs.Laws.Loop.{rectifiable-iff, listed-of-none, listed-of-some, unlisted-of-some, stuck-iff, stuck-none-iff}
+use Rattle.engine.proofs.Laws.Tree.{same-iff-bits}
 use Rattle.engine.proofs.Laws.Verdict.{LeastBlind, ruling-unfixable, ruling-patch, ruling-blind, unfixable-stuck, patch-chosen, blind-reading, blind-least, blind-unique, unsound-of-blind}
 
 pub rectifiable-exactly : Rectifiable
@@ -101,3 +103,6 @@ blind-exactly j r = (
       let u = unsound-of-blind j r l in
       ruling-blind j (stuck-none-iff j .1 (h .0)) u ∙ ap blind (blind-unique j (blindReading j) r (blind-least j u) l),
 )
+
+pub halves-equal : HalvesEqual
+halves-equal tb at half t h = same-iff-bits tb at (at + half) half t (omega arith) h

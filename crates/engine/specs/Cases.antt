@@ -79,8 +79,8 @@ unfoldable pub cases : List Case
 cases =
     -- 1: A's verdict
     is (replied longestSheet jobA) (0 ∷ sheetA)
-    -- 2: A fitted has 11 gates and output net 12
-    ∷ is (fittedSize jobA sheetA) (11 ∷ 12 ∷ [])
+    -- 2: A fitted has two gates and output net 3 (card 2 of document 02)
+    ∷ is (fittedSize jobA sheetA) (2 ∷ 3 ∷ [])
     -- 3: A without priced net 1: blind 1
     ∷ is (replied longestSheet (jobWith 2 1 [] netTwo andGate netTwo (0 ∷ 0 ∷ 0 ∷ 3 ∷ []))) (0 ∷ field 21 (0 ∷ 1 ∷ []) ++ field 19 (0 ∷ 1 ∷ []))
     -- 4: A with none: blind 0

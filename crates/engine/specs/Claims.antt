@@ -14,6 +14,7 @@
 --   Readings                a reading does not depend on the vector, so it is the one that the driven circuit has
 --   PatchExactly, PatchTable, LeastCost     a patch is given exactly when there is a table; it is one; none costs less
 --   UnfixableExactly, BlindExactly          the two other verdicts
+--   HalvesEqual             when the test of a column's halves says equal
 --   FittedOutputs, FittedGood               the outputs of the netlist that fit gives, for any accepted sheet, and that it is one
 --   NumberGiven             the number in a reply is document 01's
 --   DecideAccepts, DecideRefuses, DecideKeeps, DecideIndependent      what decide accepts; a refusal alters nothing, a reply nothing
@@ -43,14 +44,15 @@ use Rattle.records.specs.Job.{Job, jobWhole, jobOf, gatesOf, netsOf, netlistOf,
 use Rattle.records.specs.Refusal.{maxGates, gatesGood, candidatesGood}
 use Rattle.records.specs.Sheet.{Patch, patchOf, sheetWhole, patchGood}
 use Rattle.records.specs.Claims.{Below, PartsGood}
-use Rattle.engine.specs.Choice.{any}
-use Rattle.engine.specs.Eval.{bits, numberOf, oldValues, oldOutputs, goldenOutputs}
+use Rattle.engine.specs.Choice.{any, same}
+use Rattle.engine.specs.Eval.{bit, bits, numberOf, oldValues, oldOutputs, goldenOutputs}
 use Rattle.engine.specs.Ternary.{unknown, ternaryValue, ternaryTable, entry, Completes, CompletesAll, Possible, PossibleOf}
 use Rattle.engine.specs.Rectify.{rectifies, rectifiable, vectorLoop}
 use Rattle.engine.specs.Support.{reading, drivenBy, Carries, shared, tableOf, candidateNets, subsets, cost}
 use Rattle.engine.specs.Verdict.{patch, unfixable, blind, ruling, rulingFields, sheetOf, longestSheet, decideNumber, decidedBytes}
 use Rattle.engine.specs.Reply.{verdictFields, declinedReply, decideReply, comparisonOf, compareNumber, compareReply, fitNumber, fitReply, fittedBuffer}
 use Rattle.engine.specs.declared.comparing.Comparison.the-variants as Comparison
+use Rattle.engine.specs.Tree.{column}
 use Rattle.engine.specs.Fit.{fitted, fittedBytes, fits, longestFit}
 
 abbrev pub In : {A : Type 0} → A → List A → Type 0
@@ -171,6 +173,14 @@ BlindExactly =
     × (r < 2 ^ length (candidateNets j))
     × (shared j (candidateNets j) r ≡ none)
     × ((q : ℕ) → q < r → shared j (candidateNets j) q ≡ none → ⊥))
+
+-- Card 4: "The test says equal exactly when the target's bits agree at every place of the two halves, whatever stands elsewhere in the
+-- table." The test is `same` of the two halves' columns, which is what the contract of `halves_equal` gives of the table.
+abbrev pub HalvesEqual : Type 0
+HalvesEqual =
+    (tb : List ℕ) (at half t : ℕ) → at + half + half ≤ length tb
+    → (same (column (take half (drop at tb)) t) (column (take half (drop (at + half) tb)) t) ≡ true)
+    ↔ ((i : ℕ) → i < half → bit t (getD tb (at + i) 0) ≡ bit t (getD tb (at + half + i) 0))
 
 -- "Any netlist we fit, whoever wrote the sheet, has on every input the outputs of the old circuit driven by the sheet's table."
 -- The sheet is any that is accepted; its table need not be sound.

@@ -174,7 +174,7 @@ fn decide_job(job: JobParts, reply: &mut [u8]) -> DecideReply
 // 1,076 bytes (1) and what is no whole job (2 to 6). It costs, for each block of 1,024 inputs, one gate evaluation a gate of both
 // netlists, and one for every second vector and each gate that the target with the fewest leads to, for every fourth vector and each
 // gate that another leads to, and so on; an evaluation takes 16 words. Noting a block's inputs takes some 1,000 steps, and for each listed
-// vector one of 16 words, again whenever the vector list grows. Partial evaluation is tried on fewer than 2 ^ (n - 13) ranges of the n
+// vector one of 16 words, again whenever the vector list grows. Partial evaluation is tried on fewer than 2 ^ (n - 14) ranges of the n
 // inputs: one gate evaluation a gate on 0, 1 and not yet known for each, which may spare all its blocks. The choice among the sets of k
 // candidates leaves out one net after the other and stops at unsound and at too dear sets: at most 3 ^ k steps, whatever the gates are.
 pub fn decide(job: &[u8], reply: &mut [u8]) -> DecideReply

@@ -1,57 +1,100 @@
 // Multiplexer trees: packed gates put behind those of a netlist, a tree over each target's column of a table.
 ghost use mathlib.Core.Path.{_≡_};
 ghost use mathlib.Core.List.{[], _∷_};
-ghost use Prim.Native.Nat.{_+_, _^_, _≤_, _<_};
+ghost use Prim.Native.Nat.{_+_, _-_, _^_, _≤_, _<_};
 ghost use lib.Dec.{eqb};
 ghost use lib.ListN.{length, getD, take, drop};
 ghost use Rattle.records.specs.Bytes.{all};
 ghost use Rattle.engine.specs.Choice.{same};
 ghost use Rattle.engine.specs.Eval.{bit};
-ghost use Rattle.engine.specs.Tree.{constant, column, tree, treeSize};
-ghost use Rattle.engine.specs.Inner.Tree.{Nets, GateRoom, GatesPut, columnPart, TablePart, treeStart, mux, treesSize, TreesPut};
+ghost use Rattle.records.specs.Gate.{gateOf};
+ghost use Rattle.engine.specs.Tree.{column, joinOf, buildsLow, buildsHigh, joinGates, tree, treeSize};
+ghost use Rattle.engine.specs.Inner.Tree.{Nets, GateRoom, GatesPut, columnPart, TablePart, treeStart, joinSize, JoinRoom, treesSize, TreesPut};
+ghost use Rattle.engine.specs.declared.tree.Join.the-variants.{Both};
 use super::choose::reading_count;
 use super::packed::pack;
 use records::CANDIDATES;
 use records::GATES;
-use records::SLOTS;
 
-// How a tree starts: it is one constant gate of this kind, or the tree of the column's halves, which are equal, or the trees of
-// both halves and a multiplexer.
+// How the halves of a column, which differ, are joined: the gate that chooses, and the half that has a tree of its own, where one
+// has. A half that is all 0 or all 1 has none (card 2 of document 02).
+pub enum Join {
+    Buf,
+    Not,
+    AndHigh,
+    AndLow,
+    OrHigh,
+    OrLow,
+    Both,
+}
+
+// How a tree starts: it is one constant gate of this kind, or the tree of the column's halves, which are equal, or the halves
+// joined.
 pub enum TreeStart {
     Constant(u8),
     Equal,
-    Split,
+    Split(Join),
 }
 
-// A constant at place at, which drives net base + at; the place behind it.
-fn put_constant(kind: u8, base: usize, at: usize, gates: &mut [u64; GATES]) -> usize
-    requires { ⌜ GateRoom base (at + 1) (now gates) × (kind < 2) ⌝ }
-    ensures { λ r. ⌜ GatesPut base at (now (gates .entry)) (constant kind ∷ []) r (now (gates .exit)) ⌝ }
+// One gate at place at, which drives net base + at, with up to two operands; the place behind it.
+fn add_gate(
+    kind: u8,
+    count: u8,
+    a: u16,
+    b: u16,
+    base: usize,
+    at: usize,
+    gates: &mut [u64; GATES],
+) -> usize
+    requires { ⌜ GateRoom base (at + 1) (now gates) × (kind < 16) × (count < 8) × (a < 1024) × (b < 1024) ⌝ }
+    ensures { λ r. ⌜ GatesPut base at (now (gates .entry)) (gateOf kind count a b 0 0 ∷ []) r (now (gates .exit)) ⌝ }
 {
-    gates[at] = pack(kind, 0, base + at, [0; SLOTS]);
+    gates[at] = pack(kind, count, base + at, [a, b, 0, 0]);
     at + 1
 }
 
-// The four gates of a multiplexer behind the first count gates: net low where net s is 0, net high where it is 1. The last of
-// the first count gates drives net high.
-fn put_mux(
+// The four gates of a multiplexer behind the first count gates: net low where net s is 0, the net of the last of these gates where it
+// is 1.
+fn put_mux(s: u16, low: u16, base: usize, count: usize, gates: &mut [u64; GATES]) -> usize
+    requires { ⌜ GateRoom base (count + 4) (now gates) × (s < 1024) × (low < 1024) × (0 < count) ⌝ }
+    ensures { λ r. ⌜ GatesPut base count (now (gates .entry)) (joinGates Both s low (base + count)) r (now (gates .exit)) ⌝ }
+{
+    let n = (base + count) as u16;
+    let a = add_gate(3, 1, s, 0, base, count, gates);
+    let b = add_gate(4, 2, n, low, base, a, gates);
+    let c = add_gate(4, 2, s, n - 1, base, b, gates);
+    add_gate(6, 2, n + 1, n + 2, base, c, gates)
+}
+
+// The gates that join two halves behind the first high gates: low is where the low half's tree ends, high where the high half's does.
+fn put_join(
+    join: Join,
     s: u16,
+    base: usize,
     low: usize,
     high: usize,
-    base: usize,
-    count: usize,
     gates: &mut [u64; GATES],
 ) -> usize
-    requires { ⌜ GateRoom base (count + 4) (now gates) ⌝ }
-    requires { ⌜ (s < 1024) × (low ≤ high) × (high + 1 ≡ base + count) ⌝ }
-    ensures { λ r. ⌜ GatesPut base count (now (gates .entry)) (mux s low high) r (now (gates .exit)) ⌝ }
+    requires { ⌜ JoinRoom join s base low high (now gates) ⌝ }
+    ensures { λ r. ⌜ GatesPut base high (now (gates .entry)) (joinGates join s (base + low - 1) (base + high)) r
+        (now (gates .exit)) ⌝ }
 {
-    let n = high + 1;
-    gates[count] = pack(3, 1, n, [s, 0, 0, 0]);
-    gates[count + 1] = pack(4, 2, n + 1, [n as u16, low as u16, 0, 0]);
-    gates[count + 2] = pack(4, 2, n + 2, [s, high as u16, 0, 0]);
-    gates[count + 3] = pack(6, 2, n + 3, [(n + 1) as u16, (n + 2) as u16, 0, 0]);
-    count + 4
+    let n = (base + high) as u16;
+    match join {
+        Join::Buf => add_gate(2, 1, s, 0, base, high, gates),
+        Join::Not => add_gate(3, 1, s, 0, base, high, gates),
+        Join::AndHigh => add_gate(4, 2, s, n - 1, base, high, gates),
+        Join::OrLow => add_gate(6, 2, s, n - 1, base, high, gates),
+        Join::AndLow => {
+            let next = add_gate(3, 1, s, 0, base, high, gates);
+            add_gate(4, 2, n, n - 1, base, next, gates)
+        }
+        Join::OrHigh => {
+            let next = add_gate(3, 1, s, 0, base, high, gates);
+            add_gate(6, 2, n, n - 1, base, next, gates)
+        }
+        Join::Both => put_mux(s, (base + low - 1) as u16, base, high, gates),
+    }
 }
 
 // The bit of target t in the entry at place i.
@@ -94,6 +137,65 @@ fn halves_equal(table: &[u8], at: usize, half: usize, t: usize) -> bool
     true
 }
 
+// How the two halves of half entries each, from place at on, are joined in the column of target t.
+fn join_of(table: &[u8], at: usize, half: usize, t: usize) -> Join
+    requires { ⌜ (at + half + half ≤ length (now table)) × (t < 8) ⌝ }
+    ensures { λ r. ⌜ r ≡ joinOf (column (take half (drop at (now (table .entry)))) t)
+        (column (take half (drop (at + half) (now (table .entry)))) t) ⌝ }
+{
+    let high = at + half;
+    if column_is(table, at, half, t, 0) {
+        if column_is(table, high, half, t, 1) {
+            return Join::Buf;
+        }
+        return Join::AndHigh;
+    }
+    if column_is(table, at, half, t, 1) {
+        if column_is(table, high, half, t, 0) {
+            return Join::Not;
+        }
+        return Join::OrHigh;
+    }
+    if column_is(table, high, half, t, 0) {
+        return Join::AndLow;
+    }
+    if column_is(table, high, half, t, 1) {
+        return Join::OrLow;
+    }
+    Join::Both
+}
+
+// Whether the low half has a tree.
+fn builds_low(join: Join) -> bool
+    ensures { λ r. ⌜ r ≡ buildsLow join ⌝ }
+{
+    match join {
+        Join::AndLow | Join::OrLow | Join::Both => true,
+        _ => false,
+    }
+}
+
+// Whether the high half has one.
+fn builds_high(join: Join) -> bool
+    ensures { λ r. ⌜ r ≡ buildsHigh join ⌝ }
+{
+    match join {
+        Join::AndHigh | Join::OrHigh | Join::Both => true,
+        _ => false,
+    }
+}
+
+// How many gates join the halves.
+fn join_size(join: Join) -> usize
+    ensures { λ r. ⌜ r ≡ joinSize join ⌝ }
+{
+    match join {
+        Join::AndLow | Join::OrHigh => 2,
+        Join::Both => 4,
+        _ => 1,
+    }
+}
+
 // How the tree over k nets and the column of target t, at the 2 ^ k entries from place at on, starts.
 fn tree_start(table: &[u8], at: usize, k: usize, t: usize) -> TreeStart
     requires { ⌜ TablePart (now table) at k t ⌝ }
@@ -106,13 +208,14 @@ fn tree_start(table: &[u8], at: usize, k: usize, t: usize) -> TreeStart
     if column_is(table, at, size, t, 1) {
         return TreeStart::Constant(1);
     }
-    if halves_equal(table, at, size / 2, t) {
+    let half = size / 2;
+    if halves_equal(table, at, half, t) {
         return TreeStart::Equal;
     }
-    TreeStart::Split
+    TreeStart::Split(join_of(table, at, half, t))
 }
 
-// How many gates that tree has. It calls itself on each half of the column; at most (k + 1) 2 ^ k entries are read, three times
+// How many gates that tree has. It calls itself on each half of the column; at most (k + 1) 2 ^ k entries are read, five times
 // each.
 fn tree_size(table: &[u8], at: usize, k: usize, t: usize) -> usize
     requires { ⌜ TablePart (now table) at k t ⌝ }
@@ -122,11 +225,19 @@ fn tree_size(table: &[u8], at: usize, k: usize, t: usize) -> usize
     match start {
         TreeStart::Constant(_) => 1,
         TreeStart::Equal => tree_size(table, at, k - 1, t),
-        TreeStart::Split => {
+        TreeStart::Split(join) => {
             let half = reading_count(k - 1);
-            let low = tree_size(table, at, k - 1, t);
-            let high = tree_size(table, at + half, k - 1, t);
-            low + high + 4
+            let low = if builds_low(join) {
+                tree_size(table, at, k - 1, t)
+            } else {
+                0
+            };
+            let high = if builds_high(join) {
+                tree_size(table, at + half, k - 1, t)
+            } else {
+                0
+            };
+            low + high + join_size(join)
         }
     }
 }
@@ -150,14 +261,19 @@ pub(super) fn put_tree(
 {
     let start = tree_start(table, at, k, t);
     match start {
-        TreeStart::Constant(kind) => put_constant(kind, base, count, gates),
+        TreeStart::Constant(kind) => add_gate(kind, 0, 0, 0, base, count, gates),
         TreeStart::Equal => put_tree(table, at, k - 1, t, support, base, count, gates),
-        TreeStart::Split => {
+        TreeStart::Split(join) => {
             let half = reading_count(k - 1);
-            let low = put_tree(table, at, k - 1, t, support, base, count, gates);
-            let high = put_tree(table, at + half, k - 1, t, support, base, low, gates);
-            let s = support[k - 1];
-            put_mux(s, base + low - 1, base + high - 1, base, high, gates)
+            let mut low = count;
+            if builds_low(join) {
+                low = put_tree(table, at, k - 1, t, support, base, count, gates);
+            }
+            let mut high = low;
+            if builds_high(join) {
+                high = put_tree(table, at + half, k - 1, t, support, base, low, gates);
+            }
+            put_join(join, support[k - 1], base, low, high, gates)
         }
     }
 }

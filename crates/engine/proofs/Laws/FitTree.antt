@@ -1,55 +1,58 @@
 -- Laws of multiplexer trees (specs/Tree) and of a tree for each target (specs/Fit): the gates are good, and in values that agree
 -- with each gate the tree's net has the column's entry at the reading of its nets. Assumes nothing.
-use Prim.Native.Nat.{ℕ, zero, suc, _+_, _-_, _*_, _^_, min, max, _≤_, _<_}
+use Prim.Native.Nat.{ℕ, zero, suc, _+_, _-_, _*_, _^_, _≤_, _<_}
 use mathlib.Core.Path.{_≡_, refl, sym, _∙_, ap, subst}
 use mathlib.Core.Logic.{⊎-elim}
 use mathlib.Core.List.{List, [], _∷_, _++_, map, map-append}
-use mathlib.Core.Bool.{true, false}
+use mathlib.Core.Bool.{Bool, true, false}
 use native.Mathlib.Nat.{add-zero, add-comm, zero-mul, one-mul, mul-assoc, pow-suc}
 use native.Mathlib.Omega.{arith}
-use borrow.Author.Tests.{eqb-true, lt-ltb}
 use lib.Dec.{eqb}
 use lib.ListN.{length, getD, take, drop, length-append, length-drop, length-map, List·getD-map}
 use lib.Seq.{getD-take, getD-drop, take-suc, length-take-le, take-length}
 use Rattle.records.specs.Bytes.{all}
-use Rattle.records.specs.Gate.{Gate, gateOf, leastCount, mostCount, permits, operands, unused, gateValue, conj, disj, inverted}
+use Rattle.records.specs.Gate.{Gate, gateOf, leastCount, mostCount, permits, operands, unused, gateValue}
 use Rattle.records.specs.Netlist.{netAt, valueOf}
 use Rattle.records.specs.Refusal.{gateGood, gatesGood}
-use Rattle.records.proofs.Laws.Bytes.{all-cons}
-use Rattle.records.proofs.Laws.Gate.{getD-all, on-bit}
+use Rattle.records.proofs.Laws.Gate.{on-bit}
 use Rattle.engine.specs.Choice.{same}
 use Rattle.engine.specs.Eval.{bit, numberOf}
-use Rattle.engine.specs.Tree.{constant, notOf, andOf, orOf, column, tree}
+use Rattle.engine.specs.Tree.{constant, column, joinOf, buildsLow, buildsHigh, joinGates, tree}
 use Rattle.engine.specs.Fit.{Trees, treesFrom}
+use Rattle.engine.specs.Inner.Tree.{joinSize}
+use Rattle.engine.specs.declared.tree.Join.{Join}
 use Rattle.engine.proofs.Laws.Choice.{true-or-false, same-true}
 use Rattle.engine.proofs.Laws.Eval.{Bits, bits-nil, bits-cons, getD-bits, bits-map, bit-lt, netAt-lt, numberOf-lt}
 use Rattle.engine.proofs.Laws.Word.{bit-zero}
 use Rattle.engine.proofs.Laws.FitGates.{good-append, Consistent, consistent-left, consistent-right}
+use Rattle.engine.proofs.Laws.Join.{length-join, joinSize-bounds, join-good, lowValue, highValue, lowValue-built, highValue-built}
+use Rattle.engine.proofs.Laws.Join.{entry-zeros, entry-ones, join-entries, join-value}
 
 -- ---- the cases of a tree
 
--- the gates from net n on that choose between nets l and h by net s
-abbrev pub choosers : ℕ → ℕ → ℕ → ℕ → List Gate
-choosers s l h n = notOf s ∷ andOf n l ∷ andOf s h ∷ orOf (n + 1) (n + 2) ∷ []
+-- the tree of a half that has one
+abbrev pub built : Bool → List Gate → List Gate
+built b gs = elim b [ true ↦ gs | false ↦ [] ]
 
--- two trees in a row, the first from net next on, and the gates that choose between them by net s
-abbrev pub muxed : ℕ → ℕ → List Gate → List Gate → List Gate
-muxed s next ls hs =
-    let l = next + length ls - 1 in
-    let h = next + length ls + length hs - 1 in
-    ls ++ hs ++ choosers s l h (h + 1)
+-- what holds of no gates and of the tree
+pub built-case : (P : List Gate → Type 0) (b : Bool) {gs : List Gate} → P [] → P gs → P (built b gs)
+built-case P true p q = q
+built-case P false p q = p
 
--- the two halves' trees, and the choice between them
-abbrev pub choosing : ℕ → ℕ → List ℕ → List ℕ → List Gate
-choosing k next is col =
-    let ls = tree k next is (take (2 ^ k) col) in
-    muxed (getD is k 0) next ls (tree k (next + length ls) is (drop (2 ^ k) col))
+-- the halves' trees over k nets, the first from net next on, and the gates that join them by net s
+abbrev pub joined : Join → ℕ → ℕ → List ℕ → List ℕ → List ℕ → List Gate
+joined j k next is low high =
+    let ls = built (buildsLow j) (tree k next is low) in
+    let m = next + length ls in
+    let hs = built (buildsHigh j) (tree k m is high) in
+    ls ++ hs ++ joinGates j (getD is k 0) (m - 1) (m + length hs)
 
 pub data TreeCase (k next : ℕ) (is col : List ℕ) : List Gate → Type 0 where
   zeros : all (eqb 0) col ≡ true → TreeCase k next is col (constant 0 ∷ [])
   ones : all (eqb 1) col ≡ true → TreeCase k next is col (constant 1 ∷ [])
   halves : take (2 ^ k) col ≡ drop (2 ^ k) col → TreeCase k next is col (tree k next is (take (2 ^ k) col))
-  choice : TreeCase k next is col (choosing k next is col)
+  halved : (j : Join) → joinOf (take (2 ^ k) col) (drop (2 ^ k) col) ≡ j
+      → TreeCase k next is col (joined j k next is (take (2 ^ k) col) (drop (2 ^ k) col))
 
 pub tree-case : (k next : ℕ) (is col : List ℕ) → TreeCase k next is col (tree (suc k) next is col)
 unfolding tree
@@ -63,25 +66,31 @@ tree-case k next is col =
     ⊎-elim
     (λ (e : same (take (2 ^ k) col) (drop (2 ^ k) col) ≡ true).
     rw (z, o, e, tree) (halves (same-true (take (2 ^ k) col) (drop (2 ^ k) col) e)))
-    (λ (e : same (take (2 ^ k) col) (drop (2 ^ k) col) ≡ false). rw (z, o, e, tree) choice)
+    (λ (e : same (take (2 ^ k) col) (drop (2 ^ k) col) ≡ false). rw (z, o, e, tree) (halved (joinOf (take (2 ^ k) col) (drop (2 ^ k) col)) refl))
     (true-or-false (same (take (2 ^ k) col) (drop (2 ^ k) col))))
     (true-or-false (all (eqb 1) col)))
     (true-or-false (all (eqb 0) col))
 
 -- ---- how many gates
 
-length-muxed : (s next : ℕ) (ls hs : List Gate) → length (muxed s next ls hs) ≡ length ls + length hs + 4
-length-muxed s next ls hs =
-    length-append (ls ++ hs) _ ∙ ap (λ (k : ℕ). k + 4) (length-append ls hs)
+pub length-joined : (j : Join) (k next : ℕ) (is low high : List ℕ) → let ls = built (buildsLow j) (tree k next is low) in
+    length (joined j k next is low high)
+    ≡ length ls + length (built (buildsHigh j) (tree k (next + length ls) is high)) + joinSize j
+length-joined j k next is low high =
+    let ls = built (buildsLow j) (tree k next is low) in
+    let m = next + length ls in
+    let hs = built (buildsHigh j) (tree k m is high) in
+    let js = joinGates j (getD is k 0) (m - 1) (m + length hs) in
+    length-append (ls ++ hs) js
+    ∙ omega (arith, length-append ls hs, length-join j (getD is k 0) (m - 1) (m + length hs))
 
 some-case : (k next : ℕ) (is col : List ℕ) {gs : List Gate}
     → ((n : ℕ) (c : List ℕ) → 0 < length (tree k n is c)) → TreeCase k next is col gs → 0 < length gs
 some-case k next is col ih (zeros z) = omega arith
 some-case k next is col ih (ones o) = omega arith
 some-case k next is col ih (halves e) = ih next (take (2 ^ k) col)
-some-case k next is col ih choice =
-    let ls = tree k next is (take (2 ^ k) col) in
-    omega (arith, length-muxed (getD is k 0) next ls (tree k (next + length ls) is (drop (2 ^ k) col)))
+some-case k next is col ih (halved j e) =
+    omega (arith, length-joined j k next is (take (2 ^ k) col) (drop (2 ^ k) col), joinSize-bounds j)
 
 -- a tree has a gate
 pub tree-some : (k next : ℕ) (is col : List ℕ) → 0 < length (tree k next is col)
@@ -95,43 +104,27 @@ constant-good : (net c : ℕ) → c < 2 → gatesGood net (constant c ∷ []) �
 unfolding gatesGood gateGood constant gateOf permits leastCount mostCount operands unused all
 constant-good net c h = on-bit (λ k. gatesGood net (constant k ∷ []) ≡ true) refl refl c h
 
-pair-good : (net k a b : ℕ) → permits k 2 ≡ true → a < net → b < net → gateGood net (gateOf k 2 a b 0 0) ≡ true
-unfolding gateGood gateOf operands unused all
-pair-good net k a b e p q = rw (e, lt-ltb a net p, lt-ltb b net q)
-
-not-good : (net a : ℕ) → a < net → gateGood net (notOf a) ≡ true
-unfolding gateGood notOf gateOf permits leastCount mostCount operands unused all
-not-good net a p = rw (lt-ltb a net p)
-
-mux-good : (s l h n : ℕ) → s < n → l < n → h < n → gatesGood n (choosers s l h n) ≡ true
-unfolding gatesGood andOf orOf permits leastCount mostCount
-mux-good s l h n p q r =
-    rw (
-      not-good n s p,
-      pair-good (suc n) 4 n l refl (omega arith) (omega arith),
-      pair-good (suc (suc n)) 4 s h refl (omega arith) (omega arith),
-      pair-good (suc (suc (suc n))) 6 (n + 1) (n + 2) refl (omega arith) (omega arith),
-    )
-
 good-case : (k next : ℕ) (is col : List ℕ) {gs : List Gate} → getD is k 0 < next
     → ((n : ℕ) (c : List ℕ) → next ≤ n → gatesGood n (tree k n is c) ≡ true)
     → TreeCase k next is col gs → gatesGood next gs ≡ true
+unfolding gatesGood
 good-case k next is col low ih (zeros z) = constant-good next 0 (omega arith)
 good-case k next is col low ih (ones o) = constant-good next 1 (omega arith)
 good-case k next is col low ih (halves e) = ih next (take (2 ^ k) col) (omega arith)
-good-case k next is col low ih choice =
+good-case k next is col p ih (halved j e) =
+    let low = take (2 ^ k) col in
+    let high = drop (2 ^ k) col in
     let s = getD is k 0 in
-    let ls = tree k next is (take (2 ^ k) col) in
-    let hs = tree k (next + length ls) is (drop (2 ^ k) col) in
-    let ps : 0 < length ls = tree-some k next is (take (2 ^ k) col) in
-    let pt : 0 < length hs = tree-some k (next + length ls) is (drop (2 ^ k) col) in
-    let l = next + length ls - 1 in
-    let h = next + length ls + length hs - 1 in
-    let e : h + 1 ≡ next + length (ls ++ hs) = omega (arith, length-append ls hs) in
-    good-append next (ls ++ hs) (choosers s l h (h + 1))
-    (good-append next ls hs (ih next (take (2 ^ k) col) (omega arith)) (ih (next + length ls) (drop (2 ^ k) col) (omega arith)))
-    (subst (λ (n : ℕ). gatesGood n (choosers s l h (h + 1)) ≡ true) e
-    (mux-good s l h (h + 1) (omega arith) (omega arith) (omega arith)))
+    let ls = built (buildsLow j) (tree k next is low) in
+    let m = next + length ls in
+    let hs = built (buildsHigh j) (tree k m is high) in
+    let n = m + length hs in
+    let i : n ≡ next + length (ls ++ hs) = omega (arith, length-append ls hs) in
+    good-append next (ls ++ hs) (joinGates j s (m - 1) n)
+    (good-append next ls hs
+    (built-case (λ gs. gatesGood next gs ≡ true) (buildsLow j) refl (ih next low (omega arith)))
+    (built-case (λ gs. gatesGood m gs ≡ true) (buildsHigh j) refl (ih m high (omega arith))))
+    (subst (λ (x : ℕ). gatesGood x (joinGates j s (m - 1) n) ≡ true) i (join-good j s (m - 1) n (omega arith) (omega arith)))
 
 -- the gates of a tree over nets below its first
 pub tree-good : (k next : ℕ) (is col : List ℕ) → ((i : ℕ) → i < k → getD is i 0 < next)
@@ -146,19 +139,6 @@ tree-good (suc k) next is col h =
     good-case k next is col (h k (omega arith))
     (λ n c l. tree-good k n is c (λ i b. let p = h i (omega arith) in omega arith))
     (tree-case k next is col)
-
--- ---- choosers
-
--- what the gates that choose give
-choice-of-bits : (s l h : ℕ) → s < 2 → l < 2 → h < 2
-    → max (min (1 - s) (min l 1)) (max (min s (min h 1)) 0) ≡ getD (l ∷ h ∷ []) s 0
-choice-of-bits s l h p q r =
-    let v : ℕ → ℕ → ℕ → Type 0 = λ x y z. max (min (1 - x) (min y 1)) (max (min x (min z 1)) 0) ≡ getD (y ∷ z ∷ []) x 0 in
-    on-bit (λ x. v x l h)
-    (on-bit (λ y. v 0 y h) (on-bit (v 0 0) refl refl h r) (on-bit (v 0 1) refl refl h r) l q)
-    (on-bit (λ y. v 1 y h) (on-bit (v 1 0) refl refl h r) (on-bit (v 1 1) refl refl h r) l q)
-    s
-    p
 
 -- ---- columns
 
@@ -194,14 +174,6 @@ entry-halves col k q s h b =
 entry-alike : (a s : ℕ) → s < 2 → getD (a ∷ a ∷ []) s 0 ≡ a
 entry-alike a s b = on-bit (λ x. getD (a ∷ a ∷ []) x 0 ≡ a) refl refl s b
 
-entry-ones : (col : List ℕ) → all (eqb 1) col ≡ true → (r : ℕ) → r < length col → getD col r 0 ≡ 1
-entry-ones [] o r h = let f : ⊥ = omega arith in absurd f
-entry-ones (c ∷ col) o zero h = sym (eqb-true 1 c (all-cons (eqb 1) c col o .0))
-entry-ones (c ∷ col) o (suc r) h = entry-ones col (all-cons (eqb 1) c col o .1) r (omega arith)
-
-entry-zeros : (col : List ℕ) → all (eqb 0) col ≡ true → (r : ℕ) → getD col r 0 ≡ 0
-entry-zeros col z r = sym (eqb-true 0 (getD col r 0) (getD-all (eqb 0) col z refl r))
-
 -- ---- values
 
 module _ (ws : List ℕ) (b : Bits ws) where
@@ -230,21 +202,20 @@ module _ (ws : List ℕ) (b : Bits ws) where
       let e : net + 1 - 1 ≡ net + 0 = omega arith in
       ap (netAt ws) e ∙ t .at 0 (omega arith) ∙ on-bit (λ k. valueOf ws (constant k) ≡ k) refl refl c h
 
-  mux-value : (s l h n : ℕ) → Consistent valueOf ws n (choosers s l h n)
-      → netAt ws (n + 3) ≡ getD (netAt ws l ∷ netAt ws h ∷ []) (netAt ws s) 0
-  unfolding valueOf operands notOf andOf orOf gateOf gateValue inverted conj disj
-  mux-value s l h n t =
-      let p : netAt ws n ≡ 1 - netAt ws s = ap (netAt ws) (sym (add-zero n)) ∙ t .at 0 (omega arith) in
-      let q : netAt ws (n + 1) ≡ min (netAt ws n) (min (netAt ws l) 1) = t .at 1 (omega arith) in
-      let r : netAt ws (n + 2) ≡ min (netAt ws s) (min (netAt ws h) 1) = t .at 2 (omega arith) in
-      let u : netAt ws (n + 3) ≡ max (netAt ws (n + 1)) (max (netAt ws (n + 2)) 0) = t .at 3 (omega arith) in
-      (cc) ∙ choice-of-bits (netAt ws s) (netAt ws l) (netAt ws h) (netAt-lt b s) (netAt-lt b l) (netAt-lt b h)
-
   -- the last net of a tree over k nets has the column's entry at their reading
   abbrev Reads : ℕ → List ℕ → Type 0
   Reads k is =
       (next : ℕ) (col : List ℕ) → Bits col → length col ≡ 2 ^ k → Consistent valueOf ws next (tree k next is col)
       → netAt ws (next + length (tree k next is col) - 1) ≡ getD col (readingOf is k) 0
+
+  -- .. and so has the last net of a half's tree, where it has one
+  built-value : (b : Bool) (k next : ℕ) (is half : List ℕ) → Reads k is → Bits half → length half ≡ 2 ^ k
+      → Consistent valueOf ws next (built b (tree k next is half)) → b ≡ true
+      → netAt ws (next + length (built b (tree k next is half)) - 1) ≡ getD half (readingOf is k) 0
+  built-value b k next is half ih c l t e =
+      let gs = tree k next is half in
+      ap (λ (b : Bool). netAt ws (next + length (built b gs) - 1)) e
+      ∙ ih next half c l (subst (λ (b : Bool). Consistent valueOf ws next (built b gs)) e t)
 
   value-case : (k next : ℕ) (is col : List ℕ) {gs : List Gate} → k < length is → Bits col → length col ≡ 2 ^ suc k
       → Reads k is → TreeCase k next is col gs → Consistent valueOf ws next gs
@@ -264,32 +235,40 @@ module _ (ws : List ℕ) (b : Bits ws) where
       ∙ ap (λ (xs : List ℕ). getD (getD low q 0 ∷ getD xs q 0 ∷ []) s 0) e
       ∙ sym (entry-halves col k q s (reading-below is k (omega arith)) (netAt-lt b (getD is k 0)))
       ∙ ap (λ (r : ℕ). getD col r 0) (sym (reading-suc is k h))
-  value-case k next is col h c l ih choice t =
+  value-case k next is col h c l ih (halved j e) t =
       let s = getD is k 0 in
       let q = readingOf is k in
       let low : List ℕ = take (2 ^ k) col in
       let high : List ℕ = drop (2 ^ k) col in
-      let ls = tree k next is low in
-      let hs = tree k (next + length ls) is high in
-      let ps : 0 < length ls = tree-some k next is low in
-      let pt : 0 < length hs = tree-some k (next + length ls) is high in
-      let x = next + length ls - 1 in
-      let y = next + length ls + length hs - 1 in
-      let ms = choosers s x y (y + 1) in
-      let e : next + length (ls ++ hs) ≡ y + 1 = omega (arith, length-append ls hs) in
-      let n : next + length (muxed s next ls hs) - 1 ≡ y + 1 + 3 = omega (arith, length-muxed s next ls hs) in
-      let m : length low ≡ 2 ^ k = length-take-le (2 ^ k) col (omega (arith, pow-suc 2 k)) in
-      let o : length high ≡ 2 ^ k = length-drop (2 ^ k) col ∙ omega (arith, pow-suc 2 k) in
-      let both = consistent-left valueOf ws next (ls ++ hs) ms t in
-      let chosen = consistent-right valueOf ws next (ls ++ hs) ms t in
-      let p : netAt ws x ≡ getD low q 0 = ih next low (bits-take c (2 ^ k)) m (consistent-left valueOf ws next ls hs both) in
-      let r : netAt ws y ≡ getD high q 0 =
-      ih (next + length ls) high (bits-drop c (2 ^ k)) o (consistent-right valueOf ws next ls hs both) in
-      ap (netAt ws) n
-      ∙ mux-value s x y (y + 1) (subst (λ (i : ℕ). Consistent valueOf ws i ms) e chosen)
-      ∙ ap (λ (v : ℕ). getD (v ∷ netAt ws y ∷ []) (netAt ws s) 0) p
+      let ls = built (buildsLow j) (tree k next is low) in
+      let m = next + length ls in
+      let hs = built (buildsHigh j) (tree k m is high) in
+      let n = m + length hs in
+      let js = joinGates j s (m - 1) n in
+      let a : next + length (ls ++ hs) ≡ n = omega (arith, length-append ls hs) in
+      let z : next + length (joined j k next is low high) - 1 ≡ n + joinSize j - 1 = omega (arith, length-joined j k next is low high) in
+      let x : length low ≡ 2 ^ k = length-take-le (2 ^ k) col (omega (arith, pow-suc 2 k)) in
+      let y : length high ≡ 2 ^ k = length-drop (2 ^ k) col ∙ omega (arith, pow-suc 2 k) in
+      let d = reading-below is k (omega arith) in
+      let both = consistent-left valueOf ws next (ls ++ hs) js t in
+      let last = consistent-right valueOf ws next (ls ++ hs) js t in
+      let u : buildsHigh j ≡ false → m - 1 ≡ n - 1 =
+      λ f. sym (ap (λ (b : Bool). m + length (built b (tree k m is high)) - 1) f ∙ omega arith) in
+      let p : lowValue j (netAt ws (m - 1)) ≡ getD low q 0 =
+      lowValue-built j
+      (built-value (buildsLow j) k next is low ih (bits-take c (2 ^ k)) x (consistent-left valueOf ws next ls hs both))
+      ∙ ap (λ (i : Join). lowValue i (getD low q 0)) (sym e)
+      ∙ join-entries low high q (omega arith) (omega arith) .0 in
+      let r : highValue j (netAt ws (n - 1)) ≡ getD high q 0 =
+      highValue-built j
+      (built-value (buildsHigh j) k m is high ih (bits-drop c (2 ^ k)) y (consistent-right valueOf ws next ls hs both))
+      ∙ ap (λ (i : Join). highValue i (getD high q 0)) (sym e)
+      ∙ join-entries low high q (omega arith) (omega arith) .1 in
+      ap (netAt ws) z
+      ∙ join-value ws b j s (m - 1) n (subst (λ (i : ℕ). Consistent valueOf ws i js) a last) u
+      ∙ ap (λ (v : ℕ). getD (v ∷ highValue j (netAt ws (n - 1)) ∷ []) (netAt ws s) 0) p
       ∙ ap (λ (v : ℕ). getD (getD low q 0 ∷ v ∷ []) (netAt ws s) 0) r
-      ∙ sym (entry-halves col k q (netAt ws s) (reading-below is k (omega arith)) (netAt-lt b s))
+      ∙ sym (entry-halves col k q (netAt ws s) d (netAt-lt b s))
       ∙ ap (λ (i : ℕ). getD col i 0) (sym (reading-suc is k h))
 
   leaf-value : (next : ℕ) (is col : List ℕ) → Bits col → length col ≡ 1

@@ -1,9 +1,10 @@
--- Laws of specs/Tree and specs/Building: packed gates put into places, and multiplexer trees. Assumes nothing.
+-- Laws of specs/Tree and specs/Inner/Tree: packed gates put into places, and multiplexer trees. Assumes nothing.
 use Prim.Native.Nat.{ℕ, zero, suc, _+_, _-_, _*_, _/_, _^_, _≤_, _<_}
 use mathlib.Core.Path.{_≡_, refl, sym, _∙_, ap, subst}
 use mathlib.Core.List.{List, [], _∷_, _++_, map, append-assoc, append-nil}
 use mathlib.Core.Bool.{Bool, true, false, cond, _&&_, true≢false}
-use native.Mathlib.Nat.{zero-add, suc-add, two-pow-succ}
+use mathlib.Core.Logic.{_⊎_, ⊎-elim, _↔_}
+use native.Mathlib.Nat.{add-zero, zero-add, suc-add, two-pow-succ}
 use native.Mathlib.Numerals.{add-one, sub-one}
 use native.Mathlib.Omega.{arith}
 use borrow.Author.Tests.{eq-eqb}
@@ -11,7 +12,7 @@ use lib.Dec.{eqb, lit≤, lit<}
 use lib.ListN.{length, getD, take, drop, set, length-set, length-append, length-take, length-drop, length-map}
 use lib.ListN.{drop-of-length-le, take-append-drop, List·getD-map}
 use lib.Seq.{append-snoc, drop-cons, drop-drop, drop-set-lt, take-nil, take-suc-set, take-take, length-take-le}
-use lib.Seq.{getD-take, getD-drop}
+use lib.Seq.{getD-take, getD-drop, ext-getD}
 use lib.Pow.{pow-pos, pow-mono}
 use Rattle.records.specs.Bytes.{all, placed}
 use Rattle.records.specs.Gate.{Gate}
@@ -19,17 +20,20 @@ use Rattle.records.specs.Claims.{Below}
 use Rattle.records.proofs.Laws.Bytes.{and-both}
 use Rattle.engine.specs.Choice.{same}
 use Rattle.engine.specs.Eval.{bit}
-use Rattle.engine.specs.Tree.{constant, notOf, andOf, orOf, column, tree, treeSize}
+use Rattle.engine.specs.Tree.{constant, column, joinOf, buildsLow, buildsHigh, joinGates, tree, treeSize}
 use Rattle.engine.specs.Inner.Packed.{packed, packedFrom}
 use Rattle.engine.specs.Fit.{Trees, treesFrom}
-use Rattle.engine.specs.Inner.Tree.{GateRoom, GatesPut, TablePart, columnPart, startBy, treeStart, mux, treesSize, supportTrees, TreesPut}
+use Rattle.engine.specs.Inner.Tree.{GateRoom, GatesPut, TablePart, columnPart, startBy, treeStart, joinSize, JoinRoom, treesSize, supportTrees, TreesPut}
+use Rattle.engine.specs.declared.tree.Join.{Join}
+use Rattle.engine.specs.declared.tree.Join.the-variants.{Both}
 use Rattle.engine.specs.declared.tree.TreeStart.{TreeStart}
 use Rattle.engine.specs.declared.tree.TreeStart.the-variants as TreeStart
-use Rattle.engine.proofs.Laws.Choice.{not-both}
+use Rattle.engine.proofs.Laws.Choice.{not-both, same-true, same-iff-equal}
 use Rattle.engine.proofs.Laws.Eval.{bit-lt}
 use Rattle.engine.proofs.Laws.EvalWords.{map-take}
 use Rattle.engine.proofs.Laws.MiterCode.{packedFrom-append}
-use Rattle.engine.proofs.Laws.FitTree.{length-nets}
+use Rattle.engine.proofs.Laws.FitTree.{built, joined, length-joined, length-nets}
+use Rattle.engine.proofs.Laws.Join.{joinSize-bounds}
 use Rattle.engine.proofs.Laws.Word.{bit-zero}
 
 -- ---- gates in places
@@ -71,6 +75,11 @@ room-kept h p = record { long = p .long ∙ h .long; room = h .room; nets = h .n
 pub room-less : {base m n : ℕ} {cs : List ℕ} → GateRoom base n cs → m ≤ n → GateRoom base m cs
 room-less h l = record { long = h .long; room = omega arith; nets = omega arith }
 
+-- room for one more gate behind those put
+pub room-next : {base n count r : ℕ} {cs cs′ : List ℕ} {gs : List Gate} → GateRoom base n cs → GatesPut base count cs gs r cs′
+    → r + 1 ≤ n → GateRoom base (r + 1) cs′
+room-next h p l = room-less (room-kept h p) l
+
 -- the same gates
 pub gates-put-same : {base count r : ℕ} {cs cs′ : List ℕ} {gs hs : List Gate} → GatesPut base count cs gs r cs′ → gs ≡ hs
     → GatesPut base count cs hs r cs′
@@ -84,38 +93,10 @@ pair-below a b p q (suc (suc zero)) = omega arith
 pair-below a b p q (suc (suc (suc zero))) = omega arith
 pair-below a b p q (suc (suc (suc (suc i)))) = omega arith
 
--- the four stores of a multiplexer
-pub mux-put : (base count s l h : ℕ) (cs : List ℕ) → GateRoom base (count + 4) cs → h + 1 ≡ base + count → {w x y z : ℕ}
-    → w ≡ packed (h + 1) (notOf s) → x ≡ packed (h + 1 + 1) (andOf (h + 1) l)
-    → y ≡ packed (h + 1 + 2) (andOf s h) → z ≡ packed (h + 1 + 3) (orOf (h + 1 + 1) (h + 1 + 2))
-    → GatesPut base count cs (mux s l h) (count + 4) (set (set (set (set cs count w) (count + 1) x) (count + 2) y) (count + 3) z)
-unfolding mux
-mux-put base count s l h cs r e {w} {x} {y} {z} p q u v =
-    let a = count + 1 in
-    let b = a + 1 in
-    let d = b + 1 in
-    let i₂ : count + 2 ≡ b = omega arith in
-    let i₃ : count + 3 ≡ d = omega arith in
-    let i₄ : count + 4 ≡ d + 1 = omega arith in
-    let n₁ : h + 1 + 1 ≡ base + a = omega arith in
-    let n₂ : h + 1 + 2 ≡ base + b = omega arith in
-    let n₃ : h + 1 + 3 ≡ base + d = omega arith in
-    let g₀ = notOf s in
-    let g₁ = andOf (h + 1) l in
-    let g₂ = andOf s h in
-    let g₃ = orOf (h + 1 + 1) (h + 1 + 2) in
-    let w′ : w ≡ packed (base + count) g₀ = p ∙ ap (λ (n : ℕ). packed n g₀) e in
-    let x′ : x ≡ packed (base + a) g₁ = q ∙ ap (λ (n : ℕ). packed n g₁) n₁ in
-    let y′ : y ≡ packed (base + b) g₂ = u ∙ ap (λ (n : ℕ). packed n g₂) n₂ in
-    let z′ : z ≡ packed (base + d) g₃ = v ∙ ap (λ (n : ℕ). packed n g₃) n₃ in
-    let r₁ : GateRoom base a cs = room-less r (omega arith) in
-    let p₁ = gates-put-one base count cs r₁ g₀ in
-    let p₂ = gates-put-one base a _ (room-kept (room-less r (omega arith)) p₁) g₁ in
-    let p₁₂ = gates-put-append p₁ p₂ in
-    let p₃ = gates-put-one base b _ (room-kept (room-less r (omega arith)) p₁₂) g₂ in
-    let p₁₂₃ = gates-put-append p₁₂ p₃ in
-    let p₄ = gates-put-one base d _ (room-kept (room-less r (omega arith)) p₁₂₃) g₃ in
-    rw (w′, x′, y′, z′, i₂, i₃, i₄) (gates-put-append p₁₂₃ p₄)
+-- no gates put
+pub gates-put-none : (base count : ℕ) (cs : List ℕ) → GatesPut base count cs [] count cs
+unfolding packedFrom
+gates-put-none base count cs = record { end = sym (add-zero count); gates = sym (append-nil (take count cs)); long = refl }
 
 -- ---- columns
 
@@ -180,6 +161,25 @@ module _ (tb : List ℕ) (at bt n t : ℕ) (h : at + n ≤ length tb) (k : bt + 
       let f = drop-of-length-le d {i = i} (omega (arith, length-column tb bt n t k)) in
       ap (λ (l : List ℕ). same l (drop i d)) e ∙ ap (same []) f
 
+  -- they are the same exactly when the bits agree at every place
+  pub same-iff-bits : (same (column (take n (drop at tb)) t) (column (take n (drop bt tb)) t) ≡ true)
+      ↔ ((i : ℕ) → i < n → bit t (getD tb (at + i) 0) ≡ bit t (getD tb (bt + i) 0))
+  same-iff-bits =
+      let c : List ℕ = column (take n (drop at tb)) t in
+      let d : List ℕ = column (take n (drop bt tb)) t in
+      let m : length c ≡ n = length-column tb at n t h in (
+        λ e i l.
+            sym (getD-column tb at n t h i l)
+            ∙ ap (λ (xs : List ℕ). getD xs i 0) (same-true c d e)
+            ∙ getD-column tb bt n t k i l,
+        λ f.
+            same-iff-equal c d .1
+            (ext-getD 0 c d (m ∙ sym (length-column tb bt n t k))
+            (λ i l.
+            let b : i < n = omega arith in
+            getD-column tb at n t h i b ∙ f i b ∙ sym (getD-column tb bt n t k i b))),
+      )
+
 -- ---- the halves of a column
 
 drop-map : (f : ℕ → ℕ) (n : ℕ) (xs : List ℕ) → drop n (map f xs) ≡ map f (drop n xs)
@@ -238,8 +238,9 @@ single-bit tb at t h z =
 
 pub start-halves : (tb : List ℕ) (at k t half : ℕ) → at + 2 ^ k ≤ length tb → half ≡ 2 ^ k / 2
     → all (eqb 0) (columnPart tb at k t) ≡ false → all (eqb 1) (columnPart tb at k t) ≡ false
-    → treeStart k (columnPart tb at k t)
-    ≡ cond (same (column (take half (drop at tb)) t) (column (take half (drop (at + half) tb)) t)) TreeStart.Equal TreeStart.Split
+    → let low = column (take half (drop at tb)) t in
+    let high = column (take half (drop (at + half) tb)) t in
+    treeStart k (columnPart tb at k t) ≡ cond (same low high) TreeStart.Equal (TreeStart.Split (joinOf low high))
 unfolding treeStart startBy
 start-halves tb at zero t half h e z o = absurd (not-both (single-bit tb at t h z) o)
 start-halves tb at (suc k) t half h e z o =
@@ -254,19 +255,34 @@ branch z o e p q r s = elim z [ true ↦ p | false ↦ elim o [ true ↦ q | fal
 
 tree-branch : (k next : ℕ) (is col : List ℕ) → let low = take (2 ^ k) col in
     let high = drop (2 ^ k) col in
-    let ls = tree k next is low in
-    let hs = tree k (next + length ls) is high in
     tree (suc k) next is col
-    ≡ branch (all (eqb 0) col) (all (eqb 1) col) (same low high) (constant 0 ∷ []) (constant 1 ∷ []) ls
-    (ls ++ hs ++ mux (getD is k 0) (next + length ls - 1) (next + length ls + length hs - 1))
-unfolding tree branch mux
+    ≡ branch (all (eqb 0) col) (all (eqb 1) col) (same low high) (constant 0 ∷ []) (constant 1 ∷ []) (tree k next is low)
+    (joined (joinOf low high) k next is low high)
+unfolding tree branch
 tree-branch k next is col = refl
+
+-- how many gates a half has
+abbrev pub builtSize : Bool → ℕ → ℕ
+builtSize b n = elim b [ true ↦ n | false ↦ 0 ]
+
+length-built : (b : Bool) (gs : List Gate) → length (built b gs) ≡ builtSize b (length gs)
+length-built true gs = refl
+length-built false gs = refl
+
+builtSize-le : (b : Bool) (n : ℕ) → builtSize b n ≤ n
+builtSize-le true n = omega arith
+builtSize-le false n = omega arith
+
+-- how many gates a tree of two halves has
+abbrev pub joinedSize : Join → ℕ → ℕ → ℕ
+joinedSize j x y = builtSize (buildsLow j) x + builtSize (buildsHigh j) y + joinSize j
 
 treeSize-branch : (k : ℕ) (col : List ℕ) → let low = take (2 ^ k) col in
     let high = drop (2 ^ k) col in
     treeSize (suc k) col
-    ≡ branch (all (eqb 0) col) (all (eqb 1) col) (same low high) 1 1 (treeSize k low) (treeSize k low + treeSize k high + 4)
-unfolding treeSize branch
+    ≡ branch (all (eqb 0) col) (all (eqb 1) col) (same low high) 1 1 (treeSize k low)
+    (joinedSize (joinOf low high) (treeSize k low) (treeSize k high))
+unfolding treeSize branch joinSize
 treeSize-branch k col = refl
 
 -- the four cases
@@ -279,70 +295,82 @@ tests false false false p q r s = s refl refl refl
 
 -- how many gates a tree has
 pub length-tree : (k next : ℕ) (is col : List ℕ) → length (tree k next is col) ≡ treeSize k col
-unfolding tree treeSize branch mux
+unfolding tree treeSize branch
 length-tree zero next is col = refl
 length-tree (suc k) next is col =
     let low = take (2 ^ k) col in
     let high = drop (2 ^ k) col in
+    let j = joinOf low high in
     let ls = tree k next is low in
-    let hs = tree k (next + length ls) is high in
-    let m = mux (getD is k 0) (next + length ls - 1) (next + length ls + length hs - 1) in
+    let m = next + length (built (buildsLow j) ls) in
+    let hs = tree k m is high in
     tests (all (eqb 0) col) (all (eqb 1) col) (same low high)
     (λ z. rw (tree-branch k next is col, treeSize-branch k col, z))
     (λ z o. rw (tree-branch k next is col, treeSize-branch k col, z, o))
     (λ z o e. rw (tree-branch k next is col, treeSize-branch k col, z, o, e) (length-tree k next is low))
     (λ z o e.
     rw (tree-branch k next is col, treeSize-branch k col, z, o, e)
-    (length-append (ls ++ hs) m
-    ∙ omega (arith, length-append ls hs, length-tree k next is low, length-tree k (next + length ls) is high)))
+    (length-joined j k next is low high
+    ∙ ap (λ (n : ℕ). n + length (built (buildsHigh j) hs) + joinSize j)
+    (length-built (buildsLow j) ls ∙ ap (builtSize (buildsLow j)) (length-tree k next is low))
+    ∙ ap (λ (n : ℕ). builtSize (buildsLow j) (treeSize k low) + n + joinSize j)
+    (length-built (buildsHigh j) hs ∙ ap (builtSize (buildsHigh j)) (length-tree k m is high))))
 
--- a tree has a gate, and a full one a leaf for each entry and four gates for each branch
+-- a tree has a gate, and at most a leaf for each entry and four gates for each branch
 pub treeSize-bounds : (k : ℕ) (col : List ℕ) → (0 < treeSize k col) × (treeSize k col + 4 ≤ 5 * 2 ^ k)
 unfolding treeSize branch
 treeSize-bounds zero col = (lit< tt, lit≤ tt)
 treeSize-bounds (suc k) col =
-    let low = treeSize-bounds k (take (2 ^ k) col) in
-    let high = treeSize-bounds k (drop (2 ^ k) col) in
+    let x = take (2 ^ k) col in
+    let y = drop (2 ^ k) col in
+    let j = joinOf x y in
+    let low = treeSize-bounds k x in
+    let high = treeSize-bounds k y in
     let n = two-pow-succ k in
     let p = pow-pos k in
-    tests (all (eqb 0) col) (all (eqb 1) col) (same (take (2 ^ k) col) (drop (2 ^ k) col))
+    let b = joinSize-bounds j in
+    let l = builtSize-le (buildsLow j) (treeSize k x) in
+    let h = builtSize-le (buildsHigh j) (treeSize k y) in
+    tests (all (eqb 0) col) (all (eqb 1) col) (same x y)
     (λ z. rw (treeSize-branch k col, z) (omega arith, omega arith))
     (λ z o. rw (treeSize-branch k col, z, o) (omega arith, omega arith))
     (λ z o e. rw (treeSize-branch k col, z, o, e) (omega arith, omega arith))
     (λ z o e. rw (treeSize-branch k col, z, o, e) (omega arith, omega arith))
 
 -- what a start tells of the three tests
-by-constant : (z o e : Bool) (x : ℕ) {Q : Type 0} → startBy z o e ≡ TreeStart.Constant x → (z ≡ true → x ≡ 0 → Q)
+by-constant : (z o e : Bool) (i : Join) (x : ℕ) {Q : Type 0} → startBy z o e i ≡ TreeStart.Constant x → (z ≡ true → x ≡ 0 → Q)
     → (z ≡ false → o ≡ true → x ≡ 1 → Q) → Q
 unfolding startBy
-by-constant true o e x q p r = p refl cc
-by-constant false true e x q p r = r refl refl cc
-by-constant false false true x q p r = let f : _≡_ {A = ℕ} 0 1 = cc in let n : ⊥ = omega arith in absurd n
-by-constant false false false x q p r = let f : _≡_ {A = ℕ} 0 1 = cc in let n : ⊥ = omega arith in absurd n
+by-constant true o e i x q p r = p refl cc
+by-constant false true e i x q p r = r refl refl cc
+by-constant false false true i x q p r = let f : _≡_ {A = ℕ} 0 1 = cc in let n : ⊥ = omega arith in absurd n
+by-constant false false false i x q p r = let f : _≡_ {A = ℕ} 0 1 = cc in let n : ⊥ = omega arith in absurd n
 
-by-equal : (z o e : Bool) → startBy z o e ≡ TreeStart.Equal → (z ≡ false) × (o ≡ false) × (e ≡ true)
+by-equal : (z o e : Bool) (i : Join) → startBy z o e i ≡ TreeStart.Equal → (z ≡ false) × (o ≡ false) × (e ≡ true)
 unfolding startBy
-by-equal true o e q = let f : _≡_ {A = ℕ} 0 1 = cc in let n : ⊥ = omega arith in absurd n
-by-equal false true e q = let f : _≡_ {A = ℕ} 0 1 = cc in let n : ⊥ = omega arith in absurd n
-by-equal false false true q = (refl, refl, refl)
-by-equal false false false q = let f : _≡_ {A = ℕ} 0 1 = cc in let n : ⊥ = omega arith in absurd n
+by-equal true o e i q = let f : _≡_ {A = ℕ} 0 1 = cc in let n : ⊥ = omega arith in absurd n
+by-equal false true e i q = let f : _≡_ {A = ℕ} 0 1 = cc in let n : ⊥ = omega arith in absurd n
+by-equal false false true i q = (refl, refl, refl)
+by-equal false false false i q = let f : _≡_ {A = ℕ} 0 1 = cc in let n : ⊥ = omega arith in absurd n
 
-by-split : (z o e : Bool) → startBy z o e ≡ TreeStart.Split → (z ≡ false) × (o ≡ false) × (e ≡ false)
+by-split : (z o e : Bool) (i j : Join) → startBy z o e i ≡ TreeStart.Split j → (z ≡ false) × (o ≡ false) × (e ≡ false) × (i ≡ j)
 unfolding startBy
-by-split true o e q = let f : _≡_ {A = ℕ} 0 1 = cc in let n : ⊥ = omega arith in absurd n
-by-split false true e q = let f : _≡_ {A = ℕ} 0 1 = cc in let n : ⊥ = omega arith in absurd n
-by-split false false true q = let f : _≡_ {A = ℕ} 0 1 = cc in let n : ⊥ = omega arith in absurd n
-by-split false false false q = (refl, refl, refl)
+by-split true o e i j q = let f : _≡_ {A = ℕ} 0 1 = cc in let n : ⊥ = omega arith in absurd n
+by-split false true e i j q = let f : _≡_ {A = ℕ} 0 1 = cc in let n : ⊥ = omega arith in absurd n
+by-split false false true i j q = let f : _≡_ {A = ℕ} 0 1 = cc in let n : ⊥ = omega arith in absurd n
+by-split false false false i j q = (refl, refl, refl, cc)
 
 pub tree-constant : (k next : ℕ) (is col : List ℕ) (x : ℕ) → treeStart k col ≡ TreeStart.Constant x
     → tree k next is col ≡ constant x ∷ []
 unfolding tree branch treeStart startBy
 tree-constant zero next is col x q =
-    by-constant (all (eqb 0) col) true true x q
+    by-constant (all (eqb 0) col) true true Both x q
     (λ z n. rw (z, n))
     (λ z o n. rw (z, n))
 tree-constant (suc k) next is col x q =
-    by-constant (all (eqb 0) col) (all (eqb 1) col) (same (take (2 ^ k) col) (drop (2 ^ k) col)) x q
+    let low = take (2 ^ k) col in
+    let high = drop (2 ^ k) col in
+    by-constant (all (eqb 0) col) (all (eqb 1) col) (same low high) (joinOf low high) x q
     (λ z n. rw (tree-branch k next is col, z, n))
     (λ z o n. rw (tree-branch k next is col, z, o, n))
 
@@ -352,13 +380,13 @@ size-constant k col x q = sym (length-tree k 0 [] col) ∙ ap length (tree-const
 -- the tree over no nets is a constant
 pub deep-equal : (k : ℕ) (col : List ℕ) → treeStart k col ≡ TreeStart.Equal → 0 < k
 unfolding treeStart startBy
-deep-equal zero col q = absurd (true≢false (by-equal (all (eqb 0) col) true true q .1))
+deep-equal zero col q = absurd (true≢false (by-equal (all (eqb 0) col) true true Both q .1))
 deep-equal (suc k) col q = omega arith
 
-pub deep-split : (k : ℕ) (col : List ℕ) → treeStart k col ≡ TreeStart.Split → 0 < k
+pub deep-split : (k : ℕ) (col : List ℕ) (j : Join) → treeStart k col ≡ TreeStart.Split j → 0 < k
 unfolding treeStart startBy
-deep-split zero col q = absurd (true≢false (by-split (all (eqb 0) col) true true q .1))
-deep-split (suc k) col q = omega arith
+deep-split zero col j q = absurd (true≢false (by-split (all (eqb 0) col) true true Both j q .1))
+deep-split (suc k) col j q = omega arith
 
 module _ (tb : List ℕ) (at : ℕ) where
   pub tree-equal : (k t next : ℕ) (is : List ℕ) → treeStart k (columnPart tb at k t) ≡ TreeStart.Equal
@@ -367,7 +395,9 @@ module _ (tb : List ℕ) (at : ℕ) where
   tree-equal zero t next is q = let f : ⊥ = omega (arith, deep-equal zero (columnPart tb at zero t) q) in absurd f
   tree-equal (suc k) t next is q =
       let col = columnPart tb at (suc k) t in
-      let p = by-equal (all (eqb 0) col) (all (eqb 1) col) (same (take (2 ^ k) col) (drop (2 ^ k) col)) q in
+      let low = take (2 ^ k) col in
+      let high = drop (2 ^ k) col in
+      let p = by-equal (all (eqb 0) col) (all (eqb 1) col) (same low high) (joinOf low high) q in
       rw (sub-one (suc k), tree-branch k next is col, p .0, p .1, p .2, column-low tb at t k)
 
   pub size-equal : (k t : ℕ) → treeStart k (columnPart tb at k t) ≡ TreeStart.Equal
@@ -377,38 +407,45 @@ module _ (tb : List ℕ) (at : ℕ) where
       ∙ ap length (tree-equal k t 0 [] q)
       ∙ length-tree (k - 1) 0 [] (columnPart tb at (k - 1) t)
 
-  pub tree-split : (k t next : ℕ) (is : List ℕ) → treeStart k (columnPart tb at k t) ≡ TreeStart.Split
-      → let ls = tree (k - 1) next is (columnPart tb at (k - 1) t) in
-      let hs = tree (k - 1) (next + length ls) is (columnPart tb (at + 2 ^ (k - 1)) (k - 1) t) in
-      tree k next is (columnPart tb at k t)
-      ≡ ls ++ hs ++ mux (getD is (k - 1) 0) (next + length ls - 1) (next + length ls + length hs - 1)
+  pub tree-split : (k t next : ℕ) (is : List ℕ) (j : Join) → treeStart k (columnPart tb at k t) ≡ TreeStart.Split j
+      → tree k next is (columnPart tb at k t)
+      ≡ joined j (k - 1) next is (columnPart tb at (k - 1) t) (columnPart tb (at + 2 ^ (k - 1)) (k - 1) t)
   unfolding treeStart branch
-  tree-split zero t next is q = let f : ⊥ = omega (arith, deep-split zero (columnPart tb at zero t) q) in absurd f
-  tree-split (suc k) t next is q =
+  tree-split zero t next is j q = let f : ⊥ = omega (arith, deep-split zero (columnPart tb at zero t) j q) in absurd f
+  tree-split (suc k) t next is j q =
       let col = columnPart tb at (suc k) t in
-      let p = by-split (all (eqb 0) col) (all (eqb 1) col) (same (take (2 ^ k) col) (drop (2 ^ k) col)) q in
-      rw (sub-one (suc k), tree-branch k next is col, p .0, p .1, p .2, column-low tb at t k, column-high tb at t k)
+      let low = take (2 ^ k) col in
+      let high = drop (2 ^ k) col in
+      let p = by-split (all (eqb 0) col) (all (eqb 1) col) (same low high) (joinOf low high) j q in
+      rw (sub-one (suc k), tree-branch k next is col, p .0, p .1, p .2, p .3, column-low tb at t k, column-high tb at t k)
 
   -- by the sizes of both halves
-  pub size-split : (k t half x y : ℕ) → treeStart k (columnPart tb at k t) ≡ TreeStart.Split → half ≡ 2 ^ (k - 1)
-      → x ≡ treeSize (k - 1) (columnPart tb at (k - 1) t) → y ≡ treeSize (k - 1) (columnPart tb (at + half) (k - 1) t)
-      → treeSize k (columnPart tb at k t) ≡ x + y + 4
-  unfolding mux
-  size-split k t half x y q e l h =
-      let low = columnPart tb at (k - 1) t in
-      let high = columnPart tb (at + 2 ^ (k - 1)) (k - 1) t in
-      let ls = tree (k - 1) 0 [] low in
-      let hs = tree (k - 1) (0 + length ls) [] high in
-      let r : y ≡ treeSize (k - 1) high = h ∙ ap (λ (i : ℕ). treeSize (k - 1) (columnPart tb (at + i) (k - 1) t)) e in
-      sym (length-tree k 0 [] (columnPart tb at k t))
-      ∙ ap length (tree-split k t 0 [] q)
-      ∙ length-append (ls ++ hs) (mux (getD [] (k - 1) 0) (0 + length ls - 1) (0 + length ls + length hs - 1))
-      ∙ omega (arith, length-append ls hs, length-tree (k - 1) 0 [] low, length-tree (k - 1) (0 + length ls) [] high)
+  pub size-split : (k t half : ℕ) (j : Join) → treeStart k (columnPart tb at k t) ≡ TreeStart.Split j → half ≡ 2 ^ (k - 1)
+      → treeSize k (columnPart tb at k t)
+      ≡ joinedSize j (treeSize (k - 1) (columnPart tb at (k - 1) t)) (treeSize (k - 1) (columnPart tb (at + half) (k - 1) t))
+  unfolding treeStart branch
+  size-split zero t half j q e = let f : ⊥ = omega (arith, deep-split zero (columnPart tb at zero t) j q) in absurd f
+  size-split (suc k) t half j q e =
+      let col = columnPart tb at (suc k) t in
+      let low = take (2 ^ k) col in
+      let high = drop (2 ^ k) col in
+      let p = by-split (all (eqb 0) col) (all (eqb 1) col) (same low high) (joinOf low high) j q in
+      rw (e, sub-one (suc k), treeSize-branch k col, p .0, p .1, p .2, p .3, column-low tb at t k, column-high tb at t k)
 
 pub treeSize-small : (k : ℕ) (col : List ℕ) → k ≤ 10 → treeSize k col < 5120
 treeSize-small k col h =
     let m : 2 ^ k ≤ 2 ^ 10 = pow-mono h in
     omega (arith, treeSize-bounds k col)
+
+-- how many gates a half has, by the test r that it has a tree
+pub half-came : (b : Bool) (n : ℕ) {r : Bool} {x : ℕ} → r ≡ b → ((r ≡ true) × (x ≡ n)) ⊎ ((r ≡ false) × (x ≡ 0)) → x ≡ builtSize b n
+half-came b n {r} {x} e =
+    ⊎-elim
+    (λ (w : (r ≡ true) × (x ≡ n)). rw (sym e, w .0) (w .1))
+    (λ (w : (r ≡ false) × (x ≡ 0)). rw (sym e, w .0) (w .1))
+
+pub half-small : (b : Bool) (k : ℕ) (col : List ℕ) → k ≤ 10 → builtSize b (treeSize k col) < 5120
+half-small b k col h = omega (arith, builtSize-le b (treeSize k col), treeSize-small k col h)
 
 -- the halves of a part of the table
 pow-halves : (k : ℕ) → 0 < k → 2 ^ k ≡ 2 ^ (k - 1) + 2 ^ (k - 1)
@@ -428,32 +465,14 @@ part-high {tb} {at} {k} {t} {half} p h e =
 
 -- ---- trees put
 
--- the nets that a multiplexer is over, those before nets base + low and base + high
-pub record MuxNets (base low high : ℕ) : Type 0 where
-  pub low-fits : base + low < 2 ^ 64
-  pub low-one : 1 ≤ base + low
-  pub high-fits : base + high < 2 ^ 64
-  pub high-one : 1 ≤ base + high
-  pub order : base + low - 1 ≤ base + high - 1
-  pub last : base + high - 1 + 1 ≡ base + high
-
-mux-nets : (base low high : ℕ) → base + (high + 4) ≤ 1024 → 0 < low → low < high → MuxNets base low high
-mux-nets base low high p q r =
-    record {
-      low-fits = omega arith;
-      low-one = omega arith;
-      high-fits = omega arith;
-      high-one = omega arith;
-      order = omega arith;
-      last = omega arith;
-    }
-
 -- a constant is one of the first two kinds
 pub kind-constant : (k : ℕ) (col : List ℕ) (x : ℕ) → treeStart k col ≡ TreeStart.Constant x → x < 2
 unfolding treeStart startBy
-kind-constant zero col x q = by-constant (all (eqb 0) col) true true x q (λ z n. omega arith) (λ z o n. omega arith)
+kind-constant zero col x q = by-constant (all (eqb 0) col) true true Both x q (λ z n. omega arith) (λ z o n. omega arith)
 kind-constant (suc k) col x q =
-    by-constant (all (eqb 0) col) (all (eqb 1) col) (same (take (2 ^ k) col) (drop (2 ^ k) col)) x q
+    let low = take (2 ^ k) col in
+    let high = drop (2 ^ k) col in
+    by-constant (all (eqb 0) col) (all (eqb 1) col) (same low high) (joinOf low high) x q
     (λ z n. omega arith)
     (λ z o n. omega arith)
 
@@ -471,65 +490,86 @@ pub room-equal : {base : ℕ} {cs : List ℕ} (tb : List ℕ) (at k t count : �
     → GateRoom base (count + treeSize (k - 1) (columnPart tb at (k - 1) t)) cs
 room-equal tb at k t count q n = room-less n (omega (arith, size-equal tb at k t q))
 
-module _ (tb : List ℕ) (at k t half base : ℕ) (is : List ℕ) (q : treeStart k (columnPart tb at k t) ≡ TreeStart.Split)
+-- a half's gates are put where it has a tree, and none where it has not
+pub half-put : {b : Bool} {base count r : ℕ} {cs cs′ : List ℕ} {gs : List Gate} → b ≡ true → GatesPut base count cs gs r cs′
+    → GatesPut base count cs (built b gs) r cs′
+half-put {b} {base} {count} {r} {cs} {cs′} {gs} e p = rw e p
+
+pub half-none : {b : Bool} {base count : ℕ} {cs : List ℕ} (gs : List Gate) → b ≡ false
+    → GatesPut base count cs (built b gs) count cs
+half-none {b} {base} {count} {cs} gs e = rw e (gates-put-none base count cs)
+
+-- the position behind a half's gates
+half-end : {base count r : ℕ} {cs cs′ : List ℕ} (b : Bool) (k next : ℕ) (is col : List ℕ)
+    → GatesPut base count cs (built b (tree k next is col)) r cs′ → r ≡ count + builtSize b (treeSize k col)
+half-end {count = count} b k next is col p =
+    p .end
+    ∙ ap (λ (n : ℕ). count + n) (length-built b (tree k next is col) ∙ ap (builtSize b) (length-tree k next is col))
+
+-- .. which is not the first place, where it has a tree
+half-some : (b : Bool) (k count : ℕ) (col : List ℕ) → b ≡ true → 0 < count + builtSize b (treeSize k col)
+half-some b k count col e = rw e (omega (arith, treeSize-bounds k col))
+
+-- what a tree over k nets puts of the half from place at on, where it has a tree (b)
+abbrev pub HalfPut : Bool → List ℕ → ℕ → ℕ → ℕ → ℕ → List ℕ → ℕ → List ℕ → ℕ → List ℕ → Type 0
+HalfPut b tb at k t base is count cs r cs′ =
+    GatesPut base count cs (built b (tree (k - 1) (base + count) is (columnPart tb at (k - 1) t))) r cs′
+
+-- the tree of a column whose halves are joined by j
+module _ (tb : List ℕ) (at k t half base : ℕ) (is : List ℕ) (j : Join) (q : treeStart k (columnPart tb at k t) ≡ TreeStart.Split j)
     (e : half ≡ 2 ^ (k - 1)) where
-  split-size : treeSize k (columnPart tb at k t)
-      ≡ treeSize (k - 1) (columnPart tb at (k - 1) t) + treeSize (k - 1) (columnPart tb (at + half) (k - 1) t) + 4
-  split-size = size-split tb at k t half _ _ q e refl refl
-
-  -- room for the tree is room for each half's, and for the multiplexer
-  pub room-low : (count : ℕ) {cs : List ℕ} → GateRoom base (count + treeSize k (columnPart tb at k t)) cs
+  -- room for the tree is room for each half's, and for the gates that join them
+  pub room-low : (count : ℕ) {cs : List ℕ} → buildsLow j ≡ true → GateRoom base (count + treeSize k (columnPart tb at k t)) cs
       → GateRoom base (count + treeSize (k - 1) (columnPart tb at (k - 1) t)) cs
-  room-low count n = room-less n (omega (arith, split-size))
+  room-low count b n =
+      let l = ap (λ (i : Bool). builtSize i (treeSize (k - 1) (columnPart tb at (k - 1) t))) b in
+      room-less n (omega (arith, size-split tb at k t half j q e))
 
-  pub room-high : {count low : ℕ} {cs cs₁ : List ℕ} → GateRoom base (count + treeSize k (columnPart tb at k t)) cs
-      → GatesPut base count cs (tree (k - 1) (base + count) is (columnPart tb at (k - 1) t)) low cs₁
-      → GateRoom base (low + treeSize (k - 1) (columnPart tb (at + half) (k - 1) t)) cs₁
-  room-high n p =
-      room-less (room-kept n p) (omega (arith, split-size, tree-end (k - 1) _ is (columnPart tb at (k - 1) t) p))
+  module _ {count low : ℕ} {cs cs₁ : List ℕ} (n : GateRoom base (count + treeSize k (columnPart tb at k t)) cs)
+      (p : HalfPut (buildsLow j) tb at k t base is count cs low cs₁) where
+    low-end : low ≡ count + builtSize (buildsLow j) (treeSize (k - 1) (columnPart tb at (k - 1) t))
+    low-end = half-end (buildsLow j) (k - 1) (base + count) is (columnPart tb at (k - 1) t) p
 
-  module _ {count low high : ℕ} {cs cs₁ cs₂ : List ℕ} (n : GateRoom base (count + treeSize k (columnPart tb at k t)) cs)
-      (p : GatesPut base count cs (tree (k - 1) (base + count) is (columnPart tb at (k - 1) t)) low cs₁)
-      (r : GatesPut base low cs₁ (tree (k - 1) (base + low) is (columnPart tb (at + half) (k - 1) t)) high cs₂) where
-    high-end : high + 4 ≡ count + treeSize k (columnPart tb at k t)
-    high-end =
-        let l = tree-end (k - 1) _ is (columnPart tb at (k - 1) t) p in
-        let h = tree-end (k - 1) _ is (columnPart tb (at + half) (k - 1) t) r in
-        omega (arith, split-size)
+    pub room-high : buildsHigh j ≡ true → GateRoom base (low + treeSize (k - 1) (columnPart tb (at + half) (k - 1) t)) cs₁
+    room-high b =
+        let h = ap (λ (i : Bool). builtSize i (treeSize (k - 1) (columnPart tb (at + half) (k - 1) t))) b in
+        room-less (room-kept n p) (omega (arith, size-split tb at k t half j q e, low-end))
 
-    pub room-mux : GateRoom base (high + 4) cs₂
-    room-mux = room-less (room-kept (room-kept n p) r) (omega (arith, high-end))
+    pub room-join : {high : ℕ} {cs₂ : List ℕ} (s : ℕ) → s < 1024
+        → HalfPut (buildsHigh j) tb (at + half) k t base is low cs₁ high cs₂ → JoinRoom j s base low high cs₂
+    room-join {high} s h r =
+        let x = treeSize (k - 1) (columnPart tb at (k - 1) t) in
+        let y = treeSize (k - 1) (columnPart tb (at + half) (k - 1) t) in
+        let i : high ≡ low + builtSize (buildsHigh j) y =
+        half-end (buildsHigh j) (k - 1) (base + low) is (columnPart tb (at + half) (k - 1) t) r in
+        record {
+          gates = room-less (room-kept (room-kept n p) r) (omega (arith, size-split tb at k t half j q e, low-end));
+          chooser = h;
+          order = omega arith;
+          low-built = λ b. rw low-end (half-some (buildsLow j) (k - 1) count (columnPart tb at (k - 1) t) b);
+          high-built = λ b. rw i (half-some (buildsHigh j) (k - 1) low (columnPart tb (at + half) (k - 1) t) b);
+        }
 
-    pub nets-mux : MuxNets base low high
-    nets-mux =
-        let l = columnPart tb at (k - 1) t in
-        let h = columnPart tb (at + half) (k - 1) t in
-        let x = tree-end (k - 1) _ is l p in
-        let y = tree-end (k - 1) _ is h r in
-        mux-nets base low high (omega (arith, n .nets, high-end)) (omega (arith, treeSize-bounds (k - 1) l))
-        (omega (arith, treeSize-bounds (k - 1) h))
-
-  -- the halves' trees and the multiplexer are the tree
-  pub put-split : {count low high r : ℕ} {cs cs₁ cs₂ cs₃ : List ℕ}
-      → GatesPut base count cs (tree (k - 1) (base + count) is (columnPart tb at (k - 1) t)) low cs₁
-      → GatesPut base low cs₁ (tree (k - 1) (base + low) is (columnPart tb (at + half) (k - 1) t)) high cs₂
-      → GatesPut base high cs₂ (mux (getD is (k - 1) 0) (base + low - 1) (base + high - 1)) r cs₃
-      → GatesPut base count cs (tree k (base + count) is (columnPart tb at k t)) r cs₃
-  put-split {count} {low} {high} p v m =
-      let s = getD is (k - 1) 0 in
-      let ls = tree (k - 1) (base + count) is (columnPart tb at (k - 1) t) in
-      let hs = tree (k - 1) (base + low) is (columnPart tb (at + half) (k - 1) t) in
-      let hs′ = tree (k - 1) (base + count + length ls) is (columnPart tb (at + 2 ^ (k - 1)) (k - 1) t) in
-      let x : base + low ≡ base + count + length ls = omega (arith, p .end) in
-      let w : hs ≡ hs′ =
-      ap (λ (n : ℕ). tree (k - 1) n is (columnPart tb (at + half) (k - 1) t)) x
-      ∙ ap (λ (n : ℕ). tree (k - 1) (base + count + length ls) is (columnPart tb (at + n) (k - 1) t)) e in
-      let y : base + high ≡ base + count + length ls + length hs′ = omega (arith, p .end, v .end, ap length w) in
-      gates-put-same (gates-put-append (gates-put-append p v) m)
-      (ap (λ (l : List Gate). ls ++ l ++ mux s (base + low - 1) (base + high - 1)) w
-      ∙ ap (λ (n : ℕ). ls ++ hs′ ++ mux s (n - 1) (base + high - 1)) x
-      ∙ ap (λ (n : ℕ). ls ++ hs′ ++ mux s (base + count + length ls - 1) (n - 1)) y
-      ∙ sym (tree-split tb at k t (base + count) is q))
+    -- the halves' trees and the gates that join them are the tree
+    pub put-split : {high r : ℕ} {cs₂ cs₃ : List ℕ} → HalfPut (buildsHigh j) tb (at + half) k t base is low cs₁ high cs₂
+        → GatesPut base high cs₂ (joinGates j (getD is (k - 1) 0) (base + low - 1) (base + high)) r cs₃
+        → GatesPut base count cs (tree k (base + count) is (columnPart tb at k t)) r cs₃
+    put-split {high} v m =
+        let s = getD is (k - 1) 0 in
+        let ls = built (buildsLow j) (tree (k - 1) (base + count) is (columnPart tb at (k - 1) t)) in
+        let hs : ℕ → ℕ → List Gate =
+        λ i n. built (buildsHigh j) (tree (k - 1) n is (columnPart tb (at + i) (k - 1) t)) in
+        let x : base + low ≡ base + count + length ls = omega (arith, p .end) in
+        let y : base + high ≡ base + low + length (hs half (base + low)) = omega (arith, v .end) in
+        gates-put-same (gates-put-append (gates-put-append p v) m)
+        (ap (λ (n : ℕ). ls ++ hs half (base + low) ++ joinGates j s (base + low - 1) n) y
+        ∙ ap (λ (n : ℕ). ls ++ hs half n ++ joinGates j s (n - 1) (n + length (hs half n))) x
+        ∙ ap
+        (λ (i : ℕ).
+        let n = base + count + length ls in
+        ls ++ hs i n ++ joinGates j s (n - 1) (n + length (hs i n)))
+        e
+        ∙ sym (tree-split tb at k t (base + count) is j q))
 
 -- ---- the trees of all targets
 
@@ -540,9 +580,10 @@ tree-take zero n next is col h = refl
 tree-take (suc k) n next is col h =
     let low = take (2 ^ k) col in
     let high = drop (2 ^ k) col in
+    let j = joinOf low high in
     let l : k ≤ n = omega arith in
     let p = tree-take k n next is low l in
-    let q = tree-take k n (next + length (tree k next is low)) is high l in
+    let q = tree-take k n (next + length (built (buildsLow j) (tree k next is low))) is high l in
     rw (tree-branch k next (take n is) col, p, q, getD-take n is k 0 h, tree-branch k next is col)
 
 -- how many gates all trees have

@@ -1,6 +1,6 @@
 -- Laws of the gates in packed numbers (specs/Fitting, gateIn): good gates packed are those gates again; those of a patched netlist
 -- have four slots. Assumes nothing.
-use Prim.Native.Nat.{ℕ, zero, suc, _+_, _^_, _≤_, _<_}
+use Prim.Native.Nat.{ℕ, zero, suc, _+_, _-_, _^_, _≤_, _<_}
 use mathlib.Core.Path.{_≡_, refl, ap}
 use mathlib.Core.List.{List, [], _∷_, _++_, map}
 use mathlib.Core.Bool.{true}
@@ -12,13 +12,14 @@ use Rattle.records.specs.Netlist.{netAt}
 use Rattle.records.specs.Job.{Job}
 use Rattle.records.specs.Refusal.{gateGood, gatesGood}
 use Rattle.records.proofs.Laws.Bytes.{all-cons}
-use Rattle.engine.specs.Tree.{constant, notOf, andOf, orOf, column, tree}
+use Rattle.engine.specs.Tree.{constant, column, buildsLow, buildsHigh, tree}
 use Rattle.engine.specs.Fit.{treesFrom, trees, newFreeNet, newNets, gateIndices, moved, movedGates, fitted}
 use Rattle.engine.specs.Inner.Packed.{fields, packed, packedFrom, formed}
 use Rattle.engine.specs.Inner.Renumber.{gateIn}
 use Rattle.engine.proofs.Laws.Choice.{all-append}
 use Rattle.engine.proofs.Laws.FitGates.{noGate}
-use Rattle.engine.proofs.Laws.FitTree.{TreeCase, zeros, ones, halves, choice, tree-case}
+use Rattle.engine.proofs.Laws.FitTree.{TreeCase, zeros, ones, halves, halved, built, built-case, tree-case}
+use Rattle.engine.proofs.Laws.Join.{join-formed}
 use Rattle.engine.proofs.Laws.MiterCode.{formed-mapped}
 use Rattle.engine.proofs.Laws.Packed.{packed-kind, packed-count, packed-slots}
 use Rattle.engine.proofs.Laws.Run.{good-first, good-rest}
@@ -61,16 +62,19 @@ formed-moved j e ns (k ∷ ks) =
 
 formed-case : (k next : ℕ) (is col : List ℕ) {gs : List Gate}
     → ((n : ℕ) (c : List ℕ) → all formed (tree k n is c) ≡ true) → TreeCase k next is col gs → all formed gs ≡ true
-unfolding all formed constant notOf andOf orOf gateOf
+unfolding all formed constant gateOf
 formed-case k next is col ih (zeros z) = refl
 formed-case k next is col ih (ones o) = refl
 formed-case k next is col ih (halves e) = ih next (take (2 ^ k) col)
-formed-case k next is col ih choice =
-    let ls = tree k next is (take (2 ^ k) col) in
-    let hs = tree k (next + length ls) is (drop (2 ^ k) col) in
+formed-case k next is col ih (halved j e) =
+    let ls = built (buildsLow j) (tree k next is (take (2 ^ k) col)) in
+    let m = next + length ls in
+    let hs = built (buildsHigh j) (tree k m is (drop (2 ^ k) col)) in
     all-append formed (ls ++ hs) _
-    (all-append formed ls hs (ih next (take (2 ^ k) col)) (ih (next + length ls) (drop (2 ^ k) col)))
-    refl
+    (all-append formed ls hs
+    (built-case (λ gs. all formed gs ≡ true) (buildsLow j) refl (ih next (take (2 ^ k) col)))
+    (built-case (λ gs. all formed gs ≡ true) (buildsHigh j) refl (ih m (drop (2 ^ k) col))))
+    (join-formed j (getD is k 0) (m - 1) (m + length hs))
 
 formed-tree : (k next : ℕ) (is col : List ℕ) → all formed (tree k next is col) ≡ true
 unfolding tree all formed constant gateOf

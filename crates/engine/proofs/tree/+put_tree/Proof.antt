@@ -2,13 +2,16 @@
 use Prim.Native.Nat.{ℕ, _+_, _-_, _<_}
 use mathlib.Core.Path.{_≡_, sym, _∙_}
 use mathlib.Core.List.{List}
+use mathlib.Core.Logic.{⊎-elim}
 use native.Mathlib.Omega.{arith}
 use borrow.Author.Needs.{needs}
 use denote.Ref.{now}
+use Rattle.records.specs.Gate.{gateOf}
+use Rattle.engine.specs.Tree.{buildsLow, buildsHigh, constant as constantOf}
 use Rattle.engine.specs.Inner.Tree.{columnPart, treeStart}
 use Rattle.engine.specs.declared.tree.TreeStart.the-variants as TreeStart
-use Rattle.engine.proofs.Laws.Tree.{MuxNets, gates-put-same, deep-equal, deep-split, part-low, part-high, kind-constant}
-use Rattle.engine.proofs.Laws.Tree.{room-constant, room-equal, room-low, room-high, room-mux, nets-mux}
+use Rattle.engine.proofs.Laws.Tree.{HalfPut, gates-put-same, deep-equal, deep-split, part-low, part-high, kind-constant}
+use Rattle.engine.proofs.Laws.Tree.{room-constant, room-equal, room-low, room-high, room-join, half-put, half-none}
 use Rattle.engine.proofs.Laws.Tree.{tree-constant, tree-equal, put-split}
 use borrow.Fn.Kinds.{In}
 use borrow.Fn.PlainCycle.{Measures, is, falls, and}
@@ -16,8 +19,10 @@ use Rattle.engine.proofs.tree.put_tree.Reads as put-tree
 use Rattle.engine.proofs.tree.put_tree.Kinds as put-tree-kinds
 use Rattle.engine.proofs.tree.+put_tree.Lts-put_tree as put-tree-lts
 use Rattle.engine.proofs.choose.reading_count.Reads as reading-count-reads
-use Rattle.engine.proofs.tree.put_constant.Reads as put-constant-reads
-use Rattle.engine.proofs.tree.put_mux.Reads as put-mux-reads
+use Rattle.engine.proofs.tree.add_gate.Reads as add-gate-reads
+use Rattle.engine.proofs.tree.builds_high.Reads as builds-high-reads
+use Rattle.engine.proofs.tree.builds_low.Reads as builds-low-reads
+use Rattle.engine.proofs.tree.put_join.Reads as put-join-reads
 use Rattle.engine.proofs.tree.tree_start.Reads as tree-start-reads
 use Rattle.engine.proofs.tree.+put_tree.{statement}
 use Rattle.engine.proofs.tree.+put_tree.Tie.{close}
@@ -37,14 +42,18 @@ abbrev calls : ℕ → put-tree-lts.Claims
 calls t = (
   tree-start-reads.Asked,
   tree-start-reads.Learnt,
-  put-constant-reads.Asked,
-  put-constant-reads.Learnt,
+  add-gate-reads.Asked,
+  add-gate-reads.Learnt,
   put-tree-below t,
   put-tree.Post,
   reading-count-reads.Asked,
   reading-count-reads.Learnt,
-  put-mux-reads.Asked,
-  put-mux-reads.Learnt,
+  builds-low-reads.Asked,
+  builds-low-reads.Learnt,
+  builds-high-reads.Asked,
+  builds-high-reads.Learnt,
+  put-join-reads.Asked,
+  put-join-reads.Learnt,
 )
 
 -- the column that a call is about
@@ -65,37 +74,54 @@ equal t c =
     let q = sym (c .before .before .tree-start .ensures) ∙ c .enum-told .given .1 in
     (q, deep-equal (s .args .k) (columnAt t s) q)
 
-split : (t : ℕ) (c : put-tree-lts.After-enum-told2 (calls t) (put-tree-at t) put-tree.Post)
+split : (t : ℕ) (c : put-tree-lts.After-start2 (calls t) (put-tree-at t) put-tree.Post)
     → let s = c .before .before .before .before in
-    (treeStart (s .args .k) (columnAt t s) ≡ TreeStart.Split) × (0 < s .args .k)
+    (treeStart (s .args .k) (columnAt t s) ≡ TreeStart.Split (c .start2 .given .0 .0)) × (0 < s .args .k)
 split t c =
     let s = c .before .before .before .before in
-    let q = sym (c .before .before .tree-start .ensures) ∙ c .enum-told2 .given .1 in
-    (q, deep-split (s .args .k) (columnAt t s) q)
+    let q = sym (c .before .before .tree-start .ensures) ∙ c .start2 .given .1 in
+    (q, deep-split (s .args .k) (columnAt t s) _ q)
 
--- the nets of both halves' trees
-nets : (t : ℕ) (c : put-tree-lts.After-put-tree3 (calls t) (put-tree-at t) put-tree.Post)
+-- what is put of each half
+low-put : (t : ℕ) (c : put-tree-lts.Joined1 (calls t) (put-tree-at t) put-tree.Post)
+    → let w = c .before .before .before .before in
+    let a = w .before .before .before .before .args in
+    HalfPut (buildsLow (w .start2 .given .0 .0)) (now (a .table)) (a .at) (a .k) (a .t) (a .base) (a .t5) (a .count)
+    (now (a .gates))
+    (c .if1 .low)
+    (c .if1 .gates)
+low-put t c =
+    let b = c .before .builds-low .ensures in
+    ⊎-elim
+    (λ w. rw (w .3, w .4) (half-put (sym b ∙ w .0 .taken) (w .2 .ensures)))
+    (λ w. rw (w .1, w .2) (half-none _ (sym b ∙ w .0 .left)))
+    (c .if1 .came)
+
+high-put : (t : ℕ) (c : put-tree-lts.Joined2 (calls t) (put-tree-at t) put-tree.Post)
     → let l = c .before .before in
-    let s = l .before .before .before .before .before .before .before in
-    MuxNets (s .args .base) (l .put-tree2 .result) (c .put-tree3 .result)
-nets t c =
-    let l = c .before .before in
     let h = l .before .before in
-    let s = h .before .before .before .before .before in
-    let a = s .args in
-    nets-mux (now (a .table)) (a .at) (a .k) (a .t) _ (a .base) (a .t5) (split t (h .before) .0) (h .reading-count .ensures)
-    (s .pre .1 .1)
-    (l .put-tree2 .ensures)
-    (c .put-tree3 .ensures)
+    let w = h .before .before in
+    let a = w .before .before .before .before .args in
+    HalfPut (buildsHigh (w .start2 .given .0 .0)) (now (a .table)) (a .at + h .reading-count .result) (a .k) (a .t) (a .base) (a .t5)
+    (l .if1 .low)
+    (l .if1 .gates)
+    (c .if2 .high)
+    (c .if2 .gates)
+high-put t c =
+    let b = c .before .builds-high .ensures in
+    ⊎-elim
+    (λ w. rw (w .3, w .4) (half-put (sym b ∙ w .0 .taken) (w .2 .ensures)))
+    (λ w. rw (w .1, w .2) (half-none _ (sym b ∙ w .0 .left)))
+    (c .if2 .came)
 
 -- the last net of the support stands in its place
-last : (t : ℕ) (c : put-tree-lts.After-put-tree3 (calls t) (put-tree-at t) put-tree.Post)
-    → let s = c .before .before .before .before .before .before .before .before .before in
+last : (t : ℕ) (c : put-tree-lts.Joined2 (calls t) (put-tree-at t) put-tree.Post)
+    → let s = c .before .before .before .before .before .before .before .before .before .before in
     s .args .k - 1 < 10
 last t c =
-    let o = c .before .before .before .before .before in
-    let q = split t o .1 in
-    let p = o .before .before .before .before .pre .1 .0 .0 .most in
+    let w = c .before .before .before .before .before .before in
+    let q = split t w .1 in
+    let p = w .before .before .before .before .pre .1 .0 .0 .most in
     omega arith
 
 put-tree-tree-start-requires : (t : ℕ) → put-tree-lts.Need-tree-start-requires (calls t) (put-tree-at t) put-tree.Post
@@ -104,13 +130,16 @@ put-tree-tree-start-requires t c κs = c .before .pre .1 .0 .0
 put-tree-enum-known-start : (t : ℕ) → put-tree-lts.Need-enum-known-start (calls t) (put-tree-at t) put-tree.Post
 put-tree-enum-known-start t c = search needs
 
-put-tree-put-constant-requires : (t : ℕ) → put-tree-lts.Need-put-constant-requires (calls t) (put-tree-at t) put-tree.Post
-put-tree-put-constant-requires t c κs =
+put-tree-add-gate-requires : (t : ℕ) → put-tree-lts.Need-add-gate-requires (calls t) (put-tree-at t) put-tree.Post
+put-tree-add-gate-requires t c κs =
     let w = c .before .before in
     let s = w .before .before .before .before in
     let q = constant t w in (
       room-constant (s .args .count) (s .args .k) (columnAt t s) _ q (s .pre .1 .1),
-      kind-constant (s .args .k) (columnAt t s) _ q,
+      omega (arith, kind-constant (s .args .k) (columnAt t s) _ q),
+      omega arith,
+      omega arith,
+      omega arith,
     )
 
 put-tree-enum-told : (t : ℕ) → put-tree-lts.Need-enum-told (calls t) (put-tree-at t) put-tree.Post
@@ -132,101 +161,101 @@ put-tree-put-tree-requires t c κs =
       ),
     )
 
-put-tree-enum-told-2 : (t : ℕ) → put-tree-lts.Need-enum-told-2 (calls t) (put-tree-at t) put-tree.Post
-put-tree-enum-told-2 t c = search needs
+put-tree-enum-known-start-2 : (t : ℕ) → put-tree-lts.Need-enum-known-start-2 (calls t) (put-tree-at t) put-tree.Post
+put-tree-enum-known-start-2 t c = search needs
 
 put-tree-sub-reading-count : (t : ℕ) → put-tree-lts.Need-sub-reading-count (calls t) (put-tree-at t) put-tree.Post
-put-tree-sub-reading-count t c = split t c .1
+put-tree-sub-reading-count t c = split t (c .before) .1
 
 put-tree-reading-count-requires : (t : ℕ) → put-tree-lts.Need-reading-count-requires (calls t) (put-tree-at t) put-tree.Post
 put-tree-reading-count-requires t c κs =
-    let p = c .before .before .before .before .pre .1 .0 .0 .most in
+    let p = c .before .before .before .before .before .pre .1 .0 .0 .most in
     omega arith
 
+put-tree-builds-low-requires : (t : ℕ) → put-tree-lts.Need-builds-low-requires (calls t) (put-tree-at t) put-tree.Post
+put-tree-builds-low-requires t c κs = tt
+
 put-tree-sub-put-tree-2 : (t : ℕ) → put-tree-lts.Need-sub-put-tree-2 (calls t) (put-tree-at t) put-tree.Post
-put-tree-sub-put-tree-2 t c = split t (c .before) .1
+put-tree-sub-put-tree-2 t c = split t (c .before .before .before .before) .1
 
 put-tree-put-tree-requires-2 : (t : ℕ) → put-tree-lts.Need-put-tree-requires-2 (calls t) (put-tree-at t) put-tree.Post
 put-tree-put-tree-requires-2 t c κs =
-    let h = c .before in
-    let s = h .before .before .before .before .before in
+    let h = c .before .before .before in
+    let w = h .before .before in
+    let s = w .before .before .before .before in
     let a = s .args in
-    let q = split t (h .before) in (
+    let q = split t w in (
       omega (arith, s .pre .0, q .1),
       (
         (part-low (s .pre .1 .0 .0) (q .1), λ i h. s .pre .1 .0 .1 i (omega arith)),
-        room-low (now (a .table)) (a .at) (a .k) (a .t) _ (a .base) (a .t5) (q .0) (h .reading-count .ensures) (a .count)
+        room-low (now (a .table)) (a .at) (a .k) (a .t) _ (a .base) (a .t5) _ (q .0) (h .reading-count .ensures) (a .count)
+            (sym (c .before .before .builds-low .ensures) ∙ c .before .if1 .taken)
             (s .pre .1 .1),
       ),
     )
 
+put-tree-builds-high-requires : (t : ℕ) → put-tree-lts.Need-builds-high-requires (calls t) (put-tree-at t) put-tree.Post
+put-tree-builds-high-requires t c κs = tt
+
 put-tree-add-put-tree : (t : ℕ) → put-tree-lts.Need-add-put-tree (calls t) (put-tree-at t) put-tree.Post
 put-tree-add-put-tree t c =
-    let h = c .before .before in
-    let s = h .before .before .before .before .before in
-    let p = part-high (s .pre .1 .0 .0) (split t (h .before) .1) (h .reading-count .ensures) in
+    let h = c .before .before .before .before in
+    let w = h .before .before in
+    let s = w .before .before .before .before in
+    let p = part-high (s .pre .1 .0 .0) (split t w .1) (h .reading-count .ensures) in
     omega arith
 
 put-tree-sub-put-tree-3 : (t : ℕ) → put-tree-lts.Need-sub-put-tree-3 (calls t) (put-tree-at t) put-tree.Post
-put-tree-sub-put-tree-3 t c = split t (c .before .before .before) .1
+put-tree-sub-put-tree-3 t c = split t (c .before .before .before .before .before .before) .1
 
 put-tree-put-tree-requires-3 : (t : ℕ) → put-tree-lts.Need-put-tree-requires-3 (calls t) (put-tree-at t) put-tree.Post
 put-tree-put-tree-requires-3 t c κs =
-    let l = c .before in
+    let l = c .before .before .before in
     let h = l .before .before in
-    let s = h .before .before .before .before .before in
+    let w = h .before .before in
+    let s = w .before .before .before .before in
     let a = s .args in
-    let q = split t (h .before) in (
+    let q = split t w in (
       omega (arith, s .pre .0, q .1),
       (
         (part-high (s .pre .1 .0 .0) (q .1) (h .reading-count .ensures), λ i l. s .pre .1 .0 .1 i (omega arith)),
-        room-high (now (a .table)) (a .at) (a .k) (a .t) _ (a .base) (a .t5) (q .0) (h .reading-count .ensures) (s .pre .1 .1)
-            (l .put-tree2 .ensures),
+        room-high (now (a .table)) (a .at) (a .k) (a .t) _ (a .base) (a .t5) _ (q .0) (h .reading-count .ensures) (s .pre .1 .1)
+            (low-put t l)
+            (sym (c .before .before .builds-high .ensures) ∙ c .before .if2 .taken),
       ),
     )
 
-put-tree-sub-s : (t : ℕ) → put-tree-lts.Need-sub-s (calls t) (put-tree-at t) put-tree.Post
-put-tree-sub-s t c = split t (c .before .before .before .before .before) .1
+put-tree-sub-put-join : (t : ℕ) → put-tree-lts.Need-sub-put-join (calls t) (put-tree-at t) put-tree.Post
+put-tree-sub-put-join t c = split t (c .before .before .before .before .before .before) .1
 
-put-tree-mul-s : (t : ℕ) → put-tree-lts.Need-mul-s (calls t) (put-tree-at t) put-tree.Post
-put-tree-mul-s t c = let h = last t c in omega arith
+put-tree-mul-put-join : (t : ℕ) → put-tree-lts.Need-mul-put-join (calls t) (put-tree-at t) put-tree.Post
+put-tree-mul-put-join t c = let h = last t c in omega arith
 
-put-tree-array-read-s : (t : ℕ) → put-tree-lts.Need-array-read-s (calls t) (put-tree-at t) put-tree.Post
-put-tree-array-read-s t c = last t c
+put-tree-array-read-put-join : (t : ℕ) → put-tree-lts.Need-array-read-put-join (calls t) (put-tree-at t) put-tree.Post
+put-tree-array-read-put-join t c = last t c
 
-put-tree-add-put-mux : (t : ℕ) → put-tree-lts.Need-add-put-mux (calls t) (put-tree-at t) put-tree.Post
-put-tree-add-put-mux t c = record { fits = nets t c .low-fits }
-
-put-tree-sub-put-mux : (t : ℕ) → put-tree-lts.Need-sub-put-mux (calls t) (put-tree-at t) put-tree.Post
-put-tree-sub-put-mux t c = nets t c .low-one
-
-put-tree-add-put-mux-2 : (t : ℕ) → put-tree-lts.Need-add-put-mux-2 (calls t) (put-tree-at t) put-tree.Post
-put-tree-add-put-mux-2 t c = record { fits = nets t c .high-fits }
-
-put-tree-sub-put-mux-2 : (t : ℕ) → put-tree-lts.Need-sub-put-mux-2 (calls t) (put-tree-at t) put-tree.Post
-put-tree-sub-put-mux-2 t c = nets t c .high-one
-
-put-tree-put-mux-requires : (t : ℕ) → put-tree-lts.Need-put-mux-requires (calls t) (put-tree-at t) put-tree.Post
-put-tree-put-mux-requires t c κs =
+put-tree-put-join-requires : (t : ℕ) → put-tree-lts.Need-put-join-requires (calls t) (put-tree-at t) put-tree.Post
+put-tree-put-join-requires t c κs =
     let g = c .before in
     let l = g .before .before in
     let h = l .before .before in
-    let s = h .before .before .before .before .before in
+    let w = h .before .before in
+    let s = w .before .before .before .before in
     let a = s .args in
-    let n = nets t g in
-    let q = split t (h .before) in (
-      room-mux (now (a .table)) (a .at) (a .k) (a .t) _ (a .base) (a .t5) (q .0) (h .reading-count .ensures) (s .pre .1 .1)
-          (l .put-tree2 .ensures)
-          (g .put-tree3 .ensures),
-      (s .pre .1 .0 .1 (a .k - 1) (omega arith), n .order, n .last),
-    )
+    let q = split t w in
+    room-join (now (a .table)) (a .at) (a .k) (a .t) _ (a .base) (a .t5) _ (q .0) (h .reading-count .ensures) (s .pre .1 .1)
+    (low-put t l)
+    _
+    (s .pre .1 .0 .1 (a .k - 1) (omega arith))
+    (high-put t g)
 
 put-tree-returns : (t : ℕ) → put-tree-lts.Need-returns (calls t) (put-tree-at t) put-tree.Post
+unfolding gateOf constantOf
 put-tree-returns t c =
     let w = c .before .before .before in
     let s = w .before .before .before .before in
     let a = s .args in
-    gates-put-same (c .put-constant .ensures)
+    gates-put-same (c .add-gate .ensures)
     (sym (tree-constant (a .k) (a .base + a .count) (a .t5) (columnAt t s) _ (constant t w)))
 
 put-tree-returns-2 : (t : ℕ) → put-tree-lts.Need-returns-2 (calls t) (put-tree-at t) put-tree.Post
@@ -241,11 +270,13 @@ put-tree-returns-3 t c =
     let g = c .before .before in
     let l = g .before .before in
     let h = l .before .before in
-    let a = h .before .before .before .before .before .args in
-    put-split (now (a .table)) (a .at) (a .k) (a .t) _ (a .base) (a .t5) (split t (h .before) .0) (h .reading-count .ensures)
-    (l .put-tree2 .ensures)
-    (g .put-tree3 .ensures)
-    (c .put-mux .ensures)
+    let w = h .before .before in
+    let s = w .before .before .before .before in
+    let a = s .args in
+    put-split (now (a .table)) (a .at) (a .k) (a .t) _ (a .base) (a .t5) _ (split t w .0) (h .reading-count .ensures) (s .pre .1 .1)
+    (low-put t l)
+    (high-put t g)
+    (c .put-join .ensures)
 
 pub +put-tree-spec : {M : Type 1} → statement M
 +put-tree-spec = close μ-put-tree λ t. put-tree-lts.spec (calls t)
@@ -253,26 +284,24 @@ pub +put-tree-spec : {M : Type 1} → statement M
     put-tree.Post
     (put-tree-tree-start-requires t)
     (put-tree-enum-known-start t)
-    (put-tree-put-constant-requires t)
+    (put-tree-add-gate-requires t)
     (put-tree-enum-told t)
     (put-tree-sub-put-tree t)
     (put-tree-put-tree-requires t)
-    (put-tree-enum-told-2 t)
+    (put-tree-enum-known-start-2 t)
     (put-tree-sub-reading-count t)
     (put-tree-reading-count-requires t)
+    (put-tree-builds-low-requires t)
     (put-tree-sub-put-tree-2 t)
     (put-tree-put-tree-requires-2 t)
+    (put-tree-builds-high-requires t)
     (put-tree-add-put-tree t)
     (put-tree-sub-put-tree-3 t)
     (put-tree-put-tree-requires-3 t)
-    (put-tree-sub-s t)
-    (put-tree-mul-s t)
-    (put-tree-array-read-s t)
-    (put-tree-add-put-mux t)
-    (put-tree-sub-put-mux t)
-    (put-tree-add-put-mux-2 t)
-    (put-tree-sub-put-mux-2 t)
-    (put-tree-put-mux-requires t)
+    (put-tree-sub-put-join t)
+    (put-tree-mul-put-join t)
+    (put-tree-array-read-put-join t)
+    (put-tree-put-join-requires t)
     (put-tree-returns t)
     (put-tree-returns-2 t)
     (put-tree-returns-3 t)
