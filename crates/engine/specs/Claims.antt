@@ -92,8 +92,8 @@ TernaryListUnknown =
     (k : ℕ) (xs : List ℕ) → all (λ x. leb x unknown) xs ≡ true
     → (ternaryValue k xs ≡ unknown) ↔ ((v : ℕ) × (w : ℕ) × PossibleOf k xs v × PossibleOf k xs w × (v ≡ w → ⊥))
 
--- .. and it is had from the three by three tables: that of the plain kind goes from operand to operand, and an odd kind inverts the whole,
--- by the table of not.
+-- .. and it is had from the three by three tables: that of an even (plain) kind goes from operand to operand, and the odd kind above it inverts
+-- the whole, by the table of not, whose second operand plays no part.
 abbrev pub TernaryFold : Type 0
 TernaryFold =
     (k x : ℕ) (xs : List ℕ) → k % 2 ≡ 0 → all (λ x. leb x unknown) (x ∷ xs) ≡ true

@@ -80,8 +80,8 @@ fn plain_value(kind: u8, x: u8, y: u8) -> u8
 }
 
 // The value of a gate of this kind on the lowest bits of its first count operands, of all four where count is above 4. A count that the
-// kind does not permit has a value too: and of none is 1, every other plain kind of none 0, and constants and buf look at no more
-// operands than they have. A kind above 9 has the value 0.
+// kind does not permit has a value too: and of none is 1, every other even kind of none is 0, an odd kind inverts that; buf and not
+// look at the first operand alone, constants at none. A kind above 9 has the value 0.
 pub fn value(kind: u8, count: u8, operands: [u8; SLOTS]) -> u8
     ensures { λ r. ⌜ r ≡ gateValue kind (take count (map (λ v. v % 2) operands)) ⌝ }
 {
