@@ -1,10 +1,10 @@
-/* Decide in C, as document 01 words it ("Verdicts"): what decide_plain.c and decide_words.c have in common. They differ in
- * how they walk the inputs; what the walk finds is judged here, and written as a sheet. */
+/* Decide in C, as document 01 ("Verdicts") and card 1 of document 02 word it: what decide_plain.c and decide_words.c have in
+ * common. They differ in how they walk the inputs; what the walk finds is judged here, and written as a sheet. */
 #ifndef DECIDE_H
 #define DECIDE_H
 #include "job.h"
 
-enum { INPUTS = 20, VECTORS = 16, READINGS = 1024, LONGEST_SHEET = 1076 };
+enum { INPUTS = 20, VECTORS = 16, READINGS = 1024, LONGEST_SHEET = 2103 };
 
 /* The number that decide gives; an accepted job's sheet is written at the reply's start, and its length into len. */
 int plain_decide(const uint8_t *job, size_t job_len, uint8_t *reply, size_t reply_len, size_t *len);
@@ -65,18 +65,26 @@ static inline int before(const struct job *j, unsigned a, unsigned b) {
     return a != b && (a >> smallest(a ^ b) & 1);
 }
 
-/* Whether a set is a sound support; its table if so. */
-static inline int table_of(const struct walk *w, size_t candidates, unsigned set, uint8_t *table) {
+/* The rows of a support, one a reading: entries and notes. */
+struct rows {
+    uint8_t table[READINGS], notes[READINGS];
+};
+
+/* The note of a reading that occurs, from the vectors that fix all inputs giving it. */
+static inline unsigned note_of(unsigned set) { return set & (set - 1) ? 2 : 1; }
+
+/* Whether a set is a sound support; its rows if so. */
+static inline int rows_of(const struct walk *w, size_t candidates, unsigned set, struct rows *rows) {
     uint16_t left[READINGS];
-    unsigned size = 1u << __builtin_popcount(set);
     memset(left, 0xff, sizeof left);
-    memset(table, 0, size);
+    memset(rows, 0, sizeof *rows);
     for (unsigned r = 0; r < 1u << candidates; r++) {
         if (!w->given[r]) continue;
         unsigned own = part(r, set);
         left[own] &= w->shared[r];
         if (!left[own]) return 0;
-        table[own] = smallest(left[own]);
+        rows->table[own] = smallest(left[own]);
+        rows->notes[own] = note_of(left[own]);
     }
     return 1;
 }
@@ -94,12 +102,23 @@ static inline uint8_t *put_four(uint8_t *p, int tag, uint32_t x) {
     return put_word(put_word(p, x >> 16), x & 0xffff);
 }
 
-static inline uint8_t *put_patch(uint8_t *p, const struct job *j, unsigned set, const uint8_t *table) {
-    p = put_head(p, 16, 2 * __builtin_popcount(set));
+static inline uint8_t *put_list(uint8_t *p, const struct walk *w) { return put_bytes(p, 19, w->list, w->listed); }
+
+static inline uint8_t *put_patch(
+    uint8_t *p, const struct job *j, const struct walk *w, unsigned set, const struct rows *rows) {
+    unsigned count = __builtin_popcount(set);
+    p = put_head(p, 16, 2 * count);
     for (size_t i = 0; i < j->candidates; i++)
         if (set >> i & 1) p = put_word(p, j->nets[i]);
-    p = put_bytes(p, 17, table, 1u << __builtin_popcount(set));
-    return put_four(p, 18, cost_of(j, set));
+    p = put_bytes(p, 17, rows->table, 1u << count);
+    p = put_four(p, 18, cost_of(j, set));
+    return put_bytes(put_list(p, w), 22, rows->notes, 1u << count);
+}
+
+static inline uint8_t *put_unfixable(uint8_t *p, const struct walk *w) { return put_list(put_four(p, 20, w->input), w); }
+
+static inline uint8_t *put_blind(uint8_t *p, const struct walk *w, unsigned reading) {
+    return put_list(put_word(put_head(p, 21, 2), reading), w);
 }
 
 /* The smallest reading of all priced nets whose inputs share no vector, else -1. */
@@ -109,26 +128,20 @@ static inline int stuck_reading(const struct walk *w) {
     return -1;
 }
 
-/* Judges what the walk found, and writes the sheet; its length. */
-static inline size_t put_sheet(const struct job *j, const struct walk *w, uint8_t *reply) {
-    uint8_t *p = reply;
+/* Judges what the walk found, and writes the sheet; its end. */
+static inline uint8_t *put_sheet(const struct job *j, const struct walk *w, uint8_t *reply) {
     int stuck = stuck_reading(w);
-    if (w->unfixable) {
-        p = put_four(p, 20, w->input);
-    } else if (stuck >= 0) {
-        p = put_word(put_head(p, 21, 2), stuck);
-    } else {
-        uint8_t table[READINGS], best_table[READINGS];
-        unsigned best = (1u << j->candidates) - 1;
-        table_of(w, j->candidates, best, best_table);
-        for (unsigned set = 0; set < 1u << j->candidates; set++)
-            if (before(j, set, best) && table_of(w, j->candidates, set, table)) {
-                best = set;
-                memcpy(best_table, table, sizeof table);
-            }
-        p = put_patch(p, j, best, best_table);
-    }
-    return put_bytes(p, 19, w->list, w->listed) - reply;
+    if (w->unfixable) return put_unfixable(reply, w);
+    if (stuck >= 0) return put_blind(reply, w, stuck);
+    struct rows rows, best_rows;
+    unsigned best = (1u << j->candidates) - 1;
+    rows_of(w, j->candidates, best, &best_rows);
+    for (unsigned set = 0; set < 1u << j->candidates; set++)
+        if (before(j, set, best) && rows_of(w, j->candidates, set, &rows)) {
+            best = set;
+            best_rows = rows;
+        }
+    return put_patch(reply, j, w, best, &best_rows);
 }
 
 /* The whole of decide, with one of the two walks. */
@@ -142,7 +155,7 @@ static inline int decide_by(void (*walk_inputs)(const struct job *, struct walk 
     if (number) return number;
     start_walk(&w);
     walk_inputs(&j, &w);
-    *len = put_sheet(&j, &w, reply);
+    *len = put_sheet(&j, &w, reply) - reply;
     return 0;
 }
 

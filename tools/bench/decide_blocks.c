@@ -1,7 +1,8 @@
 /* Decide as fast as plain C allows: 1,024 inputs at a time (blocks.h). Once a block every live gate is evaluated at vector
  * 0. Then one target is flipped at a time, so that the next vector costs the gates which that target leads to. The masks of
- * the vectors and the readings are transposed, which brings what an input needs into one place. Supports are tried by
- * leaving out one priced net after the other. */
+ * the vectors and the readings are transposed, which brings what an input needs into one place. Which readings occur is told
+ * by a bit beside the vectors of a reading's set, so that the notes need no walk of their own. Supports are tried by leaving
+ * out one priced net after the other. */
 #include "blocks.h"
 
 /* The targets in the order in which they flip: the first flips with every second vector, the next with every fourth, and so
@@ -107,18 +108,19 @@ INLINE int list_vectors(const struct job *j, struct walk *w, const uint64_t *mas
     return 1;
 }
 
-/* Each input narrows the set of its reading; both stand in the same sixteen bits of a word. */
-INLINE void note(uint64_t *masks, uint64_t *readings, uint16_t *shared, unsigned W) {
+/* Each input narrows the set of its reading, of which the bits above the vectors' go with the first one that gives it; the
+ * reading and the vectors stand in the same sixteen bits of two words. */
+INLINE void note(uint64_t *masks, uint64_t *readings, uint32_t *sets, unsigned W) {
     transpose(masks, W);
     transpose(readings, W);
     for (unsigned i = 0; i < ROWS * W; i++)
         for (unsigned at = 0; at < 64; at += 16) {
-            uint16_t *set = &shared[readings[i] >> at & (READINGS - 1)], fixing = masks[i] >> at;
+            uint32_t *set = &sets[readings[i] >> at & (READINGS - 1)], fixing = (uint16_t)(masks[i] >> at);
             if (*set & ~fixing) *set &= fixing;
         }
 }
 
-INLINE void walk_by(const struct job *j, const struct plan *p, struct walk *w, unsigned W) {
+INLINE void walk_by(const struct job *j, const struct plan *p, struct walk *w, uint32_t *sets, unsigned W) {
     _Alignas(64) uint64_t values[ALL_NETS * WIDEST], masks[ROWS * WIDEST], readings[ROWS * WIDEST];
     uint32_t blocks = (1u << j->inputs) / (64 * W);
     fill(values + ZERO * W, 0, W);
@@ -132,15 +134,21 @@ INLINE void walk_by(const struct job *j, const struct plan *p, struct walk *w, u
         memset(masks + (W << j->targets), 0, 8 * W * (ROWS - (1u << j->targets)));
         find_masks(j, p, values, masks, W);
         if (!list_vectors(j, w, masks, block, W)) return;
-        note(masks, readings, w->shared, W);
+        note(masks, readings, sets, W);
     }
 }
 
 /* Few inputs need no wide blocks. */
 static void walk_inputs(const struct job *j, const struct plan *p, struct walk *w) {
-    if (j->inputs < 7) walk_by(j, p, w, 1);
-    else if (j->inputs < 9) walk_by(j, p, w, 4);
-    else walk_by(j, p, w, WIDEST);
+    uint32_t sets[READINGS];
+    memset(sets, 0xff, sizeof *sets << j->candidates);
+    if (j->inputs < 7) walk_by(j, p, w, sets, 1);
+    else if (j->inputs < 9) walk_by(j, p, w, sets, 4);
+    else walk_by(j, p, w, sets, WIDEST);
+    for (unsigned r = 0; r < 1u << j->candidates; r++) {
+        w->given[r] = !(sets[r] >> VECTORS);
+        w->shared[r] = sets[r];
+    }
 }
 
 /* ---- the support */
@@ -183,20 +191,36 @@ static void choose(
 
 /* ---- the sheet */
 
-static uint8_t *put_choice(uint8_t *p, const struct job *j, const uint16_t *shared) {
+/* The readings of a set that no input gives: all ones, the others zero. */
+static void find_unseen(const struct job *j, const struct walk *w, unsigned set, uint16_t *unseen) {
+    unsigned size = 1u << j->candidates;
+    for (unsigned r = 0; r < size; r++) unseen[r] = w->given[r] ? 0 : 0xffff;
+    for (unsigned i = j->candidates; i-- > 0;)
+        if (!(set >> i & 1)) {
+            leave_out(unseen, size, i, unseen);
+            size /= 2;
+        }
+}
+
+static uint8_t *put_choice(uint8_t *p, const struct job *j, const struct walk *w) {
     struct choice best = {(1u << j->candidates) - 1, cost_of(j, (1u << j->candidates) - 1), {0}};
-    uint8_t table[READINGS];
-    memcpy(best.shared, shared, sizeof(uint16_t) << j->candidates);
-    choose(j, &best, best.set, 0, shared, j->candidates);
-    for (unsigned r = 0; r < 1u << __builtin_popcount(best.set); r++) table[r] = smallest(best.shared[r]);
-    return put_patch(p, j, best.set, table);
+    struct rows rows;
+    uint16_t unseen[READINGS];
+    memcpy(best.shared, w->shared, sizeof(uint16_t) << j->candidates);
+    choose(j, &best, best.set, 0, w->shared, j->candidates);
+    find_unseen(j, w, best.set, unseen);
+    for (unsigned r = 0; r < 1u << __builtin_popcount(best.set); r++) {
+        rows.table[r] = smallest(best.shared[r]);
+        rows.notes[r] = unseen[r] ? 0 : note_of(best.shared[r]);
+    }
+    return put_patch(p, j, w, best.set, &rows);
 }
 
 int blocks_decide(const uint8_t *job, size_t job_len, uint8_t *reply, size_t reply_len, size_t *len) {
     struct job j;
     struct plan p;
     struct walk w;
-    uint8_t *end = reply;
+    uint8_t *end;
     unsigned r = 0;
     *len = 0;
     if (reply_len < LONGEST_SHEET) return 1;
@@ -206,9 +230,9 @@ int blocks_decide(const uint8_t *job, size_t job_len, uint8_t *reply, size_t rep
     make_plan(&j, &p);
     walk_inputs(&j, &p, &w);
     while (r < 1u << j.candidates && w.shared[r]) r++;
-    if (w.unfixable) end = put_four(end, 20, w.input);
-    else if (r < 1u << j.candidates) end = put_word(put_head(end, 21, 2), r);
-    else end = put_choice(end, &j, w.shared);
-    *len = put_bytes(end, 19, w.list, w.listed) - reply;
+    if (w.unfixable) end = put_unfixable(reply, &w);
+    else if (r < 1u << j.candidates) end = put_blind(reply, &w, r);
+    else end = put_choice(reply, &j, &w);
+    *len = end - reply;
     return 0;
 }

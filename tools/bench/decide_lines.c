@@ -7,7 +7,7 @@
  */
 #include "decide.h"
 
-enum { BUFFER = 1200 };
+enum { BUFFER = 2200 };
 
 static uint8_t call[65536], buffer[BUFFER];
 static int (*decide)(const uint8_t *, size_t, uint8_t *, size_t, size_t *);

@@ -5,6 +5,7 @@
     python3 tools/bench/make_jobs.py growth FOLDER    what tools/bench/growth needs
 
     wide_KIND.job            20 inputs, 400 gates a side; 50 in the targets' fanout, or 300, led to by all or one target each
+    unseen_wide.job          the same with 50, and a support behind most gates of which many readings do not occur
     CIRCUIT_SIZE.job         typical cuts: old and golden netlist are two designs of one circuit, some old nets cut open
     tiny_CIRCUIT_SIZE.job    the same of 2 to 6 inputs and up to 20 gates a side
     pair_GATES_four.job      gates of four operands, and in pair_GATES_chain.job each of them as three gates of two operands
@@ -266,18 +267,27 @@ def tiny(rng):
 # ---- jobs of a given size
 
 
-def walked_job(rng, n, m, gates, fanout, priced, outputs=32, split=False, operands=2):
+def walked_job(rng, n, m, gates, fanout, priced, outputs=32, split=False, operands=2, related=False):
     """A job that has a patch, so that every input is looked at, and where nearly every gate leads to an output. The golden
     netlist has a front over the inputs, of which some nets are priced, a function of priced nets for each target, and a back
-    of that many gates: each is led to by all targets, or by one of them, in equal parts. Gates have so many operands."""
+    of that many gates: each is led to by all targets, or by one of them, in equal parts. Gates have so many operands. Related
+    priced nets are the and and the or of two late nets of the front, for each target the sum of such a pair."""
     c = Circuit(n)
     unread = list(range(n))
-    while len(c.gates) < gates - (fanout + m if m else 0):
+    while len(c.gates) < gates - (fanout + m if m else 0) - (priced if related else 0):
         nets = range(n + len(c.gates))
         unread.append(c.gate(rng.choice(MIXED), unread.pop(0), *[rng.choice(nets) for _ in range(operands - 1)]))
+    if related:
+        late = range(n + len(c.gates) - 40, n + len(c.gates))
+        pairs = [rng.sample(late, 2) for _ in range(priced // 2)]
+        named = [c.gate(kind, *pair) for pair in pairs for kind in (AND, OR)]
+        unread += named
     front = range(n + len(c.gates))
-    named = sorted(rng.sample(front, priced))
-    roots = [root(rng, c, named, operands) for _ in range(m)]
+    if related:
+        roots = [c.differ(*named[2 * t : 2 * t + 2]) for t in range(m)]
+    else:
+        named = sorted(rng.sample(front, priced))
+        roots = [root(rng, c, named, operands) for _ in range(m)]
     starts = [[net] for net in roots] if split else [roots]
     ends = []
     for nets in starts if roots else []:
@@ -316,6 +326,12 @@ def wide(rng):
     yield "wide_few", walked_job(rng, 20, 4, 400, 50, 10)
     yield "wide_all", walked_job(rng, 20, 4, 400, 300, 10)
     yield "wide_split", walked_job(rng, 20, 4, 400, 300, 10, split=True)
+
+
+def unseen(rng):
+    job = walked_job(rng, 20, 4, 400, 50, 10, related=True)
+    assert verdict_of(job).patch.notes.count(0) > 100
+    yield "unseen_wide", job
 
 
 def chained(job, side):
@@ -430,7 +446,7 @@ def main():
     if what == "growth":
         put_jobs(folder, growth(rng))
         return
-    for made in (wide, cuts, tiny, pairs):
+    for made in (wide, cuts, tiny, pairs, unseen):
         put_jobs(folder, made(rng))
     put_sheets(folder)
 

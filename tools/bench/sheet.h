@@ -1,4 +1,4 @@
-/* Patch sheets in C. Document 01, "Verdicts" and "Numbers given when a call is declined". */
+/* Patch sheets in C. Document 01, "Verdicts" and "Numbers given when a call is declined", and card 1 of document 02. */
 #ifndef SHEET_H
 #define SHEET_H
 #include "decide.h"
@@ -9,16 +9,19 @@ struct sheet {
     const uint8_t *table;
 };
 
-static inline int walk_sheet(const uint8_t *s, size_t n, struct span fields[4]) {
+/* How many fields there are with nothing behind: four, or five with the notes; 0 where neither. */
+static inline int walk_sheet(const uint8_t *s, size_t n, struct span fields[5]) {
+    static const uint8_t tags[5] = {16, 17, 18, 19, 22};
     size_t at = 0;
-    for (int k = 0; k < 4; k++) {
-        if (n - at < 3 || s[at] != 16 + k) return 0;
+    int k = 0;
+    for (; k < 4 || (k < 5 && at < n); k++) {
+        if (n - at < 3 || s[at] != tags[k]) return 0;
         size_t len = word(s + at + 1);
         if (n - at - 3 < len) return 0;
         fields[k] = (struct span){s + at + 3, len};
         at += 3 + len;
     }
-    return at == n;
+    return at == n ? k : 0;
 }
 
 /* The support's nets are strictly ascending priced ones, and the cost is the sum of their weights. */
@@ -40,11 +43,13 @@ static inline int below(const struct span *f, unsigned limit) {
 }
 
 static inline int read_sheet(const struct job *j, const uint8_t *s, size_t n, struct sheet *to) {
-    struct span f[4];
+    struct span f[5];
     unsigned vectors = 1u << j->targets;
-    if (!walk_sheet(s, n, f) || f[0].len % 2) return 7;
+    int fields = walk_sheet(s, n, f);
+    if (!fields || f[0].len % 2) return 7;
     size_t count = f[0].len / 2;
     if (count > 15 || f[1].len != (size_t)1 << count || f[2].len != 4 || f[3].len < 1 || f[3].len > vectors) return 7;
+    if (fields == 5 && (f[4].len != f[1].len || !below(&f[4], 3))) return 7;
     if (count > CANDIDATES || !below(&f[1], vectors) || !below(&f[3], vectors)) return 8;
     to->count = count;
     to->table = f[1].start;

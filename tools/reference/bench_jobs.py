@@ -5,6 +5,7 @@
 
     tools/bench/decide_VERDICT_N.job   full-size jobs: 20 inputs, 4 targets, 400 gates a side, 32 outputs, 10 priced nets
     tools/bench/four_VERDICT_N.job     the same, nearly every gate with four operands; the last with two to four
+    tools/bench/unseen_VERDICT_N.job   the same, with a support of which most readings do not occur
 
 Nothing in them can be left out early: every output depends on every input and every target, mostly by xor; a patch needs
 nearly all priced nets; an unfixable input is among the last; the vector list is long. It prints what each job has.
@@ -28,6 +29,7 @@ WANTED = [
     ("decide", "blind", 0.9, (2,)),
     ("four", "patch", 0.95, (4,)),
     ("four", "blind", 0.9, (2, 3, 4)),
+    ("unseen", "patch", 0.95, (2,)),
 ]
 
 
@@ -56,7 +58,8 @@ def main():
     rng = random.Random(SEED)
     for k, (start, name, xor_share, counts) in enumerate(WANTED, 1):
         while True:
-            job = cj.full_job(rng, name, used=10, xor_share=xor_share, late=18, counts=counts)
+            related = start == "unseen"
+            job = cj.full_job(rng, name, used=10, xor_share=xor_share, late=18, counts=counts, related=related)
             verdict = decide(jobs.encode(job)).verdict
             if verdict.name == name and hard(job, verdict):
                 break
@@ -66,6 +69,8 @@ def main():
         kinds = sum(gate.kind >= cj.XOR for gate in job.old.gates)
         operands = sum(gate.count for gate in job.old.gates) / len(job.old.gates)
         about = f"{read} old gates lead to outputs, {kinds} are xor or xnor, {operands:.2f} operands a gate"
+        if verdict.patch:
+            about += f", {verdict.patch.notes.count(0)} readings do not occur"
         print(f"{start}_{name}_{k}: {name} {verdict.value}, sheet of {len(verdict.sheet)} bytes; {about}")
 
 

@@ -1,12 +1,12 @@
 #!/usr/bin/env python3
 """Prints the twelve numbered cases of document 01 as this reference answers them, and stops where one is not what the document
-says; case 2 goes by card 2 of document 02.
+says; case 2 goes by card 2 of document 02, the notes and the least buffer of case 12 by card 1.
 
     python3 tools/reference/cases.py
 
 Then it tries the reference where a second way is at hand: the values of gates beside the simulator's table and, on sets of
 inputs, beside gates.py; on small random jobs the verdict beside every table over every set of priced nets, the fitted
-netlist beside the driven old one, and compare beside one input at a time. Where something differs, it stops.
+netlist beside the driven old one, and compare and the notes beside one input at a time. Where something differs, it stops.
 """
 
 import copy
@@ -44,7 +44,8 @@ def said(reply):
         return f"{verdict.name} {verdict.value}, vectors {vectors}"
     support = "".join(f" {net}" for net in verdict.patch.support)
     table = " ".join(str(entry) for entry in verdict.patch.table)
-    return f"patch cost {verdict.value}, support{support}, table {table}, vectors {vectors}"
+    notes = " ".join(str(note) for note in verdict.patch.notes)
+    return f"patch cost {verdict.value}, support{support}, table {table}, vectors {vectors}, notes {notes}"
 
 
 def case_8(first, second):
@@ -78,15 +79,15 @@ def jobs_of_cases():
 
 
 WANTED = [
-    "patch cost 7, support 0 1, table 0 0 0 1, vectors 0 1",
+    "patch cost 7, support 0 1, table 0 0 0 1, vectors 0 1, notes 1 1 1 1",
     "fit 0: 2 gates, output net 3",
     "blind 1, vectors 0 1",
     "blind 0, vectors 0 1",
     "unfixable 1, vectors 0",
-    "patch cost 0, support, table 0, vectors 0",
-    "patch cost 0, support, table 0, vectors 0",
-    "patch cost 1, support 2, table 1 0, vectors 0 1",
-    "patch cost 0, support 0, table 0 1, vectors 0 1",
+    "patch cost 0, support, table 0, vectors 0, notes 1",
+    "patch cost 0, support, table 0, vectors 0, notes 1",
+    "patch cost 1, support 2, table 1 0, vectors 0 1, notes 1 1",
+    "patch cost 0, support 0, table 0 1, vectors 0 1, notes 1 1",
     "refused 3",
     "refused 3",
     "refused 1",
@@ -95,7 +96,8 @@ WANTED = [
 
 def cases():
     first, *others = [said(decide(jobs.encode(job))) for job in jobs_of_cases()]
-    return [first, fitted_a()] + others + [said(decide(jobs.encode(rj.job_a()), 1075))]
+    short = {said(decide(jobs.encode(rj.job_a()), room)) for room in (1075, 1076, 2102)}
+    return [first, fitted_a()] + others + sorted(short)
 
 
 # ---- second ways
@@ -146,9 +148,26 @@ def check_verdict(job):
         patch = verdict.patch
         assert best == (patch.cost, len(patch.support), patch.support), job
         assert compare.compare(jobs.encode(job), verdict.sheet) == (0, None), job
+        check_notes(job, patch)
     else:
         assert best is None, job
     return verdict.name
+
+
+def check_notes(job, patch):
+    """Input by input: of each reading that it gives, the vectors that fix this one too are left."""
+    left = {}
+    for x in range(2**job.inputs):
+        golden = values_at(job, job.golden, x, 0)
+        fixing = set()
+        for vector in range(2**job.targets):
+            old = values_at(job, job.old, x, vector)
+            if [old[net] for net in job.old.outputs] == [golden[net] for net in job.golden.outputs]:
+                fixing.add(vector)
+        reading = sum(old[net] << i for i, net in enumerate(patch.support))
+        left[reading] = left.get(reading, fixing) & fixing
+    expected = [min(2, len(left.get(reading, []))) for reading in range(2 ** len(patch.support))]
+    assert patch.notes == expected, job
 
 
 def check_fit(job, patch):
@@ -192,6 +211,7 @@ def check_random(rng, count):
 
 
 def main():
+    assert len(cases()) == len(WANTED)
     for k, (found, wanted) in enumerate(zip(cases(), WANTED), 1):
         print(f"{k:2} {found}")
         assert found == wanted, f"the document says {wanted}"

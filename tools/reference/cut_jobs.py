@@ -3,6 +3,8 @@ the old one has a target in place of each cut gate. Every function takes the ran
 
     cut_job(rng, n, m, telling)      a job of up to some thirty gates, of any verdict
     crossed_job(rng)                 a job where sets {a, d} and {b, c} of priced nets a < b < c < d both do
+    related_job(rng, n, m)           a patch over nets of which only some readings occur; at some of them several vectors do
+    last_job(n, m, occurs)           a patch over two nets that are both 1 at the last input alone, where all vectors do, or nowhere
     full_job(rng, verdict, ..)       400 gates a side, 32 outputs, 4 targets, 10 priced nets: 8,188 bytes
 """
 
@@ -165,6 +167,96 @@ def crossed_job(rng):
     return Job(3, 1, Netlist(old, [3]), Netlist([golden], [3]), candidates)
 
 
+def minterm(rng, golden, n, inputs, value):
+    """Appends gates; the net that is 1 where these inputs, lowest first, have this value."""
+    nets = []
+    for i, net in enumerate(inputs):
+        if not value >> i & 1:
+            golden.append(Gate.of(3, net))
+            net = n + len(golden) - 1
+        nets.append(net)
+    return chain(rng, golden, n, nets, [AND], rng.choice([2, 3, 4])) if len(nets) > 1 else nets[0]
+
+
+def related_nets(rng, golden, n, most):
+    """Appends gates over a few of the inputs, mostly the highest: two or more nets, up to so many, of which not all readings
+    need occur."""
+    inputs = sorted(rng.sample(range(n), min(n, rng.randrange(2, 6)))) if rng.random() < 0.3 else list(range(n))[-rng.randrange(2, 6) :]
+    style = rng.choice(["exclusive", "nested", "products", "any"])
+    count = rng.choice([2, 2, 3, 3, 4, 5, 7, most])
+    if style == "exclusive":
+        values = rng.sample(range(2 ** len(inputs)), min(count, 2 ** len(inputs)))
+        return [minterm(rng, golden, n, inputs, value) for value in values]
+    found = []
+    for k in range(count):
+        if style == "nested":
+            nets, kinds = inputs[: k + 2], [AND]
+        else:
+            nets, kinds = rng.sample(inputs, rng.randrange(2, len(inputs) + 1)), [AND] if style == "products" else list(WIDE)
+        found.append(chain(rng, golden, n, nets, kinds, 4))
+    return found
+
+
+def related_job(rng, n, m):
+    """Two inputs or more. Each cut net is a function of related nets; an output is the sum of a cut net and an input, of two
+    cut nets, or only one of these where some related nets are not all 1: then any vector does where they are. The related
+    nets are priced, others seldom and dear, so that they are the support."""
+    golden = []
+    nets = related_nets(rng, golden, n, 10)
+    front = n + len(golden)
+    roots = []
+    for t in range(m):
+        used = nets if t == 0 else rng.sample(nets, rng.randrange(2, len(nets) + 1))
+        roots.append(chain(rng, golden, n, used, [rng.choice([OR, XOR, XOR])] if t == 0 else [AND, OR, XOR, XNOR], 4))
+
+    def put(kind, *operands):
+        golden.append(Gate.of(kind, *operands))
+        return n + len(golden) - 1
+
+    gate = chain(rng, golden, n, rng.sample(nets, rng.randrange(2, min(4, len(nets)) + 1)), [AND], 4)
+    open_net = put(3, gate)
+    gated = rng.choice(["all", "some", "none"])
+    outputs = []
+    for root in roots:
+        net = put(rng.choice([XOR, XNOR]), root, rng.randrange(n))
+        if rng.random() < 0.2:
+            net = put(rng.choice([AND, OR, XOR]), root, rng.choice(roots))
+        outputs.append(put(AND, net, open_net) if gated == "all" or gated == "some" and rng.random() < 0.5 else net)
+    outputs = outputs or [put(XOR, 0, nets[0])]
+    old = cut(n, m, golden, outputs, [root - n for root in roots], lambda: True)
+    job = Job(n, m, old, Netlist(golden, outputs), [])
+    named = {net if net < n else net + m for net in nets}
+    others = [net for net in range(front) if net not in nets and rng.random() < 0.1]
+    dear = {net if net < n else net + m for net in others}
+    chosen = sorted((sorted(named) + sorted(dear - named))[:10])
+    job.candidates = [Candidate(net, rng.randrange(1, 9) if net in named else rng.randrange(100, 65536)) for net in chosen]
+    return job
+
+
+def last_job(n, m, occurs):
+    """Two inputs or more, one target or more. One net is 1 where all even inputs are, the other where all odd ones are and,
+    if reading 3 is not to occur, input 0 is not. Each cut net is their or; the outputs show it where they are not both 1."""
+    golden = []
+
+    def put(kind, *operands):
+        golden.append(Gate.of(kind, *operands))
+        return n + len(golden) - 1
+
+    def both(nets):
+        while len(nets) > 1:
+            nets = [put(AND, *nets[:4])] + nets[4:]
+        return nets[0]
+
+    even, odd = list(range(0, n, 2)), list(range(1, n, 2))
+    nets = [both(even), both(odd if occurs else odd + [put(3, 0)])]
+    open_net = put(5, *nets)
+    roots = [put(OR, *nets) for _ in range(m)]
+    outputs = [put(AND, root, open_net) for root in roots]
+    old = cut(n, m, golden, outputs, [root - n for root in roots], lambda: True)
+    named = sorted(net if net < n else net + m for net in nets)
+    return Job(n, m, old, Netlist(golden, outputs), [Candidate(net, 5) for net in named])
+
+
 # ---- jobs that fill every place
 
 
@@ -202,10 +294,11 @@ def grow(rng, found, n, count, fresh, kinds, counts):
         nets.append(n + len(found) - 1)
 
 
-def full_job(rng, verdict, n=20, used=10, xor_share=0.85, late=17, counts=(2,)):
+def full_job(rng, verdict, n=20, used=10, xor_share=0.85, late=17, counts=(2,), related=False):
     """A job of 8,188 bytes that is to have this verdict, of gates with so many operands. The golden netlist has
 
-    - a front over the inputs, of which ten nets are priced (for n 10, the inputs),
+    - a front over the inputs, of which ten nets are priced (for n 10, the inputs; related ones are the and and the or of
+      five pairs of nets, whose readings mostly do not occur),
     - a function of up to `used` priced nets for each cut net; for blind, the first one reads a further net,
     - a back over all of these; its last nets are the outputs,
     - for unfixable, an output that differs where the last `late` inputs are all 1.
@@ -220,8 +313,10 @@ def full_job(rng, verdict, n=20, used=10, xor_share=0.85, late=17, counts=(2,)):
     chain(rng, golden, n, range(n), [XOR], counts[-1])
     while len(golden) < 70:
         golden.append(sampled_gate(rng, range(n + len(golden)), kinds, counts))
+    pairs = [rng.sample(range(n + len(golden)), 2) for _ in range(5)] if related else []
+    golden += [Gate.of(kind, *pair) for pair in pairs for kind in (AND, OR)]
     front = list(range(n + len(golden)))
-    named = front[:n] if n == 10 else sorted(rng.sample(front, 10))
+    named = front[-10:] if related else front[:n] if n == 10 else sorted(rng.sample(front, 10))
     hidden = rng.choice([net for net in front if net not in named])
 
     roots = []

@@ -1,4 +1,4 @@
-"""Decide (document 01, "Verdicts"), by plain enumeration: every vector, every reading and every set of priced nets is
+"""Decide (document 01, "Verdicts"; card 1 of document 02), by plain enumeration: every vector, every reading and every set of priced nets is
 tried as the document words it, each over all inputs at once (simulate.py says how).
 
     decide(data, buffer_length)   the reply: number, verdict, what it names, and the sheet's bytes
@@ -8,6 +8,7 @@ tried as the document words it, each over all inputs at once (simulate.py says h
     shared_vectors(job, fixed)    for each reading of all priced nets that occurs, the vectors that fix all its inputs
     table_of(shared, places)      a support's table, or None where it is not sound
     supports(job)                 all supports, the best first
+    notes_of(job, fixed, nets)    a sound support's notes, one a reading
 
 A support's reading is a part of the reading of all priced nets: the inputs that give it are those of all the readings
 that agree on the support. So the vectors are tried once a reading of all of them, and a support only meets those sets.
@@ -20,7 +21,7 @@ import job as jobs
 import sheet as sheets
 import simulate
 
-LONGEST_SHEET = 1076
+LONGEST_SHEET = 2103
 
 
 @dataclass
@@ -104,6 +105,16 @@ def supports(job):
     return sorted(every, key=lambda places: (cost_of(job, places), len(places), places))
 
 
+def notes_of(job, fixed, nets):
+    """0 where no input gives the reading, 1 where exactly one vector fixes all inputs that give it, 2 where several do."""
+    values = simulate.net_values(job, job.old, simulate.vector_values(job, 0))
+    notes = [0] * 2 ** len(nets)
+    for reading, inputs in simulate.readings([values[net] for net in nets], simulate.every_input(job)):
+        fixing = [vector for vector in range(2**job.targets) if inputs & ~fixed[vector] == 0]
+        notes[reading] = 1 if len(fixing) == 1 else 2
+    return notes
+
+
 def verdict_of(job):
     fixed = fixed_inputs(job)
     vectors, unfixable = vector_list(job, fixed)
@@ -115,7 +126,8 @@ def verdict_of(job):
     if stuck:
         return Verdict("blind", min(stuck), jobs.field(21, min(stuck).to_bytes(2, "big")) + vector_field, vectors)
     places, table = next((places, table) for places in supports(job) if (table := table_of(shared, places)) is not None)
-    patch = sheets.Patch([job.candidates[place].net for place in places], table, cost_of(job, places), vectors)
+    nets = [job.candidates[place].net for place in places]
+    patch = sheets.Patch(nets, table, cost_of(job, places), vectors, notes_of(job, fixed, nets))
     return Verdict("patch", patch.cost, sheets.encode(patch), vectors, patch)
 
 

@@ -6,7 +6,7 @@ A call is one byte, which service, a two-byte length, and that many bytes:
     1 decide    two bytes, how much of the buffer is lent; and a job
     2 compare   two bytes, a length; a job of that length; and a patch sheet
     3 order     two lengths of two bytes each; two jobs of these lengths and a third, decided in turn into one buffer, of
-                which 1,076 bytes are lent
+                which 2,103 bytes are lent
 
 The lines, with a verdict's value where there is one:
 
@@ -14,7 +14,7 @@ The lines, with a verdict's value where there is one:
     compare NUMBER equal|differs|declined [INPUT]
     order, then NUMBER LENGTH VERDICT [VALUE] for each of the three jobs, then HASH
 
-HASH is that of the whole buffer, 1,200 bytes, which holds a pattern before each call, so that a byte that should be
+HASH is that of the whole buffer, 2,200 bytes, which holds a pattern before each call, so that a byte that should be
 untouched shows in the hash if it is not.
 """
 
@@ -25,7 +25,7 @@ from compare import compare
 from decide import LONGEST_SHEET
 from decide import decide as decide_anew
 
-BUFFER = 1200
+BUFFER = 2200
 decide = lru_cache(maxsize=None)(decide_anew)  # many jobs stand in several calls
 
 

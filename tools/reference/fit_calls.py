@@ -5,7 +5,7 @@ A call is one byte, which service, a two-byte length, and that many bytes:
 
     4 fit    two bytes, how much of the buffer is lent; two bytes, a length; a job of that length; and a patch sheet
     5 row    two bytes, a length; a job of that length; and a second job. Each in turn is decided into one buffer, of which
-             1,076 bytes are lent, then fitted with the sheet that stands there into a second one, of which 4,075 are lent,
+             2,103 bytes are lent, then fitted with the sheet that stands there into a second one, of which 4,075 are lent,
              then compared with that sheet
 
 The lines, with a verdict's value and a differing input where there is one:

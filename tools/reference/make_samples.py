@@ -18,6 +18,8 @@ import os
 import random
 import sys
 from collections import Counter
+from dataclasses import replace
+from itertools import permutations
 
 import cases
 import gates
@@ -416,22 +418,56 @@ def long_sheets(rng, job):
     for k, table in [(10, 1024), (11, 2048), (12, 4096), (15, 32768), (15, 32767), (16, 0), (16, 1), (16, 65), (17, 0)]:
         patch = sheets.Patch(list(range(k)), [0] * table, 0, [0])
         yield sheet_for(job, sheets.encode(patch))
+        for notes in (table, table - 1, table + 1):
+            if 0 <= notes and table + notes < 40000:
+                yield sheet_for(job, sheets.encode(replace(patch, notes=[0] * notes)))
     for k, table in [(31, 0), (32, 1), (32, 0), (33, 2), (63, 0), (64, 1), (64, 0), (65, 2), (256, 1), (300, 0), (8000, 1)]:
         patch = sheets.Patch([i % 65536 for i in range(k)], [0] * table, 0, [0])
         yield sheet_for(job, sheets.encode(patch))
 
 
+def note_sheets(rng):
+    """(targets, nets, sheet): every number of notes around that of the readings, every byte in each place, and field 22 where
+    it does not belong."""
+    for k in range(4):
+        patch = sheets.Patch(list(range(k)), [0] * 2**k, 0, [0])
+        for m in (0, 1, 4):
+            for size in range(2 ** (k + 1) + 2):
+                yield m, k, sheets.encode(replace(patch, notes=rs.some_notes(rng, size)))
+        for place in range(2**k):
+            for note in (0, 1, 2, 3, 4, 127, 128, 255):
+                notes = rs.some_notes(rng, 2**k)
+                notes[place] = note
+                yield 1, k, sheets.encode(replace(patch, notes=notes))
+                yield 1, k, sheets.encode(replace(patch, notes=notes, cost=1))
+                yield 1, k, sheets.encode(replace(patch, notes=notes, vectors=[2]))
+        fields = rj.split(sheets.encode(replace(patch, notes=rs.some_notes(rng, 2**k))))
+        for order in permutations(range(5)):
+            yield 1, k, b"".join(fields[i] for i in order)
+        for left in range(5):
+            yield 1, k, b"".join(fields[:left] + fields[left + 1 :])
+            yield 1, k, b"".join(fields[: left + 1] + fields[left:])
+        for m in range(5):  # a field 19 that has swallowed the notes: too long, or with entries 22 and 0 to 2
+            yield m, k, b"".join(fields[:3]) + jobs.field(19, b"\0" + fields[4])
+    for size in (0, 1, 255, 256, 257, 512):  # 256 readings
+        patch = sheets.Patch(list(range(8)), [0] * 256, 0, [0], rs.some_notes(rng, size))
+        yield 2, 8, sheets.encode(patch)
+
+
 def sheet_calls(rng):
     sheet_a = sheets.Patch([0, 1], [0, 0, 0, 1], 7, [0, 1])
-    data = sheets.encode(sheet_a)
     job_a = rj.job_a()
-    yield sheet_for(job_a, data)
-    for at in range(len(data)):
-        yield sheet_for(job_a, data[:at])
-        for x in (0, 255, (data[at] + 1) % 256, (data[at] - 1) % 256):
-            yield sheet_for(job_a, data[:at] + bytes([x]) + data[at + 1 :])
-    for extra in (b"\0", b"\23\0\0", b"\24\0\4\0\0\0\0", data):
-        yield sheet_for(job_a, data + extra)
+    for notes in (None, [1, 1, 1, 1]):
+        data = sheets.encode(replace(sheet_a, notes=notes))
+        yield sheet_for(job_a, data)
+        for at in range(len(data)):
+            yield sheet_for(job_a, data[:at])
+            for x in (0, 255, (data[at] + 1) % 256, (data[at] - 1) % 256):
+                yield sheet_for(job_a, data[:at] + bytes([x]) + data[at + 1 :])
+        for extra in (b"\0", b"\23\0\0", b"\24\0\4\0\0\0\0", b"\26", b"\26\0", b"\26\0\0", b"\26\0\4\0\1\2", data):
+            yield sheet_for(job_a, data + extra)
+    for m, k, data in note_sheets(rng):
+        yield sheet_call(m, k, list(range(k)), [0] * k, data)
     for m in range(5):
         for size in (0, 1, 2**m - 1, 2**m, 2**m + 1, 255, 256, 257):
             patch = sheets.Patch([], [0], 0, [0] * size)
@@ -445,6 +481,7 @@ def sheet_calls(rng):
             body = b"".join(i.to_bytes(2, "big") for i in range(4))[:k]
             whole = jobs.field(16, body) + jobs.field(17, bytes(table)) + jobs.field(18, bytes(4)) + jobs.field(19, b"\0")
             yield sheet_call(1, 4, [0, 1, 2, 3], [0, 0, 0, 0], whole)
+    data = sheets.encode(sheet_a)
     for length in (0, 3, 5, 8):
         body = data.split(b"\22\0\4\0\0\0\7")
         yield sheet_for(job_a, body[0] + jobs.field(18, bytes(length)) + body[1])
@@ -455,6 +492,19 @@ def sheet_calls(rng):
         for _ in range(25):
             job = rj.good_job(rng, n=6, priced=rng.randrange(1, 6))
             patch = rs.damaged_patch(rng, job, rs.good_patch(rng, job), [damage])
+            yield sheet_for(job, sheets.encode(patch))
+    for damage in rs.NOTE_FIELD_DAMAGES.values():
+        for turn in range(20):
+            job = rj.good_job(rng, n=6, priced=rng.randrange(1, 6))
+            patch = rs.good_patch(rng, job)
+            patch = replace(patch, notes=rs.some_notes(rng, len(patch.table)))
+            also = [rng.choice(rs.SHEET_DAMAGES[8])] if turn % 2 else []
+            data = sheets.encode(rs.damaged_patch(rng, job, patch, also))
+            yield sheet_for(job, rs.damaged_fields(rng, data, damage))
+    for damage in rs.NOTE_DAMAGES:
+        for also in rs.SHEET_DAMAGES[8] * 3:
+            job = rj.good_job(rng, n=6, priced=rng.randrange(2, 6))
+            patch = rs.damaged_patch(rng, job, rs.good_patch(rng, job), [damage, also])
             yield sheet_for(job, sheets.encode(patch))
     for _ in range(120):
         job = rj.good_job(rng, n=6, priced=rng.randrange(1, 6))
@@ -474,13 +524,13 @@ def sheet_calls(rng):
     for nets in (9, 10):
         patch = rs.good_patch(rng, dear, nets)
         patch.vectors = list(range(16))
-        yield sheet_for(dear, sheets.encode(patch))
-        patch.cost %= 65536
-        yield sheet_for(dear, sheets.encode(patch))
+        for patch.notes in (None, rs.some_notes(rng, 2**nets), rs.some_notes(rng, 2**nets - 1)):
+            yield sheet_for(dear, sheets.encode(patch))
+            yield sheet_for(dear, sheets.encode(replace(patch, cost=patch.cost % 65536)))
     yield from long_sheets(rng, dear)
     yield from long_sheets(rng, job_a)
     # counts outside their ranges or above their places
-    data = sheets.encode(sheet_a)
+    data = sheets.encode(replace(sheet_a, notes=[1, 1, 1, 1]))
     for targets in (0, 1, 2, 5, 64, 65534, LARGEST):
         yield sheet_call(targets, 2, [0, 1], [3, 4], data)
     for priced in (0, 1, 2, 3, 10, 11, LARGEST):

@@ -3,6 +3,7 @@ random_engine.py stores them."""
 
 import random
 from collections import Counter
+from dataclasses import replace
 from itertools import combinations
 
 import cases
@@ -18,15 +19,23 @@ from job import Candidate, Gate, Job, Netlist, encode
 
 SEED = 1364
 QUOTAS = {
-    "patch over 0 nets": 200,
-    "patch over 1 net": 250,
-    "patch over 2 nets": 250,
+    "patch over 0 nets": 180,
+    "patch over 1 net": 200,
+    "patch over 2 nets": 200,
     "patch over 3 nets": 150,
     "patch over 4 or more nets": 150,
-    "unfixable at 0": 250,
-    "unfixable later": 500,
-    "blind at 0": 350,
-    "blind later": 350,
+    "unfixable at 0": 120,
+    "unfixable later": 240,
+    "blind at 0": 150,
+    "blind later": 150,
+}
+RELATED_QUOTAS = {
+    "no reading unseen": 20,
+    "unseen readings": 80,
+    "unseen readings, elsewhere several vectors": 60,
+    "all vectors at a reading, none unseen": 40,
+    "all vectors at a reading, others unseen": 40,
+    "all vectors at a reading that no input below 1,024 gives": 30,
 }
 
 
@@ -56,20 +65,55 @@ def quota_jobs(rng):
             yield job, reply
 
 
+def full_readings(job, patch):
+    """The smallest input of each reading that inputs give and where every vector fixes all of them."""
+    fixed = fixed_inputs(job)
+    values = simulate.net_values(job, job.old, simulate.vector_values(job, 0))
+    found = simulate.readings([values[net] for net in patch.support], simulate.every_input(job))
+    return [simulate.smallest(inputs) for _, inputs in found if all(inputs & ~these == 0 for these in fixed)]
+
+
+def related_class(job, patch):
+    """What the notes have to tell apart: with targets, a reading at which all vectors do from one that no input gives."""
+    full = full_readings(job, patch) if job.targets and patch.support else []
+    if any(x >= 1024 for x in full):
+        return "all vectors at a reading that no input below 1,024 gives"
+    if full:
+        return "all vectors at a reading, " + ("others unseen" if 0 in patch.notes else "none unseen")
+    if 0 in patch.notes:
+        return "unseen readings" + (", elsewhere several vectors" if 2 in patch.notes else "")
+    return "no reading unseen"
+
+
+def related_jobs(rng):
+    """Jobs with patches over related nets, as many of each class as the quotas say; inputs 2 to 13 and targets 1 to 4 in turn."""
+    left = dict(RELATED_QUOTAS)
+    turn = 0
+    while any(left.values()):
+        turn += 1
+        job = cj.related_job(rng, 2 + turn % 12, 1 + turn // 12 % 4)
+        reply = decide(encode(job))
+        assert reply.verdict.name == "patch", job
+        name = related_class(job, reply.verdict.patch)
+        if left[name]:
+            left[name] -= 1
+            yield job, reply
+
+
 def tie_jobs(rng):
     for _ in range(30):
         job = cj.crossed_job(rng)
         yield job, decide(encode(job))
 
 
-def full_jobs(rng, n, count, verdicts):
+def full_jobs(rng, n, count, verdicts, related=False):
     """So many jobs of 8,188 bytes of each of the verdicts, of gates with two operands, with two to four, with four."""
     for verdict in verdicts:
         made = 0
         while made < count:
             xor_share, late = rng.choice([0.5, 0.85, 0.85, 0.95, 1.0]), rng.choice([3, 7, n // 2, n - 3, n - 2])
             counts = [(2,), (2, 3, 4), (4,)][made % 3]
-            job = cj.full_job(rng, verdict, n, rng.randrange(4, 11), xor_share, late, counts)
+            job = cj.full_job(rng, verdict, n, rng.randrange(4, 11), xor_share, late, counts, related)
             reply = decide(encode(job))
             assert reply.number == 0 and len(encode(job)) == jobs.LONGEST_JOB
             if reply.verdict.name == verdict:
@@ -88,6 +132,9 @@ def hand_jobs():
         yield Job(0, m, Netlist([], [0]), one, []) if m else a
         yield Job(20, m, Netlist([], [19]), Netlist([], [19]), [Candidate(i, 65535) for i in range(10, 20)])
         yield Job(20, m, Netlist([], [19]), Netlist([], [18]), [])
+    for k, n in enumerate([2, 3, 5, 6, 7, 8, 9, 10, 11, 12, 13, 15, 20, 20, 20, 20]):
+        for occurs in (True, False):
+            yield cj.last_job(n, 1 + k % 4, occurs)
     more = [[], [18], [18, 17]]
     for gate_count, outputs in [(400, 32), (401, 32), (400, 33), (401, 33)]:
         gates = [Gate.of(3, 0)] + [Gate.of(8, 19, 24 + i, *more[i % 3]) for i in range(gate_count - 1)]
@@ -124,12 +171,15 @@ def decide_calls(rng, accepted, fulls):
     for data in damaged_bytes(rng, accepted):
         yield decide_call(data)
     # number 1 comes before every other, and the limit is the same for all jobs
-    for lent in (0, 1, 26, 1075, 1076, 1077):
+    for lent in (0, 1, 26, 33, 1075, 1076, 1077, 2102, 2103, 2104):
         yield decide_call(encode(rj.job_a()), lent)
-        yield decide_call(encode(fulls[0][0]), min(lent, 1075))
         yield decide_call(b"", lent)
-        for data in list(damaged_bytes(rng, accepted))[::40]:
+        for data in list(damaged_bytes(rng, accepted))[::60]:
             yield decide_call(data, lent)
+    for lent in (0, 1075, 1076, 2102):
+        yield decide_call(encode(fulls[0][0]), lent)
+        for name in ("patch", "unfixable", "blind"):
+            yield decide_call(encode(next(job for job, reply in accepted if reply.verdict.name == name)), lent)
 
 
 def order_calls(rng, accepted, longs, fulls):
@@ -145,7 +195,7 @@ def order_calls(rng, accepted, longs, fulls):
     for k in range(8):
         yield from both(rng.choice(data), rng.choice(data), full_sheet[k % len(full_sheet)])
     for k, (job, _) in enumerate(longs):
-        refused = rj.damaged(rng, rng.choice(accepted)[0], [rng.choice(rj.ALL_DAMAGES)])
+        refused = rj.damaged(rng, rng.choice(accepted)[0], [rng.choice(rj.DAMAGES[3 + k // 2 % 4])])
         yield from both(rng.choice(data), encode(refused) if k % 2 else rng.choice(data), encode(job))
     yield from both(encode(rj.job_a()), rng.choice(data), encode(fulls[0][0]))
 
@@ -162,26 +212,69 @@ def widened(rng, job, patch):
     for reading in range(2 ** len(nets)):
         own = sum((reading >> nets.index(net) & 1) << i for i, net in enumerate(patch.support))
         table.append(patch.table[own])
-    return sheets.Patch(nets, table, sum(weights[net] for net in nets), patch.vectors)
+    notes = rng.choice([None, rs.some_notes(rng, len(table))])
+    return sheets.Patch(nets, table, sum(weights[net] for net in nets), patch.vectors, notes)
 
 
 def with_entry(rng, job, patch):
     """One entry is another vector."""
     table = list(patch.table)
     table[rng.randrange(len(table))] = rng.randrange(2**job.targets)
-    return sheets.Patch(patch.support, table, patch.cost, patch.vectors)
+    return replace(patch, table=table)
 
 
 def other_vectors(rng, job, patch):
     """Field 19 has any vectors, which has no effect."""
     size = rng.randrange(1, 2**job.targets + 1)
-    return sheets.Patch(patch.support, patch.table, patch.cost, [rng.randrange(2**job.targets) for _ in range(size)])
+    return replace(patch, vectors=[rng.randrange(2**job.targets) for _ in range(size)])
 
 
 def bits_apart(rng, job, patch):
     """Each target's bit from another entry: two half-right vectors joined."""
     table = [a & 1 | b & 14 for a, b in zip(patch.table, patch.table[1:] + patch.table[:1])]
-    return sheets.Patch(patch.support, table, patch.cost, patch.vectors)
+    return replace(patch, table=table)
+
+
+def other_notes(rng, job, patch):
+    """Field 22 has any notes, which has no effect."""
+    return replace(patch, notes=rs.some_notes(rng, len(patch.table)))
+
+
+def without_notes(rng, job, patch):
+    return replace(patch, notes=None)
+
+
+CHANGES = [
+    ("more nets", widened),
+    ("an entry changed", with_entry),
+    ("other vectors", other_vectors),
+    ("bits apart", bits_apart),
+    ("other notes", other_notes),
+    ("without notes", without_notes),
+]
+
+
+def wrong_notes(rng, pairs, count):
+    """(name, job, sheet): sheets for these jobs with notes wrong in each way, so many of each; half of them have a fault of
+    number 8 too, which comes after. Some with good notes have only that."""
+
+    def part(damages):
+        job, patch = rng.choice(pairs)
+        patch = rs.damaged_patch(rng, job, replace(patch, notes=rs.some_notes(rng, len(patch.table))), damages)
+        return job, patch
+
+    eights = rs.SHEET_DAMAGES[8]
+    for turn in range(count):
+        also = [rng.choice(eights)] if turn % 2 else []
+        for damage in rs.NOTE_DAMAGES:
+            job, patch = part(also + [damage])
+            yield "wrong notes" + (" and 8" if also else ""), job, sheets.encode(patch)
+        for name, damage in rs.NOTE_FIELD_DAMAGES.items():
+            job, patch = part(also)
+            yield name + (" and 8" if also else ""), job, rs.damaged_fields(rng, sheets.encode(patch), damage)
+    for damage in eights:
+        job, patch = part([damage])
+        yield "good notes and 8", job, sheets.encode(patch)
 
 
 def compare_calls(rng, accepted, fulls):
@@ -196,15 +289,13 @@ def compare_calls(rng, accepted, fulls):
             yield name, compare_call(encode(job), sheets.encode(patch))
 
     yield from calls_of("own patch", rng.sample(patches, 150) + big)
-    for name, change in [
-        ("more nets", widened),
-        ("an entry changed", with_entry),
-        ("other vectors", other_vectors),
-        ("bits apart", bits_apart),
-    ]:
-        pairs = rng.sample([pair for pair in patches if pair[1].support], 60) + big[:2]
+    for name, change in CHANGES:
+        pairs = rng.sample([pair for pair in patches if pair[1].support], 45) + big[:1]
         yield from calls_of(name, [(job, change(rng, job, patch)) for job, patch in pairs])
-    yield from calls_of("any table", [(job, rs.good_patch(rng, job)) for job, _ in rng.sample(accepted, 200)])
+    small = [pair for pair in patches if len(pair[1].support) in (1, 2, 3) and len(encode(pair[0])) < 400]
+    for name, job, sheet in wrong_notes(rng, small, 8):
+        yield name, compare_call(encode(job), sheet)
+    yield from calls_of("any table", [(job, rs.good_patch(rng, job)) for job, _ in rng.sample(accepted, 150)])
     yield from calls_of("any table", [(job, rs.good_patch(rng, job)) for job, _ in fulls[::3]])
     for damage in rs.ALL_SHEET_DAMAGES:
         pairs = rng.sample([pair for pair in patches if len(pair[0].candidates) >= 2], 10)
@@ -220,9 +311,10 @@ def compare_calls(rng, accepted, fulls):
         sheet = rng.choice(patches)[1] if rng.random() < 0.5 else rs.good_patch(rng, some()[0])
         yield "damaged job", compare_call(data, sheets.encode(sheet)[: rng.choice([5, 100])])
     # up to 15 support nets have a table that a field can hold
-    for k, table in [(11, 2048), (15, 32768), (16, 0), (32, 1)]:
-        patch = sheets.Patch(list(range(k)), [0] * table, 0, [0])
-        yield "too many nets", compare_call(encode(big[0][0]), sheets.encode(patch))
+    several = encode(next(job for job, _ in patches if len(job.candidates) == 10))
+    for k, table, notes in [(11, 2048, 2048), (11, 2048, 1024), (15, 32768, None), (16, 0, None), (16, 0, 0), (32, 1, 1)]:
+        patch = sheets.Patch(list(range(k)), [0] * table, 0, [0], None if notes is None else [0] * notes)
+        yield "too many nets", compare_call(several, sheets.encode(patch))
 
 
 # ---- what the jobs cover
@@ -275,6 +367,11 @@ def covered(jobs_and_replies):
             found[f"support nets {len(verdict.patch.support):2}"] += 1
             found["cost above 65535"] += verdict.value > 65535
             found["an entry outside the vector list"] += any(entry not in verdict.vectors for entry in verdict.patch.table)
+            found["notes " + " ".join(str(note) for note in sorted(set(verdict.patch.notes)))] += 1
+            if job.targets and verdict.patch.support:
+                found["notes: " + related_class(job, verdict.patch)] += 1
+            if 0 in verdict.patch.notes:
+                found[f"unseen readings, support nets {len(verdict.patch.support):2}"] += 1
             for tie in ties(job, verdict.patch):
                 found["tie: " + tie] += 1
     return found
@@ -297,9 +394,9 @@ def report(calls, jobs_and_replies, sheet_names):
 
 def made():
     rng = random.Random(SEED)
-    accepted = list(quota_jobs(rng)) + list(tie_jobs(rng))
+    accepted = list(quota_jobs(rng)) + list(related_jobs(rng)) + list(tie_jobs(rng))
     longs = list(full_jobs(rng, 10, 6, ["patch", "unfixable"]))
-    fulls = list(full_jobs(rng, 20, 6, ["patch", "unfixable", "blind"]))
+    fulls = list(full_jobs(rng, 20, 5, ["patch", "unfixable", "blind"])) + list(full_jobs(rng, 20, 3, ["patch"], related=True))
     named = list(compare_calls(rng, accepted, fulls))
     calls = list(decide_calls(rng, accepted + longs, fulls)) + list(order_calls(rng, accepted, longs, fulls))
     calls += [call for _, call in named]

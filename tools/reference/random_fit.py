@@ -4,6 +4,7 @@ the driven old circuit; where they differ, the script stops."""
 
 import random
 from collections import Counter
+from dataclasses import replace
 
 import cases
 import compare
@@ -105,7 +106,7 @@ def patch_of(rng, job, table):
     k = len(table).bit_length() - 1
     patch = rs.good_patch(rng, job, k)
     assert len(patch.table) == len(table)
-    return sheets.Patch(patch.support, table, patch.cost, patch.vectors)
+    return replace(patch, table=table)
 
 
 # ---- splits and sizes
@@ -190,17 +191,15 @@ def own_patches(rng, accepted):
         if name.startswith("patch"):
             for job, reply in rng.sample([pair for pair in accepted if rd.class_of(pair[1].verdict) == name], 30):
                 yield "decide's own, " + name, job, reply.verdict.patch
+    unseen = [pair for pair in accepted if pair[1].verdict.patch and 0 in pair[1].verdict.patch.notes]
+    for job, reply in rng.sample(unseen, 30):
+        yield "decide's own, unseen readings", job, reply.verdict.patch
 
 
 def changed_patches(rng, accepted):
     patches = [(job, reply.verdict.patch) for job, reply in accepted if reply.verdict.patch]
-    for name, change in [
-        ("more nets", rd.widened),
-        ("an entry changed", rd.with_entry),
-        ("other vectors", rd.other_vectors),
-        ("bits apart", rd.bits_apart),
-    ]:
-        for job, patch in rng.sample([pair for pair in patches if pair[1].support], 25):
+    for name, change in rd.CHANGES:
+        for job, patch in rng.sample([pair for pair in patches if pair[1].support], 20):
             yield "decide's own, " + name, job, change(rng, job, patch)
 
 
@@ -217,7 +216,7 @@ def any_tables(rng, accepted):
 def shaped_tables(rng):
     """Columns with constant parts and equal halves, over 0 to 10 nets."""
     for k in range(11):
-        for turn in range(30):
+        for turn in range(16):
             m, equal = 1 + turn % 4, rng.choice([0.2, 0.4, 0.6])
             constant = rng.choice([0.1, 0.3]) if k < 6 else 0.45 - equal / 4
             job = roomy_job(rng, m, rng.randrange(10, 40), rng.randrange(k, 11))
@@ -444,8 +443,10 @@ def netlist_in(fields):
 
 
 def check_fitted(job, patch):
-    """The number is 0 or 9. The netlist of the reply, as it stands, has the driven outputs on every input."""
+    """The number is 0 or 9, with notes or without. The netlist of the reply, as it stands, has the driven outputs on every
+    input."""
     number, fields = fit(encode(job), sheets.encode(patch))
+    assert fit(encode(job), sheets.encode(replace(patch, notes=None))) == (number, fields), job
     size = len(job.old.gates) + sum(map(column_size, columns_of(job, patch)))
     assert number == (9 if size > jobs.MAX_GATES else 0), job
     if number == 0:
@@ -485,6 +486,10 @@ def damaged_calls(rng, accepted, parts):
         job, patch = rng.choice(pairs)
         damages = rng.sample(rs.ALL_SHEET_DAMAGES, 2)
         yield "two damages of a sheet", fit_call(encode(job), sheets.encode(rs.damaged_patch(rng, job, patch, damages)))
+    for name, job, sheet in rd.wrong_notes(rng, pairs, 8):
+        yield name, fit_call(encode(job), sheet)
+    for name, job, sheet in rd.wrong_notes(rng, large[:4], 1):
+        yield name + ", too large", fit_call(encode(job), sheet)
     for damage in rj.BYTE_DAMAGES:
         for job, patch in rng.sample(small, 6) + rng.sample(large, 1):
             yield "damaged bytes of a sheet", fit_call(encode(job), damage(rng, sheets.encode(patch)))
@@ -497,6 +502,9 @@ def damaged_calls(rng, accepted, parts):
     for k, table in [(11, 2048), (15, 32768), (16, 0), (16, 1), (17, 2), (32, 1), (64, 1), (256, 1), (30000, 0)]:
         patch = sheets.Patch(list(range(k)), [0] * table, 0, [0])
         yield "too many nets", fit_call(job, sheets.encode(patch))
+    for k, table, notes in [(11, 2048, 2048), (11, 2048, 2047), (12, 4096, 4096), (16, 0, 0), (16, 1, 1), (17, 2, 2), (32, 1, 1)]:
+        patch = sheets.Patch(list(range(k)), [0] * table, 0, [0], [0] * notes)
+        yield "too many nets, notes", fit_call(job, sheets.encode(patch))
 
 
 def short_calls(rng, accepted, parts):
@@ -614,7 +622,7 @@ def report(named, parts):
 
 def made():
     rng = random.Random(SEED)
-    accepted = list(rd.quota_jobs(rng))
+    accepted = list(rd.quota_jobs(rng)) + list(rd.related_jobs(rng))
     parts = list(good_parts(rng, accepted))
     check_splits(parts)
     named = list(accepted_calls(rng, parts)) + list(damaged_calls(rng, accepted, parts))

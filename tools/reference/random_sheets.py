@@ -1,12 +1,21 @@
 """Random patch sheets for a job, good and damaged.
 
-    good_patch(rng, job)    a patch that is accepted; its table need not be sound
-    SHEET_DAMAGES           changes of a patch's parts, by the number that each alone gives
+    good_patch(rng, job)        a patch that is accepted, with or without notes; its table need not be sound, nor the notes true
+    some_notes(rng, size)       so many notes, each 0, 1 or 2
+    SHEET_DAMAGES               changes of a patch's parts, by the number that each alone gives
+    NOTE_DAMAGES                those of 7 that concern the notes
+    NOTE_FIELD_DAMAGES          changes of the bytes of a sheet with notes, by name; number 7
 """
 
 import copy
 
+import random_jobs as rj
+from job import field, number
 from sheet import Patch
+
+
+def some_notes(rng, size):
+    return [rng.randrange(3) for _ in range(size)]
 
 
 def good_patch(rng, job, nets=None):
@@ -17,6 +26,7 @@ def good_patch(rng, job, nets=None):
         [rng.randrange(2**job.targets) for _ in range(2 ** len(chosen))],
         sum(job.candidates[i].weight for i in chosen),
         [rng.randrange(2**job.targets) for _ in range(rng.randrange(1, 2**job.targets + 1))],
+        some_notes(rng, 2 ** len(chosen)) if rng.random() < 0.5 else None,
     )
 
 
@@ -39,6 +49,29 @@ def too_many_vectors(rng, job, patch):
 def table_of_other_size(rng, job, patch):
     """More or fewer support nets than the table has readings for."""
     patch.support = patch.support + [rng.randrange(30)] if rng.random() < 0.5 or not patch.support else patch.support[1:]
+
+
+def sized_notes(rng, patch, size):
+    patch.notes = some_notes(rng, size)
+
+
+def short_notes(rng, job, patch):
+    """Some are missing, but not all; of a single one, two are there."""
+    size = len(patch.table)
+    sized_notes(rng, patch, rng.choice([1, size // 2, size - 1]) if size > 1 else 2)
+
+
+def long_notes(rng, job, patch):
+    sized_notes(rng, patch, len(patch.table) + rng.choice([1, 1, 2, len(patch.table), 256]))
+
+
+def empty_notes(rng, job, patch):
+    patch.notes = []
+
+
+def wrong_note(rng, job, patch):
+    sized_notes(rng, patch, max(1, len(patch.table)))
+    patch.notes[rng.choice([0, -1, rng.randrange(len(patch.notes))])] = rng.choice([3, 3, 3, 4, 128, 255])
 
 
 def wrong_entry(rng, job, patch):
@@ -77,8 +110,9 @@ def swapped_support(rng, job, patch):
         patch.support[k], patch.support[k + 1] = patch.support[k + 1], patch.support[k]
 
 
+NOTE_DAMAGES = [short_notes, long_notes, empty_notes, wrong_note]
 SHEET_DAMAGES = {
-    7: [short_table, long_table, no_vectors, too_many_vectors, table_of_other_size],
+    7: [short_table, long_table, no_vectors, too_many_vectors, table_of_other_size] + NOTE_DAMAGES,
     8: [wrong_entry, wrong_vector, wrong_cost, not_a_candidate, repeated_support, swapped_support],
 }
 ALL_SHEET_DAMAGES = [damage for damages in SHEET_DAMAGES.values() for damage in damages]
@@ -89,3 +123,58 @@ def damaged_patch(rng, job, patch, damages):
     for damage in damages:
         damage(rng, job, patch)
     return patch
+
+
+# ---- damage to the bytes of a sheet with notes
+
+
+def twice(rng, fields):
+    return fields + [rng.choice([fields[4], field(22, b"")])]
+
+
+def moved(rng, fields):
+    """Before another field, mostly field 19."""
+    place = rng.choice([3, 3, 3, 0, 1, 2])
+    return fields[:place] + [fields[4]] + fields[place:4]
+
+
+def cut_short(rng, fields):
+    return fields[:4] + [fields[4][: rng.randrange(1, len(fields[4]))]]
+
+
+def bytes_behind(rng, fields):
+    more = [b"\0", b"\26", b"\26\0", bytes([rng.randrange(256)]), fields[3], field(23, b""), fields[4][1:]]
+    return fields + [rng.choice(more)]
+
+
+def other_tag(rng, fields):
+    return fields[:4] + [bytes([rng.choice([0, 16, 19, 20, 21, 23, 150])]) + fields[4][1:]]
+
+
+def other_length(rng, fields):
+    """The length does not say how many notes there are."""
+    length = number(fields[4][1:3])
+    others = [other for other in (length - 1, length + 1, length ^ 256, 256 * (length % 256), 65535) if other not in (length, -1)]
+    return fields[:4] + [fields[4][:1] + rng.choice(others).to_bytes(2, "big") + fields[4][3:]]
+
+
+def no_vector_field(rng, fields):
+    return fields[:3] + [fields[4]]
+
+
+NOTE_FIELD_DAMAGES = {
+    "notes twice": twice,
+    "notes moved": moved,
+    "notes cut short": cut_short,
+    "bytes behind the notes": bytes_behind,
+    "another tag for 22": other_tag,
+    "another length for 22": other_length,
+    "notes and no vectors": no_vector_field,
+}
+
+
+def damaged_fields(rng, data, damage):
+    """The bytes of a sheet with notes, damaged."""
+    fields = rj.split(data)
+    assert len(fields) == 5
+    return b"".join(damage(rng, fields))

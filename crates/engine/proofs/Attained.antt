@@ -1,4 +1,4 @@
--- The longest replies are attained: a result of fit with 4,075 bytes, and a sheet of decide with 1,076. The job of the sheet needs no
+-- The longest replies are attained: a result of fit with 4,075 bytes, and a sheet of decide with 2,103. The job of the sheet needs no
 -- enumeration: a vector rectifies an input exactly when its bits are the golden outputs there, each input alone changes them, so that
 -- no support can do without one, and each vector is the golden outputs of some input, so that the loop lists all. Assumes nothing.
 use Prim.Native.Nat.{ℕ, zero, suc, _+_, _*_, _^_, _≤_, _<_}
@@ -17,7 +17,7 @@ use Rattle.records.specs.Gate.{gateOf, leastCount, mostCount, permits, operands
 use Rattle.records.specs.Netlist.{Netlist, netAt, extended, valueOf, values, markOf, fanout}
 use Rattle.records.specs.Job.{Job, netsOf, gateBytes, candidateBytes, jobBytes}
 use Rattle.records.specs.Refusal.{sideCountsGood, countsGood, gateGood, gatesGood, netlistsGood, oldNets, goldenNets, outputsGood, ascending, candidateGood, candidatesGood}
-use Rattle.records.specs.Sheet.{quad, patchOf, sheetWhole, costOf, isCandidate, patchGood}
+use Rattle.records.specs.Sheet.{quad, patchOf, notesWhole, sheetWhole, costOf, isCandidate, patchGood}
 use Rattle.records.specs.Claims.{PartsGood}
 use Rattle.records.proofs.Laws.Bytes.{length-tabulate}
 use Rattle.records.proofs.Laws.Accepted.{below-of-all}
@@ -25,7 +25,7 @@ use Rattle.records.proofs.Laws.RoundTrip.{Four, FourEach, all-tabulate, jobWhol
 use Rattle.engine.specs.Choice.{any, keep, same}
 use Rattle.engine.specs.Eval.{bit, bits, numberOf, oldValues, oldOutputs, goldenOutputs}
 use Rattle.engine.specs.Rectify.{rectifies, vectorLoop}
-use Rattle.engine.specs.Support.{reading, drivenBy, sound, tableOf, candidateNets, cost}
+use Rattle.engine.specs.Support.{reading, drivenBy, sound, tableOf, notesOf, candidateNets, cost}
 use Rattle.engine.specs.Verdict.{patch, ruling, fourBytes, sheetOf, longestSheet, decideNumber}
 use Rattle.engine.specs.Inner.Sheet.{patchBytes}
 use Rattle.engine.specs.Fit.{treesFrom, trees, fitted, fittedBytes, fits as fits′, longestFit}
@@ -38,7 +38,7 @@ use Rattle.engine.proofs.Laws.Eval.{Bits, bits-map, netAt-lt, values-bi
 use Rattle.engine.proofs.Laws.Picked.{bits-numberOf}
 use Rattle.engine.proofs.Laws.Support.{rectifies-iff-outputs, found-shared, sound-iff-found, carries-of-sound, length-tableOf, subsets-among, subsets-self}
 use Rattle.engine.proofs.Laws.Loop.{listed-of-none, vectors-below}
-use Rattle.engine.proofs.Laws.Verdict.{patch-chosen}
+use Rattle.engine.proofs.Laws.Verdict.{patch-chosen, length-notesOf}
 use Rattle.engine.proofs.Laws.Sheet.{length-patchBytes, patchBytes-ruling, sheet-ruling}
 use Rattle.engine.proofs.Laws.FitNets.{length-fitted}
 use Rattle.engine.proofs.Laws.FitPlaced.{indices-all}
@@ -79,7 +79,7 @@ fullJob = record { inputs = 0; targets = 0; old = fullSide; golden = fullSide; c
 
 -- .. so the empty support carries a table
 fullSheet : List ℕ
-fullSheet = patchBytes [] (0 ∷ []) 0 (0 ∷ [])
+fullSheet = patchBytes [] (0 ∷ []) 0 (0 ∷ []) (1 ∷ [])
 
 four-full : FourEach fullJob
 unfolding fullJob fullSide gateOf
@@ -98,7 +98,7 @@ bytes-full = (refl, refl)
 
 sheet-full : (sheetWhole (fullJob .targets) fullSheet ≡ true)
     × (patchGood (fullJob .targets) (fullJob .candidates) (patchOf fullSheet) ≡ true)
-unfolding fullJob sheetWhole whole nth body rest bodyLength fits word patchGood patchOf netsOf quad isCandidate costOf ascending
+unfolding fullJob sheetWhole notesWhole whole nth body rest bodyLength fits word patchGood patchOf netsOf quad isCandidate costOf ascending
     all tabulate upFrom fullSheet patchBytes field flat bytePair fourBytes
 sheet-full = (refl, refl)
 
@@ -312,19 +312,20 @@ length-wide =
     let vs = vectorLoop wideJob .vectors in
     let n : 10 ≤ length is = length-covering 10 is (mem-support is e) in
     let v : 16 ≤ length vs = length-covering 16 vs (mem-vectors (patch-chosen wideJob is e .0)) in
-    let l : length (sheetOf wideJob) ≡ 16 + 2 * length is + length t + length vs =
-    ap length (sym (patchBytes-ruling wideJob vs is refl refl ∙ sheet-ruling wideJob e refl))
-    ∙ length-patchBytes vs is t (cost wideJob is) in
-    omega (arith, length-tableOf wideJob is, pow-mono n, longest wideJob good-wide)
+    let ns = notesOf wideJob is in
+    let l : length (sheetOf wideJob) ≡ 19 + 2 * length is + length t + length vs + length ns =
+    ap length (sym (patchBytes-ruling wideJob vs is refl refl refl ∙ sheet-ruling wideJob e refl))
+    ∙ length-patchBytes vs is t (cost wideJob is) ns in
+    omega (arith, length-tableOf wideJob is, length-notesOf wideJob is, pow-mono n, longest wideJob good-wide)
 
 pub longest-sheet-met : LongestSheetMet
 longest-sheet-met =
-    let d : List ℕ = replicate 1076 0 in
+    let d : List ℕ = replicate 2103 0 in
     let s = jobBytes wideJob in
     let e = jobOf-jobBytes wideJob four-wide in
     let n : decideNumber d s ≡ 0 =
     decide-accepts d s .1
-    (omega (arith, length-replicate {A = ℕ} 1076 0), jobWhole-jobBytes wideJob four-wide, rw e good-wide) in (
+    (omega (arith, length-replicate {A = ℕ} 2103 0), jobWhole-jobBytes wideJob four-wide, rw e good-wide) in (
       d,
       s,
       below-of-all 256 (omega arith) s bytes-wide,

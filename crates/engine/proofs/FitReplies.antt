@@ -17,6 +17,7 @@ use Rattle.records.specs.Sheet.{Patch, patchOf, sheetTests}
 use Rattle.records.specs.Claims.{PartsGood}
 use Rattle.records.proofs.Laws.Bytes.{all-cons, take-placed}
 use Rattle.records.proofs.Laws.Job.{length-field, length-flat, length-bytePair}
+use Rattle.records.proofs.Laws.Notes.{notes-support, notes-table, notes-tests}
 use Rattle.records.proofs.Laws.RoundTrip.{All, Four, gateFormat, read-flat, length-records, joined, whole-joined, nth-joined, netsOf-flat}
 use Rattle.records.proofs.Laws.Accepted.{passes-of-none, none-of-passes, four-jobOf}
 use Rattle.records.proofs.Laws.Counts.{countsWithin-facts, countsWithin-countsOf}
@@ -25,7 +26,7 @@ use Rattle.engine.specs.Compare.{pairTests}
 use Rattle.engine.specs.Inner.Packed.{formed}
 use Rattle.engine.specs.Fit.{fitted, fittedBytes, fits, longestFit}
 use Rattle.engine.specs.Reply.{fitTests, fitNumber, fitReply, fittedBuffer}
-use Rattle.engine.specs.Claims.{FitAccepts, FitRefuses, FitKeeps, FitIndependent, LongestFit, FittedIn, FittedGiven, FitIgnoresVectors}
+use Rattle.engine.specs.Claims.{FitAccepts, FitRefuses, FitKeeps, FitIndependent, LongestFit, FittedIn, FittedGiven, FitIgnoresVectors, FitIgnoresNotes}
 use Rattle.engine.specs.declared.fitting.FitReply.{FitReply}
 use Rattle.engine.proofs.Laws.Fitted.{sheet-entries, fitted-driven, fitted-netlist}
 use Rattle.engine.proofs.Laws.Unpacked.{fitted-formed}
@@ -241,3 +242,11 @@ fit-independent d e s p h =
 pub fit-ignores-vectors : FitIgnoresVectors
 unfolding fitReply fittedBuffer
 fit-ignores-vectors d s p q e f g h = (rw (e, f, g, h) refl, rw (e, f, g, h) refl)
+
+pub fit-ignores-notes : FitIgnoresNotes
+unfolding fitReply fittedBuffer fitNumber fitTests pairTests
+fit-ignores-notes d s p ns b w n l =
+    let t = notes-tests p ns w n l (jobOf s .targets) (jobOf s .candidates) in
+    let i = notes-support p ns w n l in
+    let k = notes-table p ns w n l in
+    (rw (t, i, k), rw (t, i, k))

@@ -1,5 +1,5 @@
 -- What specs/Claims.antt promises of decide, then compare or fit: decide's patch sheet passes numbers 7 and 8. Assumes nothing.
-use Prim.Native.Nat.{ℕ, suc, _*_, _/_, _^_, _≤_, _<_}
+use Prim.Native.Nat.{ℕ, _*_, _/_, _^_, _≤_}
 use mathlib.Core.Path.{_≡_, refl, sym, _∙_, ap, subst}
 use mathlib.Core.Logic.{inl, inr, ⊎-elim}
 use mathlib.Core.List.{List, [], _∷_}
@@ -8,16 +8,17 @@ use mathlib.Core.Option.{Option}
 use native.Mathlib.Omega.{arith}
 use borrow.Author.Tests.{lt-ltb, le-leb, eq-eqb}
 use lib.Dec.{ltb}
-use lib.ListN.{length, getD, take}
+use lib.ListN.{length, take}
 use Rattle.records.specs.Bytes.{all, nth}
 use Rattle.records.specs.Job.{Job, jobOf}
 use Rattle.records.specs.Refusal.{firstFailing, jobTests, partTests, ascending, candidatesGood}
 use Rattle.records.specs.Sheet.{patchOf, sheetWhole, isCandidate, patchGood, sheetTests}
-use Rattle.records.proofs.Laws.Bytes.{and-left, and-both}
+use Rattle.records.proofs.Laws.Bytes.{and-left, and-both, all-below}
 use Rattle.records.proofs.Laws.Job.{length-outputs}
+use Rattle.records.proofs.Laws.Notes.{notesWhole-true}
 use Rattle.records.proofs.Laws.SheetShape.{sheetWhole-true}
 use Rattle.engine.specs.Rectify.{vectorLoop}
-use Rattle.engine.specs.Support.{tableOf, candidateNets, cost}
+use Rattle.engine.specs.Support.{tableOf, notesOf, candidateNets, cost}
 use Rattle.engine.specs.Compare.{pairTests}
 use Rattle.engine.specs.Fit.{fits, longestFit}
 use Rattle.engine.specs.Verdict.{patch, ruling, decideNumber, decidedBytes}
@@ -27,18 +28,12 @@ use Rattle.engine.proofs.Laws.Choice.{true-or-false, all-of-members}
 use Rattle.engine.proofs.Laws.Loop.{vectors-below, vectors-nonempty, length-vectors-le}
 use Rattle.engine.proofs.Laws.Sheet.{length-fourBytes}
 use Rattle.engine.proofs.Laws.Support.{length-tableOf, tableOf-below, subsets-among, subset-ascending, isCandidate-of-mem}
+use Rattle.engine.proofs.Laws.Verdict.{length-notesOf, notes-below}
 use Rattle.engine.proofs.Theorems.{patch-sound}
-use Rattle.engine.proofs.Replies.{decide-accepts, patch-whole, patch-nth, patch-read, patchSheet, decided-patch, patch-given, compare-accepts, difference-none, compared}
+use Rattle.engine.proofs.Replies.{decide-accepts, patch-whole, patch-nth, patch-notes, patch-read, patchSheet, decided-patch, patch-given, compare-accepts, difference-none, compared}
 use Rattle.engine.proofs.FitReplies.{fit-accepts, fitted-given}
 
 -- ---- the sheet of a patch
-
-all-below : (n : ℕ) (xs : List ℕ) → ((r : ℕ) → r < length xs → getD xs r 0 < n) → all (λ v. ltb v n) xs ≡ true
-unfolding all
-all-below n [] h = refl
-all-below n (x ∷ xs) h =
-    and-both (ltb x n) (all (λ v. ltb v n) xs) (lt-ltb x n (h 0 (omega arith)))
-    (all-below n xs (λ r l. h (suc r) (omega arith)))
 
 candidates-ascend : (j : Job) → candidatesGood j ≡ true → ascending (candidateNets j) ≡ true
 unfolding candidatesGood candidateNets
@@ -50,12 +45,20 @@ module _ (j : Job) (is : List ℕ) where
       let t = tableOf j is in
       let c = cost j is in
       let vs = vectorLoop j .vectors in
-      let n = patch-nth is t c vs in
+      let ns = notesOf j is in
+      let n = patch-nth is t c vs ns in
+      let o = patch-notes is t c vs ns in
       let pairs : length (nth 0 (patchSheet j is)) ≡ 2 * length is = ap length (n 0 (omega arith)) ∙ length-outputs is in
       let half : length (nth 0 (patchSheet j is)) / 2 ≡ length is = omega arith in
       sheetWhole-true (j .targets) (patchSheet j is)
       (record {
-        fields = patch-whole is t c vs;
+        fields =
+            inr (
+              patch-whole is t c vs ns,
+              notesWhole-true (patchSheet j is)
+                  (rw (o, n 1 (omega arith)) (length-notesOf j is ∙ sym (length-tableOf j is)))
+                  (rw o (notes-below j is)),
+            );
         nets = omega arith;
         table = rw (n 1 (omega arith), half) (length-tableOf j is);
         cost = rw (n 2 (omega arith)) (length-fourBytes c);
@@ -72,7 +75,7 @@ module _ (j : Job) (is : List ℕ) where
       let candidates : all (isCandidate (j .candidates)) is ≡ true =
       all-of-members (isCandidate (j .candidates)) is
       (λ i m. isCandidate-of-mem (j .candidates) i (subsets-among (candidateNets j) is (s .1) i m)) in
-      rw (patch-read is (tableOf j is) (cost j is) vs)
+      rw (patch-read is (tableOf j is) (cost j is) vs (notesOf j is))
       (and-both _ _
       (and-both _ _
       (and-both _ _

@@ -17,6 +17,7 @@ pub mod FitPlaced
 pub mod FitSheet
 pub mod FitTree
 pub mod Fitted
+pub mod Given
 pub mod Join
 pub mod Kernel
 pub mod Leaves
@@ -24,6 +25,7 @@ pub mod Loop
 pub mod Marks
 pub mod Miter
 pub mod Note
+pub mod Notes
 pub mod MiterCode
 pub mod OldSide
 pub mod Outputs

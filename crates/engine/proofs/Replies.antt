@@ -2,7 +2,7 @@
 use Prim.Native.Nat.{ℕ, zero, suc, _+_, _^_, _≤_, _<_}
 use mathlib.Core.Path.{_≡_, refl, sym, _∙_, ap, subst}
 use mathlib.Core.Logic.{_↔_, _⊎_, inl, inr, ⊎-elim}
-use mathlib.Core.List.{List, [], _∷_, append-assoc, append-nil}
+use mathlib.Core.List.{List, [], _∷_, _++_, append-assoc, append-nil}
 use mathlib.Core.Bool.{Bool, true, false, cond, not}
 use mathlib.Core.Option.{Option, none, some}
 use native.Mathlib.Nat.{zero-add}
@@ -10,34 +10,37 @@ use native.Mathlib.Omega.{arith}
 use borrow.Author.Tests.{leb-true, eqb-true, eq-eqb, ne-eqb, not-false}
 use lib.Dec.{leb, eqb}
 use lib.ListN.{length, getD, take, drop}
-use Rattle.records.specs.Bytes.{upFrom, flat, bytePair, word, placed, whole, nth}
+use Rattle.records.specs.Bytes.{upFrom, flat, bytePair, word, placed, field, whole, nth}
 use Rattle.records.specs.Job.{Job, jobOf}
 use Rattle.records.specs.Refusal.{firstFailing, jobTests, partTests}
-use Rattle.records.specs.Sheet.{quad, sheetTags, patchOf, sheetTests}
+use Rattle.records.specs.Sheet.{quad, sheetTags, notesTag, patchOf, sheetTests}
 use Rattle.records.specs.Claims.{PartsGood}
 use Rattle.records.proofs.Laws.Bytes.{false-of, take-placed, drop-placed-behind}
 use Rattle.records.proofs.Laws.Accepted.{passes-of-none, none-of-passes}
+use Rattle.records.proofs.Laws.Front.{nth-front}
+use Rattle.records.proofs.Laws.Notes.{notes-support, notes-table, notes-tests}
 use Rattle.records.proofs.Laws.ReadColumns.{columns-accepts}
 use Rattle.records.proofs.Laws.RoundTrip.{joined, whole-joined, nth-joined, netsOf-flat}
 use Rattle.engine.specs.Rectify.{rectifies, vectorLoop}
 use Rattle.engine.specs.Eval.{allInputs, oldOutputs, goldenOutputs}
-use Rattle.engine.specs.Support.{drivenBy, sound, tableOf, candidateNets, cost}
+use Rattle.engine.specs.Support.{drivenBy, sound, tableOf, notesOf, candidateNets, cost}
 use Rattle.engine.specs.Compare.{difference, pairTests}
 use Rattle.engine.specs.Verdict.{Ruling, patch, unfixable, blind, blindReading, ruling, fourBytes, sheetOf, longestSheet, decideNumber, decidedBytes}
 use Rattle.engine.specs.Reply.{verdictFrom, verdictOf, verdictFields, declinedReply, decideReply, comparisonOf, compareNumber, compareReply, fitReply}
 use Rattle.engine.specs.Inner.Sheet.{patchBytes}
-use Rattle.engine.specs.Claims.{NumberGiven, DecideAccepts, DecideRefuses, DecideKeeps, DecideIndependent, LongestSheet, OneVerdict, GivesPatch, PatchIn, PatchGiven, GivesUnfixable, GivesBlind, GivesBlindExactly, VectorsGiven, CompareAccepts, CompareRefuses, ComparesEqual, ComparesDiffers, CompareIgnoresVectors}
+use Rattle.engine.specs.Claims.{NumberGiven, DecideAccepts, DecideRefuses, DecideKeeps, DecideIndependent, LongestSheet, OneVerdict, GivesPatch, PatchIn, PatchGiven, GivesUnfixable, GivesBlind, GivesBlindExactly, VectorsGiven, CompareAccepts, CompareRefuses, ComparesEqual, ComparesDiffers, CompareIgnoresVectors, CompareIgnoresNotes}
 use Rattle.engine.specs.declared.comparing.Comparison.{Comparison}
 use Rattle.engine.specs.declared.comparing.Comparison.the-variants as Comparison
 use Rattle.engine.specs.declared.comparing.CompareReply.{CompareReply}
 use Rattle.engine.specs.declared.deciding.DecideReply.{DecideReply}
 use Rattle.engine.proofs.Laws.Decide.{lentPlaces, lent-roomy, lent-refusal, number-long}
-use Rattle.engine.proofs.Laws.Sheet.{patchBytes-ruling, sheet-ruling}
+use Rattle.engine.proofs.Laws.Notes.{note-in}
+use Rattle.engine.proofs.Laws.Sheet.{whole-field, nth-field, patchBytes-ruling, sheet-ruling}
 use Rattle.engine.proofs.Laws.Choice.{cond-of, cond-zero, true-or-false, not-both, first-least, first-none-below}
 use Rattle.engine.proofs.Laws.ListLoop.{first-of-least, first-of-none}
-use Rattle.engine.proofs.Laws.Support.{rectifies-iff-outputs, length-tableOf, tableOf-below, sound-iff-subset-carries}
+use Rattle.engine.proofs.Laws.Support.{rectifies-iff-outputs, length-tableOf, tableOf-below, sound-iff-found, sound-iff-subset-carries}
 use Rattle.engine.proofs.Laws.Loop.{stuck-none-iff}
-use Rattle.engine.proofs.Laws.Verdict.{longest-sheet, ruling-blind, blind-reading}
+use Rattle.engine.proofs.Laws.Verdict.{longest-sheet, ruling-blind, blind-reading, length-notesOf, getD-notesOf}
 use Rattle.engine.proofs.Theorems.{patch-exactly, patch-sound, patch-table, least-cost, unfixable-exactly, blind-exactly}
 
 -- ---- the number in a reply
@@ -277,34 +280,43 @@ gives-blind-exactly d s e =
 
 -- ---- the patch in the buffer
 
-quad-fourBytes : (x : ℕ) → quad (fourBytes x) ≡ x
+pub quad-fourBytes : (x : ℕ) → quad (fourBytes x) ≡ x
 unfolding quad fourBytes word bytePair
 quad-fourBytes x = omega arith
 
-module _ (is t : List ℕ) (c : ℕ) (vs : List ℕ) where
+module _ (is t : List ℕ) (c : ℕ) (vs ns : List ℕ) where
   abbrev patchBodies : List (List ℕ)
   patchBodies = flat bytePair is ∷ t ∷ fourBytes c ∷ vs ∷ []
 
-  patch-joined : patchBytes is t c vs ≡ joined 16 patchBodies
+  patch-joined : patchBytes is t c vs ns ≡ joined 16 patchBodies ++ field notesTag ns
   unfolding patchBytes joined
   patch-joined = simp (append-assoc, append-nil)
 
-  pub patch-whole : whole sheetTags (patchBytes is t c vs) ≡ true
+  four-whole : whole sheetTags (joined 16 patchBodies) ≡ true
   unfolding upFrom
-  patch-whole = rw patch-joined (whole-joined 16 patchBodies)
+  four-whole = whole-joined 16 patchBodies
 
-  pub patch-nth : (k : ℕ) → k < 4 → nth k (patchBytes is t c vs) ≡ getD patchBodies k []
-  patch-nth k h = ap (nth k) patch-joined ∙ nth-joined 16 patchBodies k h
+  pub patch-whole : whole (sheetTags ++ (notesTag ∷ [])) (patchBytes is t c vs ns) ≡ true
+  patch-whole = rw patch-joined (whole-field sheetTags (joined 16 patchBodies) notesTag ns four-whole)
 
-  pub patch-read : patchOf (patchBytes is t c vs) ≡ record { support = is; table = t; cost = c; vectors = vs }
+  pub patch-nth : (k : ℕ) → k < 4 → nth k (patchBytes is t c vs ns) ≡ getD patchBodies k []
+  patch-nth k h =
+      ap (nth k) patch-joined
+      ∙ nth-front sheetTags (joined 16 patchBodies) (field notesTag ns) four-whole k h
+      ∙ nth-joined 16 patchBodies k h
+
+  pub patch-notes : nth 4 (patchBytes is t c vs ns) ≡ ns
+  patch-notes = ap (nth 4) patch-joined ∙ nth-field sheetTags (joined 16 patchBodies) notesTag ns four-whole
+
+  pub patch-read : patchOf (patchBytes is t c vs ns) ≡ record { support = is; table = t; cost = c; vectors = vs; notes = ns }
   unfolding patchOf
   patch-read =
       let n = patch-nth in
-      rw (n 0 (omega arith), n 1 (omega arith), n 2 (omega arith), n 3 (omega arith), netsOf-flat is, quad-fourBytes c)
+      rw (n 0 (omega arith), n 1 (omega arith), n 2 (omega arith), n 3 (omega arith), patch-notes, netsOf-flat is, quad-fourBytes c)
 
 -- the sheet of a patch over the nets is
 abbrev pub patchSheet : Job → List ℕ → List ℕ
-patchSheet j is = patchBytes is (tableOf j is) (cost j is) (vectorLoop j .vectors)
+patchSheet j is = patchBytes is (tableOf j is) (cost j is) (vectorLoop j .vectors) (notesOf j is)
 
 module _ (d s : List ℕ) (c : ℕ) (e : decideNumber d s ≡ 0) (q : verdictFields (decideReply d s .verdict) ≡ 18 ∷ c ∷ []) where
   -- the support, which the verdict says, and its sheet in the buffer
@@ -319,7 +331,7 @@ module _ (d s : List ℕ) (c : ℕ) (e : decideNumber d s ≡ 0) (q : verdictFie
         f .0,
         f .1,
         f .2,
-        sheet-of d s e ∙ sym (patchBytes-ruling j vs (f .0) refl refl ∙ sheet-ruling j (f .1) refl),
+        sheet-of d s e ∙ sym (patchBytes-ruling j vs (f .0) refl refl refl ∙ sheet-ruling j (f .1) refl),
       )
 
 pub patch-given : PatchGiven
@@ -330,16 +342,24 @@ patch-given d s c e q =
     let r = f .1 in
     let a = f .2 in
     let p = patch-table j is r in
-    subst (PatchIn j c) (sym (ap patchOf (f .3) ∙ patch-read is (tableOf j is) (cost j is) (vectorLoop j .vectors)))
+    let h = patch-sound j is r .0 in
+    let rows = length-notesOf j is in
+    subst (PatchIn j c)
+    (sym (ap patchOf (f .3) ∙ patch-read is (tableOf j is) (cost j is) (vectorLoop j .vectors) (notesOf j is)))
     (record {
       nets = p .0;
       entries = length-tableOf j is;
-      below = tableOf-below j is (patch-sound j is r .0);
+      below = tableOf-below j is h;
       equal = p .1;
       given = sym a;
       sum = a;
       least = λ ks m k. subst (λ (x : ℕ). x ≤ cost j ks) (sym a) (least-cost j is r ks m k);
       vectors = refl;
+      rows = rows ∙ sym (length-tableOf j is);
+      notes =
+          λ k l.
+          let b : k < 2 ^ length is = omega arith in
+          rw (getD-notesOf j is k b) (note-in j is k (sound-iff-found j is .0 h k b));
     })
 
 -- ---- compare
@@ -444,3 +464,8 @@ compares-differs s p x e =
 
 pub compare-ignores-vectors : CompareIgnoresVectors
 compare-ignores-vectors s p q e f g h = compared s p e ∙ rw (g, h) (sym (compared s q f))
+
+pub compare-ignores-notes : CompareIgnoresNotes
+unfolding compareReply compareNumber pairTests
+compare-ignores-notes s p ns b w n l =
+    rw (notes-tests p ns w n l (jobOf s .targets) (jobOf s .candidates), notes-support p ns w n l, notes-table p ns w n l)

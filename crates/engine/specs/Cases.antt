@@ -1,6 +1,6 @@
 -- The twelve numbered cases (document 01, "Jobs on file", in card 6's ten-byte gates), as one table about the definitions. Assumes nothing.
 --
---   jobA, sheetA       job A's bytes, with ten-byte gates (card 6 of document 02), and its 26-byte sheet, as document 01 writes it
+--   jobA, sheetA       job A's bytes, with ten-byte gates (card 6 of document 02), and its sheet, as document 01 writes it, with card 1's notes: 33 bytes
 --   jobWith ..         a job's bytes: n, m, and the bytes of its fields 2 to 6
 --   replied k s        what decide gives on job bytes s and a reply buffer of k bytes: the number, then the sheet if it is 0
 --   fittedSize s p     how many gates the job s fitted with the sheet p has, then its output nets
@@ -34,6 +34,7 @@ sheetA =
     ∷ 0x11 ∷ 0x00 ∷ 0x04 ∷ 0x00 ∷ 0x00 ∷ 0x00 ∷ 0x01
     ∷ 0x12 ∷ 0x00 ∷ 0x04 ∷ 0x00 ∷ 0x00 ∷ 0x00 ∷ 0x07
     ∷ 0x13 ∷ 0x00 ∷ 0x02 ∷ 0x00 ∷ 0x01
+    ∷ 0x16 ∷ 0x00 ∷ 0x04 ∷ 0x01 ∷ 0x01 ∷ 0x01 ∷ 0x01
     ∷ []
 
 unfoldable pub jobWith : ℕ → ℕ → List ℕ → List ℕ → List ℕ → List ℕ → List ℕ → List ℕ
@@ -64,9 +65,9 @@ bothNets = 0 ∷ 0 ∷ 0 ∷ 3 ∷ 0 ∷ 1 ∷ 0 ∷ 4 ∷ []
 abbrev inverted : List ℕ → List ℕ
 inverted cs = jobWith 1 1 (3 ∷ 1 ∷ replicate 8 0) (0 ∷ 1 ∷ []) [] (0 ∷ 0 ∷ []) cs
 
--- the sheet of an empty support with table 0, cost 0 and the vector list 0
+-- the sheet of an empty support with table 0, cost 0, the vector list 0 and note 1
 abbrev emptySupport : List ℕ
-emptySupport = field 16 [] ++ field 17 (0 ∷ []) ++ field 18 (0 ∷ 0 ∷ 0 ∷ 0 ∷ []) ++ field 19 (0 ∷ [])
+emptySupport = field 16 [] ++ field 17 (0 ∷ []) ++ field 18 (0 ∷ 0 ∷ 0 ∷ 0 ∷ []) ++ field 19 (0 ∷ []) ++ field 22 (1 ∷ [])
 
 pub record Case : Type 0 where
   pub given : List ℕ
@@ -93,16 +94,17 @@ cases =
     ∷ is (replied longestSheet (jobWith 2 0 andGate netTwo andGate netTwo bothNets)) (0 ∷ emptySupport)
     -- 8: prices 0 at 5 and 2 at 1: support 2, table 1 0
     ∷ is (replied longestSheet (inverted (0 ∷ 0 ∷ 0 ∷ 5 ∷ 0 ∷ 2 ∷ 0 ∷ 1 ∷ [])))
-    (0 ∷ field 16 (0 ∷ 2 ∷ []) ++ field 17 (1 ∷ 0 ∷ []) ++ field 18 (0 ∷ 0 ∷ 0 ∷ 1 ∷ []) ++ field 19 (0 ∷ 1 ∷ []))
+    (0 ∷ field 16 (0 ∷ 2 ∷ []) ++ field 17 (1 ∷ 0 ∷ []) ++ field 18 (0 ∷ 0 ∷ 0 ∷ 1 ∷ []) ++ field 19 (0 ∷ 1 ∷ []) ++ field 22 (1 ∷ 1 ∷ []))
     -- 9: both prices 0: support 0, table 0 1
     ∷ is (replied longestSheet (inverted (0 ∷ 0 ∷ 0 ∷ 0 ∷ 0 ∷ 2 ∷ 0 ∷ 0 ∷ [])))
-    (0 ∷ field 16 (0 ∷ 0 ∷ []) ++ field 17 (0 ∷ 1 ∷ []) ++ field 18 (0 ∷ 0 ∷ 0 ∷ 0 ∷ []) ++ field 19 (0 ∷ 1 ∷ []))
+    (0 ∷ field 16 (0 ∷ 0 ∷ []) ++ field 17 (0 ∷ 1 ∷ []) ++ field 18 (0 ∷ 0 ∷ 0 ∷ 0 ∷ []) ++ field 19 (0 ∷ 1 ∷ []) ++ field 22 (1 ∷ 1 ∷ []))
     -- 10: A with n 21: 3
     ∷ is (replied longestSheet (jobWith 21 1 [] netTwo andGate netTwo bothNets)) (3 ∷ [])
     -- 11: A with m 5: 3
     ∷ is (replied longestSheet (jobWith 2 5 [] netTwo andGate netTwo bothNets)) (3 ∷ [])
-    -- 12: a reply buffer of 1,075: 1
+    -- 12: a reply buffer of 1,075: 1, and with card 1 one of 2,102
     ∷ is (replied 1075 jobA) (1 ∷ [])
+    ∷ is (replied 2102 jobA) (1 ∷ [])
     ∷ []
 
 -- each case gives what it must

@@ -19,12 +19,14 @@
 --   NumberGiven             the number in a reply is document 01's
 --   DecideAccepts, DecideRefuses, DecideKeeps, DecideIndependent      what decide accepts; a refusal alters nothing, a reply nothing
 --                           behind its length; what the buffer held before plays no part
---   LongestSheet, LongestSheetMet           no sheet has more than 1,076 bytes, and one has as many
+--   LongestSheet, LongestSheetMet           no sheet has more than 2,103 bytes, and one has as many
 --   OneVerdict              an accepted job gets one of the three verdicts, and only one
 --   GivesPatch, PatchIn, PatchGiven         when decide replies a patch, and what the patch in the buffer is
+--   SomeGives, RectifyAll, NoteIn           what the note beside a row of its table says (card 1)
 --   GivesUnfixable, GivesBlind, GivesBlindExactly           when it replies the two other verdicts
---   VectorsGiven            the bytes in the buffer, of which the last field is the vector list
+--   VectorsGiven            the bytes in the buffer: the verdict's fields, the vector list, and behind it the notes of a patch
 --   CompareAccepts, CompareRefuses, ComparesEqual, ComparesDiffers, CompareIgnoresVectors     what compare accepts and replies
+--   CompareIgnoresNotes, FitIgnoresNotes    a sheet with notes gets the replies that it gets without (card 1)
 --   FitAccepts, FitRefuses, FitKeeps, FitIndependent        as for decide
 --   LongestFit, LongestFitMet               no result has more than 4,075 bytes, and one has as many
 --   FittedIn, FittedGiven, FitIgnoresVectors                what the netlist in the buffer is, and what plays no part in it
@@ -42,14 +44,14 @@ use Rattle.records.specs.Gate.{kindCount, gateValue}
 use Rattle.records.specs.Netlist.{netAt, values}
 use Rattle.records.specs.Job.{Job, jobWhole, jobOf, gatesOf, netsOf, netlistOf, gateBytes}
 use Rattle.records.specs.Refusal.{maxGates, gatesGood, candidatesGood}
-use Rattle.records.specs.Sheet.{Patch, patchOf, sheetWhole, patchGood}
+use Rattle.records.specs.Sheet.{Patch, sheetTags, notesTag, patchOf, sheetWhole, patchGood}
 use Rattle.records.specs.Claims.{Below, PartsGood}
 use Rattle.engine.specs.Choice.{any, same}
 use Rattle.engine.specs.Eval.{bit, bits, numberOf, oldValues, oldOutputs, goldenOutputs}
 use Rattle.engine.specs.Ternary.{unknown, ternaryValue, ternaryTable, entry, Completes, CompletesAll, Possible, PossibleOf}
 use Rattle.engine.specs.Rectify.{rectifies, rectifiable, vectorLoop}
 use Rattle.engine.specs.Support.{reading, drivenBy, Carries, shared, tableOf, candidateNets, subsets, cost}
-use Rattle.engine.specs.Verdict.{patch, unfixable, blind, ruling, rulingFields, sheetOf, longestSheet, decideNumber, decidedBytes}
+use Rattle.engine.specs.Verdict.{patch, unfixable, blind, ruling, rulingFields, rulingNotes, sheetOf, longestSheet, decideNumber, decidedBytes}
 use Rattle.engine.specs.Reply.{verdictFields, declinedReply, decideReply, comparisonOf, compareNumber, compareReply, fitNumber, fitReply, fittedBuffer}
 use Rattle.engine.specs.declared.comparing.Comparison.the-variants as Comparison
 use Rattle.engine.specs.Tree.{column}
@@ -239,7 +241,7 @@ DecideIndependent =
     → (decideReply d s ≡ decideReply e s)
     × (take (decideReply d s .len) (decidedBytes d s) ≡ take (decideReply e s .len) (decidedBytes e s))
 
--- Document 01: "The longest sheet has 1,076 bytes."
+-- Card 1: "Decide's buffer must now hold 2,103 bytes": the longest sheet has as many.
 abbrev pub LongestSheet : Type 0
 LongestSheet = (j : Job) → PartsGood j → length (sheetOf j) ≤ longestSheet
 
@@ -269,6 +271,22 @@ GivesPatch =
     → ((c : ℕ) × (verdictFields (decideReply d s .verdict) ≡ 18 ∷ c ∷ []))
     ↔ ((is : List ℕ) × In is (subsets (candidateNets (jobOf s))) × Carries (jobOf s) is)
 
+-- Card 1: "one byte a reading: 0 for a reading that no input gives, 1 where exactly one vector fixes all its inputs, 2 where several
+-- do". Vectors are counted over all 2 ^ m.
+abbrev pub SomeGives : Job → List ℕ → ℕ → Type 0
+SomeGives j is r = (x : ℕ) × (x < 2 ^ j .inputs) × (reading j is x ≡ r)
+
+abbrev pub RectifyAll : Job → List ℕ → ℕ → ℕ → Type 0
+RectifyAll j is r v =
+    (v < 2 ^ j .targets)
+    × ((x : ℕ) → x < 2 ^ j .inputs → reading j is x ≡ r → oldOutputs j x v ≡ goldenOutputs j x)
+
+pub record NoteIn (j : Job) (is : List ℕ) (r n : ℕ) : Type 0 where
+  pub unseen : (n ≡ 0) ↔ (SomeGives j is r → ⊥)
+  pub one : (n ≡ 1) ↔ (SomeGives j is r × ((v : ℕ) × RectifyAll j is r v × ((u : ℕ) → RectifyAll j is r u → u ≡ v)))
+  pub several : (n ≡ 2)
+      ↔ (SomeGives j is r × ((u : ℕ) × (v : ℕ) × RectifyAll j is r u × RectifyAll j is r v × (u ≡ v → ⊥)))
+
 -- Demand 3: "The table given is then such a one, the cost given is its nets' prices added up, and no set of priced nets that
 -- carries such a table costs less." The table given is the one in the reply buffer. Document 01: it "holds an entry below 2^m for
 -- each of the 2^k readings".
@@ -281,6 +299,8 @@ pub record PatchIn (j : Job) (c : ℕ) (p : Patch) : Type 0 where
   pub sum : c ≡ cost j (p .support)
   pub least : (ks : List ℕ) → In ks (subsets (candidateNets j)) → Carries j ks → c ≤ cost j ks
   pub vectors : p .vectors ≡ vectorLoop j .vectors
+  pub rows : length (p .notes) ≡ length (p .table)
+  pub notes : (r : ℕ) → r < length (p .notes) → NoteIn j (p .support) r (getD (p .notes) r 0)
 
 abbrev pub PatchGiven : Type 0
 PatchGiven =
@@ -313,12 +333,15 @@ GivesBlindExactly =
     ↔ (((x : ℕ) → x < 2 ^ jobOf s .inputs → rectifiable (jobOf s) x ≡ true)
     × ((is : List ℕ) → In is (subsets (candidateNets (jobOf s))) → Carries (jobOf s) is → ⊥))
 
--- Demand 2: "its loop, smallest choices first, gives the listed settings": the last field of every sheet is the loop's list.
+-- Demand 2: "its loop, smallest choices first, gives the listed settings": every sheet has the loop's list behind the verdict's fields,
+-- and behind it only a patch has anything, its notes.
 abbrev pub VectorsGiven : Type 0
 VectorsGiven =
     (d s : List ℕ) → decideNumber d s ≡ 0
     → take (decideReply d s .len) (decidedBytes d s)
-    ≡ rulingFields (jobOf s) (ruling (jobOf s)) ++ field 19 (vectorLoop (jobOf s) .vectors)
+    ≡ rulingFields (jobOf s) (ruling (jobOf s))
+    ++ field 19 (vectorLoop (jobOf s) .vectors)
+    ++ rulingNotes (jobOf s) (ruling (jobOf s))
 
 -- ---- what compare replies
 
@@ -362,6 +385,13 @@ CompareIgnoresVectors =
     (s p q : List ℕ) → compareNumber s p ≡ 0 → compareNumber s q ≡ 0
     → patchOf p .support ≡ patchOf q .support → patchOf p .table ≡ patchOf q .table
     → compareReply s p ≡ compareReply s q
+
+-- Card 1: "Fit and compare take sheets with or without it." Notes ns, one for each entry of the table and none above 2, put behind the
+-- four fields of a sheet, whatever these say, leave compare's reply as it is.
+abbrev pub CompareIgnoresNotes : Type 0
+CompareIgnoresNotes =
+    (s p ns : List ℕ) → Below 256 p → whole sheetTags p ≡ true → length ns ≡ length (patchOf p .table) → Below 3 ns
+    → compareReply s (p ++ field notesTag ns) ≡ compareReply s p
 
 -- ---- what fit replies
 
@@ -431,6 +461,12 @@ FitIgnoresVectors =
     (d s p q : List ℕ) → fitNumber d s p ≡ 0 → fitNumber d s q ≡ 0
     → patchOf p .support ≡ patchOf q .support → patchOf p .table ≡ patchOf q .table
     → (fitReply d s p ≡ fitReply d s q) × (fittedBuffer d s p ≡ fittedBuffer d s q)
+
+-- Card 1, for fit.
+abbrev pub FitIgnoresNotes : Type 0
+FitIgnoresNotes =
+    (d s p ns : List ℕ) → Below 256 p → whole sheetTags p ≡ true → length ns ≡ length (patchOf p .table) → Below 3 ns
+    → (fitReply d s (p ++ field notesTag ns) ≡ fitReply d s p) × (fittedBuffer d s (p ++ field notesTag ns) ≡ fittedBuffer d s p)
 
 -- ---- decide, then compare or fit
 

@@ -11,6 +11,7 @@ pub mod Masks
 pub mod Search
 pub mod Ranges
 pub mod Choose
+pub mod Given
 pub mod Table
 pub mod Sheet
 pub mod Deciding

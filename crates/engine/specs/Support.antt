@@ -1,4 +1,4 @@
--- Supports, readings and tables (document 01, "Verdicts"). A support is an ascending list of candidate nets. Assumes nothing.
+-- Supports, readings, tables and notes (document 01, "Verdicts"; card 1 of document 02). A support is an ascending list of candidate nets. Assumes nothing.
 --
 --   reading j is x        the reading that input x gives of the nets is: their values in the old circuit, the first in bit 0.
 --                         No target leads to them, so the vector has no say; it is 0 here
@@ -10,6 +10,10 @@
 --   shared j is r         the smallest vector that rectifies every input giving reading r, if there is one
 --   sound j is            that vector exists at every reading (where no input gives the reading, it is 0)
 --   tableOf j is          the table of those vectors, from reading 0 up
+--   sharing j is r        all vectors that rectify every input giving reading r
+--   noteOf j is r         the note beside row r of the table of a sound support: 0 where no input gives the reading, 1 where exactly one
+--                         vector rectifies every input giving it, 2 where several do
+--   notesOf j is          the notes, from reading 0 up
 --   candidateNets j       the nets of all candidates
 --   subsets is            all sets of nets of the list is, each ascending as is
 --   cost j is             the sum of the weights of the nets is
@@ -64,6 +68,17 @@ sound j is = all (λ r. found (shared j is r)) (upFrom 0 (2 ^ length is))
 
 unfoldable pub tableOf : Job → List ℕ → List ℕ
 tableOf j is = tabulate (2 ^ length is) (λ r. orZero (shared j is r))
+
+unfoldable pub sharing : Job → List ℕ → ℕ → List ℕ
+sharing j is r =
+    let xs = giving j is r in
+    keep (λ v. all (λ x. rectifies j x v) xs) (allVectors j)
+
+unfoldable pub noteOf : Job → List ℕ → ℕ → ℕ
+noteOf j is r = cond (eqb (length (giving j is r)) 0) 0 (cond (eqb (length (sharing j is r)) 1) 1 2)
+
+unfoldable pub notesOf : Job → List ℕ → List ℕ
+notesOf j is = tabulate (2 ^ length is) (noteOf j is)
 
 -- ---- the choice
 

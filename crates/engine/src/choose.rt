@@ -6,6 +6,8 @@ ghost use Prim.Native.Nat.{_-_, _^_, _≤_, _<_};
 ghost use lib.ListN.{length, take};
 ghost use Rattle.records.specs.Job.{Job};
 ghost use Rattle.engine.specs.Support.{sound, candidateNets};
+ghost use Rattle.records.specs.Claims.{Below};
+ghost use Rattle.engine.specs.Inner.Plan.{NetsRead};
 ghost use Rattle.engine.specs.Inner.Choose.{picked, total, lowFirst, before, PickedNets, FirstEmpty, SetsOf, LeftOut, OpenPick, WeightsOf, PickOf, OpenOf, BestFrom, HeldSupport, Choosable, ChosenOf};
 use super::limits::READINGS;
 use records::CANDIDATES;
@@ -106,7 +108,7 @@ fn sets_of(sets: [u16; READINGS], candidates: usize, set: usize) -> [u16; READIN
 // The nets whose places are in the set.
 fn pick_support(nets: [u16; CANDIDATES], count: usize, set: usize) -> Support
     requires { ⌜ count ≤ 10 ⌝ }
-    ensures { λ r. ⌜ PickedNets (take count nets) set r ⌝ }
+    ensures { λ r. ⌜ PickedNets (take count nets) set r × (Below 1024 nets → NetsRead (r .nets) (r .len)) ⌝ }
 {
     let mut picks = [0u16; CANDIDATES];
     let mut len = 0usize;
@@ -223,7 +225,7 @@ pub(super) fn choose(
     sets: [u16; READINGS],
 ) -> Chosen
     requires { ⌜ candidates ≤ 10 ⌝ }
-    ensures { λ r. ⌜ HeldSupport (r .support) ⌝ }
+    ensures { λ r. ⌜ HeldSupport (r .support) × (Below 1024 nets → NetsRead (r .support .nets) (r .support .len)) ⌝ }
     ensures { λ r. ⌜ ((j : Job) → Choosable j candidates nets weights sets → ChosenOf j r) ⌝ }
 {
     let all = Pick {

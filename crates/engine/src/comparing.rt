@@ -1,7 +1,7 @@
 // The service compare: the old circuit driven by a sheet's table beside the golden one, 1,024 inputs at a time.
 ghost use mathlib.Core.Path.{_≡_};
 ghost use mathlib.Core.List.{List};
-ghost use Prim.Native.Nat.{ℕ, _+_, _≤_, _<_, min};
+ghost use Prim.Native.Nat.{ℕ, _+_, _≤_, _<_};
 ghost use lib.ListN.{length};
 ghost use Rattle.records.specs.Job.{Job};
 ghost use Rattle.records.specs.Parts.{PartsOf};
@@ -14,6 +14,7 @@ use super::choose::reading_count;
 use super::drive::set_targets;
 use super::drive::table_rows;
 use super::kernel::run;
+use super::leaves::block_inputs;
 use super::leaves::equal_row;
 use super::leaves::read_rows;
 use super::limits::LISTED;
@@ -69,16 +70,6 @@ fn driven_row(
     let outputs = plan.outputs;
     let goldens = plan.goldens;
     equal_row(outputs, goldens, plan.outs, words)
-}
-
-// How many of the inputs left are in one block.
-fn block_inputs(left: usize) -> usize
-    ensures { λ r. ⌜ r ≡ min left 1024 ⌝ }
-{
-    if left < 1024 {
-        return left;
-    }
-    1024
 }
 
 // The smallest input at which the old outputs driven by the table differ from the golden ones. It costs, for each block of 1,024

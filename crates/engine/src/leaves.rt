@@ -2,7 +2,7 @@
 ghost use mathlib.Core.Path.{_≡_};
 ghost use mathlib.Core.List.{map};
 ghost use mathlib.Core.Bool.{cond};
-ghost use Prim.Native.Nat.{ℕ, _+_, _*_, _≤_, _<_};
+ghost use Prim.Native.Nat.{ℕ, _+_, _*_, _≤_, _<_, min};
 ghost use lib.Dec.{eqb};
 ghost use lib.ListN.{length, getD, take};
 ghost use Rattle.engine.specs.Choice.{same};
@@ -16,6 +16,16 @@ use super::word::broadcast;
 use super::word::input_word;
 use records::CANDIDATES;
 use records::OUTPUTS;
+
+// How many of the inputs left are in one block.
+pub(super) fn block_inputs(left: usize) -> usize
+    ensures { λ r. ⌜ r ≡ min left 1024 ⌝ }
+{
+    if left < 1024 {
+        return left;
+    }
+    1024
+}
 
 // The row r becomes that of net i. (The kernel's store has one caller, so that it is part of the kernel's loop.)
 pub(super) fn set_row(i: usize, r: [u64; ROW], words: &mut [u64; WORDS])

@@ -7,6 +7,7 @@ mod comparing;
 mod deciding;
 mod drive;
 mod fitting;
+mod given;
 mod kernel;
 mod leaves;
 mod limits;

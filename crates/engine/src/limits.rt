@@ -18,6 +18,6 @@ pub const MITER_GATES: usize = GATES + GATES;
 
 pub const LISTED: usize = MITER_GATES + 5 * GATES;
 
-pub const LONGEST_SHEET: usize = 1076;
+pub const LONGEST_SHEET: usize = 2103;
 
 pub const LONGEST_FIT: usize = 4075;

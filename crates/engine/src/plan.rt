@@ -12,7 +12,7 @@ ghost use Rattle.records.specs.Claims.{Below};
 ghost use Rattle.engine.specs.Inner.Packed.{operandsOf};
 ghost use Rattle.engine.specs.Inner.Miter.{MiterRoom, MiterOf};
 ghost use Rattle.engine.specs.Inner.Plan.{codeMark, markedAll, liveFrom, liveMarks, leavesFrom, marksFrom, picked};
-ghost use Rattle.engine.specs.Inner.Plan.{startOf, spanOf, ListPut, ListsUpTo, NetsRead, PlanHeld, PlannedOf};
+ghost use Rattle.engine.specs.Inner.Plan.{startOf, spanOf, ListPut, ListsUpTo, NetsRead, PlanHeld, ReadsOf, PlannedOf};
 use super::limits::LISTED;
 use super::limits::NETS;
 use super::miter::Miter;
@@ -261,5 +261,34 @@ pub(super) fn plan_of(
         reads,
         nets,
         ends,
+    }
+}
+
+// The plan of a walk over a miter's inputs that reads the first reads nets and compares no outputs, and its gates: those that lead to
+// these nets.
+pub(super) fn reads_of(
+    miter: Miter,
+    nets: [u16; CANDIDATES],
+    reads: usize,
+    gates: &mut [u64; LISTED],
+) -> Plan
+    requires { ⌜ MiterRoom miter × NetsRead nets reads × (length (now gates) ≡ 2800) ⌝ }
+    ensures { λ r. ⌜ PlanHeld r (now (gates .exit)) ⌝ }
+    ensures { λ r. ⌜ ((j : Job) (is : List ℕ) → MiterOf j miter → take reads nets ≡ is
+        → all (λ i. ltb i (oldNets j)) is ≡ true → ReadsOf j is r (now (gates .exit))) ⌝ }
+{
+    let outputs = miter.outputs;
+    let goldens = miter.goldens;
+    let live = live_marks(&miter.gates, miter.count, outputs, goldens, 0, nets, reads);
+    let end = pick(&miter.gates, miter.count, &live, &live, 0, gates);
+    Plan {
+        inputs: miter.inputs,
+        targets: miter.targets,
+        outs: 0,
+        outputs,
+        goldens,
+        reads,
+        nets,
+        ends: [end; 6],
     }
 }

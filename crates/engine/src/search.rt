@@ -94,7 +94,7 @@ fn search_range(
 }
 
 // The set of all vectors of so many targets.
-fn all_vectors(targets: usize) -> u16
+pub(super) fn all_vectors(targets: usize) -> u16
     requires { ⌜ targets ≤ 4 ⌝ }
     ensures { λ r. ⌜ r ≡ 2 ^ 2 ^ targets - 1 ⌝ }
 {
@@ -109,12 +109,12 @@ fn all_vectors(targets: usize) -> u16
 
 // All inputs. It costs, for each block of 1,024 inputs, one gate evaluation a gate of both netlists and those of the masks, less what
 // partial evaluation skips.
-pub(super) fn search_inputs(gates: &[u64], plan: Plan) -> Found
-    requires { ⌜ PlanHeld plan (now gates) ⌝ }
+pub(super) fn search_inputs(gates: &[u64], plan: Plan, words: &mut [u64; WORDS]) -> Found
+    requires { ⌜ PlanHeld plan (now gates) × (length (now words) ≡ 16384) ⌝ }
     ensures { λ r. ⌜ Held (r .list) × (length (r .sets) ≡ 1024) ⌝ }
     ensures { λ r. ⌜ ((j : Job) → PlannedOf j (candidateNets j) plan (now (gates .entry)) → Progress j (2 ^ j .inputs) (r .list) (r .sets)) ⌝ }
+    ensures { λ _. ⌜ length (now (words .exit)) ≡ 16384 ⌝ }
 {
-    let mut words = [0u64; WORDS];
     let mut sets = [all_vectors(plan.targets); READINGS];
     let list = Vectors {
         list: [0u8; VECTORS],
@@ -122,6 +122,6 @@ pub(super) fn search_inputs(gates: &[u64], plan: Plan) -> Found
         stuck: false,
         input: 0,
     };
-    let list = search_range(gates, plan, plan.inputs, 0, list, &mut words, &mut sets);
+    let list = search_range(gates, plan, plan.inputs, 0, list, words, &mut sets);
     Found { list, sets }
 }

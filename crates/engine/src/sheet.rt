@@ -60,13 +60,13 @@ fn put_support(reply: &mut [u8], support: Support) -> usize
     put_field(reply, 0, 16, &bytes[..count])
 }
 
-// The field of a table over len nets, from position at on.
-fn put_table(reply: &mut [u8], at: usize, table: &[u8], len: usize) -> usize
-    requires { ⌜ (len ≤ 10) × (2 ^ len ≤ length (now table)) × (at + 3 + 2 ^ len ≤ length (now reply)) ⌝ }
-    ensures { λ r. ⌜ BytesPut (now (reply .entry)) at (field 17 (take (2 ^ len) (now (table .entry)))) (now (reply .exit)) r ⌝ }
+// The field of a byte for each reading of len nets, a table or notes, from position at on.
+fn put_rows(reply: &mut [u8], at: usize, tag: u8, rows: &[u8], len: usize) -> usize
+    requires { ⌜ (len ≤ 10) × (2 ^ len ≤ length (now rows)) × (at + 3 + 2 ^ len ≤ length (now reply)) ⌝ }
+    ensures { λ r. ⌜ BytesPut (now (reply .entry)) at (field tag (take (2 ^ len) (now (rows .entry)))) (now (reply .exit)) r ⌝ }
 {
     let count = 1usize << len;
-    put_field(reply, at, 17, &table[..count])
+    put_field(reply, at, tag, &rows[..count])
 }
 
 // The field of a number of four bytes, from position at on.
@@ -86,7 +86,7 @@ pub(super) fn put_vectors(reply: &mut [u8], at: usize, list: [u8; VECTORS], len:
     put_field(reply, at, 19, &list[..len])
 }
 
-// The sheet of a patch: the support, its table, its cost and the vector list.
+// The sheet of a patch: the support, its table, its cost, the vector list and the notes.
 pub(super) fn put_patch(
     reply: &mut [u8],
     support: Support,
@@ -94,16 +94,20 @@ pub(super) fn put_patch(
     cost: u32,
     list: [u8; VECTORS],
     len: usize,
+    notes: &[u8],
 ) -> usize
-    requires { ⌜ (1076 ≤ length (now reply)) × (support .len ≤ 10) × (2 ^ support .len ≤ length (now table)) × (len ≤ 16) ⌝ }
+    requires { ⌜ (2103 ≤ length (now reply)) × (support .len ≤ 10) × (2 ^ support .len ≤ length (now table)) × (len ≤ 16) ⌝ }
+    requires { ⌜ 2 ^ support .len ≤ length (now notes) ⌝ }
     ensures { λ r. ⌜ BytesPut (now (reply .entry)) 0
-        (patchBytes (take (support .len) (support .nets)) (take (2 ^ support .len) (now (table .entry))) cost (take len list))
+        (patchBytes (take (support .len) (support .nets)) (take (2 ^ support .len) (now (table .entry))) cost (take len list)
+        (take (2 ^ support .len) (now (notes .entry))))
         (now (reply .exit)) r ⌝ }
 {
     let a = put_support(reply, support);
-    let b = put_table(reply, a, table, support.len);
+    let b = put_rows(reply, a, 17, table, support.len);
     let c = put_number(reply, b, 18, cost);
-    put_vectors(reply, c, list, len)
+    let d = put_vectors(reply, c, list, len);
+    put_rows(reply, d, 22, notes, support.len)
 }
 
 // The sheet of an unfixable input: the input and the vector list.
@@ -113,7 +117,7 @@ pub(super) fn put_unfixable(
     list: [u8; VECTORS],
     len: usize,
 ) -> usize
-    requires { ⌜ (1076 ≤ length (now reply)) × (input < 4294967296) × (len ≤ 16) ⌝ }
+    requires { ⌜ (2103 ≤ length (now reply)) × (input < 4294967296) × (len ≤ 16) ⌝ }
     ensures { λ r. ⌜ BytesPut (now (reply .entry)) 0 (unfixableBytes input (take len list)) (now (reply .exit)) r ⌝ }
 {
     let a = put_number(reply, 0, 20, input as u32);
@@ -122,7 +126,7 @@ pub(super) fn put_unfixable(
 
 // The sheet of a blind reading: the reading and the vector list.
 pub(super) fn put_blind(reply: &mut [u8], reading: usize, list: [u8; VECTORS], len: usize) -> usize
-    requires { ⌜ (1076 ≤ length (now reply)) × (reading < 65536) × (len ≤ 16) ⌝ }
+    requires { ⌜ (2103 ≤ length (now reply)) × (reading < 65536) × (len ≤ 16) ⌝ }
     ensures { λ r. ⌜ BytesPut (now (reply .entry)) 0 (blindBytes reading (take len list)) (now (reply .exit)) r ⌝ }
 {
     let bytes = two_bytes(reading as u16);

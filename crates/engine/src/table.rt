@@ -1,6 +1,7 @@
-// The table of a support, from the sets of vectors of its readings.
+// The table of a support and its notes, from the sets of vectors of its readings.
+ghost use mathlib.Core.Path.{_≡_};
 ghost use Prim.Native.Nat.{_≤_};
-ghost use Rattle.engine.specs.Inner.Table.{TableFilled};
+ghost use Rattle.engine.specs.Inner.Table.{TableFilled, noteFrom, NotesFilled};
 use super::choose::reading_count;
 use super::limits::READINGS;
 use super::list::lowest_of;
@@ -19,4 +20,37 @@ pub(super) fn fill_table(sets: [u16; READINGS], len: usize) -> [u8; READINGS]
         r += 1;
     }
     table
+}
+
+// The note of a reading that these vectors share; unseen is not 0 where no input gives it.
+fn note_of(set: u16, unseen: u16) -> u8
+    ensures { λ r. ⌜ r ≡ noteFrom set unseen ⌝ }
+{
+    if unseen != 0 {
+        return 0;
+    }
+    if set as usize == 1 << lowest_of(set as usize) {
+        return 1;
+    }
+    2
+}
+
+// The notes of a support of len nets that has these sets: at each reading 0 where unseen is not 0, 1 where its set has one vector,
+// else 2. It takes 2 ^ len turns, and evaluates no gate.
+pub(super) fn fill_notes(
+    sets: [u16; READINGS],
+    unseen: [u16; READINGS],
+    len: usize,
+) -> [u8; READINGS]
+    requires { ⌜ len ≤ 10 ⌝ }
+    ensures { λ r. ⌜ NotesFilled sets unseen len r ⌝ }
+{
+    let count = reading_count(len);
+    let mut notes = [0u8; READINGS];
+    let mut r = 0usize;
+    while r < count {
+        notes[r] = note_of(sets[r], unseen[r]);
+        r += 1;
+    }
+    notes
 }

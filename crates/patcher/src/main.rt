@@ -62,7 +62,8 @@ One of the files can be -, standard input.
 
 // Prints the reply and gives 0, or gives the number of the refusal. A job that fills the buffer is refused with 2, as 01 has it for
 // `rectify`, since what stands behind is not known; read whole it might have its fields in order and get 3, for a count. A sheet
-// that fills the buffer is longer than any of the right shape, so the service refuses it.
+// that fills the buffer is cut short, so the service refuses it with 7. Of the right shape only one over fifteen nets, with notes, is as
+// long; read whole it would get 8, as no job has so many candidates.
 fn answer(command: Command, job: &[u8], sheet: &[u8]) -> u8 {
     if 65535 < job.len() {
         return 2;

@@ -4,12 +4,14 @@ pub mod Bytes
 pub mod Columns
 pub mod Counts
 pub mod Field
+pub mod Front
 pub mod Gate
 pub mod Gates
 pub mod Independent
 pub mod Job
 pub mod Loading
 pub mod Netlist
+pub mod Notes
 pub mod Put
 pub mod ReadColumns
 pub mod Reading

@@ -1,10 +1,11 @@
 -- What specs/Claims.antt and specs/Parts.antt promise of the record library, each by one citation. Assumes nothing.
 use Rattle.records.specs.Parts.{LoadGiven}
-use Rattle.records.specs.Claims.{First, ReadAccepts, WriteAccepts, SheetAccepts, ReadRefuses, WriteRefuses, SheetRefuses, NumberGiven, ReadKeeps, WriteKeeps, ReadIndependent, WriteIndependent, SheetIndependent, TruthTable, OperandsFold, OddInverts, PlacesGiven, ReadWrite, WriteRead, LongestJob, LongestJobMet, SheetGiven, ColumnsRead, ColumnsAccepts, ColumnsRefuses, ColumnsGiven, ColumnsWithin, ColumnsWrite, ColumnsWriteAccepts, ColumnsWriteRefuses, ColumnsReadWrite, ColumnsWriteRead, ColumnsKeeps, ColumnsWriteKeeps, ColumnsIndependent, ColumnsWriteIndependent}
+use Rattle.records.specs.Claims.{First, ReadAccepts, WriteAccepts, SheetAccepts, ReadRefuses, WriteRefuses, SheetRefuses, NumberGiven, ReadKeeps, WriteKeeps, ReadIndependent, WriteIndependent, SheetIndependent, TruthTable, OperandsFold, OddInverts, PlacesGiven, ReadWrite, WriteRead, LongestJob, LongestJobMet, SheetGiven, SheetNotes, NotesSeven, ColumnsRead, ColumnsAccepts, ColumnsRefuses, ColumnsGiven, ColumnsWithin, ColumnsWrite, ColumnsWriteAccepts, ColumnsWriteRefuses, ColumnsReadWrite, ColumnsWriteRead, ColumnsKeeps, ColumnsWriteKeeps, ColumnsIndependent, ColumnsWriteIndependent}
 use Rattle.records.proofs.Laws.Accepted as accepted
 use Rattle.records.proofs.Laws.Gate as gate
 use Rattle.records.proofs.Laws.Independent as independent
 use Rattle.records.proofs.Laws.Loading as loading
+use Rattle.records.proofs.Laws.Notes as notes
 use Rattle.records.proofs.Laws.ReadColumns as over-columns
 use Rattle.records.proofs.Laws.SheetReply as sheet-reply
 
@@ -73,6 +74,12 @@ longest-job-met = accepted.longest-met
 
 pub sheet-given : SheetGiven
 sheet-given = sheet-reply.sheet-given
+
+pub sheet-notes : SheetNotes
+sheet-notes = notes.sheet-notes
+
+pub notes-seven : NotesSeven
+notes-seven = notes.notes-seven
 
 pub columns-read : ColumnsRead
 columns-read = over-columns.columns-read

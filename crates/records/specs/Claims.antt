@@ -21,6 +21,7 @@
 --   ReadWrite, WriteRead          the round trip
 --   LongestJob, LongestJobMet     no accepted job has more than 8,188 bytes, and one has as many
 --   SheetIn m k nets weights s, SheetGiven      an accepted sheet's support, table and cost are replied
+--   SheetNotes, NotesSeven        a sheet with notes gets the reply that it gets without, and one with wrong notes gets 7
 --   ColumnsRead       read_columns replies what read does
 --   ColumnsAccepts, ColumnsRefuses              what read_columns accepts; a refusal alters no column
 --   ColumnsGiven, ColumnsWithin   the columns of an accepted job hold it
@@ -38,12 +39,12 @@ use mathlib.Core.Logic.{_↔_}
 use mathlib.Core.List.{List, [], _∷_, _++_, map}
 use mathlib.Core.Bool.{true, false}
 use lib.ListN.{length, getD, take, drop, replicate}
-use Rattle.records.specs.Bytes.{upFrom, tabulate, all, placed}
+use Rattle.records.specs.Bytes.{upFrom, tabulate, all, placed, field, whole}
 use Rattle.records.specs.Gate.{slotCount, gateOf, kindCount, leastCount, mostCount, inverted, gateValue}
 use Rattle.records.specs.Netlist.{valueOf}
 use Rattle.records.specs.Job.{Job, jobWhole, jobOf}
 use Rattle.records.specs.Refusal.{Test, firstFailing, countsGood, netlistsGood, outputsGood, candidatesGood, jobRefusal, longestJob}
-use Rattle.records.specs.Sheet.{patchOf, sheetWhole, patchGood}
+use Rattle.records.specs.Sheet.{sheetTags, notesTag, patchOf, sheetWhole, patchGood}
 use Rattle.records.specs.Service.{SidePlaces, Places, roomy, noCounts, readNumber, readReply, readPlaces, held, candidatesFrom, jobFrom, writeNumber, writeReply, writtenBytes, sheetRoomy, sheetNumber, sheetReply}
 use Rattle.records.specs.Columns.{SideColumns, Columns, columnsRoomy, columnsNumber, columnsReply, columnsAfter, columnsJob, columnsHeld, columnsWriteNumber, columnsWriteReply, columnsWritten}
 use Rattle.records.specs.declared.job.SideCounts.{SideCounts}
@@ -273,6 +274,20 @@ pub record SheetIn (m k : ℕ) (nets weights s : List ℕ) : Type 0 where
 
 abbrev pub SheetGiven : Type 0
 SheetGiven = (m k : ℕ) (nets weights s : List ℕ) → sheetNumber m k nets weights s ≡ 0 → SheetIn m k nets weights s
+
+-- Card 1: "Fit and compare take sheets with or without it." Notes ns, one for each entry of the table and none above 2, put behind the
+-- four fields of a sheet, whatever these say, leave the reply as it is.
+abbrev pub SheetNotes : Type 0
+SheetNotes =
+    (m k : ℕ) (nets weights s ns : List ℕ) → Below 256 s → whole sheetTags s ≡ true → length ns ≡ length (patchOf s .table) → Below 3 ns
+    → sheetReply m k nets weights (s ++ field notesTag ns) ≡ sheetReply m k nets weights s
+
+-- .. "another length or a byte above 2 is 7", whatever the four fields say.
+abbrev pub NotesSeven : Type 0
+NotesSeven =
+    (m k : ℕ) (nets weights s ns : List ℕ) → sheetRoomy m k nets weights ≡ true → whole sheetTags s ≡ true → length ns < 65536
+    → ((length ns ≡ length (patchOf s .table)) × Below 3 ns → ⊥)
+    → sheetNumber m k nets weights (s ++ field notesTag ns) ≡ 7
 
 -- ---- the services over columns
 

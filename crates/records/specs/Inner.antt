@@ -3,7 +3,7 @@
 use Prim.Native.Nat.{ℕ, zero, suc, _+_, _-_, _*_, _/_, _%_, _^_, _≤_, _<_}
 use mathlib.Core.Path.{_≡_}
 use mathlib.Core.List.{List, [], _∷_, _++_, map}
-use mathlib.Core.Bool.{Bool, true, cond, _&&_}
+use mathlib.Core.Bool.{Bool, true, cond, _&&_, _||_}
 use lib.ListN.{length, getD, set, take, drop, replicate}
 use lib.Dec.{leb, ltb, eqb}
 use Rattle.records.specs.Bytes.{upFrom, tabulate, all, flat, bytePair, word, placed, headSize, field, bodyLength, rest, fits, whole, nth}
@@ -11,7 +11,7 @@ use Rattle.records.specs.Gate.{slotCount}
 use Rattle.records.specs.Netlist.{netAt}
 use Rattle.records.specs.Job.{Candidate, Job, gateSize, netSize, candidateSize, gateBytes, jobWhole, jobOf, jobBytes}
 use Rattle.records.specs.Refusal.{maxInputs, maxTargets, maxGates, maxOutputs, maxCandidates, longestJob, firstFailing, netlistsGood, ascending, jobTests, jobRefusal}
-use Rattle.records.specs.Sheet.{sheetWhole, isCandidate, costOf}
+use Rattle.records.specs.Sheet.{sheetTags, notesTag, isCandidate, costOf}
 use Rattle.records.specs.Service.{Places, gatesIn, countsOf, noCounts, held, jobFrom, writeReply, writtenBytes}
 unfoldable pub use Rattle.records.specs.Service.{checkOf, structSlots, noGate, noGates}
 use Rattle.records.specs.declared.gate.Gate.{Gate as GateStruct}
@@ -397,8 +397,23 @@ unfoldable pub spansOf : List ℕ → SheetSpans
 spansOf s =
     record { nets = length (nth 0 s) / 2; table = startOf 1 s; cost = startOf 2 s; vectors = startOf 3 s }
 
+-- a whole sheet without notes
+unfoldable pub bareWhole : ℕ → List ℕ → Bool
+bareWhole m s =
+    whole sheetTags s
+    && eqb (length (nth 0 s) % 2) 0
+    && eqb (length (nth 1 s)) (2 ^ (length (nth 0 s) / 2))
+    && eqb (length (nth 2 s)) 4
+    && leb 1 (length (nth 3 s))
+    && leb (length (nth 3 s)) (2 ^ m)
+
 unfoldable pub sheetShapeOf : ℕ → List ℕ → SheetShape
-sheetShapeOf m s = cond (sheetWhole m s) (SheetShape.Whole (spansOf s)) SheetShape.Broken
+sheetShapeOf m s = cond (bareWhole m s) (SheetShape.Whole (spansOf s)) SheetShape.Broken
+
+-- no bytes, or the field of the notes of n readings
+unfoldable pub notesAt : ℕ → List ℕ → Bool
+notesAt n t =
+    eqb (length t) 0 || (whole (notesTag ∷ []) t && eqb (length (nth 0 t)) n && all (λ v. ltb v 3) (nth 0 t))
 
 -- the fields' lengths are those of nets, of a table, a cost and vectors that fit each other and m targets; a table is shorter than
 -- 65,536 bytes, so the nets are at most fifteen

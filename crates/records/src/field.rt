@@ -50,7 +50,7 @@ pub(super) fn word_at(s: &[u8], at: usize) -> usize
 }
 
 // The field with this tag at a position.
-fn field_at(s: &[u8], at: usize, tag: u8) -> Field
+pub(super) fn field_at(s: &[u8], at: usize, tag: u8) -> Field
     ensures { λ r. ⌜ r ≡ fieldAt (now (s .entry)) at tag ⌝ }
 {
     if s.len() < at {

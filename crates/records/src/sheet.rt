@@ -6,8 +6,10 @@ ghost use lib.Dec.{ltb};
 ghost use Rattle.records.specs.Bytes.{all};
 ghost use Rattle.records.specs.Sheet.{quad};
 ghost use Rattle.records.specs.Service.{candidatesFrom, sheetReply};
-ghost use Rattle.records.specs.Inner.{checkOf, spannedFrom, sheetShapeOf, sheetRoom, foundIn, wordColumn, supportOf, refusedSheet, tenPlaces};
+ghost use Rattle.records.specs.Inner.{checkOf, startOf, spannedFrom, sheetShapeOf, notesAt, sheetRoom, foundIn, wordColumn, supportOf, refusedSheet, tenPlaces};
 use super::field::Check;
+use super::field::Field;
+use super::field::field_at;
 use super::field::walked;
 use super::field::wide;
 use super::field::word_at;
@@ -35,7 +37,7 @@ pub struct SheetSpans {
     pub vectors: usize,
 }
 
-// The fields of a sheet's bytes, or that they are not a whole sheet.
+// The four fields of a sheet without notes, or that its bytes are not such a sheet.
 pub enum SheetShape {
     Whole(SheetSpans),
     Broken,
@@ -113,7 +115,27 @@ fn spanned(starts: [usize; 6], lens: [usize; 6], targets: usize) -> SheetShape
     SheetShape::Broken
 }
 
-// The four fields, and that their lengths fit each other and the number of targets.
+// Where the field behind the first count ones starts, by their lengths; the end where they are not all there.
+fn fields_end(s: &[u8], count: usize) -> usize
+    ensures { λ r. ⌜ (r ≤ length (now (s .entry))) × (startOf count (now (s .entry)) ≤ length (now (s .entry)) + 3 → r + 3 ≡ startOf count (now (s .entry))) ⌝ }
+{
+    let mut at = 0usize;
+    let mut i = 0usize;
+    while i < count {
+        if s.len() - at < 3 {
+            return s.len();
+        }
+        let len = word_at(s, at + 1);
+        if s.len() - at - 3 < len {
+            return s.len();
+        }
+        at = at + 3 + len;
+        i += 1;
+    }
+    at
+}
+
+// The four fields of a sheet without notes, and that their lengths fit each other and the number of targets.
 fn sheet_shaped(sheet: &[u8], targets: usize) -> SheetShape
     requires { ⌜ targets ≤ 4 ⌝ }
     ensures { λ r. ⌜ r ≡ sheetShapeOf targets (now (sheet .entry)) ⌝ }
@@ -183,6 +205,24 @@ fn check_entries(s: &[u8], from: usize, end: usize, limit: usize) -> Check
     Check::Passed
 }
 
+// Whether nothing stands from a position on, or the field of the notes alone: a byte for each of count readings, none above 2.
+fn check_notes(s: &[u8], at: usize, count: usize) -> Check
+    requires { ⌜ at ≤ length (now s) ⌝ }
+    ensures { λ r. ⌜ r ≡ checkOf (notesAt count (drop at (now (s .entry)))) ⌝ }
+{
+    if at == s.len() {
+        return Check::Passed;
+    }
+    let found = field_at(s, at, 22);
+    let Field::Body { start, len } = found else {
+        return Check::Failed;
+    };
+    if (len != count) | (start + len != s.len()) {
+        return Check::Failed;
+    }
+    check_entries(s, start, s.len(), 3)
+}
+
 // The four-byte number at a position.
 fn quad_at(s: &[u8], at: usize) -> u32
     requires { ⌜ at + 4 ≤ length (now s) ⌝ }
@@ -206,8 +246,8 @@ fn support_from(s: &[u8], len: usize) -> Support
 }
 
 // The service that reads a patch sheet against the first candidates of nets and weights of a job with so many targets.
-// Refused are counts outside their ranges or above their places (3), what is no whole sheet (7), and a support, an
-// entry or a cost that does not fit the job (8). Time linear in the sheet's bytes and, for each support net, the
+// The sheet may have notes, which have no effect. Refused are counts outside their ranges or above their places (3), what is no whole
+// sheet, with notes or without (7), and a support, an entry or a cost that does not fit the job (8). Time linear in the sheet's bytes and, for each support net, the
 // candidates.
 pub fn read_sheet(
     targets: usize,
@@ -222,8 +262,13 @@ pub fn read_sheet(
     let Check::Passed = first else {
         return refused(3);
     };
-    let found = sheet_shaped(sheet, targets);
+    let end = fields_end(sheet, 4);
+    let found = sheet_shaped(&sheet[..end], targets);
     let SheetShape::Whole(at) = found else {
+        return refused(7);
+    };
+    let notes = check_notes(sheet, end, at.cost - 3 - at.table);
+    let Check::Passed = notes else {
         return refused(7);
     };
     let costs = support_cost(sheet, at.nets, candidates, nets, weights);
@@ -235,7 +280,7 @@ pub fn read_sheet(
     let Check::Passed = second else {
         return refused(8);
     };
-    let third = check_entries(sheet, at.vectors, sheet.len(), limit);
+    let third = check_entries(sheet, at.vectors, end, limit);
     let Check::Passed = third else {
         return refused(8);
     };

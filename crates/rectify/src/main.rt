@@ -1,10 +1,10 @@
-// Reads a job from standard input and prints its verdict: a patch with its cost, support, table and vectors, an unfixable input or
-// a blind reading with the vectors, or `refused` and the number. The text is made by `report::rectify_text`. Where standard
+// Reads a job from standard input and prints its verdict: a patch with its cost, support, table, vectors and notes, an unfixable input
+// or a blind reading with the vectors, or `refused` and the number. The text is made by `report::rectify_text`. Where standard
 // input cannot be read, a line on standard error says so and nothing is printed.
 
 // The text of the job's bytes, to standard output.
 fn print_verdict(job: &[u8]) {
-    let mut text = [0u8; 4264];
+    let mut text = [0u8; 8366];
     let n = report::rectify_text(job, &mut text);
     cli::write_reply(&text[..n]);
 }

@@ -7,7 +7,7 @@ use native.Mathlib.Omega.{arith}
 use borrow.Author.Tests.{eqb-true, eqb-false}
 use lib.Dec.{eqb}
 use lib.ListN.{replicate}
-use Rattle.records.specs.Bytes.{upFrom, tabulate, all, flat, bytePair, word, field, bodyLength, body, rest, nth}
+use Rattle.records.specs.Bytes.{upFrom, tabulate, all, flat, word, bodyLength, body, rest, nth}
 use Rattle.records.specs.Job.{jobOf, netsOf}
 use Rattle.records.specs.Sheet.{quad, patchOf}
 use Rattle.records.proofs.Laws.Bytes.{all-cons}
@@ -16,7 +16,8 @@ use Rattle.engine.specs.Verdict.{sheetOf, longestSheet, decideNumber}
 use Rattle.engine.specs.Cases.{jobA, sheetA, replied, cases, casesHold}
 use Rattle.engine.proofs.Laws.Choice.{same-true}
 use Rattle.engine.proofs.Cases.{cases-hold}
-use Rattle.report.specs.Text.{digitsWithin, digits, number, numbers, line, patchText, patchSheetText, valueText, sheetText, refusedText, rectifyText, textA, textCases, textCasesHold}
+use Rattle.report.specs.Text.{digitsWithin, digits, number, numbers, line, patchText, valueText, refusedText, rectifyText, textA, textCases, textCasesHold}
+use Rattle.report.specs.Inner.{patchSheetText, sheetText}
 use Rattle.report.proofs.Laws.Text.{rectify-accepted}
 
 -- ---- job A
@@ -50,6 +51,5 @@ a-printed =
 -- ---- further texts
 
 pub text-cases-hold : textCasesHold ≡ true
-unfolding textCasesHold textCases sheetText patchSheetText patchText valueText refusedText line numbers number digits digitsWithin
-    flat all same patchOf quad word nth body rest bodyLength field bytePair netsOf tabulate upFrom
+unfolding textCasesHold textCases patchText valueText refusedText line numbers number digits digitsWithin flat all same
 text-cases-hold = refl

@@ -1,30 +1,31 @@
--- What the program `rectify` prints (document 01, "Jobs on file"), as ASCII bytes. Assumes nothing.
+-- What the program `rectify` prints (document 01, "Jobs on file"; card 1 of document 02), as ASCII bytes. Assumes nothing.
 --
 --   digits x               the decimal digits of x, the highest first
 --   patchWord .. refusedWord    the words that lines start with
 --   number x, numbers xs   a space and the digits of x; the same for each number of xs
 --   line w xs              the word w, the numbers xs and a line feed
---   patchText c is es vs   the four lines of a patch: cost, support nets, table, vector list
+--   patchText c is es vs ns     the five lines of a patch: cost, support nets, table, vector list, notes
 --   valueText w x vs       the two lines of an unfixable input or a blind reading x
---   patchSheetText s       the lines of the patch sheet s
---   sheetText s            the lines of the sheet s, by its first tag
+--   rulingText j v         the lines of the verdict v on job j
 --   refusedText n          the line of a refusal with number n
 --   inputLimit             more bytes than these are refused with 2
 --   rectifyText s          what is printed for the job bytes s
 --   longestText            no sheet of a verdict and no refusal has a longer text
 --   printedLength, printedBytes d s     the length of the text and the lent buffer d afterwards
---   textA                  the four lines that document 01 gives for job A
+--   textA                  the lines that document 01 and card 1 give for job A
 --   textCases, textCasesHold    further texts, and that each is what it must be
 use Prim.Native.Nat.{ℕ, zero, suc, _+_, _/_, _%_}
 use mathlib.Core.List.{List, [], _∷_, _++_}
 use mathlib.Core.Bool.{Bool, true, false, cond}
-use lib.ListN.{length, getD, replicate}
+use lib.ListN.{length}
 use lib.Dec.{ltb, eqb}
-use Rattle.records.specs.Bytes.{all, flat, word, placed, field, nth}
-use Rattle.records.specs.Job.{jobOf}
-use Rattle.records.specs.Sheet.{quad, patchOf}
+use Rattle.records.specs.Bytes.{all, flat, placed}
+use Rattle.records.specs.Job.{Job, jobOf}
+use Rattle.records.specs.Refusal.{jobRefusal}
 use Rattle.engine.specs.Choice.{same}
-use Rattle.engine.specs.Verdict.{sheetOf, longestSheet, decideNumber}
+use Rattle.engine.specs.Rectify.{vectorLoop}
+use Rattle.engine.specs.Support.{tableOf, notesOf, cost}
+use Rattle.engine.specs.Verdict.{Ruling, patch, unfixable, blind, ruling}
 use Rattle.engine.specs.Cases.{Case}
 
 -- ---- numbers
@@ -56,6 +57,10 @@ tableWord = 116 ∷ 97 ∷ 98 ∷ 108 ∷ 101 ∷ []
 abbrev pub vectorsWord : List ℕ
 vectorsWord = 118 ∷ 101 ∷ 99 ∷ 116 ∷ 111 ∷ 114 ∷ 115 ∷ []
 
+-- `notes`
+abbrev pub notesWord : List ℕ
+notesWord = 110 ∷ 111 ∷ 116 ∷ 101 ∷ 115 ∷ []
+
 -- `unfixable`
 abbrev pub unfixableWord : List ℕ
 unfixableWord = 117 ∷ 110 ∷ 102 ∷ 105 ∷ 120 ∷ 97 ∷ 98 ∷ 108 ∷ 101 ∷ []
@@ -81,25 +86,17 @@ line w xs = w ++ numbers xs ++ (10 ∷ [])
 
 -- ---- texts
 
-unfoldable pub patchText : ℕ → List ℕ → List ℕ → List ℕ → List ℕ
-patchText c is es vs = line patchWord (c ∷ []) ++ line supportWord is ++ line tableWord es ++ line vectorsWord vs
+unfoldable pub patchText : ℕ → List ℕ → List ℕ → List ℕ → List ℕ → List ℕ
+patchText c is es vs ns =
+    line patchWord (c ∷ []) ++ line supportWord is ++ line tableWord es ++ line vectorsWord vs ++ line notesWord ns
 
 unfoldable pub valueText : List ℕ → ℕ → List ℕ → List ℕ
 valueText w x vs = line w (x ∷ []) ++ line vectorsWord vs
 
-unfoldable pub patchSheetText : List ℕ → List ℕ
-patchSheetText s =
-    let p = patchOf s in
-    patchText (p .cost) (p .support) (p .table) (p .vectors)
-
-unfoldable pub sheetText : List ℕ → List ℕ
-sheetText s =
-    let tag = getD s 0 0 in
-    cond (eqb tag 16)
-    (patchSheetText s)
-    (cond (eqb tag 20)
-    (valueText unfixableWord (quad (nth 0 s)) (nth 1 s))
-    (valueText blindWord (word (nth 0 s) 0) (nth 1 s)))
+unfoldable pub rulingText : Job → Ruling → List ℕ
+rulingText j (patch is) = patchText (cost j is) is (tableOf j is) (vectorLoop j .vectors) (notesOf j is)
+rulingText j (unfixable x) = valueText unfixableWord x (vectorLoop j .vectors)
+rulingText j (blind r) = valueText blindWord r (vectorLoop j .vectors)
 
 unfoldable pub refusedText : ℕ → List ℕ
 refusedText n = line refusedWord (n ∷ [])
@@ -109,16 +106,15 @@ inputLimit = 65535
 
 unfoldable pub rectifyText : List ℕ → List ℕ
 rectifyText s =
-    let n = decideNumber (replicate longestSheet 0) s in
-    cond (ltb inputLimit (length s))
-    (refusedText 2)
-    (cond (eqb n 0) (sheetText (sheetOf (jobOf s))) (refusedText n))
+    let n = jobRefusal s in
+    let j = jobOf s in
+    cond (ltb inputLimit (length s)) (refusedText 2) (cond (eqb n 0) (rulingText j (ruling j)) (refusedText n))
 
 -- ---- in a lent buffer
 
--- A cost has at most ten digits, a net five, a byte three: 22 + 68 + 4102 + 72.
+-- A cost has at most ten digits, a net five, a byte three: 22 + 68 + 4102 + 72 + 4102.
 abbrev pub longestText : ℕ
-longestText = 4264
+longestText = 8366
 
 -- what rectify_text gives where the buffer d is long enough for every text, else nothing
 unfoldable pub printedLength : List ℕ → List ℕ → ℕ
@@ -129,7 +125,7 @@ printedBytes d s = cond (ltb (length d) longestText) d (placed d 0 (rectifyText 
 
 -- ---- examples
 
--- document 01's four lines for job A: `patch cost 7`, `support 0 1`, `table 0 0 0 1`, `vectors 0 1`
+-- document 01's four lines for job A, `patch cost 7`, `support 0 1`, `table 0 0 0 1`, `vectors 0 1`, and card 1's `notes 1 1 1 1`
 abbrev pub textA : List ℕ
 textA =
     patchWord
@@ -140,20 +136,22 @@ textA =
     ++ (32 ∷ 48 ∷ 32 ∷ 48 ∷ 32 ∷ 48 ∷ 32 ∷ 49 ∷ 10 ∷ [])
     ++ vectorsWord
     ++ (32 ∷ 48 ∷ 32 ∷ 49 ∷ 10 ∷ [])
+    ++ notesWord
+    ++ (32 ∷ 49 ∷ 32 ∷ 49 ∷ 32 ∷ 49 ∷ 32 ∷ 49 ∷ 10 ∷ [])
 
 abbrev is : List ℕ → List ℕ → Case
 is xs ys = record { given = xs; expected = ys }
 
 unfoldable pub textCases : List Case
 textCases =
-    -- case 3's sheet: `blind 1`, `vectors 0 1`
-    is (sheetText (field 21 (0 ∷ 1 ∷ []) ++ field 19 (0 ∷ 1 ∷ [])))
+    -- case 3: `blind 1`, `vectors 0 1`
+    is (valueText blindWord 1 (0 ∷ 1 ∷ []))
     (blindWord ++ (32 ∷ 49 ∷ 10 ∷ []) ++ vectorsWord ++ (32 ∷ 48 ∷ 32 ∷ 49 ∷ 10 ∷ []))
-    -- the sheet of input 1,048,575, the highest: `unfixable 1048575`, `vectors 0`
-    ∷ is (sheetText (field 20 (0 ∷ 15 ∷ 255 ∷ 255 ∷ []) ++ field 19 (0 ∷ [])))
+    -- input 1,048,575, the highest: `unfixable 1048575`, `vectors 0`
+    ∷ is (valueText unfixableWord 1048575 (0 ∷ []))
     (unfixableWord ++ (32 ∷ 49 ∷ 48 ∷ 52 ∷ 56 ∷ 53 ∷ 55 ∷ 53 ∷ 10 ∷ []) ++ vectorsWord ++ (32 ∷ 48 ∷ 10 ∷ []))
-    -- case 6's sheet: `patch cost 0`, `support`, `table 0`, `vectors 0`
-    ∷ is (sheetText (field 16 [] ++ field 17 (0 ∷ []) ++ field 18 (0 ∷ 0 ∷ 0 ∷ 0 ∷ []) ++ field 19 (0 ∷ [])))
+    -- case 6: `patch cost 0`, `support`, `table 0`, `vectors 0`, `notes 1`
+    ∷ is (patchText 0 [] (0 ∷ []) (0 ∷ []) (1 ∷ []))
     (patchWord
     ++ (32 ∷ 48 ∷ 10 ∷ [])
     ++ supportWord
@@ -161,7 +159,9 @@ textCases =
     ++ tableWord
     ++ (32 ∷ 48 ∷ 10 ∷ [])
     ++ vectorsWord
-    ++ (32 ∷ 48 ∷ 10 ∷ []))
+    ++ (32 ∷ 48 ∷ 10 ∷ [])
+    ++ notesWord
+    ++ (32 ∷ 49 ∷ 10 ∷ []))
     -- `refused 3`
     ∷ is (refusedText 3) (refusedWord ++ (32 ∷ 51 ∷ 10 ∷ []))
     ∷ []

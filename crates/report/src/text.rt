@@ -6,8 +6,8 @@ ghost use lib.ListN.{length};
 ghost use Rattle.records.specs.Bytes.{nth, word as word′};
 ghost use Rattle.records.specs.Job.{netsOf};
 ghost use Rattle.records.specs.Sheet.{quad};
-ghost use Rattle.report.specs.Text.{digits, number, numbers, line, unfixableWord, blindWord, patchText, patchSheetText, valueText, sheetText, refusedText, longestText, printedLength, printedBytes};
-ghost use Rattle.report.specs.Inner.{PatchSheet, ValueSheet, WholeSheet, Printed, Texted};
+ghost use Rattle.report.specs.Text.{digits, number, numbers, line, unfixableWord, blindWord, patchText, valueText, refusedText, longestText, printedLength, printedBytes};
+ghost use Rattle.report.specs.Inner.{PatchSheet, ValueSheet, WholeSheet, patchSheetText, sheetText, Printed, Texted};
 use engine::decide;
 use records::wide;
 
@@ -143,15 +143,23 @@ fn field_end(s: &[u8], start: usize) -> usize
 }
 
 // The lines of a patch.
-fn patch_lines(text: &mut [u8], cost: usize, support: &[u8], table: &[u8], vectors: &[u8]) -> usize
-    requires { ⌜ length (patchText cost (netsOf (now support)) (now table) (now vectors)) ≤ length (now text) ⌝ }
-    ensures { λ r. ⌜ Texted (now (text .entry))
-        (patchText cost (netsOf (now (support .entry))) (now (table .entry)) (now (vectors .entry))) r (now (text .exit)) ⌝ }
+fn patch_lines(
+    text: &mut [u8],
+    cost: usize,
+    support: &[u8],
+    table: &[u8],
+    vectors: &[u8],
+    notes: &[u8],
+) -> usize
+    requires { ⌜ length (patchText cost (netsOf (now support)) (now table) (now vectors) (now notes)) ≤ length (now text) ⌝ }
+    ensures { λ r. ⌜ Texted (now (text .entry)) (patchText cost (netsOf (now (support .entry))) (now (table .entry))
+        (now (vectors .entry)) (now (notes .entry))) r (now (text .exit)) ⌝ }
 {
     let a = put_number_line(text, 0, b"patch cost", cost);
     let b = put_nets_line(text, a, b"support", support);
     let c = put_bytes_line(text, b, b"table", table);
-    put_bytes_line(text, c, b"vectors", vectors)
+    let d = put_bytes_line(text, c, b"vectors", vectors);
+    put_bytes_line(text, d, b"notes", notes)
 }
 
 // The text of a patch's sheet.
@@ -162,13 +170,15 @@ fn patch_text(sheet: &[u8], text: &mut [u8]) -> usize
     let table = field_end(sheet, 3) + 3;
     let cost = field_end(sheet, table) + 3;
     let vectors = cost + 7;
+    let notes = field_end(sheet, vectors) + 3;
     let paid = quad_at(&sheet[cost..vectors - 3]);
     patch_lines(
         text,
         paid,
         &sheet[3..table - 3],
         &sheet[table..cost - 3],
-        &sheet[vectors..],
+        &sheet[vectors..notes - 3],
+        &sheet[notes..],
     )
 }
 
@@ -214,20 +224,20 @@ fn sheet_text(sheet: &[u8], text: &mut [u8]) -> usize
     blind_text(sheet, text)
 }
 
-// What the program `rectify` prints for a job's bytes. Where text has fewer than 4,264 bytes nothing is printed and the length is 0;
+// What the program `rectify` prints for a job's bytes. Where text has fewer than 8,366 bytes nothing is printed and the length is 0;
 // else the length of the text, which stands at the start. Costs what decide costs.
 pub fn rectify_text(job: &[u8], text: &mut [u8]) -> usize
     ensures { λ r. ⌜ r ≡ printedLength (now (text .entry)) (now (job .entry)) ⌝ }
     ensures { λ _. ⌜ now (text .exit) ≡ printedBytes (now (text .entry)) (now (job .entry)) ⌝ }
     ensures { λ r. ⌜ r ≤ length (now (text .entry)) ⌝ }
 {
-    if text.len() < 4264 {
+    if text.len() < 8366 {
         return 0;
     }
     if 65535 < job.len() {
         return refused_text(2, text);
     }
-    let mut sheet = [0u8; 1076];
+    let mut sheet = [0u8; 2103];
     let found = decide(job, &mut sheet);
     if found.number != 0 {
         return refused_text(found.number, text);

@@ -47,27 +47,27 @@ pub(super) fn print_hash(buf: [u8; 8200], n: usize) {
     cli::print_line(1, b"", samples::hash_front(buf, n) as u64);
 }
 
-// The buffer has 1,200 bytes here and in order_call.
+// The buffer has 2,200 bytes here and in order_call.
 pub(super) fn decide_call(s: &[u8]) -> bool {
     if s.len() < 2 {
         return false;
     }
     io::write_all(1, b"decide");
-    let a = decided(&s[2..], samples::new_buffer(), least(word_at(s, 0), 1200));
+    let a = decided(&s[2..], samples::new_buffer(), least(word_at(s, 0), 2200));
     let buf = a.buf;
-    print_hash(buf, 1200);
+    print_hash(buf, 2200);
     true
 }
 
 // Three jobs decided in turn into one buffer.
 fn decide_three(first: &[u8], second: &[u8], third: &[u8]) {
-    let a = decided(first, samples::new_buffer(), 1076);
+    let a = decided(first, samples::new_buffer(), 2103);
     let x = a.buf;
-    let b = decided(second, x, 1076);
+    let b = decided(second, x, 2103);
     let y = b.buf;
-    let c = decided(third, y, 1076);
+    let c = decided(third, y, 2103);
     let z = c.buf;
-    print_hash(z, 1200);
+    print_hash(z, 2200);
 }
 
 pub(super) fn order_call(s: &[u8]) -> bool {

@@ -43,7 +43,7 @@ pub(super) fn fit_call(s: &[u8]) -> bool {
 fn row(job: &[u8], buffers: Buffers) -> Buffers {
     let sheets = buffers.sheets;
     let netlists = buffers.netlists;
-    let a = decided(job, sheets, 1076);
+    let a = decided(job, sheets, 2103);
     let sheets = a.buf;
     let k = samples::lent(a.len, sheets);
     let netlists = fitted(job, &sheets[..k], netlists, 4075);

@@ -14,6 +14,7 @@ use lib.Pow.{pow-mono}
 use Rattle.records.specs.Bytes.{upFrom, tabulate, all}
 use Rattle.records.specs.Netlist.{netAt}
 use Rattle.records.specs.Job.{Job}
+use Rattle.records.specs.Claims.{PartsGood}
 use Rattle.records.specs.Refusal.{oldNets}
 use Rattle.records.proofs.Laws.Bytes.{getD-tabulate, tabulate-ext}
 use Rattle.engine.specs.Choice.{same}
@@ -23,7 +24,7 @@ use Rattle.engine.specs.Support.{reading}
 use Rattle.engine.specs.Inner.Masks.{rectifiers, ordered, rank, Among, maskAt}
 use Rattle.engine.specs.Inner.Kernel.{valueIn, column, rowValue, NetSet}
 use Rattle.engine.specs.Inner.Miter.{miterNets, miterValues, miterGoldens}
-use Rattle.engine.specs.Inner.Plan.{BlockAt, PlannedOf}
+use Rattle.engine.specs.Inner.Plan.{BlockAt, ReadsOf, PlannedOf}
 use Rattle.engine.specs.Inner.Note.{gathered}
 use Rattle.engine.specs.declared.plan.Plan.{Plan}
 use Rattle.engine.proofs.Laws.Choice.{true-or-false, all-true, all-below-more, map-agree}
@@ -51,37 +52,41 @@ numberOf-short h n k z = short-from h 0 n k (λ i l. z i (omega arith))
 
 -- ---- what a block's words say of live nets
 
-module _ {j : Job} {is : List ℕ} {plan : Plan} {gates : List ℕ} (p : PlannedOf j is plan gates) {b : ℕ} {v : ℕ → ℕ} {words : List ℕ}
-    (at : BlockAt j (p .live) b v words) (y : ℕ) (h : y < 1024) where
-  live-value : (i : ℕ) → i < miterNets j → p .live i ≡ true → valueIn words y i ≡ netAt (miterValues j (1024 * b + y) (v y)) i
+module _ (j : Job) (good : PartsGood j) (live : ℕ → Bool) {b : ℕ} {v : ℕ → ℕ} {words : List ℕ} (at : BlockAt j live b v words) (y : ℕ)
+    (h : y < 1024) where
+  live-value : (i : ℕ) → i < miterNets j → live i ≡ true → valueIn words y i ≡ netAt (miterValues j (1024 * b + y) (v y)) i
   unfolding column netAt
   live-value i l e =
-      sym (getD-tabulate 1024 (valueIn words y) i 0 (omega (arith, miter-nets j (p .good)))) ∙ at .agrees y h i l e
+      sym (getD-tabulate 1024 (valueIn words y) i 0 (omega (arith, miter-nets j good))) ∙ at .agrees y h i l e
 
-  live-values : (os : List ℕ) → all (λ i. ltb i (miterNets j)) os ≡ true → all (p .live) os ≡ true
+  live-values : (os : List ℕ) → all (λ i. ltb i (miterNets j)) os ≡ true → all live os ≡ true
       → map (valueIn words y) os ≡ map (netAt (miterValues j (1024 * b + y) (v y))) os
   live-values os l e =
       map-agree (valueIn words y) (netAt (miterValues j (1024 * b + y) (v y))) os
-      (λ i m. live-value i (ltb-true i (miterNets j) (all-true (λ i. ltb i (miterNets j)) os l i m)) (all-true (p .live) os e i m))
+      (λ i m. live-value i (ltb-true i (miterNets j) (all-true (λ i. ltb i (miterNets j)) os l i m)) (all-true live os e i m))
 
+module _ {j : Job} {is : List ℕ} {plan : Plan} {gates : List ℕ} where
   -- equal outputs say that the vector rectifies the input
-  pub equal-rectifies : same (map (valueIn words y) (j .old .outputs)) (map (valueIn words y) (miterGoldens j))
-      ≡ rectifies j (1024 * b + y) (v y)
-  equal-rectifies =
+  pub equal-rectifies : (p : PlannedOf j is plan gates) {b : ℕ} {v : ℕ → ℕ} {words : List ℕ} → BlockAt j (p .live) b v words
+      → (y : ℕ) → y < 1024
+      → same (map (valueIn words y) (j .old .outputs)) (map (valueIn words y) (miterGoldens j)) ≡ rectifies j (1024 * b + y) (v y)
+  equal-rectifies p {b} {v} at y h =
+      let good = p .good in
       rw (
-        live-values (j .old .outputs) (outputs-nets j (p .good)) (p .live-outputs),
-        live-values (miterGoldens j) (goldens-nets j (p .good)) (p .live-goldens),
+        live-values j good (p .live) at y h (j .old .outputs) (outputs-nets j good) (p .live-outputs),
+        live-values j good (p .live) at y h (miterGoldens j) (goldens-nets j good) (p .live-goldens),
       )
-      (sym (rectifies-miter j (p .good) (1024 * b + y) (v y)))
+      (sym (rectifies-miter j good (1024 * b + y) (v y)))
 
--- read nets at vector 0 are the reading
-pub read-values : {j : Job} {is : List ℕ} {plan : Plan} {gates : List ℕ} (p : PlannedOf j is plan gates) {b : ℕ} {words : List ℕ}
-    → BlockAt j (p .live) b (λ y. 0) words → all (λ i. ltb i (oldNets j)) is ≡ true → (y : ℕ) → y < 1024
-    → numberOf (map (valueIn words y) is) ≡ reading j is (1024 * b + y)
-read-values {j} {is} {plan} {gates} p {b} {words} at l y h =
-    ap numberOf
-    (live-values p at y h is (all-below-more (oldNets j) (miterNets j) (oldNets-le j (p .good)) is l) (p .live-nets))
-    ∙ sym (reading-miter j is (1024 * b + y) l)
+  -- read nets at vector 0 are the reading
+  pub read-values : (p : ReadsOf j is plan gates) {b : ℕ} {words : List ℕ} → BlockAt j (p .live) b (λ y. 0) words
+      → all (λ i. ltb i (oldNets j)) is ≡ true → (y : ℕ) → y < 1024
+      → numberOf (map (valueIn words y) is) ≡ reading j is (1024 * b + y)
+  read-values p {b} at l y h =
+      let good = p .good in
+      ap numberOf
+      (live-values j good (p .live) at y h is (all-below-more (oldNets j) (miterNets j) (oldNets-le j good) is l) (p .live-nets))
+      ∙ sym (reading-miter j is (1024 * b + y) l)
 
 -- ---- the rows of the vectors taken so far
 

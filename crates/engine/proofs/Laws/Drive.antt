@@ -15,13 +15,13 @@ use Rattle.engine.specs.Eval.{bit, numberOf}
 use Rattle.engine.specs.Rectify.{rectifies}
 use Rattle.engine.specs.Support.{reading, drivenBy}
 use Rattle.engine.specs.Inner.Kernel.{rowValue, valueIn, NetsSet, Ran}
-use Rattle.engine.specs.Inner.Plan.{PlanHeld}
+use Rattle.engine.specs.Inner.Plan.{ReadsOf, PlanHeld}
 use Rattle.engine.specs.Inner.Note.{gathered}
 use Rattle.engine.specs.Inner.Search.{BlockEvaluated}
 use Rattle.engine.specs.Inner.Comparing.{PlanReads, DrivenRow}
 use Rattle.engine.specs.declared.plan.Plan.{Plan}
 use Rattle.engine.proofs.Laws.BlockRows.{equal-rectifies, read-values}
-use Rattle.engine.proofs.Laws.Plan.{block-driven}
+use Rattle.engine.proofs.Laws.Plan.{block-driven, reads-of}
 use Rattle.engine.proofs.Laws.Rows.{bit-gathered}
 use Rattle.engine.proofs.Laws.Support.{reading-lt}
 
@@ -44,6 +44,9 @@ module _ (p : Plan) (gates table : List ℕ) (b : ℕ) (w w₁ w₂ readings vec
     → rowValue row y
     ≡ cond (same (map (valueIn w₂ y) (take (p .outs) (p .outputs))) (map (valueIn w₂ y) (take (p .outs) (p .goldens)))) 1 0) where
   module _ (j : Job) (is : List ℕ) (q : PlanReads j is p gates) where
+    abbrev reads : ReadsOf j is p gates
+    reads = reads-of (q .planned)
+
     abbrev driven : ℕ → ℕ
     driven y = drivenBy j is table (1024 * b + y)
 
@@ -52,7 +55,7 @@ module _ (p : Plan) (gates table : List ℕ) (b : ℕ) (w w₁ w₂ readings vec
     unfolding drivenBy
     vector-driven y h =
         let r : gathered readings y ≡ reading j is (1024 * b + y) =
-        read y h ∙ rw (q .planned .nets) (read-values (q .planned) (start .values j is (q .planned)) (q .old) y h) in
+        read y h ∙ rw (q .planned .nets) (read-values reads (start .values j is reads) (q .old) y h) in
         let n : length is ≤ 10 =
         omega (arith, ap length (q .planned .nets), length-take (p .reads) (p .nets), held .reads) in
         looked y h
@@ -68,7 +71,7 @@ module _ (p : Plan) (gates table : List ℕ) (b : ℕ) (w w₁ w₂ readings vec
 
     row-driven : (y : ℕ) → y < 1024 → rowValue row y ≡ cond (rectifies j (1024 * b + y) (driven y)) 1 0
     row-driven y h =
-        let at = block-driven (q .planned) b driven (λ y. 0) w w₁ w₂ (start .values j is (q .planned)) set-driven ran in
+        let at = block-driven (q .planned) b driven (λ y. 0) w w₁ w₂ (start .values j is reads) set-driven ran in
         rw (q .planned .outputs, q .planned .goldens) at (equal y h)
         ∙ ap (λ (t : Bool). cond t 1 0) (equal-rectifies (q .planned) at y h)
 

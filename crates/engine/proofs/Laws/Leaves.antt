@@ -103,7 +103,7 @@ getD-zeros zero k = refl
 getD-zeros (suc n) zero = refl
 getD-zeros (suc n) (suc k) = getD-zeros n k
 
-valueIn-zero : (n y i : ℕ) → valueIn (replicate n 0) y i ≡ 0
+pub valueIn-zero : (n y i : ℕ) → valueIn (replicate n 0) y i ≡ 0
 unfolding valueIn
 valueIn-zero n y i = ap (bit (y % 64)) (getD-zeros n (16 * i + y / 64)) ∙ bit-zero (y % 64)
 

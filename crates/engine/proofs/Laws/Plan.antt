@@ -13,12 +13,13 @@ use lib.Seq.{slice, getD-append-add}
 use Rattle.records.specs.Bytes.{tabulate}
 use Rattle.records.specs.Netlist.{netAt, valueOf, values}
 use Rattle.records.specs.Job.{Job}
+use Rattle.records.specs.Claims.{PartsGood}
 use Rattle.records.proofs.Laws.Bytes.{length-tabulate, getD-tabulate}
 use Rattle.engine.specs.Eval.{bit, bits}
 use Rattle.engine.specs.Inner.Packed.{own, codeValue, evaluated}
 use Rattle.engine.specs.Inner.Kernel.{valueIn, column, Ran, NetSet, NetsSet}
 use Rattle.engine.specs.Inner.Miter.{miterGates, miterNets, miterValues, codes}
-use Rattle.engine.specs.Inner.Plan.{marksOf, marked, Agrees, BlockAt, PlannedOf}
+use Rattle.engine.specs.Inner.Plan.{marksOf, marked, Agrees, BlockAt, ReadsOf, PlannedOf}
 use Rattle.engine.specs.declared.plan.Plan.{Plan}
 use Rattle.engine.proofs.Laws.Choice.{true-or-false, not-both}
 use Rattle.engine.proofs.Laws.Eval.{bit-lt}
@@ -82,23 +83,23 @@ module _ (j : Job) (x v : ℕ) where
 
 -- ---- runs of a list
 
-module _ {j : Job} {is : List ℕ} {p : Plan} {gates : List ℕ} (q : PlannedOf j is p gates) where
-  abbrev base : ℕ
-  base = j .inputs + j .targets
+abbrev base : Job → ℕ
+base j = j .inputs + j .targets
 
-  room : base + length (miterGates j) ≤ 1024
-  unfolding miterNets
-  room = omega (arith, miter-nets j (q .good))
+room : (j : Job) → PartsGood j → base j + length (miterGates j) ≤ 1024
+unfolding miterNets
+room j g = omega (arith, miter-nets j g)
 
+module _ {j : Job} {is : List ℕ} {p : Plan} {gates : List ℕ} (q : ReadsOf j is p gates) where
   -- the live gates that are changed, run where all other live nets have their values
-  run-agrees : (changed : ℕ → Bool) (cs w w′ : List ℕ) → cs ≡ partOf (q .live) changed base (miterGates j) → Ran cs w w′
-      → (y x v : ℕ) → y < 1024 → Known (q .live) changed base (miterNets j) (column w y) (miterValues j x v)
+  run-agrees : (changed : ℕ → Bool) (cs w w′ : List ℕ) → cs ≡ partOf (q .live) changed (base j) (miterGates j) → Ran cs w w′
+      → (y x v : ℕ) → y < 1024 → Known (q .live) changed (base j) (miterNets j) (column w y) (miterValues j x v)
       → Agrees j (q .live) x v (column w′ y)
   unfolding miterValues miterNets values
   run-agrees changed cs w w′ e r y x v h k i l m =
       ap (λ (vs : List ℕ). netAt vs i)
       (r .values y h ∙ ap (evaluated codeValue (column w y)) e)
-      ∙ run-part values-follow (q .live) changed base (miterGates j) (leavesOf j x v) (column w y) (miter-good j (q .good)) (q .forms) room
+      ∙ run-part values-follow (q .live) changed (base j) (miterGates j) (leavesOf j x v) (column w y) (miter-good j (q .good)) (q .forms) (room j (q .good))
       (omega (arith, length-column w y))
       (length-leaves j x v)
       (q .closed)
@@ -120,7 +121,7 @@ module _ {j : Job} {is : List ℕ} {p : Plan} {gates : List ℕ} (q : PlannedOf 
         agrees =
             λ y h.
             run-agrees (λ i. true) _ w w′
-            (q .lists .base
+            (q .base
             ∙ keep-ext (λ c. live (own c)) (λ c. live (own c) && true) (codes j) (λ c m. sym (and-true (live (own c)))))
             r
             y
@@ -128,13 +129,13 @@ module _ {j : Job} {is : List ℕ} {p : Plan} {gates : List ℕ} (q : PlannedOf 
             0
             h
             (λ i l m s.
-            let t : i < base = ⊎-elim (λ o. o) (λ z. absurd (not-both refl z)) s in
-            netAt-column w y i (omega (arith, room))
+            let t : i < base j = ⊎-elim (λ o. o) (λ z. absurd (not-both refl z)) s in
+            netAt-column w y i (omega (arith, room j (q .good)))
             ∙ leaf-of y i h t
             ∙ sym (leaf-value j (1024 * b + y) 0 i t));
       }
     where
-      leaf-of : (y i : ℕ) → y < 1024 → i < base → valueIn w y i ≡ getD (leavesOf j (1024 * b + y) 0) i 0
+      leaf-of : (y i : ℕ) → y < 1024 → i < base j → valueIn w y i ≡ getD (leavesOf j (1024 * b + y) 0) i 0
       leaf-of y i h l =
           ⊎-elim
           (λ t. let u = ltb-true i (j .inputs) t in hi y i h u ∙ sym (leaf-input j (1024 * b + y) 0 i u))
@@ -146,30 +147,48 @@ module _ {j : Job} {is : List ℕ} {p : Plan} {gates : List ℕ} (q : PlannedOf 
           rw e at (ht y k h n ∙ sym (bit-zero k) ∙ sym (leaf-target j (1024 * b + y) 0 k n)))
           (true-or-false (ltb i (j .inputs)))
 
+-- ---- leaves set anew
+
+-- a plan reads its nets
+abbrev pub reads-of : {j : Job} {is : List ℕ} {p : Plan} {gates : List ℕ} → PlannedOf j is p gates → ReadsOf j is p gates
+reads-of q =
+    record {
+      good = q .good;
+      forms = q .forms;
+      inputs = q .inputs;
+      targets = q .targets;
+      nets = q .nets;
+      live = q .live;
+      closed = q .closed;
+      live-nets = q .live-nets;
+      base = q .lists .base;
+    }
+
+module _ {j : Job} {is : List ℕ} {p : Plan} {gates : List ℕ} (q : PlannedOf j is p gates) where
   -- a block whose k leaves from from on are set anew, from the values at the vectors v to those at the vectors u
-  module _ (from k b : ℕ) (u v : ℕ → ℕ) (w w₁ : List ℕ) (f : from + k ≤ base) (a : BlockAt j (q .live) b v w)
+  module _ (from k b : ℕ) (u v : ℕ → ℕ) (w w₁ : List ℕ) (f : from + k ≤ base j) (a : BlockAt j (q .live) b v w)
       (put : (y i : ℕ) → y < 1024 → from ≤ i → i < from + k → valueIn w₁ y i ≡ getD (leavesOf j (1024 * b + y) (u y)) i 0)
       (kept : (y i : ℕ) → y < 1024 → (i < from) ⊎ (from + k ≤ i) → valueIn w₁ y i ≡ valueIn w y i)
-      (same : (y i : ℕ) → y < 1024 → i < base → (i < from) ⊎ (from + k ≤ i)
+      (same : (y i : ℕ) → y < 1024 → i < base j → (i < from) ⊎ (from + k ≤ i)
       → getD (leavesOf j (1024 * b + y) (v y)) i 0 ≡ getD (leavesOf j (1024 * b + y) (u y)) i 0) where
     abbrev changed : ℕ → Bool
-    changed = marked (marksOf base from k (miterGates j))
+    changed = marked (marksOf (base j) from k (miterGates j))
 
     -- a net that is none of the leaves set, and whose gate is not run, has its value already
-    unmarked : (y i : ℕ) → y < 1024 → i < miterNets j → q .live i ≡ true → (i < base) ⊎ (changed i ≡ false)
+    unmarked : (y i : ℕ) → y < 1024 → i < miterNets j → q .live i ≡ true → (i < base j) ⊎ (changed i ≡ false)
         → (i < from) ⊎ (from + k ≤ i) → valueIn w₁ y i ≡ netAt (miterValues j (1024 * b + y) (u y)) i
     unfolding miterValues
     unmarked y i h l m s o =
-        let z : netAt (marksOf base from k (miterGates j)) i ≡ 0 =
+        let z : netAt (marksOf (base j) from k (miterGates j)) i ≡ 0 =
         ⊎-elim
-        (λ (t : i < base). marks-leaf from k base (miterGates j) i t ∙ leafMark-out from k i o)
+        (λ (t : i < base j). marks-leaf from k (base j) (miterGates j) i t ∙ leafMark-out from k i o)
         (λ (t : changed i ≡ false).
-        eqb-true (netAt (marksOf base from k (miterGates j)) i) 0 (not-false (eqb (netAt (marksOf base from k (miterGates j)) i) 0) t))
+        eqb-true (netAt (marksOf (base j) from k (miterGates j)) i) 0 (not-false (eqb (netAt (marksOf (base j) from k (miterGates j)) i) 0) t))
         s in
         kept y i h o
         ∙ sym (netAt-column w y i (omega (arith, miter-nets j (q .good))))
         ∙ a .agrees y h i l m
-        ∙ marks-agree base from k (miterGates j) (leavesOf j (1024 * b + y) (v y)) (leavesOf j (1024 * b + y) (u y))
+        ∙ marks-agree (base j) from k (miterGates j) (leavesOf j (1024 * b + y) (v y)) (leavesOf j (1024 * b + y) (u y))
         (λ n g. same y n h g)
         (length-leaves j (1024 * b + y) (v y))
         (length-leaves j (1024 * b + y) (u y))
@@ -177,7 +196,7 @@ module _ {j : Job} {is : List ℕ} {p : Plan} {gates : List ℕ} (q : PlannedOf 
         z
 
     changed-known : (y : ℕ) → y < 1024
-        → Known (q .live) changed base (miterNets j) (column w₁ y) (miterValues j (1024 * b + y) (u y))
+        → Known (q .live) changed (base j) (miterNets j) (column w₁ y) (miterValues j (1024 * b + y) (u y))
     changed-known y h i l m s =
         netAt-column w₁ y i (omega (arith, miter-nets j (q .good)))
         ∙ ⊎-elim
@@ -191,9 +210,9 @@ module _ {j : Job} {is : List ℕ} {p : Plan} {gates : List ℕ} (q : PlannedOf 
         (true-or-false (ltb i (from + k))))
         (true-or-false (ltb i from))
 
-    block-changed : (cs w₂ : List ℕ) → cs ≡ partOf (q .live) changed base (miterGates j) → Ran cs w₁ w₂ → BlockAt j (q .live) b u w₂
+    block-changed : (cs w₂ : List ℕ) → cs ≡ partOf (q .live) changed (base j) (miterGates j) → Ran cs w₁ w₂ → BlockAt j (q .live) b u w₂
     block-changed cs w₂ e r =
-        record { agrees = λ y h. run-agrees changed cs w₁ w₂ e r y (1024 * b + y) (u y) h (changed-known y h) }
+        record { agrees = λ y h. run-agrees (reads-of q) changed cs w₁ w₂ e r y (1024 * b + y) (u y) h (changed-known y h) }
 
   -- .. where target t has other values
   pub block-target : (b t : ℕ) (u v : ℕ → ℕ) (w w₁ w₂ : List ℕ) → t < j .targets → BlockAt j (q .live) b v w

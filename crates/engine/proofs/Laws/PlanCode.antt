@@ -356,12 +356,13 @@ spanOf-le targets s =
     (true-or-false (ltb s targets)))
     (true-or-false (eqb s 4))
 
-pub zeros-le : (b n t : ℕ) → getD (replicate n 0) t 0 ≤ b
-zeros-le b zero t = omega arith
-zeros-le b (suc n) zero = omega arith
-zeros-le b (suc n) (suc t) = zeros-le b n t
+-- a bound on each entry of a repeated number
+pub replicate-le : (b v n : ℕ) → v ≤ b → (t : ℕ) → getD (replicate n v) t 0 ≤ b
+replicate-le b v zero h t = omega arith
+replicate-le b v (suc n) h zero = h
+replicate-le b v (suc n) h (suc t) = replicate-le b v n h t
 
--- a bound on each entry, after a store
+-- .. and after a store
 pub within-set : (b : ℕ) (xs : List ℕ) (i v : ℕ) → v ≤ b → ((t : ℕ) → getD xs t 0 ≤ b) → (t : ℕ) → getD (set xs i v) t 0 ≤ b
 within-set b [] i v h f t = f t
 within-set b (x ∷ xs) zero v h f zero = h
@@ -423,7 +424,7 @@ module _ (inputs targets : ℕ) (live cs : List ℕ) where
       record {
         long = p .long;
         six = refl;
-        within = within-set 2800 (replicate 6 0) 0 end (p .within) (zeros-le 2800 6);
+        within = within-set 2800 (replicate 6 0) 0 end (p .within) (replicate-le 2800 0 6 (omega arith));
         fronts = λ t h. let z : t ≡ 0 = omega arith in rw z (p .front);
       }
 

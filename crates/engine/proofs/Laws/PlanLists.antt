@@ -9,7 +9,7 @@ use native.Mathlib.Numerals.{add-one}
 use native.Mathlib.Omega.{arith}
 use borrow.Author.Tests.{ltb-true, ltb-false, lt-ltb, eq-eqb, ne-eqb}
 use lib.Dec.{ltb, eqb}
-use lib.ListN.{length, getD, take, drop, length-append, List·getD-eq-default}
+use lib.ListN.{length, getD, take, drop, replicate, length-append, List·getD-eq-default}
 use lib.Seq.{slice, take-all, drop-at}
 use Rattle.records.specs.Bytes.{all, tabulate}
 use Rattle.records.specs.Gate.{Gate, operands, disj}
@@ -21,9 +21,10 @@ use Rattle.records.specs.Claims.{PartsGood}
 use Rattle.records.proofs.Laws.Bytes.{and-right, false-of, all-cons, length-tabulate}
 use Rattle.engine.specs.Choice.{keep}
 use Rattle.engine.specs.Inner.Packed.{own, packed, packedFrom, formed, evaluated}
-use Rattle.engine.specs.Inner.Miter.{shiftedNet, shifted, shiftOf, miterGates, miterGoldens, miterNets, codes, MiterOf}
-use Rattle.engine.specs.Inner.Plan.{codeMark, marksOf, marked, Closed, leavesFrom, marksFrom, picked, startOf, spanOf, listAt, listsTo, liveMarks, ListsUpTo, PlanLists, PlannedOf}
+use Rattle.engine.specs.Inner.Miter.{shiftedNet, shifted, shiftOf, miterGates, miterGoldens, miterNets, codes, MiterRoom, MiterOf}
+use Rattle.engine.specs.Inner.Plan.{codeMark, marksOf, marked, Closed, leavesFrom, marksFrom, picked, startOf, spanOf, listAt, listsTo, liveMarks, ListPut, ListsUpTo, NetsRead, PlanHeld, PlanLists, ReadsOf, PlannedOf}
 use Rattle.engine.specs.declared.miter.Miter.{Miter}
+use Rattle.engine.specs.declared.plan.Plan.{Plan}
 use Rattle.engine.proofs.Laws.Choice.{true-or-false, not-both, all-true, all-of-members, length-keep-le}
 use Rattle.engine.proofs.Laws.FitNets.{operands-renumbered}
 use Rattle.engine.proofs.Laws.Marks.{leafMark, leafMark-out, marks-leaf, marks-follow}
@@ -259,6 +260,12 @@ module _ (j : Job) (good : PartsGood j) (forms : all formed (miterGates j) ≡ t
   upTo-few zero = omega (arith, zero-few)
   upTo-few (suc s) = omega (arith, upTo-few s, suc-few s, length-append (upTo s) (list (suc s)))
 
+  -- the first list, put from place 0 on
+  list-put : (before : List ℕ) (end : ℕ) (gates : List ℕ) → ListPut (picked live live (codes j)) 0 before end gates
+      → take end gates ≡ keep (λ c. marked live (own c)) (codes j)
+  unfolding listAt
+  list-put before end gates p = p .front ∙ take-all 2800 (list 0) (omega (arith, zero-few)) ∙ list-zero
+
   module _ (ends gates : List ℕ) (u : ListsUpTo 6 (j .inputs) (j .targets) live (codes j) ends gates) where
     front : (s : ℕ) → s < 6 → take (getD ends s 0) gates ≡ upTo s
     front s h = u .fronts s h ∙ take-all 2800 (upTo s) (omega (arith, upTo-few s))
@@ -287,38 +294,69 @@ module _ (j : Job) (good : PartsGood j) (forms : all formed (miterGates j) ≡ t
 
 -- ---- a plan
 
-module _ (j : Job) (is : List ℕ) (m : Miter) (o : MiterOf j m) (nets : List ℕ) (reads : ℕ) (e : take reads nets ≡ is)
-    (b : all (λ i. ltb i (oldNets j)) is ≡ true) (live : List ℕ)
-    (le : live ≡ liveMarks (take (m .outs) (m .outputs)) (take (m .outs) (m .goldens)) (take reads nets) (take (m .count) (m .gates)))
-    (ends gates : List ℕ) (u : ListsUpTo 6 (m .inputs) (m .targets) live (take (m .count) (m .gates)) ends gates) where
-  -- the same by the job
-  live-job : live ≡ liveMarks (j .old .outputs) (miterGoldens j) is (codes j)
-  live-job = rw (o .gates, o .outputs, o .goldens, e) at le
+-- the struct that is made of a miter, the nets read, and the lists
+abbrev pub planOf : Miter → List ℕ → ℕ → ℕ → List ℕ → Plan
+planOf m nets reads outs ends =
+    record {
+      inputs = m .inputs;
+      targets = m .targets;
+      outs = outs;
+      outputs = m .outputs;
+      goldens = m .goldens;
+      reads = reads;
+      nets = nets;
+      ends = ends;
+    }
 
-  lists-job : ListsUpTo 6 (j .inputs) (j .targets) live (codes j) ends gates
-  lists-job = rw (o .gates, o .inputs, o .targets) at u
+pub plan-held : (m : Miter) (nets : List ℕ) (reads outs : ℕ) (ends gates : List ℕ) → MiterRoom m → NetsRead nets reads → outs ≤ 32
+    → length ends ≡ 6 → ((t : ℕ) → getD ends t 0 ≤ 2800) → length gates ≡ 2800 → PlanHeld (planOf m nets reads outs ends) gates
+plan-held m nets reads outs ends gates room read few six within long =
+    record {
+      long = long;
+      ends = six;
+      outputs = room .outputs;
+      goldens = room .goldens;
+      nets = read .long;
+      within = within;
+      outputs-below = λ i. room .below i .0;
+      goldens-below = λ i. room .below i .1;
+      nets-below = read .below;
+      inputs = room .inputs;
+      targets = room .targets;
+      outs = few;
+      reads = read .few;
+    }
 
-  live-members : (xs : List ℕ) → ((i : ℕ) → Mem i xs → marked (liveMarks (j .old .outputs) (miterGoldens j) is (codes j)) i ≡ true)
-      → all (marked live) xs ≡ true
-  live-members xs h = all-of-members (marked live) xs (λ i n. rw live-job (h i n))
+-- the nets that outputs os and gs and the read nets is need
+module _ (j : Job) (is : List ℕ) (good : PartsGood j) (forms : all formed (miterGates j) ≡ true) (b : all (λ i. ltb i (oldNets j)) is ≡ true)
+    (os gs live : List ℕ) (e : live ≡ liveMarks os gs is (codes j)) where
+  live-members : (xs : List ℕ) → ((i : ℕ) → Mem i xs → marked (liveMarks os gs is (codes j)) i ≡ true) → all (marked live) xs ≡ true
+  live-members xs h = all-of-members (marked live) xs (λ i n. rw e (h i n))
 
-  pub planned : PlannedOf j is
-      (record {
-        inputs = m .inputs;
-        targets = m .targets;
-        outs = m .outs;
-        outputs = m .outputs;
-        goldens = m .goldens;
-        reads = reads;
-        nets = nets;
-        ends = ends;
-      })
-      gates
+  live-read : all (marked live) is ≡ true
+  live-read =
+      live-members is
+      (λ i n.
+      let h = ltb-true i (oldNets j) (all-true (λ k. ltb k (oldNets j)) is b i n) in
+      live-is os gs is (codes j) i n (omega (arith, miter-nets j good, oldNets-le j good)))
+
+  closed-live : Closed (marked live) (j .inputs + j .targets) (miterGates j)
   unfolding codes
-  planned =
+  closed-live =
+      subst (λ (x : List ℕ). Closed (marked x) (j .inputs + j .targets) (miterGates j)) (sym e)
+      (liveMarks-closed os gs is (codes j) (j .inputs + j .targets) (miterGates j) refl (miter-good j good) forms (fits j good forms live))
+
+module _ (j : Job) (is : List ℕ) (m : Miter) (o : MiterOf j m) (nets : List ℕ) (reads : ℕ) (e : take reads nets ≡ is)
+    (b : all (λ i. ltb i (oldNets j)) is ≡ true) (live : List ℕ) where
+  pub planned : live
+      ≡ liveMarks (take (m .outs) (m .outputs)) (take (m .outs) (m .goldens)) (take reads nets) (take (m .count) (m .gates))
+      → (ends gates : List ℕ) → ListsUpTo 6 (m .inputs) (m .targets) live (take (m .count) (m .gates)) ends gates
+      → PlannedOf j is (planOf m nets reads (m .outs) ends) gates
+  planned le ends gates u =
       let os = j .old .outputs in
       let gs = miterGoldens j in
-      let cs = codes j in
+      let l : live ≡ liveMarks os gs is (codes j) = rw (o .gates, o .outputs, o .goldens, e) at le in
+      let members = live-members j is (o .good) (o .forms) b os gs live l in
       record {
         good = o .good;
         forms = o .forms;
@@ -329,20 +367,31 @@ module _ (j : Job) (is : List ℕ) (m : Miter) (o : MiterOf j m) (nets : List �
         goldens = o .goldens;
         nets = e;
         live = marked live;
-        closed =
-            subst (λ (x : List ℕ). Closed (marked x) (j .inputs + j .targets) (miterGates j)) (sym live-job)
-            (liveMarks-closed os gs is cs (j .inputs + j .targets) (miterGates j) refl (miter-good j (o .good)) (o .forms)
-            (fits j (o .good) (o .forms) live));
+        closed = closed-live j is (o .good) (o .forms) b os gs live l;
         live-outputs =
-            live-members os
-            (λ i n. live-os os gs is cs i n (ltb-true i 1024 (all-true (λ k. ltb k 1024) os (outputs-below j (o .good)) i n)));
+            members os
+            (λ i n. live-os os gs is (codes j) i n (ltb-true i 1024 (all-true (λ k. ltb k 1024) os (outputs-below j (o .good)) i n)));
         live-goldens =
-            live-members gs
-            (λ i n. live-gs os gs is cs i n (ltb-true i 1024 (all-true (λ k. ltb k 1024) gs (goldens-below j (o .good)) i n)));
-        live-nets =
-            live-members is
-            (λ i n.
-            let h = ltb-true i (oldNets j) (all-true (λ k. ltb k (oldNets j)) is b i n) in
-            live-is os gs is cs i n (omega (arith, miter-nets j (o .good), oldNets-le j (o .good))));
-        lists = plan-lists j (o .good) (o .forms) live ends gates lists-job;
+            members gs
+            (λ i n. live-gs os gs is (codes j) i n (ltb-true i 1024 (all-true (λ k. ltb k 1024) gs (goldens-below j (o .good)) i n)));
+        live-nets = live-read j is (o .good) (o .forms) b os gs live l;
+        lists = plan-lists j (o .good) (o .forms) live ends gates (rw (o .gates, o .inputs, o .targets) at u);
+      }
+
+  -- .. that reads alone: every end is that of the live gates
+  pub planned-reads : live ≡ liveMarks [] [] (take reads nets) (take (m .count) (m .gates)) → (before : List ℕ) (end : ℕ) (gates : List ℕ)
+      → ListPut (picked live live (take (m .count) (m .gates))) 0 before end gates
+      → ReadsOf j is (planOf m nets reads 0 (replicate 6 end)) gates
+  planned-reads le before end gates p =
+      let l : live ≡ liveMarks [] [] is (codes j) = rw (o .gates, e) at le in
+      record {
+        good = o .good;
+        forms = o .forms;
+        inputs = o .inputs;
+        targets = o .targets;
+        nets = e;
+        live = marked live;
+        closed = closed-live j is (o .good) (o .forms) b [] [] live l;
+        live-nets = live-read j is (o .good) (o .forms) b [] [] live l;
+        base = list-put j (o .good) (o .forms) live before end gates (rw (o .gates) at p);
       }

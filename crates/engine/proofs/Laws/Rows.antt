@@ -2,8 +2,9 @@
 -- vectors after a block's inputs, which may come in any order and more than once. Assumes nothing.
 use Prim.Native.Nat.{ℕ, zero, suc, _+_, _*_, _/_, _%_, _^_, _≤_, _<_}
 use mathlib.Core.Path.{_≡_, refl, sym, _∙_, ap}
+use mathlib.Core.Logic.{_↔_}
 use mathlib.Core.List.{List}
-use native.Mathlib.Nat.{add-zero, zero-add, mod-lt, mod-eq-of-lt, mod-one, div-one}
+use native.Mathlib.Nat.{add-zero, zero-add, mod-lt, mod-eq-of-lt, mod-one, div-one, pow-suc}
 use native.Mathlib.Numerals.{add-one}
 use native.Mathlib.Omega.{arith}
 use lib.Bits.{bitAnd}
@@ -17,10 +18,11 @@ use Rattle.engine.specs.Inner.Kernel.{valueIn}
 use Rattle.engine.specs.Inner.Turn.{TurnedAt, ColumnsTurned}
 use Rattle.engine.proofs.Laws.AnyOrder.{met, under, setsFrom-met, met-along, met-order}
 use Rattle.engine.proofs.Laws.Eval.{bit-lt}
-use Rattle.engine.proofs.Laws.Picked.{bits-suc}
+use Rattle.engine.proofs.Laws.Picked.{bit-first, bit-suc, bits-suc}
 use Rattle.engine.proofs.Laws.Shift.{bit-shr}
 use Rattle.engine.proofs.Laws.VectorSets.{bit-tabulate, tabulate-lt}
 use Rattle.engine.proofs.Laws.List.{narrowing, setsFrom-append}
+use Rattle.engine.proofs.Laws.Word.{bit-zero}
 
 -- ---- what the rows say of a scenario
 
@@ -49,6 +51,40 @@ numberOf-bits zero x = sym (mod-one x)
 numberOf-bits (suc k) x =
     let m : x % 2 ^ suc k ≡ x / 2 % 2 ^ k * 2 + x % 2 = rw (add-one k) at (mod-pow-add x k 1) in
     ap numberOf (bits-suc k x) ∙ omega (arith, numberOf-bits k (x / 2))
+
+-- two values that are below 2, and 1 alike
+bit-alike : (a b : ℕ) → a < 2 → b < 2 → (a ≡ 1) ↔ (b ≡ 1) → a ≡ b
+bit-alike zero zero l m h = refl
+bit-alike zero (suc b) l m h = h .1 (omega arith) ∙ omega arith
+bit-alike (suc a) b l m h = let e : suc a ≡ 1 = omega arith in e ∙ sym (h .0 e)
+
+-- numbers below 2 ^ k with the same bits
+pub bit-ext : (k x y : ℕ) → x < 2 ^ k → y < 2 ^ k → ((i : ℕ) → i < k → (bit i x ≡ 1) ↔ (bit i y ≡ 1)) → x ≡ y
+unfolding bits
+bit-ext k x y l m h =
+    sym (mod-eq-of-lt l)
+    ∙ sym (numberOf-bits k x)
+    ∙ ap numberOf
+    (tabulate-ext k (λ i. bit i x) (λ i. bit i y) (λ i u. bit-alike (bit i x) (bit i y) (bit-lt i x) (bit-lt i y) (h i u)))
+    ∙ numberOf-bits k y
+    ∙ mod-eq-of-lt m
+
+-- the only bit of a power of two
+pub bit-pow : (w i : ℕ) → (bit i (2 ^ w) ≡ 1) ↔ (i ≡ w)
+bit-pow zero zero = (λ e. refl, λ e. bit-first 1)
+bit-pow zero (suc i) = (
+  λ e. let z = bit-suc i 1 ∙ bit-zero i in let f : ⊥ = omega arith in absurd f,
+  λ e. let f : ⊥ = omega arith in absurd f,
+)
+bit-pow (suc w) zero = (
+  λ e. let z = bit-first (2 ^ suc w) in let f : ⊥ = omega (arith, pow-suc 2 w) in absurd f,
+  λ e. let f : ⊥ = omega arith in absurd f,
+)
+bit-pow (suc w) (suc i) =
+    let h = bit-pow w i in
+    let d : 2 ^ suc w / 2 ≡ 2 ^ w = omega (arith, pow-suc 2 w) in
+    let e : bit (suc i) (2 ^ suc w) ≡ bit i (2 ^ w) = bit-suc i (2 ^ suc w) ∙ ap (bit i) d in
+    (λ b. ap suc (h .0 (sym e ∙ b)), λ q. e ∙ h .1 (omega arith))
 
 digits : (w b : ℕ) → b < 64 → ((64 * w + b) % 64 ≡ b) × ((64 * w + b) / 64 ≡ w)
 digits w b h = (omega arith, omega arith)

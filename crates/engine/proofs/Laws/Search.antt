@@ -137,32 +137,31 @@ module _ (j : Job) (x : ℕ) where
   reading-low is = rw bits-low
 
 -- the sets after a block: a whole one, or one that repeats the inputs of a job with fewer
-noted-sets : (j : Job) (b count : ℕ) (masks readings ss : List ℕ) → BlockRange (j .inputs) b count
-    → ((y : ℕ) → y < 1024 → gathered masks y ≡ rectifiers j (1024 * b + y))
-    → ((y : ℕ) → y < 1024 → gathered readings y ≡ reading j (candidateNets j) (1024 * b + y))
-    → ((x : ℕ) → reading j (candidateNets j) x < 1024)
-    → setsFrom (gathered masks) (λ y. gathered readings y % 1024) ss 0 (filled count)
-    ≡ setsFrom (rectifiers j) (reading j (candidateNets j)) ss (1024 * b) count
-noted-sets j b count masks readings ss r m g l =
-    let f = rectifiers j in
-    let h = reading j (candidateNets j) in
-    let n : ℕ = filled count in
-    let most : n ≤ 1024 = omega (arith, r .few) in
-    let whole : setsFrom (gathered masks) (λ y. gathered readings y % 1024) ss 0 n ≡ setsFrom f h ss (1024 * b) n =
-    block-sets masks readings ss f h (1024 * b) n (λ y u. m y (omega arith)) (λ y u. (g y (omega arith), l (1024 * b + y))) in
-    ⊎-elim
-    (λ (e : count ≡ 1024). let same : n ≡ count = omega arith in whole ∙ ap (setsFrom f h ss (1024 * b)) same)
-    (λ (e : (b ≡ 0) × (count ≡ 2 ^ j .inputs)).
-    let z : 1024 * b ≡ 0 = omega (arith, e .0) in
-    let c = 2 ^ j .inputs in
-    let few : c ≤ n = omega (arith, e .1) in
-    whole
-    ∙ ap (λ (x : ℕ). setsFrom f h ss x n) z
-    ∙ setsFrom-agree f h (λ y. f (y % c)) (λ y. h (y % c)) ss 0 0 n (λ i u. (rectifiers-low j (0 + i), reading-low j (0 + i) (candidateNets j)))
-    ∙ setsFrom-repeats f h ss c n (pow-pos (j .inputs)) few
-    ∙ ap (λ (x : ℕ). setsFrom f h ss x c) (sym z)
-    ∙ ap (setsFrom f h ss (1024 * b)) (sym (e .1)))
-    (r .whole)
+module _ (j : Job) (is : List ℕ) (f : ℕ → ℕ) (low : (x : ℕ) → f x ≡ f (x % 2 ^ j .inputs)) where
+  pub noted-sets : (b count : ℕ) (masks readings ss : List ℕ) → BlockRange (j .inputs) b count
+      → ((y : ℕ) → y < 1024 → gathered masks y ≡ f (1024 * b + y))
+      → ((y : ℕ) → y < 1024 → gathered readings y ≡ reading j is (1024 * b + y))
+      → ((x : ℕ) → reading j is x < 1024)
+      → setsFrom (gathered masks) (λ y. gathered readings y % 1024) ss 0 (filled count) ≡ setsFrom f (reading j is) ss (1024 * b) count
+  noted-sets b count masks readings ss r m g l =
+      let h = reading j is in
+      let n : ℕ = filled count in
+      let most : n ≤ 1024 = omega (arith, r .few) in
+      let whole : setsFrom (gathered masks) (λ y. gathered readings y % 1024) ss 0 n ≡ setsFrom f h ss (1024 * b) n =
+      block-sets masks readings ss f h (1024 * b) n (λ y u. m y (omega arith)) (λ y u. (g y (omega arith), l (1024 * b + y))) in
+      ⊎-elim
+      (λ (e : count ≡ 1024). let same : n ≡ count = omega arith in whole ∙ ap (setsFrom f h ss (1024 * b)) same)
+      (λ (e : (b ≡ 0) × (count ≡ 2 ^ j .inputs)).
+      let z : 1024 * b ≡ 0 = omega (arith, e .0) in
+      let c = 2 ^ j .inputs in
+      let few : c ≤ n = omega (arith, e .1) in
+      whole
+      ∙ ap (λ (x : ℕ). setsFrom f h ss x n) z
+      ∙ setsFrom-agree f h (λ y. f (y % c)) (λ y. h (y % c)) ss 0 0 n (λ i u. (low (0 + i), reading-low j (0 + i) is))
+      ∙ setsFrom-repeats f h ss c n (pow-pos (j .inputs)) few
+      ∙ ap (λ (x : ℕ). setsFrom f h ss x c) (sym z)
+      ∙ ap (setsFrom f h ss (1024 * b)) (sym (e .1)))
+      (r .whole)
 
 pub progress-noted : {j : Job} (b count : ℕ) (masks readings : List ℕ) {v after : Vectors} {ss ss′ : List ℕ}
     → Progress j (1024 * b) v ss → v .stuck ≡ false → BlockRange (j .inputs) b count
@@ -185,7 +184,7 @@ progress-noted {j} b count masks readings {v} {after} {ss} {ss′} p s r m w l n
           ∙ ap (λ (z : ℕ). listedFrom f (listedFrom f startList 0 (1024 * b)) z count) (zero-add (1024 * b)));
       sets = λ e.
           n .sets
-          ∙ noted-sets j b count masks readings ss r m w l
+          ∙ noted-sets j (candidateNets j) f (rectifiers-low j) b count masks readings ss r m w l
           ∙ ap (λ (k : List ℕ). setsFrom f g k (1024 * b) count) (p .sets s)
           ∙ sym
           (setsFrom-append f g (startSets (j .targets)) 0 (1024 * b) count

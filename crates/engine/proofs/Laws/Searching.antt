@@ -1,31 +1,34 @@
 -- Laws of the steps of the search over a job's inputs (specs/Inner/Search). Assumes nothing.
 use Prim.Native.Nat.{ℕ, _+_, _-_, _*_, _/_, _%_, _^_, _≤_, _<_}
 use mathlib.Core.Path.{_≡_, refl, sym, _∙_, ap, subst}
-use mathlib.Core.Logic.{_⊎_, inl, ⊎-elim}
+use mathlib.Core.Logic.{inl, ⊎-elim}
 use mathlib.Core.List.{List, map}
 use mathlib.Core.Bool.{Bool, true, false, cond}
 use native.Mathlib.Nat.{zero-add, div-one}
 use native.Mathlib.Omega.{arith}
+use lib.Dec.{ltb}
 use lib.ListN.{length, getD, take, replicate, length-take}
 use lib.Pow.{pow-mono}
 use lib.Seq.{slice}
+use Rattle.records.specs.Bytes.{all}
 use Rattle.records.specs.Job.{Job}
+use Rattle.records.specs.Refusal.{oldNets}
 use Rattle.engine.specs.Eval.{bit, numberOf}
 use Rattle.engine.specs.Choice.{same}
 use Rattle.engine.specs.Rectify.{rectifies}
 use Rattle.engine.specs.Inner.Kernel.{Ran, NetSet, NetsSet, valueIn, rowValue}
 use Rattle.engine.specs.Inner.Masks.{ordered, turns, Among}
-use Rattle.engine.specs.Inner.Plan.{BlockAt, PlannedOf}
+use Rattle.engine.specs.Inner.Plan.{BlockAt, ReadsOf, PlannedOf}
 use Rattle.engine.specs.Inner.Search.{BlockEvaluated, TargetTurned, BlockMasks, BlockRange, Searched}
 use Rattle.engine.specs.Inner.Note.{gathered, filled, BlockNoted}
-use Rattle.engine.specs.Support.{candidateNets}
+use Rattle.engine.specs.Support.{candidateNets, reading}
 use Rattle.engine.specs.Inner.List.{Held}
 use Rattle.engine.specs.declared.list.Vectors.{Vectors}
 use Rattle.engine.specs.declared.plan.Plan.{Plan}
 use Rattle.engine.proofs.Laws.BlockRows.{equal-rectifies, read-values, MasksTo, masks-none, masks-next, masks-gathered}
 use Rattle.engine.proofs.Laws.Gray.{ordered-none, turns-among, ordered-kept}
 use Rattle.engine.proofs.Laws.Miter.{candidates-below}
-use Rattle.engine.proofs.Laws.Plan.{block-based, block-target}
+use Rattle.engine.proofs.Laws.Plan.{block-based, block-target, reads-of}
 use Rattle.engine.proofs.Laws.Rows.{setsFrom-length}
 use Rattle.engine.proofs.Laws.Search.{progress-noted, progress-at, progress-stuck, progress-skip}
 use Rattle.engine.proofs.Laws.Support.{reading-lt}
@@ -154,6 +157,21 @@ module _ {p : Plan} {gates : List ℕ} where
   searched-then s t =
       record { held = t .held; long = t .long ∙ s .long; progress = λ j q g. t .progress j q (s .progress j q g) }
 
+  -- what the rows say that are read of a block's words are its readings
+  pub block-readings : {j : Job} {is : List ℕ} (q : ReadsOf j is p gates) (b : ℕ) (readings words : List ℕ) → p .reads ≤ 10
+      → BlockEvaluated p gates b words
+      → ((y : ℕ) → y < 1024 → gathered readings y ≡ numberOf (map (valueIn words y) (take (p .reads) (p .nets))))
+      → all (λ i. ltb i (oldNets j)) is ≡ true
+      → ((y : ℕ) → y < 1024 → gathered readings y ≡ reading j is (1024 * b + y)) × ((x : ℕ) → reading j is x < 1024)
+  block-readings {j} {is} q b readings words k e g below =
+      let few : length is ≤ 10 = omega (arith, ap length (sym (q .nets)), length-take (p .reads) (p .nets)) in (
+        λ y l.
+            g y l
+            ∙ ap (λ (os : List ℕ). numberOf (map (valueIn words y) os)) (q .nets)
+            ∙ read-values q (e .values j is q) below y l,
+        λ x. omega (arith, reading-lt j is x, pow-mono {j = 10} few),
+      )
+
   -- a block
   pub searched-block : (b count : ℕ) (masks readings words : List ℕ) {v v′ : Vectors} {ss ss′ : List ℕ} → v .stuck ≡ false
       → p .reads ≤ 10 → BlockRange (p .inputs) b count → BlockEvaluated p gates b words
@@ -166,14 +184,12 @@ module _ {p : Plan} {gates : List ℕ} where
         long = ap length (n .sets) ∙ setsFrom-length (gathered masks) (λ y. gathered readings y % 1024) ss 0 (filled count);
         progress = λ j q h.
             let is = candidateNets j in
-            let a = e .values j is q in
-            let below = candidates-below j (q .good) in
-            let few : length is ≤ 10 = omega (arith, ap length (sym (q .nets)), length-take (p .reads) (p .nets)) in
+            let d = block-readings (reads-of q) b readings words k e g (candidates-below j (q .good)) in
             progress-noted b count masks readings h s
             (subst (λ (i : ℕ). BlockRange i b count) (q .inputs) r)
-            (m .sets j is q b a)
-            (λ y l. g y l ∙ ap (λ (os : List ℕ). numberOf (map (valueIn words y) os)) (q .nets) ∙ read-values q a below y l)
-            (λ x. omega (arith, reading-lt j is x, pow-mono {j = 10} few))
+            (m .sets j is q b (e .values j is (reads-of q)))
+            (d .0)
+            (d .1)
             n;
       }
 

@@ -33,7 +33,7 @@ use Rattle.engine.proofs.Laws.Word.{bit-and}
 -- ---- the lowest vector of a set
 
 module _ (t : ℕ) where
-  lowest-least : (v : ℕ) → lowest t ≡ some v → Least (λ u. eqb (bit u t) 1) maxVectors v
+  pub lowest-least : (v : ℕ) → lowest t ≡ some v → Least (λ u. eqb (bit u t) 1) maxVectors v
   unfolding lowest
   lowest-least v e = first-least (λ u. eqb (bit u t) 1) maxVectors v e
 

@@ -1,21 +1,25 @@
 -- Laws of the sheets' bytes: put one after the other, how many they are, and whose verdict they say. Assumes nothing.
 use Prim.Native.Nat.{ℕ, _+_, _*_, _/_, _%_, _^_, _≤_, _<_}
 use mathlib.Core.Path.{_≡_, refl, sym, _∙_, ap}
-use mathlib.Core.List.{List, [], _∷_, _++_, map}
+use mathlib.Core.List.{List, [], _∷_, _++_, map, append-nil}
+use mathlib.Core.Bool.{true}
 use native.Mathlib.Nat.{zero-add, one-mul, mod-eq-of-lt}
 use native.Mathlib.Numerals.{add-one}
 use native.Mathlib.Omega.{arith}
 use lib.ListN.{length, getD, take, set, length-append, length-map}
 use lib.Pow.{pow-lt, pow-mono}
-use lib.Seq.{length-take-le}
-use Rattle.records.specs.Bytes.{flat, bytePair, placed, field}
+use lib.Seq.{length-take-le, take-append-seam, drop-append-seam}
+use Rattle.records.specs.Bytes.{flat, bytePair, placed, field, whole, nth}
 use Rattle.records.specs.Job.{Job}
+use Rattle.records.specs.Sheet.{notesTag}
 use Rattle.records.proofs.Laws.Bytes.{take-placed}
 use Rattle.records.proofs.Laws.Job.{Put, sets-placed, placed-then, tabulate-getD, length-field, length-bytePair, length-outputs}
+use Rattle.records.proofs.Laws.Front.{nth-behind, whole-append, whole-front}
+use Rattle.records.proofs.Laws.RoundTrip.{fits-field, body-field, rest-field}
 use Rattle.records.proofs.Laws.Put.{FieldPut, put-field-put}
 use Rattle.engine.specs.Rectify.{vectorLoop}
-use Rattle.engine.specs.Support.{tableOf, cost}
-use Rattle.engine.specs.Verdict.{Ruling, patch, unfixable, blind, ruling, fourBytes, rulingFields, sheetOf, longestSheet}
+use Rattle.engine.specs.Support.{tableOf, notesOf, cost}
+use Rattle.engine.specs.Verdict.{Ruling, patch, unfixable, blind, ruling, fourBytes, rulingFields, rulingNotes, sheetOf, longestSheet}
 use Rattle.engine.specs.Inner.Sheet.{BytesPut, patchBytes, unfixableBytes, blindBytes}
 
 -- ---- numbers as bytes
@@ -68,6 +72,23 @@ field-bytes d at t {r} xs {ys} e h l w =
     let v = put-field-put d at ys t r h l (rw e at w) in
     record { bytes = v .1; end = v .0 }
 
+-- ---- a field behind whole fields
+
+module _ (ts a : List ℕ) (t : ℕ) (xs : List ℕ) (w : whole ts a ≡ true) where
+  pub whole-field : whole (ts ++ (t ∷ [])) (a ++ field t xs) ≡ true
+  unfolding whole
+  whole-field =
+      let f = field t xs in
+      whole-append ts (t ∷ []) (a ++ f)
+      ∙ rw (whole-front ts a f w, take-append-seam a f, drop-append-seam a f, w, ← append-nil f, fits-field t xs [], rest-field t xs [])
+
+  pub nth-field : nth (length ts) (a ++ field t xs) ≡ xs
+  unfolding nth
+  nth-field =
+      let f = field t xs in
+      nth-behind (length ts) (a ++ f)
+      ∙ rw (whole-front ts a f w, drop-append-seam a f, ← append-nil f) (body-field t xs [])
+
 -- ---- how many bytes
 
 pub length-fourBytes : (x : ℕ) → length (fourBytes x) ≡ 4
@@ -90,9 +111,10 @@ module _ {d d′ : List ℕ} {at r : ℕ} (t : ℕ) where
   pair-end x w = omega (arith, w .end, length-field t (bytePair x), length-bytePair x)
 
 module _ (vs : List ℕ) where
-  pub length-patchBytes : (is t : List ℕ) (c : ℕ) → length (patchBytes is t c vs) ≡ 16 + 2 * length is + length t + length vs
+  pub length-patchBytes : (is t : List ℕ) (c : ℕ) (ns : List ℕ)
+      → length (patchBytes is t c vs ns) ≡ 19 + 2 * length is + length t + length vs + length ns
   unfolding patchBytes
-  length-patchBytes is t c = simp (length-append, length-field, length-outputs, length-fourBytes) (omega arith)
+  length-patchBytes is t c ns = simp (length-append, length-field, length-outputs, length-fourBytes) (omega arith)
 
   pub length-unfixableBytes : (x : ℕ) → length (unfixableBytes x vs) ≡ 10 + length vs
   unfolding unfixableBytes
@@ -102,9 +124,9 @@ module _ (vs : List ℕ) where
   unfolding blindBytes
   length-blindBytes r = simp (length-append, length-field, length-bytePair) (omega arith)
 
-  pub patchBytes-le : (is t : List ℕ) (c : ℕ) → length is ≤ 10 → length t ≤ 1024 → length vs ≤ 16
-      → length (patchBytes is t c vs) ≤ longestSheet
-  patchBytes-le is t c h k l = omega (arith, length-patchBytes is t c)
+  pub patchBytes-le : (is t : List ℕ) (c : ℕ) (ns : List ℕ) → length is ≤ 10 → length t ≤ 1024 → length vs ≤ 16
+      → length ns ≤ 1024 → length (patchBytes is t c vs ns) ≤ longestSheet
+  patchBytes-le is t c ns h k l m = omega (arith, length-patchBytes is t c ns)
 
   pub unfixableBytes-le : (x : ℕ) → length vs ≤ 16 → length (unfixableBytes x vs) ≤ longestSheet
   unfixableBytes-le x l = omega (arith, length-unfixableBytes x)
@@ -126,12 +148,12 @@ module _ {d d₁ d₂ : List ℕ} {a b : ℕ} (vs : List ℕ) (l : length vs ≤
   unfolding blindBytes
   blind-put r u w = put-then u (omega (arith, length-field 21 (bytePair r), length-bytePair r, length-field 19 vs)) w
 
-  pub patch-put : {d₃ d₄ : List ℕ} {c r : ℕ} (is t : List ℕ) (x : ℕ) → length is ≤ 10 → length t ≤ 1024
-      → BytesPut d 0 (field 16 (flat bytePair is)) d₁ a → BytesPut d₁ a (field 17 t) d₂ b
-      → BytesPut d₂ b (field 18 (fourBytes x)) d₃ c → BytesPut d₃ c (field 19 vs) d₄ r
-      → BytesPut d 0 (patchBytes is t x vs) d₄ r
+  pub patch-put : {d₃ d₄ d₅ : List ℕ} {c e r : ℕ} (is t : List ℕ) (x : ℕ) (ns : List ℕ) → length is ≤ 10 → length t ≤ 1024
+      → length ns ≤ 1024 → BytesPut d 0 (field 16 (flat bytePair is)) d₁ a → BytesPut d₁ a (field 17 t) d₂ b
+      → BytesPut d₂ b (field 18 (fourBytes x)) d₃ c → BytesPut d₃ c (field 19 vs) d₄ e → BytesPut d₄ e (field notesTag ns) d₅ r
+      → BytesPut d 0 (patchBytes is t x vs ns) d₅ r
   unfolding patchBytes
-  patch-put is t x m n u₁ u₂ u₃ u₄ =
+  patch-put is t x ns m n o u₁ u₂ u₃ u₄ u₅ =
       let f₁ : List ℕ = field 16 (flat bytePair is) in
       let f₂ : List ℕ = field 17 t in
       let f₃ : List ℕ = field 18 (fourBytes x) in
@@ -139,28 +161,33 @@ module _ {d d₁ d₂ : List ℕ} {a b : ℕ} (vs : List ℕ) (l : length vs ≤
       let n₂ : length f₂ ≡ 3 + length t = length-field 17 t in
       let n₃ : length f₃ ≡ 7 = length-field 18 (fourBytes x) ∙ rw (length-fourBytes x) in
       let n₄ = length-field 19 vs in
+      let n₅ = length-field notesTag ns in
       let n₁₂ = length-append f₁ f₂ in
       let n₁₃ = length-append (f₁ ++ f₂) f₃ in
-      put-then (put-then (put-then u₁ (omega arith) u₂) (omega arith) u₃) (omega arith) u₄
+      let n₁₄ = length-append (f₁ ++ f₂ ++ f₃) (field 19 vs) in
+      put-then (put-then (put-then (put-then u₁ (omega arith) u₂) (omega arith) u₃) (omega arith) u₄) (omega arith) u₅
 
 -- ---- whose verdict they say
 
+-- the bytes of the verdict v with the vector list vs
+abbrev pub rulingBytes : Job → Ruling → List ℕ → List ℕ
+rulingBytes j v vs = rulingFields j v ++ field 19 vs ++ rulingNotes j v
+
 module _ (j : Job) (vs : List ℕ) where
-  pub patchBytes-ruling : (is : List ℕ) {t : List ℕ} {c : ℕ} → t ≡ tableOf j is → c ≡ cost j is
-      → patchBytes is t c vs ≡ rulingFields j (patch is) ++ field 19 vs
-  unfolding patchBytes rulingFields
-  patchBytes-ruling is e f = rw (e, f)
+  pub patchBytes-ruling : (is : List ℕ) {t : List ℕ} {c : ℕ} {ns : List ℕ} → t ≡ tableOf j is → c ≡ cost j is → ns ≡ notesOf j is
+      → patchBytes is t c vs ns ≡ rulingBytes j (patch is) vs
+  unfolding patchBytes rulingFields rulingNotes
+  patchBytes-ruling is e f g = rw (e, f, g)
 
-  pub unfixableBytes-ruling : (x : ℕ) → unfixableBytes x vs ≡ rulingFields j (unfixable x) ++ field 19 vs
-  unfolding unfixableBytes rulingFields
-  unfixableBytes-ruling x = refl
+  pub unfixableBytes-ruling : (x : ℕ) → unfixableBytes x vs ≡ rulingBytes j (unfixable x) vs
+  unfolding unfixableBytes rulingFields rulingNotes
+  unfixableBytes-ruling x = sym (append-nil _)
 
-  pub blindBytes-ruling : (r : ℕ) → blindBytes r vs ≡ rulingFields j (blind r) ++ field 19 vs
-  unfolding blindBytes rulingFields
-  blindBytes-ruling r = refl
+  pub blindBytes-ruling : (r : ℕ) → blindBytes r vs ≡ rulingBytes j (blind r) vs
+  unfolding blindBytes rulingFields rulingNotes
+  blindBytes-ruling r = sym (append-nil _)
 
 -- .. and the job's own verdict is its sheet
-pub sheet-ruling : (j : Job) {v : Ruling} {vs : List ℕ} → ruling j ≡ v → vectorLoop j .vectors ≡ vs
-    → rulingFields j v ++ field 19 vs ≡ sheetOf j
+pub sheet-ruling : (j : Job) {v : Ruling} {vs : List ℕ} → ruling j ≡ v → vectorLoop j .vectors ≡ vs → rulingBytes j v vs ≡ sheetOf j
 unfolding sheetOf
 sheet-ruling j e f = rw (e, f)

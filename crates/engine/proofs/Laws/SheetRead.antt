@@ -11,16 +11,13 @@ use lib.Seq.{take-append-seam}
 use Rattle.records.specs.Bytes.{all, nth}
 use Rattle.records.specs.Job.{Candidate, netsOf}
 use Rattle.records.specs.Refusal.{ascending}
-use Rattle.records.specs.Sheet.{Patch, sheetTags, patchOf, costOf, isCandidate, patchGood}
+use Rattle.records.specs.Sheet.{Patch, patchOf, costOf, isCandidate, patchGood}
 use Rattle.records.specs.Service.{candidatesFrom, sheetNumber, sheetReply}
-use Rattle.records.specs.Inner.{startOf}
 use Rattle.records.specs.declared.sheet.SheetReply.{SheetReply}
 use Rattle.records.proofs.Laws.Bytes.{row-at}
 use Rattle.records.proofs.Laws.Accepted.{sheet-accepts}
-use Rattle.records.proofs.Laws.Field.{startOf-suc, startOf-le, nth-slice}
-use Rattle.records.proofs.Laws.Shape.{length-netsOf}
 use Rattle.records.proofs.Laws.Sheet.{support-length}
-use Rattle.records.proofs.Laws.SheetShape.{SheetWhole, sheetWhole-facts}
+use Rattle.records.proofs.Laws.SheetShape.{sheetWhole-facts, table-end, table-bytes}
 use Rattle.engine.proofs.Laws.Choice.{cond-of, cond-zero}
 
 -- an accepted sheet's reply: its support is of candidates, and the table stands among the sheet's bytes
@@ -31,22 +28,6 @@ pub record ReadSheet (cs : List Candidate) (p : List ℕ) (r : SheetReply) : Typ
   pub candidates : all (isCandidate cs) (patchOf p .support) ≡ true
   pub end : r .table + 2 ^ r .support .len ≤ length p
   pub table : take (2 ^ r .support .len) (drop (r .table) p) ≡ patchOf p .table
-
--- ---- where the table stands
-
-module _ (m : ℕ) (p : List ℕ) (w : SheetWhole m p) where
-  table-start : 3 + length (nth 0 p) + 3 ≡ startOf 1 p
-  unfolding startOf
-  table-start = sym (startOf-suc sheetTags p (w .fields) 0 (omega arith))
-
-  table-size : 2 ^ length (netsOf (nth 0 p)) ≡ length (nth 1 p)
-  table-size = ap (λ (k : ℕ). 2 ^ k) (length-netsOf (nth 0 p)) ∙ sym (w .table)
-
-  table-end : 3 + length (nth 0 p) + 3 + 2 ^ length (netsOf (nth 0 p)) ≤ length p
-  table-end = rw (table-start, table-size) (startOf-le sheetTags p (w .fields) 1 (omega arith))
-
-  table-bytes : take (2 ^ length (netsOf (nth 0 p))) (drop (3 + length (nth 0 p) + 3) p) ≡ nth 1 p
-  table-bytes = rw (table-start, table-size) (nth-slice sheetTags p (w .fields) 1 (omega arith))
 
 -- ---- the support
 

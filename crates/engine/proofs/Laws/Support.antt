@@ -109,14 +109,14 @@ module _ (j : Job) (is : List ℕ) (r : ℕ) where
         λ h. k .1 (b .1 (h .0), eq-eqb (reading j is x) r (h .1)),
       )
 
-  rectifiesGiving : ℕ → Bool
+  unfoldable pub rectifiesGiving : ℕ → Bool
   rectifiesGiving v = all (λ x. rectifies j x v) (giving j is r)
 
-  rectifies-all : (v : ℕ) → rectifiesGiving v ≡ true → RectifiesAll j is r v
+  pub rectifies-all : (v : ℕ) → rectifiesGiving v ≡ true → RectifiesAll j is r v
   unfolding rectifiesGiving
   rectifies-all v e x h q = all-true (λ y. rectifies j y v) (giving j is r) e x (mem-giving x .1 (h, q))
 
-  all-rectifies : (v : ℕ) → RectifiesAll j is r v → rectifiesGiving v ≡ true
+  pub all-rectifies : (v : ℕ) → RectifiesAll j is r v → rectifiesGiving v ≡ true
   unfolding rectifiesGiving
   all-rectifies v f =
       all-of-members (λ y. rectifies j y v) (giving j is r)

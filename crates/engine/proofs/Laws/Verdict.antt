@@ -2,27 +2,30 @@
 use Prim.Native.Nat.{ℕ, _^_, _≤_, _<_}
 use mathlib.Core.Path.{_≡_, refl, sym, _∙_, ap, subst}
 use mathlib.Core.Logic.{⊎-elim}
-use mathlib.Core.List.{List, _++_}
-use mathlib.Core.Bool.{Bool, true, false, true≢false, not}
+use mathlib.Core.List.{List}
+use mathlib.Core.Bool.{Bool, true, false, true≢false, cond, not}
 use mathlib.Core.Option.{Option, none, some}
 use native.Mathlib.Omega.{arith}
 use borrow.Author.Tests.{not-true}
-use lib.ListN.{length, length-map}
+use lib.Dec.{eqb}
+use lib.ListN.{length, getD, length-map}
 use lib.Pow.{pow-mono}
-use Rattle.records.specs.Bytes.{upFrom, field}
+use Rattle.records.specs.Bytes.{upFrom}
 use Rattle.records.specs.Job.{Candidate, Job}
 use Rattle.records.specs.Service.{countsOf}
-use Rattle.records.specs.Claims.{PartsGood}
+use Rattle.records.specs.Claims.{Below, PartsGood}
+use Rattle.records.proofs.Laws.Accepted.{below-of-all}
+use Rattle.records.proofs.Laws.Bytes.{all-below, length-tabulate, getD-tabulate}
 use Rattle.records.proofs.Laws.Counts.{countsWithin-facts, countsWithin-countsOf}
 use Rattle.engine.specs.Choice.{first, found, orZero}
 use Rattle.engine.specs.Rectify.{vectorLoop}
-use Rattle.engine.specs.Support.{shared, sound, candidateNets, chosen, cost, tableOf}
-use Rattle.engine.specs.Verdict.{Ruling, patch, unfixable, blind, blindReading, ruling, rulingFields, sheetOf, longestSheet}
+use Rattle.engine.specs.Support.{giving, shared, sharing, sound, candidateNets, chosen, cost, tableOf, noteOf, notesOf}
+use Rattle.engine.specs.Verdict.{Ruling, patch, unfixable, blind, blindReading, ruling, sheetOf, longestSheet}
 use Rattle.engine.proofs.Laws.Choice.{Least, first-least, first-none-below, found-none, not-both, true-or-false}
 use Rattle.engine.proofs.Laws.Support.{sound-iff-found, length-tableOf, length-subset-le}
 use Rattle.engine.proofs.Laws.Best.{chosen-sound}
 use Rattle.engine.proofs.Laws.Loop.{length-vectors-le}
-use Rattle.engine.proofs.Laws.Sheet.{patchBytes-ruling, unfixableBytes-ruling, blindBytes-ruling, patchBytes-le, unfixableBytes-le, blindBytes-le}
+use Rattle.engine.proofs.Laws.Sheet.{rulingBytes, patchBytes-ruling, unfixableBytes-ruling, blindBytes-ruling, patchBytes-le, unfixableBytes-le, blindBytes-le}
 
 -- ---- the three cases
 
@@ -128,6 +131,32 @@ module _ (j : Job) where
       (λ s. s)
       (true-or-false (sound j (candidateNets j)))
 
+-- ---- the notes
+
+module _ (j : Job) (is : List ℕ) where
+  pub length-notesOf : length (notesOf j is) ≡ 2 ^ length is
+  unfolding notesOf
+  length-notesOf = length-tabulate (2 ^ length is) (noteOf j is)
+
+  pub getD-notesOf : (r : ℕ) → r < 2 ^ length is → getD (notesOf j is) r 0 ≡ noteOf j is r
+  unfolding notesOf
+  getD-notesOf r h = getD-tabulate (2 ^ length is) (noteOf j is) r 0 h
+
+  noteOf-lt : (r : ℕ) → noteOf j is r < 3
+  unfolding noteOf
+  noteOf-lt r = go (eqb (length (giving j is r)) 0) (eqb (length (sharing j is r)) 1)
+    where
+      go : (a b : Bool) → cond a 0 (cond b 1 2) < 3
+      go true b = omega arith
+      go false true = omega arith
+      go false false = omega arith
+
+  pub notes-below : Below 3 (notesOf j is)
+  notes-below =
+      let ns = notesOf j is in
+      below-of-all 3 (omega arith) ns
+      (all-below 3 ns (λ r h. rw (getD-notesOf r (omega (arith, length-notesOf))) (noteOf-lt r)))
+
 -- ---- the sheet of an accepted job
 
 module _ (j : Job) (g : PartsGood j) where
@@ -155,11 +184,14 @@ module _ (j : Job) (g : PartsGood j) where
   pub table-le : (is : List ℕ) → ruling j ≡ patch is → length (tableOf j is) ≤ 1024
   table-le is e = omega (arith, length-tableOf j is, pow-mono {j = 10} (support-le is e))
 
-  ruling-le : (v : Ruling) → ruling j ≡ v → length (rulingFields j v ++ field 19 (vectorLoop j .vectors)) ≤ longestSheet
+  notes-le : (is : List ℕ) → ruling j ≡ patch is → length (notesOf j is) ≤ 1024
+  notes-le is e = omega (arith, length-notesOf j is, pow-mono {j = 10} (support-le is e))
+
+  ruling-le : (v : Ruling) → ruling j ≡ v → length (rulingBytes j v (vectorLoop j .vectors)) ≤ longestSheet
   ruling-le (patch is) e =
       let vs = vectorLoop j .vectors in
-      subst (λ (xs : List ℕ). length xs ≤ longestSheet) (patchBytes-ruling j vs is refl refl)
-      (patchBytes-le vs is (tableOf j is) (cost j is) (support-le is e) (table-le is e) vectors-le)
+      subst (λ (xs : List ℕ). length xs ≤ longestSheet) (patchBytes-ruling j vs is refl refl refl)
+      (patchBytes-le vs is (tableOf j is) (cost j is) (notesOf j is) (support-le is e) (table-le is e) vectors-le (notes-le is e))
   ruling-le (unfixable x) e =
       let vs = vectorLoop j .vectors in
       subst (λ (xs : List ℕ). length xs ≤ longestSheet) (unfixableBytes-ruling j vs x) (unfixableBytes-le vs x vectors-le)
@@ -167,7 +199,7 @@ module _ (j : Job) (g : PartsGood j) where
       let vs = vectorLoop j .vectors in
       subst (λ (xs : List ℕ). length xs ≤ longestSheet) (blindBytes-ruling j vs r) (blindBytes-le vs r vectors-le)
 
-  -- it has at most 1,076 bytes
+  -- it has at most 2,103 bytes
   pub longest-sheet : length (sheetOf j) ≤ longestSheet
   unfolding sheetOf
   longest-sheet = ruling-le (ruling j) refl

@@ -20,6 +20,7 @@
 --   NetsRead nets reads       the first reads of ten nets may be read
 --   PlanHeld p gates          the lengths and bounds of a plan's struct and of its gates
 --   PlanLists j live ends gates     the lists: all live gates, and those of them that each target and that any target leads to
+--   ReadsOf j is p gates      before the first end, gates has those of the good job j that lead to the nets is, which p reads
 --   PlannedOf j is p gates    p and gates are a plan of the good job j where the nets is are read
 use Prim.Native.Nat.{ℕ, zero, suc, _+_, _*_, _≤_, _<_}
 use mathlib.Core.Path.{_≡_}
@@ -139,6 +140,17 @@ pub record PlanLists (j : Job) (live : ℕ → Bool) (ends gates : List ℕ) : T
   pub fanned : slice (getD ends 4 0) (getD ends 5 0) gates
       ≡ keep (λ c. live (own c) && marked (marksOf (j .inputs + j .targets) (j .inputs) (j .targets) (miterGates j)) (own c))
       (codes j)
+
+pub record ReadsOf (j : Job) (is : List ℕ) (p : Plan) (gates : List ℕ) : Type 0 where
+  pub good : PartsGood j
+  pub forms : all formed (miterGates j) ≡ true
+  pub inputs : p .inputs ≡ j .inputs
+  pub targets : p .targets ≡ j .targets
+  pub nets : take (p .reads) (p .nets) ≡ is
+  pub live : ℕ → Bool
+  pub closed : Closed live (j .inputs + j .targets) (miterGates j)
+  pub live-nets : all live is ≡ true
+  pub base : slice 0 (getD (p .ends) 0 0) gates ≡ keep (λ c. live (own c)) (codes j)
 
 pub record PlannedOf (j : Job) (is : List ℕ) (p : Plan) (gates : List ℕ) : Type 0 where
   pub good : PartsGood j

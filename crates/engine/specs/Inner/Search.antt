@@ -18,7 +18,7 @@ use Rattle.engine.specs.Eval.{bit}
 use Rattle.engine.specs.Support.{candidateNets, reading}
 use Rattle.engine.specs.Inner.Masks.{rectifiers}
 use Rattle.engine.specs.Inner.List.{Held, listedFrom, listedOf, startList}
-use Rattle.engine.specs.Inner.Plan.{BlockAt, PlannedOf}
+use Rattle.engine.specs.Inner.Plan.{BlockAt, ReadsOf, PlannedOf}
 use Rattle.engine.specs.Inner.Note.{gathered, maxReadings, setsFrom, startSets}
 use Rattle.engine.specs.declared.plan.Plan.{Plan}
 use Rattle.engine.specs.declared.list.Vectors.{Vectors}
@@ -34,7 +34,7 @@ pub record Progress (j : Job) (x : ℕ) (v : Vectors) (ss : List ℕ) : Type 0 w
 
 pub record BlockEvaluated (p : Plan) (gates : List ℕ) (b : ℕ) (words : List ℕ) : Type 0 where
   pub long : length words ≡ 16384
-  pub values : (j : Job) (is : List ℕ) (q : PlannedOf j is p gates) → BlockAt j (q .live) b (λ y. 0) words
+  pub values : (j : Job) (is : List ℕ) (q : ReadsOf j is p gates) → BlockAt j (q .live) b (λ y. 0) words
 
 -- the lowest bit of x is the new bit of target t
 pub record TargetTurned (p : Plan) (gates : List ℕ) (t x : ℕ) (before after : List ℕ) : Type 0 where

@@ -4,14 +4,14 @@ use mathlib.Core.Path.{_≡_}
 use mathlib.Core.List.{List, _++_}
 use lib.ListN.{length}
 use Rattle.records.specs.Bytes.{flat, bytePair, placed, field}
-use Rattle.records.specs.Netlist
+use Rattle.records.specs.Sheet.{notesTag}
 use Rattle.engine.specs.Verdict.{fourBytes}
-use Rattle.engine.specs.Inner.Choose.{before}
 
 -- ---- sheets
 
-unfoldable pub patchBytes : List ℕ → List ℕ → ℕ → List ℕ → List ℕ
-patchBytes is t c vs = field 16 (flat bytePair is) ++ field 17 t ++ field 18 (fourBytes c) ++ field 19 vs
+unfoldable pub patchBytes : List ℕ → List ℕ → ℕ → List ℕ → List ℕ → List ℕ
+patchBytes is t c vs ns =
+    field 16 (flat bytePair is) ++ field 17 t ++ field 18 (fourBytes c) ++ field 19 vs ++ field notesTag ns
 
 unfoldable pub unfixableBytes : ℕ → List ℕ → List ℕ
 unfixableBytes x vs = field 20 (fourBytes x) ++ field 19 vs

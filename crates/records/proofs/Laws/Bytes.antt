@@ -2,12 +2,15 @@
 use Prim.Native.Nat.{ℕ, zero, suc, _+_, _-_, _≤_, _<_}
 use mathlib.Core.Path.{_≡_, refl, sym, _∙_, ap}
 use mathlib.Core.List.{List, [], _∷_, _++_, map, append-assoc, append-nil}
-use mathlib.Core.Bool.{Bool, true, false, _&&_}
+use mathlib.Core.Logic.{_⊎_, inl, inr}
+use mathlib.Core.Bool.{Bool, true, false, _&&_, _||_}
 use native.Mathlib.Nat.{add-zero, zero-add, add-suc, suc-add}
 use native.Mathlib.Numerals.{add-one}
 use native.Mathlib.Omega.{arith}
+use borrow.Author.Tests.{lt-ltb}
+use lib.Dec.{ltb}
 use lib.ListN.{length, getD, take, drop, set, length-append, length-drop, length-map, take-append-drop, drop-of-length-le}
-use lib.Seq.{drop-cons, drop-length, getD-take, ext-getD, length-take-le, take-at, drop-at, set-at, append-snoc, drop-drop, take-append-seam, take-append-le, drop-append-le}
+use lib.Seq.{take-nil, drop-cons, drop-length, getD-take, ext-getD, length-take-le, take-at, drop-at, set-at, append-snoc, drop-drop, take-append-seam, take-append-le, drop-append-le}
 use Rattle.records.specs.Bytes.{upFrom, tabulate, all, placed}
 
 -- ---- tests
@@ -31,6 +34,28 @@ pub and-false-right : (a b : Bool) → b ≡ false → a && b ≡ false
 and-false-right true b p = p
 and-false-right false b p = refl
 
+pub and-assoc : (a b c : Bool) → (a && b) && c ≡ a && (b && c)
+and-assoc true b c = refl
+and-assoc false b c = refl
+
+and-swap : (a b c : Bool) → (a && b) && c ≡ (a && c) && b
+and-swap true true true = refl
+and-swap true true false = refl
+and-swap true false true = refl
+and-swap true false false = refl
+and-swap false b c = refl
+
+pub or-left : (a b : Bool) → a ≡ true → a || b ≡ true
+or-left a b e = rw e
+
+pub or-right : (a b : Bool) → b ≡ true → a || b ≡ true
+or-right true b e = refl
+or-right false b e = e
+
+pub or-cases : (a b : Bool) → a || b ≡ true → (a ≡ true) ⊎ (b ≡ true)
+or-cases true b e = inl refl
+or-cases false b e = inr e
+
 pub all-ext : {A : Type 0} (p q : A → Bool) → ((x : A) → p x ≡ q x) → (xs : List A) → all p xs ≡ all q xs
 unfolding all
 all-ext p q h [] = refl
@@ -52,6 +77,11 @@ row-at a [] h (suc i) = refl
 row-at a (b ∷ bs) h (suc zero) = and-right a b (row-left (a && b) bs h)
 row-at a (b ∷ bs) h (suc (suc i)) = row-at (a && b) bs h (suc i)
 
+-- a test beside a row is a test beside its first
+pub row-and : (a g : Bool) (bs : List Bool) → row a bs && g ≡ row (a && g) bs
+row-and a g [] = refl
+row-and a g (b ∷ bs) = row-and (a && b) g bs ∙ ap (λ (c : Bool). row c bs) (and-swap a b g)
+
 pub false-of : (b : Bool) → (b ≡ true → ⊥) → b ≡ false
 false-of true h = absurd (h refl)
 false-of false h = refl
@@ -60,6 +90,21 @@ pub all-cons : {A : Type 0} (p : A → Bool) (x : A) (xs : List A) → all p (x 
     → (p x ≡ true) × (all p xs ≡ true)
 unfolding all
 all-cons p x xs e = (and-left (p x) (all p xs) e, and-right (p x) (all p xs) e)
+
+pub all-below : (n : ℕ) (xs : List ℕ) → ((i : ℕ) → i < length xs → getD xs i 0 < n) → all (λ v. ltb v n) xs ≡ true
+unfolding all
+all-below n [] h = refl
+all-below n (x ∷ xs) h =
+    and-both (ltb x n) (all (λ v. ltb v n) xs) (lt-ltb x n (h 0 (omega arith)))
+    (all-below n xs (λ i l. h (suc i) (omega arith)))
+
+-- ---- a part of a list
+
+pub drop-take : {A : Type 0} (m n : ℕ) (xs : List A) → drop m (take (m + n) xs) ≡ take n (drop m xs)
+drop-take zero n xs = ap (λ (k : ℕ). take k xs) (zero-add n)
+drop-take (suc m) n [] = ap (λ (k : ℕ). drop (suc m) (take k [])) (suc-add m n) ∙ sym (take-nil n)
+drop-take (suc m) n (x ∷ xs) =
+    ap (λ (k : ℕ). drop (suc m) (take k (x ∷ xs))) (suc-add m n) ∙ drop-take m n xs
 
 -- ---- upFrom, tabulate
 
@@ -168,7 +213,7 @@ module _ {A : Type 0} where
       ∙ take-append-drop at d
 
   -- a part of the first of two lists
-  part-append : (p q : List A) (a n : ℕ) → a + n ≤ length p → take n (drop a (p ++ q)) ≡ take n (drop a p)
+  pub part-append : (p q : List A) (a n : ℕ) → a + n ≤ length p → take n (drop a (p ++ q)) ≡ take n (drop a p)
   part-append p q a n h =
       ap (take n) (drop-append-le a p q (omega arith))
       ∙ take-append-le n (drop a p) q (omega (arith, length-drop a p))

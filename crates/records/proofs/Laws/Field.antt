@@ -62,7 +62,7 @@ pub skip : ℕ → List ℕ → List ℕ
 skip zero s = s
 skip (suc k) s = skip k (rest s)
 
-pub positionOf : ℕ → List ℕ → ℕ
+unfoldable pub positionOf : ℕ → List ℕ → ℕ
 positionOf zero s = 0
 positionOf (suc k) s = 3 + bodyLength s + positionOf k (rest s)
 
@@ -88,6 +88,22 @@ positionOf-suc zero s = omega arith
 positionOf-suc (suc k) s =
     let e = positionOf-suc k (rest s) in
     omega arith
+
+pub positionOf-next : (k : ℕ) (s : List ℕ) (at : ℕ) → at ≡ positionOf k s → positionOf (suc k) s ≡ at + 3 + word s (at + 1)
+positionOf-next k s at e =
+    rw e (positionOf-suc k s ∙ ap (λ (n : ℕ). positionOf k s + 3 + n) (ap bodyLength (skip-drop k s) ∙ bodyLength-drop s (positionOf k s)))
+
+positionOf-le : (k n : ℕ) (s : List ℕ) → k ≤ n → positionOf k s ≤ positionOf n s
+unfolding positionOf
+positionOf-le zero n s h = omega arith
+positionOf-le (suc k) zero s h = let f : ⊥ = omega arith in absurd f
+positionOf-le (suc k) (suc n) s h = omega (arith, positionOf-le k n (rest s) (omega arith))
+
+-- where a field's length reaches past the end, so do the fields up to any later one
+pub position-past : (k n : ℕ) (s : List ℕ) (at : ℕ) → at ≡ positionOf k s → k < n → length s < at + 3 + word s (at + 1)
+    → length s + 3 < startOf n s
+position-past k n s at e h l =
+    omega (arith, positionOf-next k s at e, positionOf-le (suc k) n s (omega arith), startOf-position n s)
 
 pub nth-body : (k : ℕ) (s : List ℕ) → nth k s ≡ body (skip k s)
 unfolding nth skip

@@ -1,29 +1,27 @@
 -- Laws of what read_sheet replies: the first of its three tests that fails, what an accepted sheet says, and the tests of number 8 one
 -- by one. Assumes nothing.
 use Prim.Native.Nat.{ℕ, _+_, _^_, _≤_}
-use mathlib.Core.Path.{_≡_, refl, sym, _∙_, ap}
+use mathlib.Core.Path.{_≡_, refl, sym, _∙_}
 use mathlib.Core.Bool.{Bool, true, false, true≢false, cond, _&&_}
 use mathlib.Core.List.{List, [], _∷_}
 use native.Mathlib.Omega.{arith}
 use borrow.Author.Tests.{leb-true, eq-eqb, ne-eqb}
-use lib.Dec.{leb, ltb, eqb, lit<}
+use lib.Dec.{leb, ltb, eqb}
 use lib.ListN.{length, getD}
 use lib.Seq.{take-append-seam}
 use Rattle.records.specs.Bytes.{all, nth}
 use Rattle.records.specs.Job.{Candidate, netsOf}
 use Rattle.records.specs.Refusal.{ascending, firstFailing}
-use Rattle.records.specs.Sheet.{quad, sheetTags, patchOf, sheetWhole, isCandidate, costOf, patchGood, sheetTests}
+use Rattle.records.specs.Sheet.{quad, patchOf, sheetWhole, isCandidate, costOf, patchGood, sheetTests}
 use Rattle.records.specs.Service.{candidatesFrom, sheetRoomy, sheetNumber, sheetReply}
-use Rattle.records.specs.Inner.{startOf, refusedSheet, sheetRoom, supportOf, tenPlaces}
+use Rattle.records.specs.Inner.{refusedSheet, sheetRoom, supportOf, tenPlaces}
 use Rattle.records.specs.Claims.{SheetGiven}
 use Rattle.records.specs.declared.sheet.Support.{Support}
 use Rattle.records.specs.declared.sheet.Costs.the-variants.{Sum, Unfit}
 use Rattle.records.proofs.Laws.Bytes.{row, row-at, and-left, and-right, and-both, false-of}
-use Rattle.records.proofs.Laws.Field.{startOf-suc, nth-slice}
-use Rattle.records.proofs.Laws.Shape.{length-netsOf}
 use Rattle.records.proofs.Laws.Accepted.{sheet-accepts}
 use Rattle.records.proofs.Laws.Sheet.{support-length}
-use Rattle.records.proofs.Laws.SheetShape.{sheetWhole-facts}
+use Rattle.records.proofs.Laws.SheetShape.{sheetWhole-facts, table-bytes}
 
 -- ---- number 3
 
@@ -70,18 +68,12 @@ module _ (m k : ℕ) (nets weights s : List ℕ) where
 
 -- what is replied of an accepted sheet
 pub sheet-given : SheetGiven
-unfolding sheetReply patchOf startOf
+unfolding sheetReply patchOf
 sheet-given m k nets weights s e =
     let w = sheetWhole-facts m s (sheet-accepts m k nets weights s .0 e .1) in
     let is = netsOf (nth 0 s) in
-    let n : 2 ^ length is ≡ length (nth 1 s) = ap (λ (x : ℕ). 2 ^ x) (length-netsOf (nth 0 s)) ∙ sym (w .table) in
-    let at : 3 + length (nth 0 s) + 3 ≡ startOf 1 s = sym (startOf-suc sheetTags s (w .fields) 0 (lit< tt)) in
     let z = eq-eqb (sheetNumber m k nets weights s) 0 e in
-    record {
-      support = rw z (take-append-seam is _);
-      table = rw (z, n, at) (nth-slice sheetTags s (w .fields) 1 (lit< tt));
-      cost = rw z;
-    }
+    record { support = rw z (take-append-seam is _); table = rw z (table-bytes m s w); cost = rw z }
 
 -- ---- number 8
 

@@ -151,7 +151,7 @@ module _ (s : List ℕ) (t : ℕ) where
 
 -- ---- the walk's end
 
-ends-there : (s : List ℕ) (at : ℕ) → at ≤ length s → eqb (length (drop at s)) 0 ≡ eqb at (length s)
+pub ends-there : (s : List ℕ) (at : ℕ) → at ≤ length s → eqb (length (drop at s)) 0 ≡ eqb at (length s)
 ends-there s at h = go (eqb at (length s)) refl
   where
     go : (b : Bool) → eqb at (length s) ≡ b → eqb (length (drop at s)) 0 ≡ b

@@ -10,8 +10,8 @@ use Rattle.engine.specs.Verdict.{decidedBytes}
 use Rattle.engine.specs.Reply.{decideReply}
 use Rattle.engine.specs.declared.deciding.DecideReply.{DecideReply}
 use Rattle.engine.proofs.Replies.{decide-accepts, reply-number, number-zero, sheet-bytes}
-use Rattle.report.specs.Text.{sheetText, refusedText, inputLimit, rectifyText, longestText, printedLength, printedBytes}
-use Rattle.report.specs.Inner.{WholeSheet, Texted}
+use Rattle.report.specs.Text.{refusedText, inputLimit, rectifyText, longestText, printedLength, printedBytes}
+use Rattle.report.specs.Inner.{WholeSheet, sheetText, Texted}
 use Rattle.report.proofs.Laws.Sheet.{whole-sheet}
 use Rattle.report.proofs.Laws.Text.{blank, rectify-long, rectify-accepted, rectify-refused}
 

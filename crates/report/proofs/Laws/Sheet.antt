@@ -1,26 +1,30 @@
 -- Laws of whole sheets: where the fields stand, which sheet it is by its first tag, and that the sheet of an accepted job is
 -- whole. Assumes nothing.
 use Prim.Native.Nat.{ℕ, suc, _+_, _-_, _≤_, _<_}
-use mathlib.Core.Path.{_≡_, refl, sym, _∙_, ap}
-use mathlib.Core.List.{List, [], _∷_, _++_, append-assoc, append-nil}
+use mathlib.Core.Path.{_≡_, refl, sym, _∙_, ap, subst}
+use mathlib.Core.List.{List, [], _∷_, _++_, append-nil}
 use mathlib.Core.Bool.{true}
 use native.Mathlib.Omega.{arith}
 use borrow.Author.Tests.{eqb-true, leb-true}
 use lib.Dec.{leb, eqb}
 use lib.ListN.{length, getD, take, drop}
-use Rattle.records.specs.Bytes.{flat, bytePair, word, field, bodyLength, fits, whole, nth}
+use Rattle.records.specs.Bytes.{upFrom, bytePair, word, field, bodyLength, fits, whole, nth}
 use Rattle.records.specs.Job.{Job}
-use Rattle.records.specs.Sheet.{sheetTags}
+use Rattle.records.specs.Sheet.{sheetTags, notesTag}
 use Rattle.records.specs.Claims.{Below, PartsGood}
 use Rattle.records.specs.Inner.{startOf}
 use Rattle.records.proofs.Laws.Bytes.{and-left, row-at}
 use Rattle.records.proofs.Laws.Field.{skip, positionOf, skip-drop, bodyLength-drop, startOf-position, positionOf-suc, startOf-suc, whole-end, nth-slice}
-use Rattle.records.proofs.Laws.RoundTrip.{body-field, rest-field, fits-field, below-take, below-drop}
-use Rattle.records.proofs.Laws.Job.{length-flat, length-bytePair}
+use Rattle.records.proofs.Laws.RoundTrip.{joined, whole-joined, body-field, below-take, below-drop}
+use Rattle.records.proofs.Laws.Job.{length-outputs}
 use Rattle.engine.specs.Rectify.{vectorLoop}
-use Rattle.engine.specs.Support.{cost, tableOf}
-use Rattle.engine.specs.Verdict.{Ruling, patch, unfixable, blind, ruling, fourBytes, rulingFields, sheetOf}
-use Rattle.engine.proofs.Laws.Verdict.{vectors-le, support-le, table-le}
+use Rattle.engine.specs.Support.{cost, tableOf, notesOf}
+use Rattle.engine.specs.Verdict.{Ruling, patch, unfixable, blind, ruling, fourBytes, sheetOf}
+use Rattle.engine.specs.Inner.Sheet.{patchBytes, unfixableBytes, blindBytes}
+use Rattle.engine.proofs.Laws.Support.{length-tableOf}
+use Rattle.engine.proofs.Laws.Sheet.{length-fourBytes, whole-field, nth-field, rulingBytes, patchBytes-ruling, unfixableBytes-ruling, blindBytes-ruling, sheet-ruling}
+use Rattle.engine.proofs.Laws.Verdict.{length-notesOf, vectors-le, support-le, table-le}
+use Rattle.engine.proofs.Replies.{patch-whole, patch-nth, patch-notes}
 use Rattle.report.specs.Inner.{PatchSheet, ValueSheet, WholeSheet, isPatch, isUnfixable, isBlind}
 
 -- ---- the fields of a whole sheet
@@ -53,27 +57,39 @@ fields-end ts s w = omega (arith, whole-end ts s w, startOf-position (length ts)
 
 -- ---- a patch's sheet
 
--- where the first two fields end, and where the bytes of each field stand
+-- the tags of its five fields
+abbrev patchTags : List ℕ
+patchTags = sheetTags ++ (notesTag ∷ [])
+
+-- where the first two fields end, and where the bytes of the first three stand
 pub record PatchSpans (s : List ℕ) (first second : ℕ) : Type 0 where
   pub first-end : first ≡ 3 + length (nth 0 s)
   pub second-end : second ≡ first + 3 + length (nth 1 s)
-  pub end : length s ≡ second + 10 + length (nth 3 s)
+  pub fourth : word s (second + 3 + 7 - 2) ≡ length (nth 3 s)
+  pub end : length s ≡ second + 13 + length (nth 3 s) + length (nth 4 s)
   pub nets : take (first + 3 - 3 - 3) (drop 3 s) ≡ nth 0 s
   pub table : take (second + 3 - 3 - (first + 3)) (drop (first + 3) s) ≡ nth 1 s
   pub cost : take (second + 3 + 7 - 3 - (second + 3)) (drop (second + 3) s) ≡ nth 2 s
-  pub vectors : take (length s - (second + 3 + 7)) (drop (second + 3 + 7) s) ≡ nth 3 s
+
+-- where the fourth ends, and where the bytes of the last two stand
+pub record PatchBehind (s : List ℕ) (second fourth : ℕ) : Type 0 where
+  pub ordered : second + 3 + 7 ≤ fourth + 3 - 3
+  pub within : fourth + 3 - 3 ≤ length s
+  pub last : fourth + 3 ≤ length s
+  pub vectors : take (fourth + 3 - 3 - (second + 3 + 7)) (drop (second + 3 + 7) s) ≡ nth 3 s
+  pub notes : take (length s - (fourth + 3)) (drop (fourth + 3) s) ≡ nth 4 s
 
 module _ (s : List ℕ) (p : PatchSheet s) where
-  patch-start : (k : ℕ) → k < 4 → startOf (suc k) s ≡ startOf k s + length (nth k s) + 3
-  patch-start k h = startOf-suc sheetTags s (p .fields) k h
+  patch-start : (k : ℕ) → k < 5 → startOf (suc k) s ≡ startOf k s + length (nth k s) + 3
+  patch-start k h = startOf-suc patchTags s (p .fields) k h
 
-  patch-part : (k : ℕ) → k < 4 → (a b : ℕ) → a ≡ startOf k s → b ≡ a + length (nth k s) → take (b - a) (drop a s) ≡ nth k s
-  patch-part k h a b e f = field-part sheetTags s (p .fields) k h a b e f
+  patch-part : (k : ℕ) → k < 5 → (a b : ℕ) → a ≡ startOf k s → b ≡ a + length (nth k s) → take (b - a) (drop a s) ≡ nth k s
+  patch-part k h a b e f = field-part patchTags s (p .fields) k h a b e f
 
   pub patch-first : word s 1 ≡ length (nth 0 s)
-  patch-first = field-length sheetTags s (p .fields) 0 (omega arith) 3 (sym (start-zero s))
+  patch-first = field-length patchTags s (p .fields) 0 (omega arith) 3 (sym (start-zero s))
 
-  pub patch-length : length s ≡ length (nth 0 s) + length (nth 1 s) + length (nth 3 s) + 16
+  pub patch-length : length s ≡ length (nth 0 s) + length (nth 1 s) + length (nth 3 s) + length (nth 4 s) + 19
   patch-length =
       omega (
         arith,
@@ -83,7 +99,8 @@ module _ (s : List ℕ) (p : PatchSheet s) where
         patch-start 1 (omega arith),
         patch-start 2 (omega arith),
         patch-start 3 (omega arith),
-        fields-end sheetTags s (p .fields),
+        patch-start 4 (omega arith),
+        fields-end patchTags s (p .fields),
       )
 
   module _ (first : ℕ) (e : first ≡ 3 + word s 1) where
@@ -91,25 +108,40 @@ module _ (s : List ℕ) (p : PatchSheet s) where
     table-start = omega (arith, patch-first, start-zero s, patch-start 0 (omega arith))
 
     pub patch-second : word s (first + 3 - 2) ≡ length (nth 1 s)
-    patch-second = field-length sheetTags s (p .fields) 1 (omega arith) (first + 3) table-start
+    patch-second = field-length patchTags s (p .fields) 1 (omega arith) (first + 3) table-start
 
-    pub patch-spans : (second : ℕ) → second ≡ first + 3 + word s (first + 3 - 2) → PatchSpans s first second
-    patch-spans second f =
-        let l : first ≡ 3 + length (nth 0 s) = omega (arith, patch-first) in
-        let m : second ≡ first + 3 + length (nth 1 s) = omega (arith, patch-second) in
-        let n : length s ≡ second + 10 + length (nth 3 s) = omega (arith, patch-length) in
-        let t = table-start in
-        let c : second + 3 ≡ startOf 2 s = omega (arith, patch-start 1 (omega arith)) in
-        let v : second + 3 + 7 ≡ startOf 3 s = omega (arith, p .cost, patch-start 2 (omega arith)) in
-        record {
-          first-end = l;
-          second-end = m;
-          end = n;
-          nets = patch-part 0 (omega arith) 3 (first + 3 - 3) (sym (start-zero s)) (omega arith);
-          table = patch-part 1 (omega arith) (first + 3) (second + 3 - 3) t (omega arith);
-          cost = patch-part 2 (omega arith) (second + 3) (second + 3 + 7 - 3) c (omega (arith, p .cost));
-          vectors = patch-part 3 (omega arith) (second + 3 + 7) (length s) v (omega arith);
-        }
+    module _ (second : ℕ) (f : second ≡ first + 3 + word s (first + 3 - 2)) where
+      cost-start : second + 3 ≡ startOf 2 s
+      cost-start = omega (arith, table-start, patch-second, patch-start 1 (omega arith))
+
+      vectors-start : second + 3 + 7 ≡ startOf 3 s
+      vectors-start = omega (arith, cost-start, p .cost, patch-start 2 (omega arith))
+
+      pub patch-spans : PatchSpans s first second
+      patch-spans =
+          let l : first ≡ 3 + length (nth 0 s) = omega (arith, patch-first) in
+          let m : second ≡ first + 3 + length (nth 1 s) = omega (arith, patch-second) in
+          record {
+            first-end = l;
+            second-end = m;
+            fourth = field-length patchTags s (p .fields) 3 (omega arith) (second + 3 + 7) vectors-start;
+            end = omega (arith, patch-length);
+            nets = patch-part 0 (omega arith) 3 (first + 3 - 3) (sym (start-zero s)) (omega arith);
+            table = patch-part 1 (omega arith) (first + 3) (second + 3 - 3) table-start (omega arith);
+            cost = patch-part 2 (omega arith) (second + 3) (second + 3 + 7 - 3) cost-start (omega (arith, p .cost));
+          }
+
+      pub patch-behind : (fourth : ℕ) → fourth ≡ second + 3 + 7 + word s (second + 3 + 7 - 2) → PatchBehind s second fourth
+      patch-behind fourth g =
+          let n : fourth ≡ second + 10 + length (nth 3 s) = omega (arith, patch-spans .fourth) in
+          let t : fourth + 3 ≡ startOf 4 s = omega (arith, vectors-start, patch-start 3 (omega arith)) in
+          record {
+            ordered = omega arith;
+            within = omega (arith, patch-spans .end);
+            last = omega (arith, patch-spans .end);
+            vectors = patch-part 3 (omega arith) (second + 3 + 7) (fourth + 3 - 3) vectors-start (omega arith);
+            notes = patch-part 4 (omega arith) (fourth + 3) (length s) t (omega (arith, patch-spans .end));
+          }
 
 -- ---- the sheet of an unfixable input or a blind reading
 
@@ -153,12 +185,12 @@ whole-front t ts s w =
 
 module _ (s : List ℕ) where
   pub sheet-some : WholeSheet s → 0 < length s
-  sheet-some (isPatch p) = omega (arith, whole-front 16 (17 ∷ 18 ∷ 19 ∷ []) s (p .fields) .0)
+  sheet-some (isPatch p) = omega (arith, whole-front 16 (17 ∷ 18 ∷ 19 ∷ notesTag ∷ []) s (p .fields) .0)
   sheet-some (isUnfixable v) = omega (arith, whole-front 20 (19 ∷ []) s (v .fields) .0)
   sheet-some (isBlind v) = omega (arith, whole-front 21 (19 ∷ []) s (v .fields) .0)
 
   patch-tag : PatchSheet s → getD s 0 0 ≡ 16
-  patch-tag p = whole-front 16 (17 ∷ 18 ∷ 19 ∷ []) s (p .fields) .1
+  patch-tag p = whole-front 16 (17 ∷ 18 ∷ 19 ∷ notesTag ∷ []) s (p .fields) .1
 
   value-tag : (t size : ℕ) → ValueSheet t size s → getD s 0 0 ≡ t
   value-tag t size v = whole-front t (19 ∷ []) s (v .fields) .1
@@ -180,65 +212,54 @@ module _ (s : List ℕ) where
 
 -- ---- the sheet of an accepted job is whole
 
--- a field at the front
-module _ (t : ℕ) (xs r : List ℕ) where
-  field-nth : nth 0 (field t xs ++ r) ≡ xs
+-- a field and the vector list
+module _ (t : ℕ) (xs vs : List ℕ) where
+  front-whole : whole (t ∷ []) (field t xs) ≡ true
+  unfolding joined upFrom
+  front-whole = rw append-nil at (whole-joined t (xs ∷ []))
+
+  pub value-fields : (nth 0 (field t xs ++ field 19 vs) ≡ xs) × (nth 1 (field t xs ++ field 19 vs) ≡ vs)
   unfolding nth
-  field-nth = body-field t xs r
+  value-fields = (body-field t xs (field 19 vs), nth-field (t ∷ []) (field t xs) 19 vs front-whole)
 
-  field-nth-suc : (k : ℕ) → nth (suc k) (field t xs ++ r) ≡ nth k r
-  unfolding nth
-  field-nth-suc k = ap (nth k) (rest-field t xs r)
+  value-whole : length vs ≤ 16 → ValueSheet t (length xs) (field t xs ++ field 19 vs)
+  value-whole h =
+      record {
+        fields = whole-field (t ∷ []) (field t xs) 19 vs front-whole;
+        value = ap length (value-fields .0);
+        vectors = rw (value-fields .1) h;
+      }
 
-  field-whole : (ts : List ℕ) → whole ts r ≡ true → whole (t ∷ ts) (field t xs ++ r) ≡ true
-  unfolding whole
-  field-whole ts w = rw (fits-field t xs r, rest-field t xs r) w
-
-field-last : (t : ℕ) (xs : List ℕ) → (whole (t ∷ []) (field t xs) ≡ true) × (nth 0 (field t xs) ≡ xs)
-unfolding whole
-field-last t xs = (
-  rw append-nil at (field-whole t xs [] [] refl),
-  rw append-nil at (field-nth t xs []),
-)
-
-value-whole : (t : ℕ) (xs vs : List ℕ) → length vs ≤ 16 → ValueSheet t (length xs) (field t xs ++ field 19 vs)
-value-whole t xs vs h =
-    let l = field-last 19 vs in
-    record {
-      fields = field-whole t xs (field 19 vs) (19 ∷ []) (l .0);
-      value = ap length (field-nth t xs (field 19 vs));
-      vectors = rw (field-nth-suc t xs (field 19 vs) 0, l .1) h;
-    }
-
-patch-whole : (is es cs vs : List ℕ) → length is ≤ 20 → length es ≤ 1024 → length cs ≡ 4 → length vs ≤ 16
-    → PatchSheet (field 16 is ++ field 17 es ++ field 18 cs ++ field 19 vs)
-patch-whole is es cs vs h i c v =
-    let l = field-last 19 vs in
-    let r₂ = field 18 cs ++ field 19 vs in
-    let r₁ = field 17 es ++ r₂ in
-    let e : field 16 is ++ field 17 es ++ field 18 cs ++ field 19 vs ≡ field 16 is ++ r₁ = simp append-assoc in
-    rw e
-    (record {
-      fields = field-whole 16 is r₁ _ (field-whole 17 es r₂ _ (field-whole 18 cs (field 19 vs) _ (l .0)));
-      support = rw (field-nth 16 is r₁) h;
-      table = rw (field-nth-suc 16 is r₁ 0, field-nth 17 es r₂) i;
-      cost = rw (field-nth-suc 16 is r₁ 1, field-nth-suc 17 es r₂ 0, field-nth 18 cs (field 19 vs)) c;
-      vectors = rw (field-nth-suc 16 is r₁ 2, field-nth-suc 17 es r₂ 1, field-nth-suc 18 cs (field 19 vs) 0, l .1) v;
-    })
+-- the five fields of a patch
+module _ (is es : List ℕ) (c : ℕ) (vs ns : List ℕ) where
+  patch-sheet : length is ≤ 10 → length es ≤ 1024 → length vs ≤ 16 → length ns ≤ 1024 → PatchSheet (patchBytes is es c vs ns)
+  patch-sheet h i v n =
+      let at = patch-nth is es c vs ns in
+      record {
+        fields = patch-whole is es c vs ns;
+        support = rw (at 0 (omega arith)) (omega (arith, length-outputs is));
+        table = rw (at 1 (omega arith)) i;
+        cost = rw (at 2 (omega arith)) (length-fourBytes c);
+        vectors = rw (at 3 (omega arith)) v;
+        notes = rw (patch-notes is es c vs ns) n;
+      }
 
 module _ (j : Job) (g : PartsGood j) where
-  ruling-whole : (v : Ruling) → ruling j ≡ v → WholeSheet (rulingFields j v ++ field 19 (vectorLoop j .vectors))
-  unfolding rulingFields fourBytes bytePair
+  ruling-whole : (v : Ruling) → ruling j ≡ v → WholeSheet (rulingBytes j v (vectorLoop j .vectors))
+  unfolding unfixableBytes blindBytes fourBytes bytePair
   ruling-whole (patch is) e =
-      isPatch
-      (patch-whole (flat bytePair is) (tableOf j is) (fourBytes (cost j is)) (vectorLoop j .vectors)
-      (omega (arith, length-flat bytePair 2 length-bytePair is, support-le j g is e))
-      (table-le j g is e)
-      refl
-      (vectors-le j g))
-  ruling-whole (unfixable x) e = isUnfixable (value-whole 20 (fourBytes x) (vectorLoop j .vectors) (vectors-le j g))
-  ruling-whole (blind r) e = isBlind (value-whole 21 (bytePair r) (vectorLoop j .vectors) (vectors-le j g))
+      let vs = vectorLoop j .vectors in
+      let t = table-le j g is e in
+      subst WholeSheet (patchBytes-ruling j vs is refl refl refl)
+      (isPatch
+      (patch-sheet is (tableOf j is) (cost j is) vs (notesOf j is) (support-le j g is e) t (vectors-le j g)
+      (omega (arith, length-notesOf j is, length-tableOf j is))))
+  ruling-whole (unfixable x) e =
+      let vs = vectorLoop j .vectors in
+      subst WholeSheet (unfixableBytes-ruling j vs x) (isUnfixable (value-whole 20 (fourBytes x) vs (vectors-le j g)))
+  ruling-whole (blind r) e =
+      let vs = vectorLoop j .vectors in
+      subst WholeSheet (blindBytes-ruling j vs r) (isBlind (value-whole 21 (bytePair r) vs (vectors-le j g)))
 
   pub whole-sheet : WholeSheet (sheetOf j)
-  unfolding sheetOf
-  whole-sheet = ruling-whole (ruling j) refl
+  whole-sheet = subst WholeSheet (sheet-ruling j refl refl) (ruling-whole (ruling j) refl)

@@ -31,12 +31,13 @@ returns : tie.Need-returns
 returns c =
     let s = c .before .before .before .before .before in
     let ni = s .good .0 .1 .0 .1 in
-    let nw = s .good .1 .0 .1 .0 .1 in (
-      picked-held (s .args .candidates) (s .args .nets) (s .pre) (c .pick-support .ensures),
+    let nw = s .good .1 .0 .1 .0 .1 in
+    let p = c .pick-support .ensures in (
+      (picked-held (s .args .candidates) (s .args .nets) (s .pre) (p .0), p .1),
       λ j q.
           let all = all-pick (s .pre) ni nw q (c .before .before .before .before .reading-count .ensures) (c .before .before .before .sum-weights .ensures) in
           let g = c .before .before .best-from .ensures j (all-weights (s .pre) ni nw q) all (all-open (s .pre) ni nw q) in
-          chosen-of (s .pre) ni nw q g (c .pick-support .ensures) refl
+          chosen-of (s .pre) ni nw q g (p .0) refl
           (c .before .sets-of .ensures j (nets-many (s .pre) ni nw q) (all-sets (s .pre) ni nw q) (g .pick .sound)),
     )
 

@@ -6,8 +6,11 @@ use mathlib.Core.Logic.{⊎-elim}
 use mathlib.Core.List.{List}
 use native.Mathlib.Omega.{arith}
 use lib.ListN.{length, getD, take, set, length-set}
+use Rattle.records.specs.Claims.{Below}
 use Rattle.engine.specs.Eval.{bit}
 use Rattle.engine.specs.Inner.Choose.{picked}
+use Rattle.engine.proofs.Laws.List.{set-below}
+use Rattle.engine.proofs.Laws.PlanCode.{replicate-le}
 use Rattle.engine.proofs.Laws.Picked.{picks-in, length-picked-in, picked-take-out}
 use Rattle.engine.proofs.choose.pick_support.Statement.{statement}
 use Rattle.engine.proofs.choose.pick_support.Tie as tie
@@ -17,6 +20,7 @@ record Picking (is : List ℕ) (s i : ℕ) (picks : List ℕ) (len : ℕ) : Type
   most : len ≤ i
   long : len ≡ length (picked (take i is) s)
   nets : take len picks ≡ picked (take i is) s
+  below : Below 1024 is → Below 1024 picks
 
 -- a turn that picks the net, and one that does not
 module _ (is : List ℕ) (s i : ℕ) (ps : List ℕ) (len : ℕ) (ps′ : List ℕ) (len′ : ℕ) (h : i < length is) (few : i < 10)
@@ -28,6 +32,7 @@ module _ (is : List ℕ) (s i : ℕ) (ps : List ℕ) (len : ℕ) (ps′ : List �
         most = omega (arith, p .most);
         long = omega (arith, p .long, length-picked-in is s i h b);
         nets = rw (e, n) (picks-in is ps s i len h (p .long) (omega (arith, p .most, p .places)) (p .nets) b);
+        below = λ l. rw e (set-below ps len (getD is i 0) 1024 (p .below l) (l i));
       }
 
   turn-out : (bit i s ≡ 1 → ⊥) → ps′ ≡ ps → len′ ≡ len → Picking is s (i + 1) ps′ len′
@@ -38,6 +43,7 @@ module _ (is : List ℕ) (s i : ℕ) (ps : List ℕ) (len : ℕ) (ps′ : List �
         most = omega (arith, p .most);
         long = n ∙ p .long ∙ ap length (sym o);
         nets = rw (e, n) (p .nets ∙ sym o);
+        below = λ l. rw e (p .below l);
       }
 
 abbrev Inv-loop : tie.InvT-loop
@@ -48,7 +54,7 @@ abbrev μ-loop : tie.MeasureT-loop
 
 loop-holds : tie.Need-loop-holds Inv-loop μ-loop
 unfolding picked
-loop-holds c = (omega arith, record { places = refl; most = omega arith; long = refl; nets = refl })
+loop-holds c = (omega arith, record { places = refl; most = omega arith; long = refl; nets = refl; below = λ l k. omega (arith, replicate-le 1023 0 10 (omega arith) k) })
 
 loop-again : tie.Need-loop-again Inv-loop μ-loop
 unfolding bit
@@ -71,7 +77,8 @@ returns c =
     let a = c .before .before .args in
     let l = c .before .loop in
     let e : l .i ≡ a .count = omega arith in
-    record { len = rw e at (l .inv .1 .long); nets = rw e at (l .inv .1 .nets) }
+    let p = l .inv .1 in
+    (record { len = rw e at (p .long); nets = rw e at (p .nets) }, λ b. record { long = p .places; below = p .below b; few = omega (arith, p .most) })
 
 pub pick-support-spec : {M : Type 1} → statement M
 pick-support-spec =

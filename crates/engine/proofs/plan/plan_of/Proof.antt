@@ -1,6 +1,6 @@
 -- `engine::plan::plan_of` meets its contract: the lists of the miter's live gates are a plan of its job. Assumes nothing.
 use native.Mathlib.Omega.{arith}
-use Rattle.engine.proofs.Laws.PlanLists.{planned}
+use Rattle.engine.proofs.Laws.PlanLists.{plan-held, planned}
 use Rattle.engine.proofs.plan.plan_of.Statement.{statement}
 use Rattle.engine.proofs.plan.plan_of.Tie as tie
 
@@ -23,24 +23,8 @@ returns c =
     let m = c .before .before .before .before .before in
     let s = m .before .before .before .before .before .before in
     let a = s .args in
-    let p = s .pre .0 in
-    let q = s .pre .1 in
     let u = c .lists-of .ensures in (
-      record {
-        long = u .long;
-        ends = u .six;
-        outputs = p .outputs;
-        goldens = p .goldens;
-        nets = q .long;
-        within = u .within;
-        outputs-below = λ i. p .below i .0;
-        goldens-below = λ i. p .below i .1;
-        nets-below = q .below;
-        inputs = p .inputs;
-        targets = p .targets;
-        outs = p .outs;
-        reads = q .few;
-      },
+      plan-held (a .t1) (a .nets) (a .reads) (a .t1 .outs) (c .lists-of .result) _ (s .pre .0) (s .pre .1) (s .pre .0 .outs) (u .six) (u .within) (u .long),
       λ j is o e h.
           planned j is (a .t1) o (a .nets) (a .reads) e h (m .live-marks .result) (m .live-marks .ensures) (c .lists-of .result) _ u,
     )

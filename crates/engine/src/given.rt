@@ -1,0 +1,140 @@
+// Which readings of a support inputs give. A reading is open while no input seen gives it: its place is not 0.
+ghost use mathlib.Core.Path.{_≡_};
+ghost use mathlib.Core.Bool.{true};
+ghost use mathlib.Core.List.{List};
+ghost use Prim.Native.Nat.{ℕ, _≤_};
+ghost use lib.Dec.{ltb};
+ghost use lib.ListN.{length, take};
+ghost use Rattle.records.specs.Bytes.{all as all′};
+ghost use Rattle.records.specs.Job.{Job};
+ghost use Rattle.records.specs.Refusal.{oldNets};
+ghost use Rattle.engine.specs.Inner.Miter.{MiterRoom, MiterOf};
+ghost use Rattle.engine.specs.Inner.Plan.{NetsRead, PlanHeld};
+ghost use Rattle.engine.specs.Inner.Search.{BlockRange};
+ghost use Rattle.engine.specs.Inner.Choose.{SetsOf};
+ghost use Rattle.engine.specs.Inner.Given.{Opened, NextOpen, BlockSeen, Unseen, AllSeen};
+use super::choose::reading_count;
+use super::leaves::block_inputs;
+use super::leaves::read_rows;
+use super::limits::LISTED;
+use super::limits::READINGS;
+use super::limits::ROWS;
+use super::limits::WORDS;
+use super::miter::Miter;
+use super::note::meet_block;
+use super::plan::Plan;
+use super::plan::reads_of;
+use super::search::all_vectors;
+use super::search::eval_block;
+use records::Support;
+
+// A 1 for each reading of len nets whose set has all vectors: the only ones that no input may give, since an input leaves a vector out
+// or is one that every vector rectifies.
+fn open_readings(sets: [u16; READINGS], all: u16, len: usize) -> [u16; READINGS]
+    requires { ⌜ len ≤ 10 ⌝ }
+    ensures { λ r. ⌜ Opened sets all len r ⌝ }
+{
+    let count = reading_count(len);
+    let mut unseen = [0u16; READINGS];
+    let mut r = 0usize;
+    while r < count {
+        if sets[r] == all {
+            unseen[r] = 1;
+        }
+        r += 1;
+    }
+    unseen
+}
+
+// The first open reading from at on, below count; count where there is none.
+fn next_open(unseen: &[u16; READINGS], at: usize, count: usize) -> usize
+    requires { ⌜ (at ≤ count) × (count ≤ 1024) ⌝ }
+    ensures { λ r. ⌜ NextOpen (now (unseen .entry)) at count r ⌝ }
+{
+    let mut r = at;
+    while r < count {
+        if unseen[r] != 0 {
+            return r;
+        }
+        r += 1;
+    }
+    r
+}
+
+// What stays open after the first count inputs of block b. It costs one gate evaluation a gate of the plan, and some 1,000 steps: an input
+// narrows its reading's place as by an empty set of vectors.
+fn see_block(
+    gates: &[u64],
+    plan: Plan,
+    b: usize,
+    count: usize,
+    words: &mut [u64; WORDS],
+    unseen: &mut [u16; READINGS],
+)
+    requires { ⌜ PlanHeld plan (now gates) × BlockRange (plan .inputs) b count ⌝ }
+    requires { ⌜ (length (now words) ≡ 16384) × (length (now unseen) ≡ 1024) ⌝ }
+    ensures { λ _. ⌜ BlockSeen plan (now (gates .entry)) b count (now (unseen .entry)) (now (unseen .exit)) ⌝ }
+    ensures { λ _. ⌜ length (now (words .exit)) ≡ 16384 ⌝ }
+{
+    eval_block(gates, plan, b, words);
+    let nets = plan.nets;
+    let readings = read_rows(nets, plan.reads, words);
+    meet_block([0u64; ROWS], readings, (count + 63) / 64, unseen);
+}
+
+// What stays open after all inputs. It ends at the block after which no reading is open.
+fn see_inputs(
+    gates: &[u64],
+    plan: Plan,
+    unseen: [u16; READINGS],
+    words: &mut [u64; WORDS],
+) -> [u16; READINGS]
+    requires { ⌜ PlanHeld plan (now gates) × (length unseen ≡ 1024) × (length (now words) ≡ 16384) ⌝ }
+    ensures { λ r. ⌜ AllSeen plan (now (gates .entry)) unseen r ⌝ }
+{
+    let count = reading_count(plan.reads);
+    let size = 1usize << plan.inputs;
+    let mut unseen = unseen;
+    let mut next = next_open(&unseen, 0, count);
+    let mut b = 0usize;
+    while 1024 * b < size {
+        if next == count {
+            return unseen;
+        }
+        see_block(
+            gates,
+            plan,
+            b,
+            block_inputs(size - 1024 * b),
+            words,
+            &mut unseen,
+        );
+        next = next_open(&unseen, next, count);
+        b += 1;
+    }
+    unseen
+}
+
+// The readings of a support with these sets that no input gives: their places are not 0. Where each set leaves a vector out, none is
+// evaluated; else it costs, for each block of 1,024 inputs until all readings are seen, one gate evaluation a gate that leads to
+// the support.
+pub(super) fn unseen_readings(
+    miter: Miter,
+    support: Support,
+    sets: [u16; READINGS],
+    words: &mut [u64; WORDS],
+) -> [u16; READINGS]
+    requires { ⌜ MiterRoom miter × NetsRead (support .nets) (support .len) × (length (now words) ≡ 16384) ⌝ }
+    ensures { λ r. ⌜ ((j : Job) (is : List ℕ) → MiterOf j miter → take (support .len) (support .nets) ≡ is
+        → all′ (λ i. ltb i (oldNets j)) is ≡ true → SetsOf j is sets → Unseen j is r) ⌝ }
+{
+    let unseen = open_readings(sets, all_vectors(miter.targets), support.len);
+    let count = reading_count(support.len);
+    if next_open(&unseen, 0, count) == count {
+        return unseen;
+    }
+    let mut gates = [0u64; LISTED];
+    let nets = support.nets;
+    let plan = reads_of(miter, nets, support.len, &mut gates);
+    see_inputs(&gates, plan, unseen, words)
+}

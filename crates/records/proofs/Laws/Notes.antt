@@ -1,0 +1,229 @@
+-- Laws of a sheet's notes: a sheet is whole exactly when its first four fields are a whole sheet without notes and behind them stand
+-- good notes or nothing; good notes leave what read_sheet replies as it is, and others get 7. Assumes nothing.
+use Prim.Native.Nat.{ℕ, _+_, _-_, _≤_, _<_}
+use mathlib.Core.Path.{_≡_, refl, sym, _∙_, ap}
+use mathlib.Core.List.{List, [], _∷_, _++_, append-nil}
+use mathlib.Core.Bool.{Bool, true, false, true≢false, not, _&&_, _||_}
+use native.Mathlib.Omega.{arith}
+use borrow.Author.Tests.{eq-eqb, ne-eqb, eqb-true}
+use lib.Dec.{ltb, eqb}
+use lib.ListN.{length, take, drop, length-take, length-drop, take-append-drop}
+use lib.Seq.{length-take-le, drop-drop, take-append-seam, drop-append-seam}
+use Rattle.records.specs.Bytes.{all, field, bodyLength, body, rest, fits, whole, nth}
+use Rattle.records.specs.Job.{Candidate}
+use Rattle.records.specs.Refusal.{firstFailing}
+use Rattle.records.specs.Sheet.{sheetTags, notesTag, patchOf, notesWhole, sheetWhole, patchGood, sheetTests}
+use Rattle.records.specs.Inner.{startOf, fieldAt, endOf, bareWhole, notesAt}
+use Rattle.records.specs.declared.field.Field.the-variants.{Body, Missing}
+use Rattle.records.specs.Service.{candidatesFrom, sheetRoomy, sheetNumber, sheetReply}
+use Rattle.records.specs.Claims.{Below, SheetNotes, NotesSeven}
+use Rattle.records.proofs.Laws.Accepted.{below-of-all}
+use Rattle.records.proofs.Laws.Bytes.{row, row-and, and-left, and-right, and-both, and-false-right, and-assoc, false-of, all-below}
+use Rattle.records.proofs.Laws.Field.{positionOf, startOf-position, whole-end, fits-room, length-body, fieldAt-body, fieldAt-missing, end-within}
+use Rattle.records.proofs.Laws.Front.{positionOf-cut, nth-cut, nth-behind, whole-append, whole-front, nth-front}
+use Rattle.records.proofs.Laws.Job.{length-field}
+use Rattle.records.proofs.Laws.RoundTrip.{fits-field, body-field, rest-field}
+use Rattle.records.proofs.Laws.Walk.{ends-there}
+use Rattle.records.proofs.Laws.SheetShape.{sizeTests, bareWhole-facts}
+
+-- ---- a sheet cut behind its fourth field
+
+either : (a z b c d : Bool) → ((a && z) || ((a && b) && (c && d))) ≡ (a && (z || ((b && c) && d)))
+either true z b c d = ap (λ (x : Bool). z || x) (sym (and-assoc b c d))
+either false z b c d = refl
+
+module _ (m : ℕ) (s : List ℕ) (e : ℕ) (p : e ≡ positionOf 4 s) where
+  fields-split : (whole sheetTags s || (whole (sheetTags ++ (notesTag ∷ [])) s && notesWhole s))
+      ≡ (whole sheetTags (take e s) && notesAt (length (nth 1 s)) (drop e s))
+  unfolding notesWhole notesAt whole
+  fields-split =
+      rw (p, whole-append sheetTags [] s, whole-append sheetTags (notesTag ∷ []) s, nth-behind 4 s)
+      (either (whole sheetTags (take (positionOf 4 s) s)) (eqb (length (drop (positionOf 4 s) s)) 0) _ _ _)
+
+  sizes-cut : sizeTests m (take e s) ≡ sizeTests m s
+  sizes-cut =
+      rw (p, nth-cut 4 0 s (omega arith), nth-cut 4 1 s (omega arith), nth-cut 4 2 s (omega arith), nth-cut 4 3 s (omega arith))
+
+  sheet-cut : sheetWhole m s ≡ (bareWhole m (take e s) && notesAt (length (nth 1 s)) (drop e s))
+  unfolding sheetWhole bareWhole
+  sheet-cut =
+      let a = whole sheetTags (take e s) in
+      let n = notesAt (length (nth 1 s)) (drop e s) in
+      ap (λ (f : Bool). row f (sizeTests m s)) fields-split
+      ∙ sym (row-and a n (sizeTests m s))
+      ∙ ap (λ (ts : List Bool). row a ts && n) (sym sizes-cut)
+
+-- ---- what fields_end says of where it ends
+
+module _ (m : ℕ) (s : List ℕ) (e : ℕ) (l : e ≤ length s) where
+  cut-front : whole sheetTags (take e s) ≡ true → e ≡ positionOf 4 s
+  cut-front w =
+      sym (length-take-le e s l)
+      ∙ sym (whole-front sheetTags (take e s) (drop e s) w)
+      ∙ ap (positionOf 4) (take-append-drop e s)
+
+  module _ (h : startOf 4 s ≤ length s + 3 → e + 3 ≡ startOf 4 s) where
+    cut-whole : sheetWhole m s ≡ true → e ≡ positionOf 4 s
+    cut-whole t =
+        let p = positionOf 4 s in
+        let b = bareWhole m (take p s) in
+        let w = bareWhole-facts m (take p s) (and-left b _ (sym (sheet-cut m s p refl) ∙ t)) .fields in
+        let n : p ≤ length s =
+        omega (arith, positionOf-cut 4 4 s (omega arith), whole-end sheetTags (take p s) w, length-take p s) in
+        omega (arith, startOf-position 4 s, h (omega (arith, startOf-position 4 s)))
+
+    -- a sheet is whole exactly when its first four fields are without notes and good notes or nothing stands behind them
+    pub sheet-split : sheetWhole m s ≡ (bareWhole m (take e s) && notesAt (length (nth 1 s)) (drop e s))
+    sheet-split = pick (sheetWhole m s) refl
+      where
+        b : Bool
+        b = bareWhole m (take e s)
+
+        n : Bool
+        n = notesAt (length (nth 1 s)) (drop e s)
+
+        pick : (x : Bool) → sheetWhole m s ≡ x → x ≡ (b && n)
+        pick true q = sym q ∙ sheet-cut m s e (cut-whole q)
+        pick false q =
+            sym
+            (false-of (b && n)
+            (λ t.
+            let w = bareWhole-facts m (take e s) (and-left b n t) .fields in
+            true≢false (sym t ∙ sym (sheet-cut m s e (cut-front w)) ∙ q)))
+
+-- ---- four fields and what is put behind them
+
+pub notesWhole-true : (s : List ℕ) → length (nth 4 s) ≡ length (nth 1 s) → Below 3 (nth 4 s) → notesWhole s ≡ true
+unfolding notesWhole
+notesWhole-true s n b = and-both _ _ (eq-eqb _ _ n) (all-below 3 (nth 4 s) (λ i l. b i))
+
+notes-field : (n : ℕ) (ns : List ℕ) → notesAt n (field notesTag ns) ≡ (eqb (length ns) n && all (λ v. ltb v 3) ns)
+unfolding notesAt whole nth
+notes-field n ns =
+    let f = field notesTag ns in
+    rw (ne-eqb (length f) 0 (omega (arith, length-field notesTag ns)), ← append-nil f, fits-field notesTag ns [], rest-field notesTag ns [], body-field notesTag ns [])
+
+module _ (s : List ℕ) (w : whole sheetTags s ≡ true) where
+  sheet-append : (m : ℕ) (r : List ℕ) → sheetWhole m (s ++ r) ≡ (bareWhole m s && notesAt (length (nth 1 s)) r)
+  sheet-append m r =
+      sheet-cut m (s ++ r) (length s) (sym (whole-front sheetTags s r w))
+      ∙ rw (take-append-seam s r, drop-append-seam s r, nth-front sheetTags s r w 1 (omega arith))
+
+  sheet-behind : (m : ℕ) (r : List ℕ) → notesAt (length (nth 1 s)) r ≡ true → sheetWhole m (s ++ r) ≡ sheetWhole m s
+  unfolding notesAt
+  sheet-behind m r e =
+      sheet-append m r
+      ∙ ap (λ (b : Bool). bareWhole m s && b) e
+      ∙ sym (sheet-append m [])
+      ∙ ap (sheetWhole m) (append-nil s)
+
+-- a sheet with good notes says what it says without
+module _ (s ns : List ℕ) (w : whole sheetTags s ≡ true) (n : length ns ≡ length (patchOf s .table)) (l : Below 3 ns) where
+  abbrev noted : List ℕ
+  noted = s ++ field notesTag ns
+
+  pub notes-part : (k : ℕ) → k < 4 → nth k noted ≡ nth k s
+  notes-part k h = nth-front sheetTags s (field notesTag ns) w k h
+
+  pub notes-support : patchOf noted .support ≡ patchOf s .support
+  unfolding patchOf
+  notes-support = rw (notes-part 0 (omega arith))
+
+  pub notes-table : patchOf noted .table ≡ patchOf s .table
+  unfolding patchOf
+  notes-table = notes-part 1 (omega arith)
+
+  pub notes-tests : (m : ℕ) (cs : List Candidate) → sheetTests m cs noted ≡ sheetTests m cs s
+  unfolding sheetTests patchGood patchOf
+  notes-tests m cs =
+      let p = notes-part in
+      let e : notesAt (length (nth 1 s)) (field notesTag ns) ≡ true =
+      notes-field (length (nth 1 s)) ns ∙ and-both _ _ (eq-eqb _ _ n) (all-below 3 ns (λ i h. l i)) in
+      rw (sheet-behind s w m (field notesTag ns) e, p 0 (omega arith), p 1 (omega arith), p 2 (omega arith), p 3 (omega arith))
+
+pub sheet-notes : SheetNotes
+unfolding sheetReply sheetNumber patchOf
+sheet-notes m k nets weights s ns b w n l =
+    let p = notes-part s ns w n l in
+    rw (notes-tests s ns w n l m (candidatesFrom k nets weights), p 0 (omega arith), p 2 (omega arith))
+
+-- what is no whole sheet gets 7
+number-seven : (m k : ℕ) (nets weights s : List ℕ) → sheetRoomy m k nets weights ≡ true → sheetWhole m s ≡ false
+    → sheetNumber m k nets weights s ≡ 7
+unfolding sheetNumber sheetTests firstFailing
+number-seven m k nets weights s r e = rw (r, e)
+
+pub notes-seven : NotesSeven
+unfolding patchOf
+notes-seven m k nets weights s ns r w l h =
+    let n = length (nth 1 s) in
+    let f : notesAt n (field notesTag ns) ≡ false =
+    false-of _
+    (λ t.
+    let u = sym (notes-field n ns) ∙ t in
+    h (eqb-true _ _ (and-left _ _ u), below-of-all 3 (omega arith) ns (and-right (eqb (length ns) n) _ u))) in
+    number-seven m k nets weights (s ++ field notesTag ns) r
+    (sheet-append s w m (field notesTag ns) ∙ and-false-right (bareWhole m s) _ f)
+
+-- ---- what check_notes finds at a position
+
+fitting : (x y : Bool) → not x || not y ≡ false → (x ≡ true) × (y ≡ true)
+fitting true true e = (refl, refl)
+fitting true false e = absurd (true≢false e)
+fitting false y e = absurd (true≢false e)
+
+fitting-fails : (x y z : Bool) → not x || not y ≡ true → y && x && z ≡ false
+fitting-fails true true z e = absurd (true≢false (sym e))
+fitting-fails true false z e = refl
+fitting-fails false true z e = refl
+fitting-fails false false z e = refl
+
+module _ (s : List ℕ) (at n : ℕ) where
+  pub notes-none : at ≡ length s → notesAt n (drop at s) ≡ true
+  unfolding notesAt
+  notes-none e = rw (eq-eqb (length (drop at s)) 0 (omega (arith, length-drop at s)))
+
+  module _ (l : at ≤ length s) (q : at ≡ length s → ⊥) where
+    some : eqb (length (drop at s)) 0 ≡ false
+    some = ends-there s at l ∙ ne-eqb at (length s) q
+
+    pub notes-missing : fieldAt s at notesTag ≡ Missing → notesAt n (drop at s) ≡ false
+    unfolding notesAt whole
+    notes-missing e = rw (some, fieldAt-missing s at notesTag e)
+
+    module _ (a b : ℕ) (e : fieldAt s at notesTag ≡ Body a b) where
+      found : (fits notesTag (drop at s) ≡ true) × (a ≡ at + 3) × (b ≡ bodyLength (drop at s))
+      found = fieldAt-body s at notesTag a b e
+
+      found-rest : rest (drop at s) ≡ drop (a + b) s
+      unfolding rest
+      found-rest =
+          let n : at + (3 + bodyLength (drop at s)) ≡ a + b = omega (arith, found .1, found .2) in
+          drop-drop (3 + bodyLength (drop at s)) at s ∙ ap (λ (x : ℕ). drop x s) n
+
+      found-body : body (drop at s) ≡ take b (drop a s)
+      unfolding body
+      found-body = rw (found .1, found .2, drop-drop 3 at s)
+
+      found-length : length (body (drop at s)) ≡ b
+      found-length = length-body (drop at s) (fits-room notesTag (drop at s) (found .0)) ∙ sym (found .2)
+
+      pub notes-within : a + b ≤ length s
+      unfolding endOf
+      notes-within = end-within s at notesTag (Body a b) e
+
+      notes-body : notesAt n (drop at s)
+          ≡ (eqb (a + b) (length s) && eqb b n && all (λ v. ltb v 3) (take b (drop a s)))
+      unfolding notesAt whole nth
+      notes-body = rw (some, found .0, found-length, found-body, found-rest, ends-there s (a + b) notes-within)
+
+      -- the code's test of its lengths
+      pub notes-bad : not (eqb b n) || not (eqb (a + b) (length s)) ≡ true → notesAt n (drop at s) ≡ false
+      notes-bad t = notes-body ∙ fitting-fails (eqb b n) (eqb (a + b) (length s)) _ t
+
+      pub notes-good : not (eqb b n) || not (eqb (a + b) (length s)) ≡ false
+          → notesAt n (drop at s) ≡ all (λ v. ltb v 3) (take (length s - a) (drop a s))
+      notes-good t =
+          let f = fitting (eqb b n) (eqb (a + b) (length s)) t in
+          let r : b ≡ length s - a = omega (arith, eqb-true (a + b) (length s) (f .1)) in
+          notes-body ∙ rw (f .0, f .1, ← r)
