@@ -1,13 +1,14 @@
 /* What the benchmark's programs share: files, times, and the engine's functions (crates/engine_c, linked as an archive). */
 #ifndef BENCH_H
 #define BENCH_H
-#include "decide.h"
+#include "verdict.h"
 
 enum { LONGEST_FIT = 4075 };
 
 /* A slice is a pointer and a count. The length of the reply is returned, 0 on refusal, and the number is left in its place;
  * compare returns the number, and leaves whether the outputs differ and the smallest input at which they do. */
-size_t engine_decide(const uint8_t *job, size_t, uint8_t *reply, size_t, uint32_t *number);
+size_t engine_judge(const uint8_t *job, size_t, uint8_t *reply, size_t, uint32_t *number);
+size_t engine_choose(const uint8_t *job, size_t, uint8_t *reply, size_t, uint32_t *number);
 size_t engine_fit(const uint8_t *job, size_t, const uint8_t *sheet, size_t, uint8_t *reply, size_t, uint32_t *number);
 uint8_t engine_compare(const uint8_t *job, size_t, const uint8_t *sheet, size_t, uint32_t *differs, uint32_t *input);
 

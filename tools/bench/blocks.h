@@ -1,11 +1,11 @@
-/* Many inputs at a time: what decide_blocks.c and compare_blocks.c have in common. Old and golden netlist are one list of
+/* Many inputs at a time: what the block programs have in common. Old and golden netlist are one list of
  * gates, over inputs, targets, old gates' nets and golden gates' nets, without the gates that lead nowhere. A net has W
  * words: bit i of word w in block b is its value on input 64 (W b + w) + i. W is a constant wherever these functions are
  * inlined, so that the compiler makes vector instructions of their inner loops. Inputs that do not fill a block repeat in
  * it, which alters nothing: the smallest comes first. */
 #ifndef BLOCKS_H
 #define BLOCKS_H
-#include "decide.h"
+#include "verdict.h"
 
 #define INLINE static inline __attribute__((always_inline))
 
@@ -170,6 +170,37 @@ INLINE void transpose(uint64_t *rows, unsigned W) {
     exchange(rows, 4, 0x0f0f0f0f0f0f0f0f, W);
     exchange(rows, 2, 0x3333333333333333, W);
     exchange(rows, 1, 0x5555555555555555, W);
+}
+
+/* ---- targets driven by a table */
+
+/* The targets' words where each input takes the entry of a table at its reading of these nets. */
+INLINE void drive(
+    const struct job *j, const uint16_t *nets, size_t count, const uint8_t *table, uint64_t *values, unsigned W) {
+    _Alignas(64) uint64_t rows[ROWS * WIDEST];
+    for (size_t i = 0; i < ROWS; i++)
+        if (i < count) memcpy(rows + i * W, values + nets[i] * W, 8 * W);
+        else fill(rows + i * W, 0, W);
+    transpose(rows, W);
+    for (unsigned i = 0; i < ROWS * W; i++) {
+        uint64_t r = rows[i], entries = 0;
+        for (unsigned at = 0; at < 64; at += 16) entries |= (uint64_t)table[r >> at & (READINGS - 1)] << at;
+        rows[i] = entries;
+    }
+    transpose(rows, W);
+    memcpy(values + j->inputs * W, rows, 8 * W * j->targets);
+}
+
+/* The place of the first input of the block at which outputs differ, 64 W where they do not. */
+INLINE unsigned first_difference(const struct miter *m, const uint64_t *values, unsigned W) {
+    uint64_t differing[WIDEST] = {0};
+    for (size_t i = 0; i < m->outputs; i++) {
+        const uint64_t *a = values + m->old[i] * W, *b = values + m->golden[i] * W;
+        for (unsigned w = 0; w < W; w++) differing[w] |= a[w] ^ b[w];
+    }
+    for (unsigned w = 0; w < W; w++)
+        if (differing[w]) return 64 * w + __builtin_ctzll(differing[w]);
+    return 64 * W;
 }
 
 #endif

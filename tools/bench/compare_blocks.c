@@ -4,34 +4,6 @@
 #include "blocks.h"
 #include "sheet.h"
 
-/* The targets' words where each input takes the entry at its reading. */
-INLINE void drive(const struct job *j, const struct sheet *s, uint64_t *values, unsigned W) {
-    _Alignas(64) uint64_t rows[ROWS * WIDEST];
-    for (size_t i = 0; i < ROWS; i++)
-        if (i < s->count) memcpy(rows + i * W, values + s->nets[i] * W, 8 * W);
-        else fill(rows + i * W, 0, W);
-    transpose(rows, W);
-    for (unsigned i = 0; i < ROWS * W; i++) {
-        uint64_t r = rows[i], entries = 0;
-        for (unsigned at = 0; at < 64; at += 16) entries |= (uint64_t)s->table[r >> at & (READINGS - 1)] << at;
-        rows[i] = entries;
-    }
-    transpose(rows, W);
-    memcpy(values + j->inputs * W, rows, 8 * W * j->targets);
-}
-
-/* The place of the first input of the block at which outputs differ, 64 W where they do not. */
-INLINE unsigned first_difference(const struct miter *m, const uint64_t *values, unsigned W) {
-    uint64_t differing[WIDEST] = {0};
-    for (size_t i = 0; i < m->outputs; i++) {
-        const uint64_t *a = values + m->old[i] * W, *b = values + m->golden[i] * W;
-        for (unsigned w = 0; w < W; w++) differing[w] |= a[w] ^ b[w];
-    }
-    for (unsigned w = 0; w < W; w++)
-        if (differing[w]) return 64 * w + __builtin_ctzll(differing[w]);
-    return 64 * W;
-}
-
 /* Whether outputs differ, and the smallest input at which they do. */
 INLINE int compare_by(const struct job *j, const struct sheet *s, uint32_t *input, unsigned W) {
     _Alignas(64) uint64_t values[ALL_NETS * WIDEST];
@@ -46,7 +18,7 @@ INLINE int compare_by(const struct job *j, const struct sheet *s, uint32_t *inpu
     for (uint32_t block = 0; block == 0 || block < blocks; block++) {
         load_inputs(j->inputs, block, values, W);
         run(&before, values, W);
-        drive(j, s, values, W);
+        drive(j, s->nets, s->count, s->table, values, W);
         run(&behind, values, W);
         unsigned at = first_difference(&m, values, W);
         if (at < 64 * W) {

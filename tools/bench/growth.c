@@ -1,4 +1,4 @@
-/* Times the engine's decide on jobs, and prints for each its name, inputs, targets, gates of both netlists, gates in the
+/* Times the engine's choose on jobs, and prints for each its name, inputs, targets, gates of both netlists, gates in the
  * targets' fanout, candidates, and microseconds of processor time a call, the best turn. tools/bench/growth builds and runs
  * it.
  *
@@ -6,10 +6,10 @@
 #include "bench.h"
 
 static struct file job;
-static uint8_t sheet[LONGEST_SHEET];
+static uint8_t sheet[LONGEST_CHOSEN];
 static uint32_t number;
 
-static void ours(void) { engine_decide(job.bytes, job.len, sheet, sizeof sheet, &number); }
+static void ours(void) { engine_choose(job.bytes, job.len, sheet, sizeof sheet, &number); }
 
 int main(int argc, char **argv) {
     int turns = argc > 2 ? atoi(argv[1]) : 0;

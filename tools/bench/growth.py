@@ -1,5 +1,5 @@
 #!/usr/bin/env python3
-"""Prints how decide's time grows, and draws it; tools/bench/growth runs it.
+"""Prints how choose's time grows, and draws it; tools/bench/growth runs it.
 
     growth < LINES | python3 tools/bench/growth.py PLOT.svg
 
@@ -138,7 +138,7 @@ def plot(rows, law):
     middle = (LEFT + WIDTH - RIGHT) / 2
     yield f'<svg xmlns="http://www.w3.org/2000/svg" viewBox="0 0 {WIDTH} {HEIGHT}" font-family="sans-serif" font-size="12">'
     yield f'<rect width="{WIDTH}" height="{HEIGHT}" fill="#fff"/>'
-    title = "decide: time against work, one size varied in each series"
+    title = "choose: time against work, one size varied in each series"
     yield text(middle, 22, title, 'text-anchor="middle" font-size="14"')
     yield from grid(across, up)
     yield curve(across, up, law)

@@ -5,6 +5,7 @@
     python3 tools/bench/make_jobs.py growth FOLDER    what tools/bench/growth needs
 
     wide_KIND.job            20 inputs, 400 gates a side; 50 in the targets' fanout, or 300, led to by all or one target each
+    rare_ONE_OR_TWO.job      the same with 50; the old netlist at vector 0 is the golden one, or is so but at rare inputs
     unseen_wide.job          the same with 50, and a support behind most gates of which many readings do not occur
     CIRCUIT_SIZE.job         typical cuts: old and golden netlist are two designs of one circuit, some old nets cut open
     tiny_CIRCUIT_SIZE.job    the same of 2 to 6 inputs and up to 20 gates a side
@@ -28,9 +29,10 @@ import job as jobs
 import random_jobs as rj
 import sheet as sheets
 import simulate
-from decide import fixed_inputs, verdict_of
+from choose import choice_of
 from fit import fit
 from job import Candidate, Gate, Job, Netlist
+from judge import fixed_inputs, judgement_of
 from sheet import Patch
 
 SEED = 2012
@@ -267,14 +269,15 @@ def tiny(rng):
 # ---- jobs of a given size
 
 
-def walked_job(rng, n, m, gates, fanout, priced, outputs=32, split=False, operands=2, related=False):
+def walked_job(rng, n, m, gates, fanout, priced, outputs=32, split=False, operands=2, related=False, rare=None):
     """A job that has a patch, so that every input is looked at, and where nearly every gate leads to an output. The golden
     netlist has a front over the inputs, of which some nets are priced, a function of priced nets for each target, and a back
     of that many gates: each is led to by all targets, or by one of them, in equal parts. Gates have so many operands. Related
-    priced nets are the and and the or of two late nets of the front, for each target the sum of such a pair."""
+    priced nets are the and and the or of two late nets of the front, for each target the sum of such a pair. Where rare is a
+    number, so many of the functions are 1 where the priced nets are all 1, and the others 0."""
     c = Circuit(n)
     unread = list(range(n))
-    while len(c.gates) < gates - (fanout + m if m else 0) - (priced if related else 0):
+    while len(c.gates) < gates - (fanout + m if m else 0) - (priced if related else 0) - RARE_GATES * (rare or 0):
         nets = range(n + len(c.gates))
         unread.append(c.gate(rng.choice(MIXED), unread.pop(0), *[rng.choice(nets) for _ in range(operands - 1)]))
     if related:
@@ -287,7 +290,7 @@ def walked_job(rng, n, m, gates, fanout, priced, outputs=32, split=False, operan
         roots = [c.differ(*named[2 * t : 2 * t + 2]) for t in range(m)]
     else:
         named = sorted(rng.sample(front, priced))
-        roots = [root(rng, c, named, operands) for _ in range(m)]
+        roots = [root(rng, c, named, operands) if rare is None else rare_root(c, named, t < rare) for t in range(m)]
     starts = [[net] for net in roots] if split else [roots]
     ends = []
     for nets in starts if roots else []:
@@ -305,6 +308,16 @@ def root(rng, c, named, operands):
     if len(named) == 1:
         return c.gate(rng.choice([BUF, NOT]), named[0])
     return c.gate(rng.choice(MIXED), *rng.sample(named, min(operands, len(named))))
+
+
+RARE_GATES = 2  # besides the one that a function has at least
+
+
+def rare_root(c, named, some):
+    """The and of ten priced nets, by three gates; or 0."""
+    if not some:
+        return c.gate(ZERO)
+    return c.gate(AND, c.gate(AND, *named[:4]), c.gate(AND, *named[4:8]), *named[8:])
 
 
 def back(rng, c, unread, count, front, unread_front, width, operands):
@@ -330,8 +343,18 @@ def wide(rng):
 
 def unseen(rng):
     job = walked_job(rng, 20, 4, 400, 50, 10, related=True)
-    assert verdict_of(job).patch.notes.count(0) > 100
+    assert choice_of(job).patch.notes.count(0) > 100
     yield "unseen_wide", job
+
+
+def rare(rng):
+    """One listed vector, then two."""
+    for k, name in ((0, "one"), (1, "two")):
+        while True:
+            job = walked_job(rng, 20, 4, 400, 50, 10, rare=k)
+            if judgement_of(job).name == "fixable" and len(judgement_of(job).vectors) == k + 1:
+                break
+        yield f"rare_{name}", job
 
 
 def chained(job, side):
@@ -355,7 +378,7 @@ def pairs(rng):
     for n, m, gates, fanout in ((8, 1, 20, 8), (14, 2, 60, 30), (20, 4, 130, 50)):
         while True:
             job = walked_job(rng, n, m, gates, fanout, 6, operands=4)
-            if verdict_of(job).patch.support:
+            if choice_of(job).patch.support:
                 break
         old, new_net = chained(job, job.old)
         golden, _ = chained(job, job.golden)
@@ -394,7 +417,7 @@ def fits():
         table = [sum(column[r] << t for t, column in enumerate(columns)) for r in range(2**k)]
         old = Netlist([Gate.of(BUF, 0)], [n, n + 1, n + 2, n + 3, n + 4])
         job = Job(n, 4, old, Netlist([], [0, 0, 0, 0, 0]), [Candidate(i, 1) for i in range(n)])
-        sheet = sheets.encode(Patch(list(range(k)), table, k, [0]))
+        sheet = sheets.encode(Patch(list(range(k)), table, k))
         number, netlist = fit(jobs.encode(job), sheet)
         assert number == 0
         yield f"fit_{jobs.number(netlist[6:8]) // jobs.GATE_BYTES:03}", job, sheet, netlist
@@ -410,7 +433,7 @@ def late_sheet(job):
     table = [0] * 2 ** len(job.candidates)
     for reading, inputs in simulate.readings([values[c.net] for c in job.candidates], fixable):
         table[reading] = next(vector for vector, these in enumerate(fixed) if inputs & ~these == 0)
-    return sheets.encode(Patch([c.net for c in job.candidates], table, sum(c.weight for c in job.candidates), [0]))
+    return sheets.encode(Patch([c.net for c in job.candidates], table, sum(c.weight for c in job.candidates)))
 
 
 # ---- files
@@ -446,7 +469,7 @@ def main():
     if what == "growth":
         put_jobs(folder, growth(rng))
         return
-    for made in (wide, cuts, tiny, pairs, unseen):
+    for made in (wide, cuts, tiny, pairs, unseen, rare):
         put_jobs(folder, made(rng))
     put_sheets(folder)
 

@@ -1,7 +1,8 @@
-/* Patch sheets in C. Document 01, "Verdicts" and "Numbers given when a call is declined", and card 1 of document 02. */
+/* Patch sheets in C. Document 01, "Verdicts" and "Numbers given when a call is declined", and cards 1 and 7 of document 02.
+ */
 #ifndef SHEET_H
 #define SHEET_H
-#include "decide.h"
+#include "verdict.h"
 
 struct sheet {
     size_t count; /* of support nets */
@@ -9,12 +10,12 @@ struct sheet {
     const uint8_t *table;
 };
 
-/* How many fields there are with nothing behind: four, or five with the notes; 0 where neither. */
-static inline int walk_sheet(const uint8_t *s, size_t n, struct span fields[5]) {
-    static const uint8_t tags[5] = {16, 17, 18, 19, 22};
+/* How many fields there are with nothing behind: three, or four with the notes; 0 where neither. */
+static inline int walk_sheet(const uint8_t *s, size_t n, struct span fields[4]) {
+    static const uint8_t tags[4] = {16, 17, 18, 22};
     size_t at = 0;
     int k = 0;
-    for (; k < 4 || (k < 5 && at < n); k++) {
+    for (; k < 3 || (k < 4 && at < n); k++) {
         if (n - at < 3 || s[at] != tags[k]) return 0;
         size_t len = word(s + at + 1);
         if (n - at - 3 < len) return 0;
@@ -43,14 +44,14 @@ static inline int below(const struct span *f, unsigned limit) {
 }
 
 static inline int read_sheet(const struct job *j, const uint8_t *s, size_t n, struct sheet *to) {
-    struct span f[5];
+    struct span f[4];
     unsigned vectors = 1u << j->targets;
     int fields = walk_sheet(s, n, f);
     if (!fields || f[0].len % 2) return 7;
     size_t count = f[0].len / 2;
-    if (count > 15 || f[1].len != (size_t)1 << count || f[2].len != 4 || f[3].len < 1 || f[3].len > vectors) return 7;
-    if (fields == 5 && (f[4].len != f[1].len || !below(&f[4], 3))) return 7;
-    if (count > CANDIDATES || !below(&f[1], vectors) || !below(&f[3], vectors)) return 8;
+    if (count > 15 || f[1].len != (size_t)1 << count || f[2].len != 4) return 7;
+    if (fields == 4 && (f[3].len != f[1].len || !below(&f[3], 3))) return 7;
+    if (count > CANDIDATES || !below(&f[1], vectors)) return 8;
     to->count = count;
     to->table = f[1].start;
     for (size_t i = 0; i < count; i++) to->nets[i] = word(f[0].start + 2 * i);

@@ -2,7 +2,7 @@
  * tools/bench/run builds and runs it.
  *
  *     sheet_bench compare TURNS JOB..    each with the sheet that stands beside it; where none does, with the one that
- * decide gives, which is equal, and with the last entry of its table altered sheet_bench fit TURNS JOB..        each with
+ * choose gives, which is equal, and with the last entry of its table altered sheet_bench fit TURNS JOB..        each with
  * the sheet that stands beside it; the netlist beside it must come out
  *
  * Each row has the best turn. */
@@ -54,9 +54,9 @@ static void compare_job(const char *path, int turns) {
         compare_row(path, "beside it", turns);
         return;
     }
-    sheet.len = engine_decide(job.bytes, job.len, sheet.bytes, sizeof sheet.bytes, &number);
+    sheet.len = engine_choose(job.bytes, job.len, sheet.bytes, sizeof sheet.bytes, &number);
     if (number || sheet.bytes[0] != 16) stop("no patch", path);
-    compare_row(path, "decide's", turns);
+    compare_row(path, "choose's", turns);
     if (ours.differs) stop("its own sheet differs", path);
     size_t table = 3 + word(sheet.bytes + 1);
     sheet.bytes[table + 2 + word(sheet.bytes + table + 1)] ^= 1;

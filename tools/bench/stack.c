@@ -1,5 +1,5 @@
-/* Measures how much stack decide, compare and fit use: each runs in a thread whose stack was painted before, and what is no
- * longer painted was written. An empty call's use is taken off. tools/bench/run builds and runs it.
+/* Measures how much stack judge, choose, compare and fit use: each runs in a thread whose stack was painted before, and what
+ * is no longer painted was written. An empty call's use is taken off. tools/bench/run builds and runs it.
  *
  *     stack JOB SHEET [JOB SHEET..] */
 #include "bench.h"
@@ -14,8 +14,13 @@ static uint32_t number, differs, input;
 
 static void *nothing(void *x) { return x; }
 
-static void *decide(void *x) {
-    engine_decide(job.bytes, job.len, reply, sizeof reply, &number);
+static void *judge(void *x) {
+    engine_judge(job.bytes, job.len, reply, sizeof reply, &number);
+    return x;
+}
+
+static void *choose(void *x) {
+    engine_choose(job.bytes, job.len, reply, sizeof reply, &number);
     return x;
 }
 
@@ -43,19 +48,20 @@ static size_t used(void *(*call)(void *)) {
 }
 
 int main(int argc, char **argv) {
-    static const char *names[] = {"decide", "compare", "fit"};
-    static void *(*const calls[])(void *) = {decide, compare, fit};
-    size_t most[3] = {0}, base = used(nothing);
+    enum { CALLS = 4 };
+    static const char *names[] = {"judge", "choose", "compare", "fit"};
+    static void *(*const calls[])(void *) = {judge, choose, compare, fit};
+    size_t most[CALLS] = {0}, base = used(nothing);
     for (int i = 1; i + 1 < argc; i += 2) {
         read_file(argv[i], &job);
         read_file(argv[i + 1], &sheet);
-        for (int k = 0; k < 3; k++) {
+        for (int k = 0; k < CALLS; k++) {
             size_t bytes = used(calls[k]) - base;
-            if (number && !(k == 2 && number == 9)) stop("refused", argv[i]);
+            if (number && !(calls[k] == fit && number == 9)) stop("refused", argv[i]);
             if (bytes > most[k]) most[k] = bytes;
         }
     }
     printf("stack: the most bytes that a call uses\n");
-    for (int k = 0; k < 3; k++) printf("%-8s %9zu\n", names[k], most[k]);
+    for (int k = 0; k < CALLS; k++) printf("%-8s %9zu\n", names[k], most[k]);
     return 0;
 }

@@ -1,5 +1,5 @@
 #!/usr/bin/env python3
-"""Makes again, from a fixed seed, the jobs that tools/bench/run measures decide on:
+"""Makes again, from a fixed seed, the jobs that tools/bench/run measures judge and choose on:
 
     python3 tools/reference/bench_jobs.py
 
@@ -16,7 +16,7 @@ import random
 
 import cut_jobs as cj
 import job as jobs
-from decide import decide
+from rectify import rectify
 
 SEED = 1364
 TOP = os.path.dirname(os.path.dirname(os.path.dirname(os.path.abspath(__file__))))
@@ -60,7 +60,7 @@ def main():
         while True:
             related = start == "unseen"
             job = cj.full_job(rng, name, used=10, xor_share=xor_share, late=18, counts=counts, related=related)
-            verdict = decide(jobs.encode(job)).verdict
+            verdict = rectify(jobs.encode(job))
             if verdict.name == name and hard(job, verdict):
                 break
         with open(os.path.join(TOP, f"tools/bench/{start}_{name}_{k}.job"), "wb") as file:
@@ -71,7 +71,7 @@ def main():
         about = f"{read} old gates lead to outputs, {kinds} are xor or xnor, {operands:.2f} operands a gate"
         if verdict.patch:
             about += f", {verdict.patch.notes.count(0)} readings do not occur"
-        print(f"{start}_{name}_{k}: {name} {verdict.value}, sheet of {len(verdict.sheet)} bytes; {about}")
+        print(f"{start}_{name}_{k}: {name} {verdict.value}, sheets of {len(verdict.judged.sheet)} and {len(verdict.chosen.sheet)} bytes; {about}")
 
 
 if __name__ == "__main__":

@@ -1,6 +1,6 @@
 #!/usr/bin/env python3
 """Prints the twelve numbered cases of document 01 as this reference answers them, and stops where one is not what the document
-says; case 2 goes by card 2 of document 02, the notes and the least buffer of case 12 by card 1.
+says; case 2 goes by card 2 of document 02, the notes by card 1, case 12, which is choose's, by card 7.
 
     python3 tools/reference/cases.py
 
@@ -21,9 +21,11 @@ import random_jobs as rj
 import random_sheets as rs
 import sheet as sheets
 import simulate
-from decide import decide, verdict_of
+from choose import choose
 from fit import fit, patched
 from job import Candidate, Gate, Job, Netlist
+from judge import judge
+from rectify import rectify, said
 
 
 def changed(**parts):
@@ -34,20 +36,6 @@ def changed(**parts):
     return job
 
 
-def said(reply):
-    """What the program rectify prints, on one line."""
-    verdict = reply.verdict
-    if reply.number:
-        return f"refused {reply.number}"
-    vectors = " ".join(str(vector) for vector in verdict.vectors)
-    if verdict.name != "patch":
-        return f"{verdict.name} {verdict.value}, vectors {vectors}"
-    support = "".join(f" {net}" for net in verdict.patch.support)
-    table = " ".join(str(entry) for entry in verdict.patch.table)
-    notes = " ".join(str(note) for note in verdict.patch.notes)
-    return f"patch cost {verdict.value}, support{support}, table {table}, vectors {vectors}, notes {notes}"
-
-
 def case_8(first, second):
     prices = [Candidate(0, first), Candidate(2, second)]
     return Job(1, 1, Netlist([Gate.of(3, 0)], [1]), Netlist([], [0]), prices)
@@ -55,7 +43,7 @@ def case_8(first, second):
 
 def fitted_a():
     data = jobs.encode(rj.job_a())
-    number, fields = fit(data, decide(data).verdict.sheet)
+    number, fields = fit(data, choose(data).sheet)
     count, output = len(fields[8:-5]) // jobs.GATE_BYTES, jobs.number(fields[-2:])
     return f"fit {number}: {count} gates, output net {output}"
 
@@ -95,9 +83,15 @@ WANTED = [
 
 
 def cases():
-    first, *others = [said(decide(jobs.encode(job))) for job in jobs_of_cases()]
-    short = {said(decide(jobs.encode(rj.job_a()), room)) for room in (1075, 1076, 2102)}
-    return [first, fitted_a()] + others + sorted(short)
+    first, *others = [said(rectify(jobs.encode(job))) for job in jobs_of_cases()]
+    return [first, fitted_a()] + others + [f"refused {choose(jobs.encode(rj.job_a()), 2083).number}"]
+
+
+def check_sheets():
+    """The sizes that card 7 names."""
+    data = jobs.encode(rj.job_a())
+    assert len(judge(data, 26).sheet) == 5 and len(choose(data, 2084).sheet) == 28
+    assert judge(data, 25).number == 1 and choose(data, 2083).number == 1
 
 
 # ---- second ways
@@ -136,36 +130,52 @@ def carrying(job):
         for chosen in combinations(job.candidates, size):
             nets, cost = [c.net for c in chosen], sum(c.weight for c in chosen)
             for table in product(range(2**job.targets), repeat=2**size):
-                if compare.smallest_difference(job, sheets.Patch(nets, table, cost, [0])) is None:
+                if compare.smallest_difference(job, sheets.Patch(nets, table, cost)) is None:
                     yield (cost, size, nets)
                     break
 
 
 def check_verdict(job):
     best = min(carrying(job), default=None)
-    verdict = verdict_of(job)
-    if verdict.name == "patch":
+    verdict = rectify(jobs.encode(job))
+    left = left_at(job, [c.net for c in job.candidates])
+    unfixable = [x for x in range(2**job.inputs) if not fixing_at(job, x)]
+    assert verdict.judged.value == min(unfixable, default=None), job
+    assert (verdict.judged.name == "unfixable") == bool(unfixable), job
+    if verdict.chosen.name == "patch":
         patch = verdict.patch
-        assert best == (patch.cost, len(patch.support), patch.support), job
-        assert compare.compare(jobs.encode(job), verdict.sheet) == (0, None), job
+        assert verdict.name == "patch" and best == (patch.cost, len(patch.support), patch.support), job
+        assert compare.compare(jobs.encode(job), verdict.chosen.sheet) == (0, None), job
         check_notes(job, patch)
     else:
         assert best is None, job
+        assert verdict.chosen.value == min(reading for reading, vectors in left.items() if not vectors), job
     return verdict.name
 
 
-def check_notes(job, patch):
+def fixing_at(job, x):
+    """The vectors that fix one input."""
+    golden = values_at(job, job.golden, x, 0)
+    found = set()
+    for vector in range(2**job.targets):
+        old = values_at(job, job.old, x, vector)
+        if [old[net] for net in job.old.outputs] == [golden[net] for net in job.golden.outputs]:
+            found.add(vector)
+    return found
+
+
+def left_at(job, nets):
     """Input by input: of each reading that it gives, the vectors that fix this one too are left."""
     left = {}
     for x in range(2**job.inputs):
-        golden = values_at(job, job.golden, x, 0)
-        fixing = set()
-        for vector in range(2**job.targets):
-            old = values_at(job, job.old, x, vector)
-            if [old[net] for net in job.old.outputs] == [golden[net] for net in job.golden.outputs]:
-                fixing.add(vector)
-        reading = sum(old[net] << i for i, net in enumerate(patch.support))
+        fixing, old = fixing_at(job, x), values_at(job, job.old, x, 0)
+        reading = sum(old[net] << i for i, net in enumerate(nets))
         left[reading] = left.get(reading, fixing) & fixing
+    return left
+
+
+def check_notes(job, patch):
+    left = left_at(job, patch.support)
     expected = [min(2, len(left.get(reading, []))) for reading in range(2 ** len(patch.support))]
     assert patch.notes == expected, job
 
@@ -217,6 +227,7 @@ def main():
         assert found == wanted, f"the document says {wanted}"
     print("tried against the simulator:", check_table(), "rows")
     check_gates()
+    check_sheets()
     print("tried against every table over every set:", check_random(random.Random(1364), 100))
 
 

@@ -1,4 +1,4 @@
-"""Random jobs for decide. A circuit is made and some of its gates are cut open: the circuit is the golden netlist, and
+"""Random jobs for judge and choose. A circuit is made and some of its gates are cut open: the circuit is the golden netlist, and
 the old one has a target in place of each cut gate. Every function takes the random source, as in random_jobs.py.
 
     cut_job(rng, n, m, telling)      a job of up to some thirty gates, of any verdict

@@ -5,9 +5,9 @@
 
     crates/run_records/stdin, stdout   calls of the record library, and the lines that this reference gives
     crates/run_gates/stdout            the rows of its stdin (the simulator's table), those over 0 and 1 twice
-    examples/a.job, a.sheet, a.shown   job A of document 01, its sheet, and what `patcher show` says of it
+    examples/a.job, a.judged, a.sheet, a.shown   job A of document 01, judge's sheet, choose's, and what `patcher show` says of it
     examples/VERDICT.job               variants of it: unfixable, blind, refused
-    crates/rectify/stdin, stdout       job A, and what the program must print; crates/patcher/data has the job and the sheet
+    crates/rectify/stdin, stdout       job A, and what the program must print; crates/patcher/data has the job and choose's sheet
     tools/bench/longest.job            one accepted job of 8,188 bytes, of gates with up to two operands
 
 It prints how often each service gives each number. With --try FILE, a file of lines that run_records wrote, it
@@ -28,8 +28,8 @@ import random_jobs as rj
 import random_sheets as rs
 import sheet as sheets
 from calls import BYTE_LISTS, LARGEST, MOST_PLACES, SLOT_LISTS, after_call, again_call, columns, counts, read_call, sheet_call, write_call
-from decide import decide
 from job import Candidate, Gate, Job, Netlist, encode
+from rectify import rectify, said
 
 SEED = 1364
 TOP = os.path.dirname(os.path.dirname(os.path.dirname(os.path.abspath(__file__))))
@@ -416,13 +416,13 @@ def sheet_for(job, data):
 def long_sheets(rng, job):
     """Many support nets: up to 15 have a table that a field can hold; 2^16 is 0 in two bytes."""
     for k, table in [(10, 1024), (11, 2048), (12, 4096), (15, 32768), (15, 32767), (16, 0), (16, 1), (16, 65), (17, 0)]:
-        patch = sheets.Patch(list(range(k)), [0] * table, 0, [0])
+        patch = sheets.Patch(list(range(k)), [0] * table, 0)
         yield sheet_for(job, sheets.encode(patch))
         for notes in (table, table - 1, table + 1):
             if 0 <= notes and table + notes < 40000:
                 yield sheet_for(job, sheets.encode(replace(patch, notes=[0] * notes)))
     for k, table in [(31, 0), (32, 1), (32, 0), (33, 2), (63, 0), (64, 1), (64, 0), (65, 2), (256, 1), (300, 0), (8000, 1)]:
-        patch = sheets.Patch([i % 65536 for i in range(k)], [0] * table, 0, [0])
+        patch = sheets.Patch([i % 65536 for i in range(k)], [0] * table, 0)
         yield sheet_for(job, sheets.encode(patch))
 
 
@@ -430,7 +430,7 @@ def note_sheets(rng):
     """(targets, nets, sheet): every number of notes around that of the readings, every byte in each place, and field 22 where
     it does not belong."""
     for k in range(4):
-        patch = sheets.Patch(list(range(k)), [0] * 2**k, 0, [0])
+        patch = sheets.Patch(list(range(k)), [0] * 2**k, 0)
         for m in (0, 1, 4):
             for size in range(2 ** (k + 1) + 2):
                 yield m, k, sheets.encode(replace(patch, notes=rs.some_notes(rng, size)))
@@ -440,22 +440,43 @@ def note_sheets(rng):
                 notes[place] = note
                 yield 1, k, sheets.encode(replace(patch, notes=notes))
                 yield 1, k, sheets.encode(replace(patch, notes=notes, cost=1))
-                yield 1, k, sheets.encode(replace(patch, notes=notes, vectors=[2]))
+                yield 1, k, sheets.encode(replace(patch, notes=notes, table=[0] * (2**k - 1) + [2]))
         fields = rj.split(sheets.encode(replace(patch, notes=rs.some_notes(rng, 2**k))))
-        for order in permutations(range(5)):
+        for order in permutations(range(4)):
             yield 1, k, b"".join(fields[i] for i in order)
-        for left in range(5):
+        for left in range(4):
             yield 1, k, b"".join(fields[:left] + fields[left + 1 :])
             yield 1, k, b"".join(fields[: left + 1] + fields[left:])
-        for m in range(5):  # a field 19 that has swallowed the notes: too long, or with entries 22 and 0 to 2
-            yield m, k, b"".join(fields[:3]) + jobs.field(19, b"\0" + fields[4])
     for size in (0, 1, 255, 256, 257, 512):  # 256 readings
-        patch = sheets.Patch(list(range(8)), [0] * 256, 0, [0], rs.some_notes(rng, size))
+        patch = sheets.Patch(list(range(8)), [0] * 256, 0, rs.some_notes(rng, size))
         yield 2, 8, sheets.encode(patch)
 
 
+def vector_sheets(rng):
+    """(targets, nets, sheet): a field 19 in each place, of each length, with notes and without; and in any order of five fields, so
+    also as card 1 had it. All of them are 7, also with a wrong cost, entry or net."""
+    for k in range(4):
+        plain = sheets.Patch(list(range(k)), [0] * 2**k, 0)
+        for patch in (plain, replace(plain, notes=rs.some_notes(rng, 2**k))):
+            for wrong in (patch, replace(patch, cost=1), replace(patch, table=[16] * 2**k), replace(patch, support=[9] * k)):
+                for put in rs.VECTOR_FIELDS.values():
+                    m = rng.randrange(5)
+                    yield m, k, rs.with_vectors(sheets.encode(wrong), rng.sample(range(2**m), rng.randrange(1, 2**m + 1)), put)
+        fields = rj.split(sheets.encode(patch)) + [jobs.field(19, b"\0\1")]
+        for order in permutations(range(5)):
+            yield 1, k, b"".join(fields[i] for i in order)
+    for m in range(5):
+        for size in (0, 1, 2**m - 1, 2**m, 2**m + 1, 255, 256, 257):
+            for notes in (None, [rng.randrange(3)]):
+                data = sheets.encode(sheets.Patch([], [0], 0, notes))
+                for put in (rs.VECTOR_FIELDS["19 behind 18"], rs.VECTOR_FIELDS["19 at the end"]):
+                    yield m, 0, rs.with_vectors(data, [0] * size, put)
+        for entry in (2**m - 1, 2**m, 255):
+            yield m, 0, rs.with_vectors(data, [entry], rs.VECTOR_FIELDS["19 behind 18"])
+
+
 def sheet_calls(rng):
-    sheet_a = sheets.Patch([0, 1], [0, 0, 0, 1], 7, [0, 1])
+    sheet_a = sheets.Patch([0, 1], [0, 0, 0, 1], 7)
     job_a = rj.job_a()
     for notes in (None, [1, 1, 1, 1]):
         data = sheets.encode(replace(sheet_a, notes=notes))
@@ -464,22 +485,22 @@ def sheet_calls(rng):
             yield sheet_for(job_a, data[:at])
             for x in (0, 255, (data[at] + 1) % 256, (data[at] - 1) % 256):
                 yield sheet_for(job_a, data[:at] + bytes([x]) + data[at + 1 :])
-        for extra in (b"\0", b"\23\0\0", b"\24\0\4\0\0\0\0", b"\26", b"\26\0", b"\26\0\0", b"\26\0\4\0\1\2", data):
+        for extra in (b"\0", b"\23\0\0", b"\23\0\2\0\1", b"\23\0\2\0\1\26\0\4\1\1\1\1", b"\24\0\4\0\0\0\0", b"\26", b"\26\0", b"\26\0\0", b"\26\0\4\0\1\2", data):
             yield sheet_for(job_a, data + extra)
     for m, k, data in note_sheets(rng):
         yield sheet_call(m, k, list(range(k)), [0] * k, data)
+    for m, k, data in vector_sheets(rng):
+        assert sheets.read(m, [Candidate(i, 0) for i in range(k)], data)[0] == 7
+        yield sheet_call(m, k, list(range(k)), [0] * k, data)
     for m in range(5):
-        for size in (0, 1, 2**m - 1, 2**m, 2**m + 1, 255, 256, 257):
-            patch = sheets.Patch([], [0], 0, [0] * size)
-            yield sheet_call(m, 0, [], [], sheets.encode(patch))
         for entry in (2**m - 1, 2**m, 255):
-            yield sheet_call(m, 0, [], [], sheets.encode(sheets.Patch([], [entry], 0, [0])))
-            yield sheet_call(m, 0, [], [], sheets.encode(sheets.Patch([], [0], 0, [entry])))
+            yield sheet_call(m, 0, [], [], sheets.encode(sheets.Patch([], [entry], 0)))
+            yield sheet_call(m, 0, [], [], sheets.encode(sheets.Patch([], [entry], 0, [1])))
     # an odd number of support bytes, with each table that the pairs among them could ask for
     for k in range(8):
         for table in (2 ** (k // 2), 2 ** ((k + 1) // 2), 2 ** ((k + 1) // 2 + 1)):
             body = b"".join(i.to_bytes(2, "big") for i in range(4))[:k]
-            whole = jobs.field(16, body) + jobs.field(17, bytes(table)) + jobs.field(18, bytes(4)) + jobs.field(19, b"\0")
+            whole = jobs.field(16, body) + jobs.field(17, bytes(table)) + jobs.field(18, bytes(4))
             yield sheet_call(1, 4, [0, 1, 2, 3], [0, 0, 0, 0], whole)
     data = sheets.encode(sheet_a)
     for length in (0, 3, 5, 8):
@@ -523,7 +544,6 @@ def sheet_calls(rng):
         candidate.weight = 65535
     for nets in (9, 10):
         patch = rs.good_patch(rng, dear, nets)
-        patch.vectors = list(range(16))
         for patch.notes in (None, rs.some_notes(rng, 2**nets), rs.some_notes(rng, 2**nets - 1)):
             yield sheet_for(dear, sheets.encode(patch))
             yield sheet_for(dear, sheets.encode(replace(patch, cost=patch.cost % 65536)))
@@ -551,15 +571,16 @@ def sheet_calls(rng):
 
 def store_examples():
     a, blind, _, unfixable, *_, refused, _ = cases.jobs_of_cases()
-    reply = decide(encode(a))
+    verdict = rectify(encode(a))
     for path in ("examples", "crates/patcher/data"):
         store(f"{path}/a.job", encode(a))
-        store(f"{path}/a.sheet", reply.verdict.sheet)
+        store(f"{path}/a.sheet", verdict.chosen.sheet)
+    store("examples/a.judged", verdict.judged.sheet)
     store("examples/a.shown", described(a))
     store("crates/rectify/stdin", encode(a))
-    store("crates/rectify/stdout", cases.said(reply).replace(", ", "\n") + "\n")
+    store("crates/rectify/stdout", said(verdict).replace(", ", "\n") + "\n")
     for name, job in (("blind", blind), ("unfixable", unfixable), ("refused", refused)):
-        assert cases.said(decide(encode(job))).startswith(name)
+        assert said(rectify(encode(job))).startswith(name)
         store(f"examples/{name}.job", encode(job))
 
 

@@ -1,10 +1,10 @@
 #!/usr/bin/env python3
-"""Makes again, from fixed seeds, the calls that the program run_engine is run on and the lines it must write (decide_calls.py and
+"""Makes again, from fixed seeds, the calls that the program run_engine is run on and the lines it must write (verdict_calls.py and
 fit_calls.py have their form):
 
     python3 tools/reference/random_engine.py
 
-    crates/run_engine/stdin, stdout   the calls of random_decide.py, then those of random_fit.py, and the lines that this reference gives
+    crates/run_engine/stdin, stdout   the calls of random_verdicts.py, then those of random_fit.py, and the lines that this reference gives
 
 It prints how many calls of each class there are. With --try FILE, a file of lines that run_engine wrote, it compares them with its own
 and prints each line that differs with its call.
@@ -12,21 +12,21 @@ and prints each line that differs with its call.
 
 import sys
 
-import random_decide
 import random_fit
+import random_verdicts
 from make_samples import compare, store
 
 
 def main():
-    decided, jobs_and_replies, sheet_names = random_decide.made()
+    judged, jobs_and_verdicts, sheet_names = random_verdicts.made()
     named, parts = random_fit.made()
-    calls = decided + [call for _, call in named]
+    calls = judged + [call for _, call in named]
     if sys.argv[1:2] == ["--try"]:
         compare(calls, sys.argv[2])
         return
     store("crates/run_engine/stdin", b"".join(data for data, _ in calls))
     store("crates/run_engine/stdout", "".join(text for _, text in calls))
-    random_decide.report(decided, jobs_and_replies, sheet_names)
+    random_verdicts.report(judged, jobs_and_verdicts, sheet_names)
     random_fit.report(named, parts)
 
 

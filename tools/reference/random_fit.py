@@ -1,4 +1,4 @@
-"""Calls of fit, and of decide, fit and compare in a row, from a fixed seed, and the lines that this reference gives (fit_calls.py has
+"""Calls of fit, and of choose, fit and compare in a row, from a fixed seed, and the lines that this reference gives (fit_calls.py has
 their form). random_engine.py stores them. Every netlist that is fitted is read back from its bytes and evaluated on all inputs beside
 the driven old circuit; where they differ, the script stops."""
 
@@ -11,15 +11,15 @@ import compare
 import cut_jobs as cj
 import gates
 import job as jobs
-import random_decide as rd
 import random_jobs as rj
 import random_sheets as rs
+import random_verdicts as rv
 import sheet as sheets
 import simulate
-from decide_calls import decide
 from fit import LONGEST_NETLIST, fit, patched
 from fit_calls import BUFFER, fit_call, row_call
 from job import Candidate, Gate, Job, Netlist, encode
+from rectify import choose
 
 SEED = 1364
 LENT = [LONGEST_NETLIST, LONGEST_NETLIST, LONGEST_NETLIST + 1, BUFFER]
@@ -187,20 +187,20 @@ def split_column(rng, name, place):
 
 
 def own_patches(rng, accepted):
-    for name in rd.QUOTAS:
+    for name in rv.QUOTAS:
         if name.startswith("patch"):
-            for job, reply in rng.sample([pair for pair in accepted if rd.class_of(pair[1].verdict) == name], 30):
-                yield "decide's own, " + name, job, reply.verdict.patch
-    unseen = [pair for pair in accepted if pair[1].verdict.patch and 0 in pair[1].verdict.patch.notes]
-    for job, reply in rng.sample(unseen, 30):
-        yield "decide's own, unseen readings", job, reply.verdict.patch
+            for job, verdict in rng.sample([pair for pair in accepted if rv.class_of(*pair) == name], 30):
+                yield "choose's own, " + name, job, verdict.patch
+    unseen = [pair for pair in accepted if pair[1].patch and 0 in pair[1].patch.notes]
+    for job, verdict in rng.sample(unseen, 30):
+        yield "choose's own, unseen readings", job, verdict.patch
 
 
 def changed_patches(rng, accepted):
-    patches = [(job, reply.verdict.patch) for job, reply in accepted if reply.verdict.patch]
-    for name, change in rd.CHANGES:
+    patches = [(job, verdict.patch) for job, verdict in accepted if verdict.patch]
+    for name, change in rv.CHANGES:
         for job, patch in rng.sample([pair for pair in patches if pair[1].support], 20):
-            yield "decide's own, " + name, job, change(rng, job, patch)
+            yield "choose's own, " + name, job, change(rng, job, patch)
 
 
 def any_tables(rng, accepted):
@@ -313,7 +313,7 @@ def bare_jobs(rng):
 
 
 def at_limit(rng, accepted):
-    """Netlists of just 400 gates and of 401, with old gates of all sorts; and decide's own, with dead gates to fill up."""
+    """Netlists of just 400 gates and of 401, with old gates of all sorts; and choose's own, with dead gates to fill up."""
     turn = 0
     while turn < 36:
         k, m = rng.randrange(11), rng.randrange(5)
@@ -324,12 +324,12 @@ def at_limit(rng, accepted):
             for extra in (0, 1) if m else (0,):
                 job = roomy_job(rng, m, left + extra, rng.randrange(k, 11), outputs=rng.choice([1, 32, rng.randrange(1, 33)]))
                 yield f"{400 + extra} gates", job, patch_of(rng, job, table_of_columns(columns, k))
-    for job, reply in rng.sample([pair for pair in accepted if pair[1].verdict.patch and pair[0].targets], 12):
-        patch = reply.verdict.patch
+    for job, verdict in rng.sample([pair for pair in accepted if pair[1].patch and pair[0].targets], 12):
+        patch = verdict.patch
         size = len(patched(job, patch).gates) - len(job.old.gates)
         for extra in (0, 1):
             if len(job.old.gates) <= 400 + extra - size <= 400:
-                yield f"{400 + extra} gates, decide's own", with_dead_gates(rng, job, 400 + extra - size), patch
+                yield f"{400 + extra} gates, choose's own", with_dead_gates(rng, job, 400 + extra - size), patch
 
 
 def smaller_now(rng):
@@ -397,15 +397,15 @@ def wide_jobs(rng):
 
 def hand_jobs():
     for job in cases.jobs_of_cases():
-        verdict = decide(encode(job)).verdict
-        if verdict.patch:
-            yield "numbered cases", job, verdict.patch
+        patch = choose(encode(job)).patch
+        if patch:
+            yield "numbered cases", job, patch
     # no target leads to net 4, which stands behind net 3, to which one does; the tree reads it by its new number, 2
     prices = [Candidate(0, 1), Candidate(4, 2)]
     old = Netlist([Gate.of(3, 2), Gate.of(8, 0, 1), Gate.of(4, 3, 4)], [5, 2, 2, 5])
     job = Job(2, 1, old, Netlist([], [0, 0, 1, 1]), prices)
     for value in range(16):
-        yield "by hand", job, sheets.Patch([0, 4], [value >> i & 1 for i in range(4)], 3, [1, 0])
+        yield "by hand", job, sheets.Patch([0, 4], [value >> i & 1 for i in range(4)], 3)
 
 
 def good_parts(rng, accepted):
@@ -474,7 +474,7 @@ def damaged_calls(rng, accepted, parts):
     large = [(job, patch) for _, job, patch in parts if len(job.old.gates) < 60 and too_large(job, patch)]
     pairs = [pair for pair in small if len(pair[0].candidates) >= 2 and len(pair[1].support) >= 2]
 
-    for data in list(rd.damaged_bytes(rng, [pair for pair in accepted if len(encode(pair[0])) < 500]))[::2]:
+    for data in list(rv.damaged_bytes(rng, [pair for pair in accepted if len(encode(pair[0])) < 500]))[::2]:
         # the job's numbers come before the sheet's
         job, patch = rng.choice(small)
         sheet = sheets.encode(patch)
@@ -486,33 +486,42 @@ def damaged_calls(rng, accepted, parts):
         job, patch = rng.choice(pairs)
         damages = rng.sample(rs.ALL_SHEET_DAMAGES, 2)
         yield "two damages of a sheet", fit_call(encode(job), sheets.encode(rs.damaged_patch(rng, job, patch, damages)))
-    for name, job, sheet in rd.wrong_notes(rng, pairs, 8):
+    for name, job, sheet in rv.wrong_notes(rng, pairs, 8):
         yield name, fit_call(encode(job), sheet)
-    for name, job, sheet in rd.wrong_notes(rng, large[:4], 1):
+    for name, job, sheet in rv.wrong_notes(rng, large[:4], 1):
+        yield name + ", too large", fit_call(encode(job), sheet)
+    own = [(job, verdict.patch) for job, verdict in accepted if verdict.patch and len(encode(job)) < 300]
+    for name, job, sheet in rv.with_vector_field(rng, pairs, 4):
+        yield name, fit_call(encode(job), sheet)
+    for name, job, sheet in rv.with_vector_field(rng, own, 2):
+        yield name + ", choose's own", fit_call(encode(job), sheet)
+    for name, job, sheet in rv.with_vector_field(rng, large[:4], 1):
         yield name + ", too large", fit_call(encode(job), sheet)
     for damage in rj.BYTE_DAMAGES:
         for job, patch in rng.sample(small, 6) + rng.sample(large, 1):
             yield "damaged bytes of a sheet", fit_call(encode(job), damage(rng, sheets.encode(patch)))
     for _ in range(30):
         yield "sheet of another job", fit_call(encode(rng.choice(small)[0]), sheets.encode(rng.choice(small)[1]))
-    for job, reply in rng.sample([pair for pair in accepted if not pair[1].verdict.patch], 20):
-        yield "sheet of another verdict", fit_call(encode(job), reply.verdict.sheet)
+    for job, verdict in rng.sample([pair for pair in accepted if not pair[1].patch], 20):
+        yield "sheet without a patch", fit_call(encode(job), verdict.chosen.sheet)
+    for job, verdict in rng.sample(accepted, 20):
+        yield "judge's sheet", fit_call(encode(job), verdict.judged.sheet)
     # up to 15 support nets have a table that a field can hold
     job = encode(roomy_job(rng, 4, 20, 10))
     for k, table in [(11, 2048), (15, 32768), (16, 0), (16, 1), (17, 2), (32, 1), (64, 1), (256, 1), (30000, 0)]:
-        patch = sheets.Patch(list(range(k)), [0] * table, 0, [0])
+        patch = sheets.Patch(list(range(k)), [0] * table, 0)
         yield "too many nets", fit_call(job, sheets.encode(patch))
     for k, table, notes in [(11, 2048, 2048), (11, 2048, 2047), (12, 4096, 4096), (16, 0, 0), (16, 1, 1), (17, 2, 2), (32, 1, 1)]:
-        patch = sheets.Patch(list(range(k)), [0] * table, 0, [0], [0] * notes)
+        patch = sheets.Patch(list(range(k)), [0] * table, 0, [0] * notes)
         yield "too many nets, notes", fit_call(job, sheets.encode(patch))
 
 
 def short_calls(rng, accepted, parts):
     """Number 1 comes before every other, and the limit is the same for all."""
     a = encode(rj.job_a())
-    sheet = decide(a).verdict.sheet
+    sheet = choose(a).sheet
     small = [(job, patch) for _, job, patch in parts if len(encode(job)) < 300 and len(patch.table) <= 32]
-    for lent in (0, 1, 32, 33, 1076, LONGEST_NETLIST - 1, LONGEST_NETLIST, LONGEST_NETLIST + 1, BUFFER):
+    for lent in (0, 1, 32, 33, 2084, LONGEST_NETLIST - 1, LONGEST_NETLIST, LONGEST_NETLIST + 1, BUFFER):
         yield "lent bytes", fit_call(a, sheet, lent)
         yield "lent bytes", fit_call(b"", b"", lent)
         yield "lent bytes", fit_call(a, b"", lent)
@@ -531,7 +540,7 @@ def row_calls(rng, accepted):
 
     small = [pair for pair in accepted if len(encode(pair[0])) < 600]
     verdicts = ("patch", "unfixable", "blind")
-    named = {name: [encode(job) for job, reply in small if reply.verdict.name == name] for name in verdicts}
+    named = {name: [encode(job) for job, verdict in small if verdict.name == name] for name in verdicts}
     for first in named:
         for second in named:
             for _ in range(12 if first == second == "patch" else 3):
@@ -539,7 +548,7 @@ def row_calls(rng, accepted):
     for damage in rj.ALL_DAMAGES:
         refused = encode(rj.damaged(rng, rng.choice(small)[0], [damage]))
         yield from both("patch and a damaged job", rng.choice(named["patch"]), refused)
-    fulls = [encode(job) for job, _ in rd.full_jobs(rng, 8, 2, ["patch", "unfixable", "blind"])]
+    fulls = [encode(job) for job, _ in rv.full_jobs(rng, 8, 2, ["patch", "unfixable", "blind"])]
     for data in fulls:
         yield from both("patch and 8,188 bytes", rng.choice(named["patch"]), data)
     limits = [(name, job) for name, job, _ in at_limit(rng, accepted) if "own" in name][:8]
@@ -622,7 +631,7 @@ def report(named, parts):
 
 def made():
     rng = random.Random(SEED)
-    accepted = list(rd.quota_jobs(rng)) + list(rd.related_jobs(rng))
+    accepted = list(rv.quota_jobs(rng)) + list(rv.related_jobs(rng))
     parts = list(good_parts(rng, accepted))
     check_splits(parts)
     named = list(accepted_calls(rng, parts)) + list(damaged_calls(rng, accepted, parts))

@@ -309,9 +309,9 @@ def resized_field(rng, data):
 
 
 def half_gate(rng, data):
-    """Five bytes, half a gate, more or fewer in a field of gates (in a sheet, in the field in its place)."""
+    """Five bytes, half a gate, more or fewer in a field of gates (in a sheet, in the field in its place, if there is one)."""
     fields = split(data)
-    k = rng.choice([1, 3])
+    k = rng.choice([1, 3] if len(fields) > 3 else [1])
     body = fields[k][3:]
     fields[k] = jobs.field(fields[k][0], body[:-5] if body and rng.random() < 0.5 else body + bytes(5))
     return b"".join(fields)

@@ -1,8 +1,8 @@
-"""Patch sheets (document 01, "Verdicts" and "Numbers given when a call is declined"; card 1 of document 02).
+"""Patch sheets (document 01, "Verdicts" and "Numbers given when a call is declined"; cards 1 and 7 of document 02).
 
     Patch                             a sheet's parts; notes is None where it has no field 22
     read(targets, candidates, data)   (0, the patch) or (7 or 8, whichever applies first, None)
-    encode(patch)                     the four or five fields of any parts, good or not
+    encode(patch)                     the three or four fields of any parts, good or not
     table_start(patch)                where the table's bytes start in the sheet
 """
 
@@ -16,18 +16,16 @@ class Patch:
     support: list
     table: list
     cost: int
-    vectors: list
     notes: list = None
 
 
 def encode(patch):
-    four = (
+    three = (
         field(16, b"".join(net.to_bytes(2, "big") for net in patch.support))
         + field(17, bytes(patch.table))
         + field(18, patch.cost.to_bytes(4, "big"))
-        + field(19, bytes(patch.vectors))
     )
-    return four if patch.notes is None else four + field(22, bytes(patch.notes))
+    return three if patch.notes is None else three + field(22, bytes(patch.notes))
 
 
 def table_start(patch):
@@ -36,18 +34,16 @@ def table_start(patch):
 
 
 def read(targets, candidates, data):
-    bodies = walk(data, [16, 17, 18, 19]) or walk(data, [16, 17, 18, 19, 22])
+    bodies = walk(data, [16, 17, 18]) or walk(data, [16, 17, 18, 22])
     if bodies is None:
         return 7, None
-    support_body, table_body, cost_body, vector_body, *note_bodies = bodies
+    support_body, table_body, cost_body, *note_bodies = bodies
     if len(support_body) % 2:
         return 7, None
     support = [number(p) for p in pieces(support_body, 2)]
     if len(table_body) != 2 ** len(support):
         return 7, None
     if len(cost_body) != 4:
-        return 7, None
-    if not 1 <= len(vector_body) <= 2**targets:
         return 7, None
     if any(len(notes) != len(table_body) or max(notes) > 2 for notes in note_bodies):
         return 7, None
@@ -57,9 +53,9 @@ def read(targets, candidates, data):
         return 8, None
     if any(net not in weights for net in support):
         return 8, None
-    if any(entry >= 2**targets for entry in table_body + vector_body):
+    if any(entry >= 2**targets for entry in table_body):
         return 8, None
     cost = number(cost_body)
     if cost != sum(weights[net] for net in support):
         return 8, None
-    return 0, Patch(support, list(table_body), cost, list(vector_body), *map(list, note_bodies))
+    return 0, Patch(support, list(table_body), cost, *map(list, note_bodies))

@@ -1,12 +1,11 @@
--- The longest replies are attained: a result of fit with 4,075 bytes, and a sheet of decide with 2,103. The job of the sheet needs no
--- enumeration: a vector rectifies an input exactly when its bits are the golden outputs there, each input alone changes them, so that
--- no support can do without one, and each vector is the golden outputs of some input, so that the loop lists all. Assumes nothing.
+-- The longest replies are attained: a result of fit with 4,075 bytes, a sheet of judge with 26 and one of choose with 2,084. The job of
+-- judge's is computed. That of choose's needs no enumeration: a vector rectifies an input exactly when its bits are the golden outputs
+-- there, and each input alone changes them, so that no support can do without one. Assumes nothing.
 use Prim.Native.Nat.{ℕ, zero, suc, _+_, _*_, _^_, _≤_, _<_}
 use mathlib.Core.Path.{_≡_, refl, sym, _∙_, ap}
 use mathlib.Core.Logic.{⊎-elim}
-use mathlib.Core.List.{List, [], _∷_, map, List·Memᴰ as Mem, Memᴰ·cast as mem-cast}
+use mathlib.Core.List.{List, [], _∷_, _++_, map, List·Memᴰ as Mem, Memᴰ·cast as mem-cast}
 use mathlib.Core.Bool.{Bool, true, false, not, _||_, true≢false}
-use mathlib.Core.Option.{none}
 use native.Mathlib.Omega.{arith}
 use borrow.Author.Tests.{lt-ltb, le-ltb, eqb-true, not-true}
 use lib.Dec.{ltb, eqb}
@@ -22,29 +21,27 @@ use Rattle.records.specs.Claims.{PartsGood}
 use Rattle.records.proofs.Laws.Bytes.{length-tabulate}
 use Rattle.records.proofs.Laws.Accepted.{below-of-all}
 use Rattle.records.proofs.Laws.RoundTrip.{Four, FourEach, all-tabulate, jobWhole-jobBytes, jobOf-jobBytes}
-use Rattle.engine.specs.Choice.{any, keep, same}
-use Rattle.engine.specs.Eval.{bit, bits, numberOf, oldValues, oldOutputs, goldenOutputs}
-use Rattle.engine.specs.Rectify.{rectifies, vectorLoop}
-use Rattle.engine.specs.Support.{reading, drivenBy, sound, tableOf, notesOf, candidateNets, cost}
-use Rattle.engine.specs.Verdict.{patch, ruling, fourBytes, sheetOf, longestSheet, decideNumber}
-use Rattle.engine.specs.Inner.Sheet.{patchBytes}
+use Rattle.engine.specs.Choice.{any, keep, first, same}
+use Rattle.engine.specs.Eval.{bit, bits, numberOf, allInputs, allVectors, oldValues, oldOutputs, goldenOutputs}
+use Rattle.engine.specs.Rectify.{rectifies, unrectified, rounds, vectorLoop}
+use Rattle.engine.specs.Support.{reading, drivenBy, sound, tableOf, notesOf, candidateNets, cost, chosen}
+use Rattle.engine.specs.Verdict.{patch, ruling, fourBytes, judgeSheet, chooseSheet, longestJudge, longestChoose, judgeNumber, chooseNumber}
 use Rattle.engine.specs.Fit.{treesFrom, trees, fitted, fittedBytes, fits as fits′, longestFit}
 use Rattle.engine.specs.Reply.{fitNumber}
-use Rattle.engine.specs.Claims.{LongestSheetMet, LongestFitMet}
-use Rattle.engine.specs.declared.fitting.FitReply.{FitReply}
-use Rattle.engine.specs.declared.deciding.DecideReply.{DecideReply}
+use Rattle.engine.specs.Claims.{LongestJudgeMet, LongestChooseMet, LongestFitMet}
+use Rattle.engine.specs.declared.judging.JudgeReply.{JudgeReply}
+use Rattle.engine.specs.declared.choosing.ChooseReply.{ChooseReply}
 use Rattle.engine.proofs.Laws.Choice.{true-or-false, or-cases, not-both, any-true, any-false, all-iff-below, mem-below, mem-keep, keep-lt, length-keep-le, map-agree, same-iff-equal}
 use Rattle.engine.proofs.Laws.Eval.{Bits, bits-map, netAt-lt, values-bits, bits-bits, numberOf-lt}
 use Rattle.engine.proofs.Laws.Picked.{bits-numberOf}
-use Rattle.engine.proofs.Laws.Support.{rectifies-iff-outputs, found-shared, sound-iff-found, carries-of-sound, length-tableOf, subsets-among, subsets-self}
-use Rattle.engine.proofs.Laws.Loop.{listed-of-none, vectors-below}
-use Rattle.engine.proofs.Laws.Verdict.{patch-chosen, length-notesOf}
-use Rattle.engine.proofs.Laws.Sheet.{length-patchBytes, patchBytes-ruling, sheet-ruling}
+use Rattle.engine.proofs.Laws.Support.{rectifies-iff-outputs, found-shared, sound-iff-found, length-tableOf, subsets-among}
+use Rattle.engine.proofs.Laws.Verdict.{chosen-patch, length-notesOf}
+use Rattle.engine.proofs.Laws.Sheet.{length-patchBytes, patchBytes-sheet}
 use Rattle.engine.proofs.Laws.FitNets.{length-fitted}
 use Rattle.engine.proofs.Laws.FitPlaced.{indices-all}
-use Rattle.engine.proofs.Theorems.{patch-exactly, patch-table}
-use Rattle.engine.proofs.Replies.{decide-accepts, longest, compare-accepts, reply-of as decide-reply}
-use Rattle.engine.proofs.FitReplies.{length-fittedBytes, length-outputs, fit-accepts, reply-of as fit-reply}
+use Rattle.engine.proofs.Theorems.{sound-ruling, patch-table}
+use Rattle.engine.proofs.Replies.{judge-accepts, choose-accepts, judge-reply, choose-reply, longest-chosen, compare-accepts}
+use Rattle.engine.proofs.FitReplies.{length-fittedBytes, length-outputs, fit-accepts, fit-length}
 
 -- ---- lists and bits
 
@@ -56,9 +53,6 @@ length-covering (suc n) xs h =
     let r = length-covering n (keep q xs) (λ x l. mem-keep q xs x .1 (h x (omega arith), lt-ltb x n l)) in
     let s = keep-lt (λ x. true) q (λ x e. absurd (true≢false e)) (h n (omega arith)) refl (le-ltb n n (omega arith)) in
     omega (arith, length-keep-le (λ x. true) xs)
-
-fixed-below : (f : ℕ → ℕ) (n : ℕ) → all (λ x. eqb (f x) x) (upFrom 0 n) ≡ true → (x : ℕ) → x < n → f x ≡ x
-fixed-below f n e x h = eqb-true (f x) x (all-iff-below (λ y. eqb (f y) y) n .0 e x h)
 
 golden-bits : (j : Job) (x : ℕ) → Bits (goldenOutputs j x)
 unfolding goldenOutputs
@@ -79,7 +73,7 @@ fullJob = record { inputs = 0; targets = 0; old = fullSide; golden = fullSide; c
 
 -- .. so the empty support carries a table
 fullSheet : List ℕ
-fullSheet = patchBytes [] (0 ∷ []) 0 (0 ∷ []) (1 ∷ [])
+fullSheet = field 16 [] ++ field 17 (0 ∷ []) ++ field 18 (fourBytes 0)
 
 four-full : FourEach fullJob
 unfolding fullJob fullSide gateOf
@@ -93,13 +87,13 @@ good-full = record { counts = refl; gates = refl; outputs = refl; candidates = r
 
 bytes-full : (all (λ x. ltb x 256) (jobBytes fullJob) ≡ true) × (all (λ x. ltb x 256) fullSheet ≡ true)
 unfolding all jobBytes field flat bytePair gateBytes candidateBytes gateOf fullJob fullSide tabulate upFrom
-    fullSheet patchBytes fourBytes
+    fullSheet fourBytes
 bytes-full = (refl, refl)
 
-sheet-full : (sheetWhole (fullJob .targets) fullSheet ≡ true)
+sheet-full : (sheetWhole fullSheet ≡ true)
     × (patchGood (fullJob .targets) (fullJob .candidates) (patchOf fullSheet) ≡ true)
 unfolding fullJob sheetWhole notesWhole whole nth body rest bodyLength fits word patchGood patchOf netsOf quad isCandidate costOf ascending
-    all tabulate upFrom fullSheet patchBytes field flat bytePair fourBytes
+    all tabulate upFrom fullSheet field bytePair fourBytes
 sheet-full = (refl, refl)
 
 module _ (is t : List ℕ) where
@@ -129,7 +123,7 @@ longest-fit-met =
     let n : fitNumber d s p ≡ 0 =
     fit-accepts d s p .1 (
       omega (arith, length-replicate {A = ℕ} 4075 0),
-      compare-accepts s p .1 (jobWhole-jobBytes fullJob four-full, rw e good-full, rw e (sheet-full .0), rw e (sheet-full .1)),
+      compare-accepts s p .1 (jobWhole-jobBytes fullJob four-full, rw e good-full, sheet-full .0, rw e (sheet-full .1)),
       rw e (fits-full is t),
     ) in (
       d,
@@ -138,10 +132,57 @@ longest-fit-met =
       below-of-all 256 (omega arith) s (bytes-full .0),
       below-of-all 256 (omega arith) p (bytes-full .1),
       n,
-      ap (λ (r : FitReply). r .len) (fit-reply d s p n) ∙ rw e (length-full is t),
+      fit-length d s p n ∙ rw e (length-full is t),
     )
 
--- ---- the longest sheet
+-- ---- the longest sheet of judge
+
+-- the old outputs are the four targets and input 4; the golden ones are inputs 0 to 3 and a constant zero: input x below 16 is rectified
+-- by vector x alone, so that the loop lists all sixteen, and input 16 by none
+listingJob : Job
+listingJob =
+    record {
+      inputs = 5;
+      targets = 4;
+      old = record { gates = []; outputs = 5 ∷ 6 ∷ 7 ∷ 8 ∷ 4 ∷ [] };
+      golden = record { gates = gateOf 0 0 0 0 0 0 ∷ []; outputs = upFrom 0 4 ++ (5 ∷ []) };
+      candidates = [];
+    }
+
+four-listing : FourEach listingJob
+unfolding listingJob gateOf
+four-listing = record { old = tt; golden = (refl, tt) }
+
+good-listing : PartsGood listingJob
+unfolding listingJob tabulate upFrom all
+    countsGood sideCountsGood netlistsGood gatesGood gateGood gateOf permits leastCount mostCount operands unused outputsGood oldNets goldenNets
+    candidatesGood candidateGood ascending netAt fanout extended markOf disj
+good-listing = record { counts = refl; gates = refl; outputs = refl; candidates = refl }
+
+bytes-listing : all (λ x. ltb x 256) (jobBytes listingJob) ≡ true
+unfolding all jobBytes field flat bytePair gateBytes candidateBytes gateOf listingJob tabulate upFrom
+bytes-listing = refl
+
+length-listing : length (judgeSheet listingJob) ≡ longestJudge
+unfolding judgeSheet vectorLoop rounds unrectified rectifies allInputs allVectors any first same oldOutputs goldenOutputs oldValues values
+    extended valueOf gateValue gateOf operands conj disj parity inverted netAt bits bit field fourBytes bytePair tabulate upFrom listingJob
+length-listing = refl
+
+pub longest-judge-met : LongestJudgeMet
+longest-judge-met =
+    let d : List ℕ = replicate 26 0 in
+    let s = jobBytes listingJob in
+    let e = jobOf-jobBytes listingJob four-listing in
+    let n : judgeNumber d s ≡ 0 =
+    judge-accepts d s .1 (omega (arith, length-replicate {A = ℕ} 26 0), jobWhole-jobBytes listingJob four-listing, rw e good-listing) in (
+      d,
+      s,
+      below-of-all 256 (omega arith) s bytes-listing,
+      n,
+      ap (λ (r : JudgeReply). r .len) (judge-reply d s n) ∙ rw e length-listing,
+    )
+
+-- ---- the longest sheet of choose
 
 -- the old outputs are the four targets; the golden ones are inputs 0 to 2 and the parity of inputs 3 to 9
 wideJob : Job
@@ -197,17 +238,6 @@ wanted-lt x = numberOf-lt (golden-bits wideJob x)
 outputs-wanted : (x y : ℕ) → oldOutputs wideJob x (wanted y) ≡ goldenOutputs wideJob y
 unfolding wanted goldenOutputs wideJob
 outputs-wanted x y = outputs-wide x (wanted y) ∙ bits-numberOf (golden-bits wideJob y)
-
--- .. and no other does
-numberOf-four : all (λ v. eqb (numberOf (bits 4 v)) v) (upFrom 0 16) ≡ true
-unfolding all numberOf bits bit tabulate upFrom
-numberOf-four = refl
-
-wanted-only : (x v : ℕ) → v < 16 → rectifies wideJob x v ≡ true → wanted x ≡ v
-unfolding wanted
-wanted-only x v h r =
-    ap numberOf (sym (rectifies-iff-outputs wideJob x v .0 r) ∙ outputs-wide x v)
-    ∙ fixed-below (λ u. numberOf (bits 4 u)) 16 numberOf-four v h
 
 -- a reading of all candidates is an input with the same golden outputs
 golden-reading : (x : ℕ) → goldenOutputs wideJob (reading wideJob (candidateNets wideJob) x) ≡ goldenOutputs wideJob x
@@ -287,48 +317,28 @@ module _ (is : List ℕ) (e : ruling wideJob ≡ patch is) where
       ∙ sym (golden-driven 0 (omega arith)))))
       (true-or-false (any (eqb i) is))
 
--- ---- sixteen vectors
-
--- each is wanted by the input of the same number
-wanted-self : all (λ v. eqb (wanted v) v) (upFrom 0 16) ≡ true
-unfolding wanted numberOf all goldenOutputs values extended valueOf gateValue gateOf operands conj disj parity inverted
-    netAt bits bit tabulate upFrom wideJob
-wanted-self = refl
-
-mem-vectors : vectorLoop wideJob .stuck ≡ none → (v : ℕ) → v < 16 → Mem v (vectorLoop wideJob .vectors)
-unfolding wideJob
-mem-vectors e v h =
-    let r = listed-of-none wideJob e v (omega arith) in
-    let w = wanted-only v (r .0) (vectors-below wideJob (r .0) (r .1)) (r .2) in
-    mem-cast (sym (fixed-below wanted 16 wanted-self v h) ∙ w) (r .1)
-
-length-wide : length (sheetOf wideJob) ≡ longestSheet
+length-wide : length (chooseSheet wideJob) ≡ longestChoose
 length-wide =
-    let ks = candidateNets wideJob in
-    let p = patch-exactly wideJob .1 (ks, subsets-self ks, carries-of-sound wideJob ks sound-wide) in
-    let is = p .0 in
-    let e = p .1 in
+    let is = chosen wideJob in
     let t = tableOf wideJob is in
-    let vs = vectorLoop wideJob .vectors in
-    let n : 10 ≤ length is = length-covering 10 is (mem-support is e) in
-    let v : 16 ≤ length vs = length-covering 16 vs (mem-vectors (patch-chosen wideJob is e .0)) in
     let ns = notesOf wideJob is in
-    let l : length (sheetOf wideJob) ≡ 19 + 2 * length is + length t + length vs + length ns =
-    ap length (sym (patchBytes-ruling wideJob vs is refl refl refl ∙ sheet-ruling wideJob e refl))
-    ∙ length-patchBytes vs is t (cost wideJob is) ns in
-    omega (arith, length-tableOf wideJob is, length-notesOf wideJob is, pow-mono n, longest wideJob good-wide)
+    let n : 10 ≤ length is = length-covering 10 is (mem-support is (sound-ruling wideJob sound-wide)) in
+    let l : length (chooseSheet wideJob) ≡ 16 + 2 * length is + length t + length ns =
+    ap length (chosen-patch wideJob sound-wide .1 ∙ sym (patchBytes-sheet wideJob is refl refl refl))
+    ∙ length-patchBytes is t (cost wideJob is) ns in
+    omega (arith, length-tableOf wideJob is, length-notesOf wideJob is, pow-mono n, longest-chosen wideJob good-wide)
 
-pub longest-sheet-met : LongestSheetMet
-longest-sheet-met =
-    let d : List ℕ = replicate 2103 0 in
+pub longest-choose-met : LongestChooseMet
+longest-choose-met =
+    let d : List ℕ = replicate 2084 0 in
     let s = jobBytes wideJob in
     let e = jobOf-jobBytes wideJob four-wide in
-    let n : decideNumber d s ≡ 0 =
-    decide-accepts d s .1
-    (omega (arith, length-replicate {A = ℕ} 2103 0), jobWhole-jobBytes wideJob four-wide, rw e good-wide) in (
+    let n : chooseNumber d s ≡ 0 =
+    choose-accepts d s .1
+    (omega (arith, length-replicate {A = ℕ} 2084 0), jobWhole-jobBytes wideJob four-wide, rw e good-wide) in (
       d,
       s,
       below-of-all 256 (omega arith) s bytes-wide,
       n,
-      ap (λ (r : DecideReply). r .len) (decide-reply d s n) ∙ rw e length-wide,
+      ap (λ (r : ChooseReply). r .len) (choose-reply d s n) ∙ rw e length-wide,
     )

@@ -1,36 +1,34 @@
--- What specs/Claims.antt promises of what fit replies. Assumes nothing.
+-- What specs/Claims.antt promises of what fit replies, and of the sheets that compare and fit refuse with 7. Assumes nothing.
 use Prim.Native.Nat.{ℕ, _+_, _*_, _≤_, _<_}
 use mathlib.Core.Path.{_≡_, refl, sym, _∙_, ap, subst}
-use mathlib.Core.Logic.{⊎-elim}
-use mathlib.Core.List.{List, [], _∷_, append-assoc, append-nil}
-use mathlib.Core.Bool.{true}
-use native.Mathlib.Nat.{zero-add}
+use mathlib.Core.List.{List, [], _∷_, _++_, append-assoc, append-nil}
+use mathlib.Core.Bool.{true, cond}
 use native.Mathlib.Omega.{arith}
 use borrow.Author.Tests.{leb-true, le-leb, eqb-true, eq-eqb, ne-eqb}
 use lib.Dec.{eqb}
 use lib.ListN.{length, getD, take, length-append, length-map}
-use Rattle.records.specs.Bytes.{upFrom, all, flat, bytePair, placed, whole, nth}
+use Rattle.records.specs.Bytes.{upFrom, all, flat, bytePair, field, whole, nth}
 use Rattle.records.specs.Gate.{Gate}
 use Rattle.records.specs.Job.{Job, jobOf, gatesOf, netsOf, netlistOf, gateBytes}
 use Rattle.records.specs.Refusal.{firstFailing, jobTests, partTests}
-use Rattle.records.specs.Sheet.{Patch, patchOf, sheetTests}
+use Rattle.records.specs.Sheet.{notesTag, patchOf, sheetTests}
 use Rattle.records.specs.Claims.{PartsGood}
-use Rattle.records.proofs.Laws.Bytes.{all-cons, take-placed}
+use Rattle.records.proofs.Laws.Bytes.{all-cons}
 use Rattle.records.proofs.Laws.Job.{length-field, length-flat, length-bytePair}
-use Rattle.records.proofs.Laws.Notes.{notes-support, notes-table, notes-tests}
+use Rattle.records.proofs.Laws.Notes.{notes-support, notes-table, notes-tests, vectors-seven as vectors-number, notes-seven as notes-number}
 use Rattle.records.proofs.Laws.RoundTrip.{All, Four, gateFormat, read-flat, length-records, joined, whole-joined, nth-joined, netsOf-flat}
 use Rattle.records.proofs.Laws.Accepted.{passes-of-none, none-of-passes, four-jobOf}
 use Rattle.records.proofs.Laws.Counts.{countsWithin-facts, countsWithin-countsOf}
-use Rattle.records.specs.Service.{countsOf, sideCountsOf}
+use Rattle.records.specs.Service.{countsOf, sideCountsOf, sheetRoomy}
 use Rattle.engine.specs.Compare.{pairTests}
 use Rattle.engine.specs.Inner.Packed.{formed}
 use Rattle.engine.specs.Fit.{fitted, fittedBytes, fits, longestFit}
 use Rattle.engine.specs.Reply.{fitTests, fitNumber, fitReply, fittedBuffer}
-use Rattle.engine.specs.Claims.{FitAccepts, FitRefuses, FitKeeps, FitIndependent, LongestFit, FittedIn, FittedGiven, FitIgnoresVectors, FitIgnoresNotes}
-use Rattle.engine.specs.declared.fitting.FitReply.{FitReply}
+use Rattle.engine.specs.Claims.{FitAccepts, FitRefuses, FitKeeps, FitIndependent, LongestFit, FittedIn, FittedGiven, FitIgnoresNotes, VectorsSeven, NotesSeven}
+use Rattle.engine.proofs.Laws.Compare.{both-seven}
 use Rattle.engine.proofs.Laws.Fitted.{sheet-entries, fitted-driven, fitted-netlist}
 use Rattle.engine.proofs.Laws.Unpacked.{fitted-formed}
-use Rattle.engine.proofs.Replies.{zero-or-not, kept-behind, compare-accepts}
+use Rattle.engine.proofs.Replies.{front-placed, kept-behind, compare-accepts}
 
 -- ---- every gate of a fitted netlist has four slots
 
@@ -152,35 +150,20 @@ pub fit-refuses : FitRefuses
 unfolding fitReply fittedBuffer
 fit-refuses d s p h = let e = ne-eqb (fitNumber d s p) 0 h in (rw e refl, rw e refl)
 
--- ---- an accepted call
+-- ---- the reply in the buffer
 
-module _ (d s p : List ℕ) (e : fitNumber d s p ≡ 0) where
-  abbrev job : Job
-  job = jobOf s
-
-  abbrev sheet : Patch
-  sheet = patchOf p
-
+module _ (d s p : List ℕ) where
   abbrev bytes : List ℕ
   bytes = fittedBytes (jobOf s) (patchOf p .support) (patchOf p .table)
 
-  accepted : eqb (fitNumber d s p) 0 ≡ true
-  accepted = eq-eqb (fitNumber d s p) 0 e
+  -- the fitted netlist, or nothing
+  fit-front : take (fitReply d s p .len) (fittedBuffer d s p) ≡ cond (eqb (fitNumber d s p) 0) bytes []
+  unfolding fitReply fittedBuffer
+  fit-front = front-placed (eqb (fitNumber d s p) 0) d bytes
 
-  pub reply-of : fitReply d s p ≡ record { number = 0; len = length bytes }
+  pub fit-length : fitNumber d s p ≡ 0 → fitReply d s p .len ≡ length bytes
   unfolding fitReply
-  reply-of = rw (accepted, e) refl
-
-  -- the reply in the buffer is the fitted netlist
-  bytes-of : take (fitReply d s p .len) (fittedBuffer d s p) ≡ bytes
-  unfolding fittedBuffer
-  bytes-of =
-      let u = fit-accepts d s p .0 e in
-      let g = compare-accepts s p .0 (u .1) .1 in
-      let q : fittedBuffer d s p ≡ placed d 0 bytes = rw accepted refl in
-      ap (λ (k : ℕ). take k (fittedBuffer d s p)) (ap (λ (r : FitReply). r .len) reply-of ∙ sym (zero-add (length bytes)))
-      ∙ ap (take (0 + length bytes)) q
-      ∙ take-placed d 0 bytes (omega (arith, u .0, longest-fit s g (sheet .support) (sheet .table) (u .2)))
+  fit-length e = rw (eq-eqb (fitNumber d s p) 0 e)
 
 pub fit-keeps : FitKeeps
 unfolding fitReply fittedBuffer
@@ -200,11 +183,11 @@ fitted-given d s p e =
     let t = patchOf p .table in
     let u = fit-accepts d s p .0 e in
     let c = compare-accepts s p .0 (u .1) in
-    let entries = sheet-entries (j .targets) p (c .2) in
+    let entries = sheet-entries p (c .2) in
     let good = fitted-netlist j (c .1) (patchOf p) (c .3) entries in
     let gates = nth-gates j is t (four-jobOf s .old) in
     let outputs = nth-outputs j is t in
-    subst (FittedIn j (patchOf p)) (sym (bytes-of d s p e))
+    subst (FittedIn j (patchOf p)) (sym (fit-front d s p ∙ rw (eq-eqb (fitNumber d s p) 0 e) refl))
     (record {
       fields = whole-fitted j is t;
       bytes = rw (gates, outputs) refl;
@@ -220,28 +203,15 @@ number-of-length : (d e s p : List ℕ) → length d ≡ length e → fitNumber 
 unfolding fitNumber fitTests firstFailing
 number-of-length d e s p h = rw h refl
 
-nothing-of : (d s p : List ℕ) → (fitNumber d s p ≡ 0 → ⊥) → take (fitReply d s p .len) (fittedBuffer d s p) ≡ []
-nothing-of d s p h = ap (λ (r : FitReply). take (r .len) (fittedBuffer d s p)) (fit-refuses d s p h .0)
+fit-alike : (d e s p : List ℕ) → length d ≡ length e → fitReply d s p ≡ fitReply e s p
+unfolding fitReply
+fit-alike d e s p h = rw (number-of-length d e s p h)
 
 pub fit-independent : FitIndependent
-fit-independent d e s p h =
-    let n = number-of-length d e s p h in
-    ⊎-elim
-    (λ (z : fitNumber d s p ≡ 0).
-    let y : fitNumber e s p ≡ 0 = sym n ∙ z in
-    (reply-of d s p z ∙ sym (reply-of e s p y), bytes-of d s p z ∙ sym (bytes-of e s p y)))
-    (λ (z : fitNumber d s p ≡ 0 → ⊥).
-    let y : fitNumber e s p ≡ 0 → ⊥ = λ q. z (n ∙ q) in (
-      fit-refuses d s p z .0
-          ∙ ap (λ (k : ℕ). record { number = k; len = 0 }) n
-          ∙ sym (fit-refuses e s p y .0),
-      nothing-of d s p z ∙ sym (nothing-of e s p y),
-    ))
-    (zero-or-not (fitNumber d s p))
-
-pub fit-ignores-vectors : FitIgnoresVectors
-unfolding fitReply fittedBuffer
-fit-ignores-vectors d s p q e f g h = (rw (e, f, g, h) refl, rw (e, f, g, h) refl)
+fit-independent d e s p h = (
+  fit-alike d e s p h,
+  fit-front d s p ∙ rw (number-of-length d e s p h) (sym (fit-front e s p)),
+)
 
 pub fit-ignores-notes : FitIgnoresNotes
 unfolding fitReply fittedBuffer fitNumber fitTests pairTests
@@ -250,3 +220,13 @@ fit-ignores-notes d s p ns b w n l =
     let i = notes-support p ns w n l in
     let k = notes-table p ns w n l in
     (rw (t, i, k), rw (t, i, k))
+
+-- ---- sheets that both refuse with 7
+
+pub vectors-seven : VectorsSeven
+unfolding sheetRoomy
+vectors-seven s ts a b n w f = both-seven s (a ++ b) n (vectors-number 0 0 [] [] ts a b refl w f)
+
+pub notes-seven : NotesSeven
+unfolding sheetRoomy
+notes-seven s p ns n w l h = both-seven s (p ++ field notesTag ns) n (notes-number 0 0 [] [] p ns refl w l h)

@@ -4,7 +4,7 @@ pub mod Best
 pub mod Block
 pub mod Choice
 pub mod Compare
-pub mod Decide
+pub mod Reply
 pub mod Drive
 pub mod Eval
 pub mod EvalWords
@@ -18,6 +18,7 @@ pub mod FitSheet
 pub mod FitTree
 pub mod Fitted
 pub mod Given
+pub mod Guess
 pub mod Join
 pub mod Kernel
 pub mod Leaves

@@ -1,185 +1,217 @@
--- What specs/Claims.antt promises of the number in each reply, and of what decide and compare reply. Assumes nothing.
-use Prim.Native.Nat.{ℕ, zero, suc, _+_, _^_, _≤_, _<_}
+-- What specs/Claims.antt promises of the number in each reply, and of what judge, choose and compare reply. What judge and choose have in
+-- common is said once, over how many bytes the buffer has to hold and the sheet of a job. Assumes nothing.
+use Prim.Native.Nat.{ℕ, _^_, _≤_, _<_}
 use mathlib.Core.Path.{_≡_, refl, sym, _∙_, ap, subst}
-use mathlib.Core.Logic.{_↔_, _⊎_, inl, inr, ⊎-elim}
+use mathlib.Core.Logic.{_↔_, inl, inr, ⊎-elim}
 use mathlib.Core.List.{List, [], _∷_, _++_, append-assoc, append-nil}
 use mathlib.Core.Bool.{Bool, true, false, cond, not}
 use mathlib.Core.Option.{Option, none, some}
-use native.Mathlib.Nat.{zero-add}
 use native.Mathlib.Omega.{arith}
-use borrow.Author.Tests.{leb-true, eqb-true, eq-eqb, ne-eqb, not-false}
-use lib.Dec.{leb, eqb}
+use borrow.Author.Tests.{eqb-true, eq-eqb, ne-eqb, not-false}
+use lib.Dec.{eqb}
 use lib.ListN.{length, getD, take, drop}
 use Rattle.records.specs.Bytes.{upFrom, flat, bytePair, word, placed, field, whole, nth}
 use Rattle.records.specs.Job.{Job, jobOf}
 use Rattle.records.specs.Refusal.{firstFailing, jobTests, partTests}
 use Rattle.records.specs.Sheet.{quad, sheetTags, notesTag, patchOf, sheetTests}
 use Rattle.records.specs.Claims.{PartsGood}
-use Rattle.records.proofs.Laws.Bytes.{false-of, take-placed, drop-placed-behind}
+use Rattle.records.proofs.Laws.Bytes.{false-of}
 use Rattle.records.proofs.Laws.Accepted.{passes-of-none, none-of-passes}
 use Rattle.records.proofs.Laws.Front.{nth-front}
+use Rattle.records.proofs.Laws.Job.{take-placed-front, drop-placed-front}
 use Rattle.records.proofs.Laws.Notes.{notes-support, notes-table, notes-tests}
-use Rattle.records.proofs.Laws.ReadColumns.{columns-accepts}
 use Rattle.records.proofs.Laws.RoundTrip.{joined, whole-joined, nth-joined, netsOf-flat}
 use Rattle.engine.specs.Rectify.{rectifies, vectorLoop}
 use Rattle.engine.specs.Eval.{allInputs, oldOutputs, goldenOutputs}
-use Rattle.engine.specs.Support.{drivenBy, sound, tableOf, notesOf, candidateNets, cost}
+use Rattle.engine.specs.Support.{reading, drivenBy, sound, tableOf, notesOf, candidateNets, cost, chosen}
 use Rattle.engine.specs.Compare.{difference, pairTests}
-use Rattle.engine.specs.Verdict.{Ruling, patch, unfixable, blind, blindReading, ruling, fourBytes, sheetOf, longestSheet, decideNumber, decidedBytes}
-use Rattle.engine.specs.Reply.{verdictFrom, verdictOf, verdictFields, declinedReply, decideReply, comparisonOf, compareNumber, compareReply, fitReply}
-use Rattle.engine.specs.Inner.Sheet.{patchBytes}
-use Rattle.engine.specs.Claims.{NumberGiven, DecideAccepts, DecideRefuses, DecideKeeps, DecideIndependent, LongestSheet, OneVerdict, GivesPatch, PatchIn, PatchGiven, GivesUnfixable, GivesBlind, GivesBlindExactly, VectorsGiven, CompareAccepts, CompareRefuses, ComparesEqual, ComparesDiffers, CompareIgnoresVectors, CompareIgnoresNotes}
+use Rattle.engine.specs.Verdict.{patch, blindReading, ruling, fourBytes, judgeSheet, patchSheet, chooseSheet, longestJudge, longestChoose, replyNumber, replyBytes, judgeNumber, judgedBytes, chooseNumber, chosenBytes}
+use Rattle.engine.specs.Reply.{judgementOf, judgementFields, declinedJudge, judgeReply, choiceOf, choiceFields, declinedChoose, chooseReply, comparisonOf, compareNumber, compareReply, fitReply}
+use Rattle.engine.specs.Claims.{NumberGiven, JudgeAccepts, ChooseAccepts, JudgeRefuses, ChooseRefuses, RefuseAlike, JudgeKeeps, ChooseKeeps, JudgeIndependent, ChooseIndependent, LongestJudge, LongestChoose, OneJudgement, GivesFixable, GivesUnfixable, VectorsGiven, OneChoice, GivesPatch, PatchIn, PatchGiven, PatchFields, GivesBlind, GivesBlindExactly, UnfixableBlind, BlindGiven, CompareAccepts, CompareRefuses, ComparesEqual, ComparesDiffers, CompareIgnoresNotes}
+use Rattle.engine.specs.declared.judging.JudgeReply.{JudgeReply}
+use Rattle.engine.specs.declared.choosing.ChooseReply.{ChooseReply}
 use Rattle.engine.specs.declared.comparing.Comparison.{Comparison}
 use Rattle.engine.specs.declared.comparing.Comparison.the-variants as Comparison
 use Rattle.engine.specs.declared.comparing.CompareReply.{CompareReply}
-use Rattle.engine.specs.declared.deciding.DecideReply.{DecideReply}
-use Rattle.engine.proofs.Laws.Decide.{lentPlaces, lent-roomy, lent-refusal, number-long}
+use Rattle.engine.proofs.Laws.Reply.{number-short, number-long, number-accepts, judgeGiven, chooseGiven}
 use Rattle.engine.proofs.Laws.Notes.{note-in}
-use Rattle.engine.proofs.Laws.Sheet.{whole-field, nth-field, patchBytes-ruling, sheet-ruling}
-use Rattle.engine.proofs.Laws.Choice.{cond-of, cond-zero, true-or-false, not-both, first-least, first-none-below}
+use Rattle.engine.proofs.Laws.Sheet.{whole-field, nth-field}
+use Rattle.engine.proofs.Laws.Choice.{cond-of, cond-zero, none-or-some, true-or-false, not-both, first-least, first-none-below}
 use Rattle.engine.proofs.Laws.ListLoop.{first-of-least, first-of-none}
-use Rattle.engine.proofs.Laws.Support.{rectifies-iff-outputs, length-tableOf, tableOf-below, sound-iff-found, sound-iff-subset-carries}
-use Rattle.engine.proofs.Laws.Loop.{stuck-none-iff}
-use Rattle.engine.proofs.Laws.Verdict.{longest-sheet, ruling-blind, blind-reading, length-notesOf, getD-notesOf}
-use Rattle.engine.proofs.Theorems.{patch-exactly, patch-sound, patch-table, least-cost, unfixable-exactly, blind-exactly}
+use Rattle.engine.proofs.Laws.Support.{rectifies-iff-outputs, length-tableOf, tableOf-below, sound-iff-found, carries-of-sound, shared-unrectifiable, sound-iff-subset-carries, rectifiable-of-carries}
+use Rattle.engine.proofs.Laws.Best.{chosen-sound}
+use Rattle.engine.proofs.Laws.Loop.{stuck-iff, stuck-none-iff}
+use Rattle.engine.proofs.Laws.Verdict.{LeastBlind, judged-unfixable, judged-fixable, chosen-patch, chosen-blind, blind-least, blind-unique, unsound-of-blind, longest-judge, longest-choose, length-notesOf, getD-notesOf}
+use Rattle.engine.proofs.Theorems.{sound-ruling, patch-table, least-cost}
+
+-- ---- a reply in the buffer
+
+-- where the bytes xs are placed at a buffer's start, or nothing is, they or nothing stand there
+pub front-placed : (b : Bool) (d xs : List ℕ) → take (cond b (length xs) 0) (cond b (placed d 0 xs) d) ≡ cond b xs []
+front-placed true d xs = take-placed-front d xs
+front-placed false d xs = refl
+
+-- .. and the buffer is kept from there on
+pub kept-behind : (b : Bool) (d xs : List ℕ) → (b ≡ true → length xs ≤ length d)
+    → let n = cond b (length xs) 0 in (n ≤ length d) × (drop n (cond b (placed d 0 xs) d) ≡ drop n d)
+kept-behind true d xs h = (h refl, drop-placed-front d xs)
+kept-behind false d xs h = (omega arith, refl)
+
+-- ---- what judge and choose have in common
+
+-- how long the reply is to job bytes s and a buffer d that has to hold k bytes, where f is the sheet of a job
+unfoldable pub replyLength : ℕ → (Job → List ℕ) → List ℕ → List ℕ → ℕ
+replyLength k f d s = cond (eqb (replyNumber k d s) 0) (length (f (jobOf s))) 0
+
+-- n and l are its number and its length
+pub record Replies (k : ℕ) (f : Job → List ℕ) (d s : List ℕ) (n l : ℕ) : Type 0 where
+  pub number : n ≡ replyNumber k d s
+  pub len : l ≡ replyLength k f d s
+
+-- a number says of the buffer only its length
+number-of-length : (k : ℕ) (d e s : List ℕ) → length d ≡ length e → replyNumber k d s ≡ replyNumber k e s
+unfolding replyNumber firstFailing
+number-of-length k d e s h = rw h refl
+
+module _ (k : ℕ) (f : Job → List ℕ) (d s : List ℕ) where
+  -- the sheet, or nothing
+  reply-front : take (replyLength k f d s) (replyBytes k f d s) ≡ cond (eqb (replyNumber k d s) 0) (f (jobOf s)) []
+  unfolding replyLength replyBytes
+  reply-front = front-placed (eqb (replyNumber k d s) 0) d (f (jobOf s))
+
+  reply-kept : (replyNumber k d s ≡ 0 → ⊥) → replyBytes k f d s ≡ d
+  unfolding replyBytes
+  reply-kept h = rw (ne-eqb (replyNumber k d s) 0 h)
+
+reply-independent : (k : ℕ) (f : Job → List ℕ) (d e s : List ℕ) → length d ≡ length e
+    → take (replyLength k f d s) (replyBytes k f d s) ≡ take (replyLength k f e s) (replyBytes k f e s)
+reply-independent k f d e s h = reply-front k f d s ∙ rw (number-of-length k d e s h) (sym (reply-front k f e s))
+
+module _ {k : ℕ} {f : Job → List ℕ} (long : (j : Job) → PartsGood j → length (f j) ≤ k) {d s : List ℕ} {n l : ℕ}
+    (w : Replies k f d s n l) where
+  pub reply-keeps : (l ≤ length d) × (drop l (replyBytes k f d s) ≡ drop l d)
+  unfolding replyLength replyBytes
+  reply-keeps =
+      let b = eqb (replyNumber k d s) 0 in
+      rw (w .len)
+      (kept-behind b d (f (jobOf s))
+      (λ t.
+      let a = number-accepts k d s .0 (eqb-true (replyNumber k d s) 0 t) in
+      omega (arith, long (jobOf s) (a .2), a .0)))
+
+  module _ (z : n ≡ 0) where
+    pub number-zero : replyNumber k d s ≡ 0
+    number-zero = sym (w .number) ∙ z
+
+    pub sheet-length : l ≡ length (f (jobOf s))
+    unfolding replyLength
+    sheet-length = w .len ∙ rw (eq-eqb (replyNumber k d s) 0 number-zero)
+
+    pub sheet-short : l ≤ k
+    sheet-short = omega (arith, sheet-length, long (jobOf s) (number-accepts k d s .0 number-zero .2))
+
+    pub sheet-bytes : {b : List ℕ} → b ≡ replyBytes k f d s → take l b ≡ f (jobOf s)
+    sheet-bytes e =
+        rw (e, w .len) (reply-front k f d s ∙ rw (eq-eqb (replyNumber k d s) 0 number-zero))
+
+-- a reply r is a where its number is 0, and else a refusal
+replies-of : {R : Type 0} (number len : R → ℕ) (k : ℕ) (f : Job → List ℕ) (d s : List ℕ) (a : R) (declined : ℕ → R)
+    → number a ≡ 0 → len a ≡ length (f (jobOf s)) → ((n : ℕ) → (number (declined n) ≡ n) × (len (declined n) ≡ 0))
+    → let n = replyNumber k d s in
+    let r = cond (eqb n 0) a (declined n) in
+    Replies k f d s (number r) (len r)
+unfolding replyLength
+replies-of number len k f d s a declined z l h =
+    let n = replyNumber k d s in
+    record {
+      number = cond-of number (eqb n 0) a (declined n) ∙ rw (z, h n .0) (cond-zero n);
+      len = cond-of len (eqb n 0) a (declined n) ∙ rw (l, h n .1);
+    }
+
+pub judge-replies : (d s : List ℕ) {r : JudgeReply} → r ≡ judgeReply d s → Replies longestJudge judgeSheet d s (r .number) (r .len)
+unfolding judgeReply declinedJudge
+judge-replies d s e =
+    rw e
+    (replies-of (λ (r : JudgeReply). r .number) (λ (r : JudgeReply). r .len) longestJudge judgeSheet d s
+    (judgeGiven (jobOf s)) declinedJudge refl refl (λ n. (refl, refl)))
+
+pub choose-replies : (d s : List ℕ) {r : ChooseReply} → r ≡ chooseReply d s → Replies longestChoose chooseSheet d s (r .number) (r .len)
+unfolding chooseReply declinedChoose
+choose-replies d s e =
+    rw e
+    (replies-of (λ (r : ChooseReply). r .number) (λ (r : ChooseReply). r .len) longestChoose chooseSheet d s
+    (chooseGiven (jobOf s)) declinedChoose refl refl (λ n. (refl, refl)))
 
 -- ---- the number in a reply
 
 pub number-given : NumberGiven
-unfolding decideReply declinedReply compareReply fitReply
+unfolding compareReply fitReply
 number-given = (
-  λ d s.
-      let n = decideNumber d s in
-      cond-of (λ (r : DecideReply). r .number) (eqb n 0) _ _ ∙ cond-zero n,
+  λ d s. judge-replies d s refl .number,
+  λ d s. choose-replies d s refl .number,
   λ s p.
       let n = compareNumber s p in
       cond-of (λ (r : CompareReply). r .number) (eqb n 0) _ _ ∙ cond-zero n,
   λ d s p. refl,
 )
 
--- ---- what decide accepts
+-- ---- what judge and choose accept, and what they leave
 
-long-of-accepted : (d s : List ℕ) → decideNumber d s ≡ 0 → longestSheet ≤ length d
-unfolding decideNumber firstFailing
-long-of-accepted d s e = leb-true longestSheet (length d) (go (leb longestSheet (length d)) e)
-  where
-    go : (b : Bool) → cond b (firstFailing (jobTests s)) 1 ≡ 0 → b ≡ true
-    go true q = refl
-    go false q = let f : ⊥ = omega arith in absurd f
+pub judge-accepts : JudgeAccepts
+judge-accepts = number-accepts longestJudge
 
-pub decide-accepts : DecideAccepts
-decide-accepts d s = (
-  λ e.
-      let l = long-of-accepted d s e in
-      let u = columns-accepts lentPlaces s .0 (lent-refusal s ∙ sym (number-long d s l) ∙ e) in
-      (l, u .1, u .2),
-  λ h. number-long d s (h .0) ∙ sym (lent-refusal s) ∙ columns-accepts lentPlaces s .1 (lent-roomy, h .1, h .2),
+pub choose-accepts : ChooseAccepts
+choose-accepts = number-accepts longestChoose
+
+pub judge-refuses : JudgeRefuses
+unfolding judgeReply
+judge-refuses d s h = (rw (ne-eqb (judgeNumber d s) 0 h) refl, reply-kept longestJudge judgeSheet d s h)
+
+pub choose-refuses : ChooseRefuses
+unfolding chooseReply
+choose-refuses d s h = (rw (ne-eqb (chooseNumber d s) 0 h) refl, reply-kept longestChoose chooseSheet d s h)
+
+pub refuse-alike : RefuseAlike
+refuse-alike = (
+  number-short longestJudge,
+  number-short longestChoose,
+  number-long longestJudge,
+  number-long longestChoose,
 )
 
-pub decide-refuses : DecideRefuses
-unfolding decideReply decidedBytes
-decide-refuses d s h = let e = ne-eqb (decideNumber d s) 0 h in (rw e refl, rw e refl)
+pub longest-judged : LongestJudge
+longest-judged = longest-judge
 
-pub longest : LongestSheet
-longest = longest-sheet
+pub longest-chosen : LongestChoose
+longest-chosen = longest-choose
 
--- ---- what is behind the reply
+pub judge-keeps : JudgeKeeps
+judge-keeps d s = reply-keeps longest-judge (judge-replies d s refl)
 
--- where the bytes xs are placed at a buffer's start, or nothing is, the buffer is kept from there on
-pub kept-behind : (b : Bool) (d xs : List ℕ) → (b ≡ true → length xs ≤ length d)
-    → let n = cond b (length xs) 0 in (n ≤ length d) × (drop n (cond b (placed d 0 xs) d) ≡ drop n d)
-kept-behind true d xs h = (h refl, drop-placed-behind d 0 xs (omega (arith, h refl)) (length xs) (omega arith))
-kept-behind false d xs h = (omega arith, refl)
+pub choose-keeps : ChooseKeeps
+choose-keeps d s = reply-keeps longest-choose (choose-replies d s refl)
 
--- ---- an accepted job
+judge-alike : (d e s : List ℕ) → length d ≡ length e → judgeReply d s ≡ judgeReply e s
+unfolding judgeReply
+judge-alike d e s h = rw (number-of-length longestJudge d e s h)
 
-module _ (d s : List ℕ) (e : decideNumber d s ≡ 0) where
-  accepted : eqb (decideNumber d s) 0 ≡ true
-  accepted = eq-eqb (decideNumber d s) 0 e
+choose-alike : (d e s : List ℕ) → length d ≡ length e → chooseReply d s ≡ chooseReply e s
+unfolding chooseReply
+choose-alike d e s h = rw (number-of-length longestChoose d e s h)
 
-  good : PartsGood (jobOf s)
-  good = decide-accepts d s .0 e .2
+pub judge-independent : JudgeIndependent
+judge-independent d e s h = (
+  judge-alike d e s h,
+  rw (judge-replies d s refl .len, judge-replies e s refl .len) (reply-independent longestJudge judgeSheet d e s h),
+)
 
-  pub reply-of : decideReply d s ≡ record { number = 0; len = length (sheetOf (jobOf s)); verdict = verdictOf (jobOf s) }
-  unfolding decideReply
-  reply-of = rw accepted refl
+pub choose-independent : ChooseIndependent
+choose-independent d e s h = (
+  choose-alike d e s h,
+  rw (choose-replies d s refl .len, choose-replies e s refl .len) (reply-independent longestChoose chooseSheet d e s h),
+)
 
-  verdict-of : decideReply d s .verdict ≡ verdictOf (jobOf s)
-  verdict-of = ap (λ (r : DecideReply). r .verdict) reply-of
-
-  -- the reply in the buffer is the sheet
-  sheet-of : take (decideReply d s .len) (decidedBytes d s) ≡ sheetOf (jobOf s)
-  unfolding decidedBytes
-  sheet-of =
-      let xs = sheetOf (jobOf s) in
-      let p : decidedBytes d s ≡ placed d 0 xs = rw accepted refl in
-      ap (λ (k : ℕ). take k (decidedBytes d s)) (ap (λ (r : DecideReply). r .len) reply-of ∙ sym (zero-add (length xs)))
-      ∙ ap (take (0 + length xs)) p
-      ∙ take-placed d 0 xs (omega (arith, longest-sheet (jobOf s) good, long-of-accepted d s e))
-
-pub decide-keeps : DecideKeeps
-unfolding decideReply decidedBytes declinedReply
-decide-keeps d s =
-    let b = eqb (decideNumber d s) 0 in
-    let xs = sheetOf (jobOf s) in
-    rw (cond-of (λ (r : DecideReply). r .len) b _ _)
-    (kept-behind b d xs (λ t.
-    let e = eqb-true (decideNumber d s) 0 t in
-    omega (arith, longest-sheet (jobOf s) (good d s e), long-of-accepted d s e)))
-
-pub vectors-given : VectorsGiven
-unfolding sheetOf
-vectors-given d s e = sheet-of d s e
-
-number-of-length : (d e s : List ℕ) → length d ≡ length e → decideNumber d s ≡ decideNumber e s
-unfolding decideNumber firstFailing
-number-of-length d e s h = rw h refl
-
-pub zero-or-not : (n : ℕ) → (n ≡ 0) ⊎ (n ≡ 0 → ⊥)
-zero-or-not zero = inl refl
-zero-or-not (suc n) = inr (λ e. let f : ⊥ = omega arith in f)
-
--- ---- what a reply says
-
-module _ (d s : List ℕ) {r : DecideReply} (e : r ≡ decideReply d s) where
-  pub reply-number : r .number ≡ decideNumber d s
-  reply-number = ap (λ (x : DecideReply). x .number) e ∙ number-given .0 d s
-
-  module _ (z : r .number ≡ 0) where
-    pub number-zero : decideNumber d s ≡ 0
-    number-zero = sym reply-number ∙ z
-
-    pub sheet-short : r .len ≤ longestSheet
-    sheet-short =
-        omega (
-          arith,
-          ap (λ (x : DecideReply). x .len) (e ∙ reply-of d s number-zero),
-          longest-sheet (jobOf s) (good d s number-zero),
-        )
-
-    pub sheet-bytes : {b : List ℕ} → b ≡ decidedBytes d s → take (r .len) b ≡ sheetOf (jobOf s)
-    sheet-bytes w = rw (e, w) (sheet-of d s number-zero)
-
--- ---- what the buffer held before
-
-nothing-of : (d s : List ℕ) → (decideNumber d s ≡ 0 → ⊥) → take (decideReply d s .len) (decidedBytes d s) ≡ []
-unfolding declinedReply
-nothing-of d s h = ap (λ (r : DecideReply). take (r .len) (decidedBytes d s)) (decide-refuses d s h .0)
-
-pub decide-independent : DecideIndependent
-decide-independent d e s h =
-    ⊎-elim
-    (λ (z : decideNumber d s ≡ 0).
-    let y : decideNumber e s ≡ 0 = sym (number-of-length d e s h) ∙ z in
-    (reply-of d s z ∙ sym (reply-of e s y), sheet-of d s z ∙ sym (sheet-of e s y)))
-    (λ (z : decideNumber d s ≡ 0 → ⊥).
-    let y : decideNumber e s ≡ 0 → ⊥ = λ q. z (number-of-length d e s h ∙ q) in
-    let a = decide-refuses d s z in
-    let b = decide-refuses e s y in
-    (a .0 ∙ ap declinedReply (number-of-length d e s h) ∙ sym (b .0), nothing-of d s z ∙ sym (nothing-of e s y)))
-    (zero-or-not (decideNumber d s))
-
--- ---- what the verdict says
+-- ---- tags and values
 
 tag : List ℕ → ℕ
 tag xs = getD xs 0 0
@@ -188,164 +220,227 @@ value : List ℕ → ℕ
 value xs = getD xs 1 0
 
 -- one verdict has one tag
-apart : (a b : ℕ) {x y : ℕ} {fields : List ℕ} → (a ≡ b → ⊥) → fields ≡ a ∷ x ∷ [] → fields ≡ b ∷ y ∷ [] → ⊥
+apart : (a b : ℕ) {xs ys fields : List ℕ} → (a ≡ b → ⊥) → fields ≡ a ∷ xs → fields ≡ b ∷ ys → ⊥
 unfolding tag
 apart a b h p q = h (ap tag (sym p ∙ q))
 
-module _ (j : Job) where
-  patch-fields : (u : Ruling) (c : ℕ) → verdictFields (verdictFrom j u) ≡ 18 ∷ c ∷ [] → (is : List ℕ) × (u ≡ patch is) × (c ≡ cost j is)
-  unfolding verdictFields verdictFrom value
-  patch-fields (patch is) c e = (is, refl, sym (ap value e))
-  patch-fields (unfixable x) c e = absurd (apart 20 18 (λ z. omega arith) refl e)
-  patch-fields (blind r) c e = absurd (apart 21 18 (λ z. omega arith) refl e)
+-- .. and one value
+same-value : (a : ℕ) {x y : ℕ} {fields : List ℕ} → fields ≡ a ∷ x ∷ [] → fields ≡ a ∷ y ∷ [] → x ≡ y
+unfolding value
+same-value a p q = ap value (sym p ∙ q)
 
-  unfixable-fields : (u : Ruling) (x : ℕ) → verdictFields (verdictFrom j u) ≡ 20 ∷ x ∷ [] → u ≡ unfixable x
-  unfolding verdictFields verdictFrom value
-  unfixable-fields (patch is) x e = absurd (apart 18 20 (λ z. omega arith) refl e)
-  unfixable-fields (unfixable y) x e = ap unfixable (ap value e)
-  unfixable-fields (blind r) x e = absurd (apart 21 20 (λ z. omega arith) refl e)
+-- ---- what judge replies
 
-  blind-fields : (u : Ruling) (r : ℕ) → verdictFields (verdictFrom j u) ≡ 21 ∷ r ∷ [] → u ≡ blind r
-  unfolding verdictFields verdictFrom value
-  blind-fields (patch is) x e = absurd (apart 18 21 (λ z. omega arith) refl e)
-  blind-fields (unfixable y) x e = absurd (apart 20 21 (λ z. omega arith) refl e)
-  blind-fields (blind r) x e = ap blind (ap value e)
+module _ (d s : List ℕ) (e : judgeNumber d s ≡ 0) where
+  abbrev judgement : List ℕ
+  judgement = judgementFields (judgeReply d s .verdict)
 
-  one-of : (u : Ruling) {fields : List ℕ} → fields ≡ verdictFields (verdictFrom j u)
-      → ((c : ℕ) × (fields ≡ 18 ∷ c ∷ [])) ⊎ (((x : ℕ) × (fields ≡ 20 ∷ x ∷ [])) ⊎ ((r : ℕ) × (fields ≡ 21 ∷ r ∷ [])))
-  unfolding verdictFields verdictFrom
-  one-of (patch is) e = inl (cost j is, e)
-  one-of (unfixable x) e = inr (inl (x, e))
-  one-of (blind r) e = inr (inr (r, e))
+  pub judge-reply : judgeReply d s ≡ judgeGiven (jobOf s)
+  unfolding judgeReply
+  judge-reply = rw (eq-eqb (judgeNumber d s) 0 e) refl
 
-  ruling-fields : verdictFields (verdictOf j) ≡ verdictFields (verdictFrom j (ruling j))
-  unfolding verdictOf
-  ruling-fields = refl
+  -- the reply in the buffer is the sheet
+  judge-sheet : take (judgeReply d s .len) (judgedBytes d s) ≡ judgeSheet (jobOf s)
+  judge-sheet = sheet-bytes longest-judge (judge-replies d s refl) (number-given .0 d s ∙ e) refl
 
-module _ (d s : List ℕ) (e : decideNumber d s ≡ 0) where
-  told : verdictFields (decideReply d s .verdict) ≡ verdictFields (verdictFrom (jobOf s) (ruling (jobOf s)))
-  told = ap verdictFields (verdict-of d s e) ∙ ruling-fields (jobOf s)
+  judged : judgement ≡ judgementFields (judgementOf (jobOf s))
+  judged = ap (λ (r : JudgeReply). judgementFields (r .verdict)) judge-reply
 
-  telling : (u : Ruling) → ruling (jobOf s) ≡ u → verdictFields (decideReply d s .verdict) ≡ verdictFields (verdictFrom (jobOf s) u)
-  telling u q = told ∙ ap (λ (v : Ruling). verdictFields (verdictFrom (jobOf s) v)) q
+  fields-fixable : vectorLoop (jobOf s) .stuck ≡ none → judgement ≡ 19 ∷ []
+  unfolding judgementFields
+  fields-fixable q = judged ∙ ap judgementFields (judged-fixable (jobOf s) q .0)
 
-pub one-verdict : OneVerdict
-one-verdict d s e = (
-  one-of (jobOf s) (ruling (jobOf s)) (told d s e),
-  λ p u. apart 18 20 (λ z. omega arith) (p .1) (u .1),
+  fields-unfixable : {x : ℕ} → vectorLoop (jobOf s) .stuck ≡ some x → judgement ≡ 20 ∷ x ∷ []
+  unfolding judgementFields
+  fields-unfixable q = judged ∙ ap judgementFields (judged-unfixable (jobOf s) q .0)
+
+  stuck-fixable : judgement ≡ 19 ∷ [] → vectorLoop (jobOf s) .stuck ≡ none
+  stuck-fixable p =
+      ⊎-elim (λ q. q) (λ r. absurd (apart 19 20 (λ z. omega arith) p (fields-unfixable (r .1))))
+      (none-or-some (vectorLoop (jobOf s) .stuck))
+
+  stuck-unfixable : (x : ℕ) → judgement ≡ 20 ∷ x ∷ [] → vectorLoop (jobOf s) .stuck ≡ some x
+  stuck-unfixable x p =
+      ⊎-elim
+      (λ q. absurd (apart 19 20 (λ z. omega arith) (fields-fixable q) p))
+      (λ r. r .1 ∙ ap some (same-value 20 (fields-unfixable (r .1)) p))
+      (none-or-some (vectorLoop (jobOf s) .stuck))
+
+pub one-judgement : OneJudgement
+one-judgement d s e = (
+  ⊎-elim (λ q. inl (fields-fixable d s e q)) (λ r. inr (r .0, fields-unfixable d s e (r .1)))
+      (none-or-some (vectorLoop (jobOf s) .stuck)),
+  λ p u. apart 19 20 (λ z. omega arith) p (u .1),
+)
+
+pub gives-fixable : GivesFixable
+gives-fixable d s e =
+    let i = stuck-none-iff (jobOf s) in
+    (λ p. i .0 (stuck-fixable d s e p), λ h. fields-fixable d s e (i .1 h))
+
+pub gives-unfixable : GivesUnfixable
+gives-unfixable d s x e =
+    let i = stuck-iff (jobOf s) x in
+    (λ p. i .0 (stuck-unfixable d s e x p), λ h. fields-unfixable d s e (i .1 h))
+
+pub vectors-given : VectorsGiven
+vectors-given d s e =
+    let j = jobOf s in (
+      λ p. judge-sheet d s e ∙ judged-fixable j (stuck-fixable d s e p) .1,
+      λ x p. judge-sheet d s e ∙ judged-unfixable j (stuck-unfixable d s e x p) .1,
+    )
+
+-- ---- what choose replies
+
+module _ (d s : List ℕ) (e : chooseNumber d s ≡ 0) where
+  abbrev allSound : Bool
+  allSound = sound (jobOf s) (candidateNets (jobOf s))
+
+  abbrev choice : List ℕ
+  choice = choiceFields (chooseReply d s .verdict)
+
+  pub choose-reply : chooseReply d s ≡ chooseGiven (jobOf s)
+  unfolding chooseReply
+  choose-reply = rw (eq-eqb (chooseNumber d s) 0 e) refl
+
+  choose-sheet : take (chooseReply d s .len) (chosenBytes d s) ≡ chooseSheet (jobOf s)
+  choose-sheet = sheet-bytes longest-choose (choose-replies d s refl) (number-given .1 d s ∙ e) refl
+
+  chose : choice ≡ choiceFields (choiceOf (jobOf s))
+  chose = ap (λ (r : ChooseReply). choiceFields (r .verdict)) choose-reply
+
+  fields-patch : allSound ≡ true → choice ≡ 18 ∷ cost (jobOf s) (chosen (jobOf s)) ∷ []
+  unfolding choiceFields
+  fields-patch t = chose ∙ ap choiceFields (chosen-patch (jobOf s) t .0)
+
+  fields-blind : allSound ≡ false → choice ≡ 21 ∷ blindReading (jobOf s) ∷ []
+  unfolding choiceFields
+  fields-blind t = chose ∙ ap choiceFields (chosen-blind (jobOf s) t .0)
+
+  patch-sound : (c : ℕ) → choice ≡ 18 ∷ c ∷ [] → (allSound ≡ true) × (c ≡ cost (jobOf s) (chosen (jobOf s)))
+  patch-sound c p =
+      ⊎-elim
+      (λ t. (t, same-value 18 p (fields-patch t)))
+      (λ t. absurd (apart 18 21 (λ z. omega arith) p (fields-blind t)))
+      (true-or-false (allSound))
+
+  blind-unsound : (r : ℕ) → choice ≡ 21 ∷ r ∷ [] → (allSound ≡ false) × (r ≡ blindReading (jobOf s))
+  blind-unsound r p =
+      ⊎-elim
+      (λ t. absurd (apart 18 21 (λ z. omega arith) (fields-patch t) p))
+      (λ t. (t, same-value 21 p (fields-blind t)))
+      (true-or-false (allSound))
+
+pub one-choice : OneChoice
+one-choice d s e = (
+  ⊎-elim (λ t. inl (cost (jobOf s) (chosen (jobOf s)), fields-patch d s e t)) (λ t. inr (blindReading (jobOf s), fields-blind d s e t))
+      (true-or-false (sound (jobOf s) (candidateNets (jobOf s)))),
   λ p b. apart 18 21 (λ z. omega arith) (p .1) (b .1),
-  λ u b. apart 20 21 (λ z. omega arith) (u .1) (b .1),
 )
 
 pub gives-patch : GivesPatch
-unfolding verdictFields verdictFrom
 gives-patch d s e =
-    let j = jobOf s in (
-      λ p.
-          let f = patch-fields j (ruling j) (p .0) (sym (told d s e) ∙ p .1) in
-          patch-exactly j .0 (f .0, f .1),
-      λ c.
-          let p = patch-exactly j .1 c in
-          (cost j (p .0), telling d s e (patch (p .0)) (p .1)),
-    )
-
-pub gives-unfixable : GivesUnfixable
-unfolding verdictFields verdictFrom
-gives-unfixable d s x e =
-    let j = jobOf s in (
-      λ p. unfixable-exactly j x .0 (unfixable-fields j (ruling j) x (sym (told d s e) ∙ p)),
-      λ h. telling d s e (unfixable x) (unfixable-exactly j x .1 h),
+    let j = jobOf s in
+    let carries = sound-iff-subset-carries j (candidateNets j) in (
+      λ p. carries .0 (patch-sound d s e (p .0) (p .1) .0),
+      λ c. (cost j (chosen j), fields-patch d s e (carries .1 c)),
     )
 
 pub gives-blind : GivesBlind
-unfolding verdictFields verdictFrom
 gives-blind d s r e =
     let j = jobOf s in (
-      λ p. blind-exactly j r .0 (blind-fields j (ruling j) r (sym (told d s e) ∙ p)),
-      λ h. telling d s e (blind r) (blind-exactly j r .1 h),
+      λ p.
+          let b = blind-unsound d s e r p in
+          let l = blind-least j (b .0) in
+          rw (b .1) (l .below, l .none-shared, l .smaller),
+      λ h.
+          let l : LeastBlind j r = record { below = h .0; none-shared = h .1; smaller = h .2 } in
+          let u = unsound-of-blind j r l in
+          fields-blind d s e u ∙ ap (λ (q : ℕ). 21 ∷ q ∷ []) (blind-unique j (blindReading j) r (blind-least j u) l),
     )
 
 pub gives-blind-exactly : GivesBlindExactly
-unfolding verdictFields verdictFrom
 gives-blind-exactly d s e =
     let j = jobOf s in
     let carries = sound-iff-subset-carries j (candidateNets j) in (
-      λ p.
-          let b = blind-reading j (p .0) (blind-fields j (ruling j) (p .0) (sym (told d s e) ∙ p .1)) in
-          (stuck-none-iff j .0 (b .0), λ is m c. not-both (carries .1 (is, m, c)) (b .1)),
+      λ p is m c. not-both (carries .1 (is, m, c)) (blind-unsound d s e (p .0) (p .1) .0),
       λ h.
-          let u = false-of (sound j (candidateNets j)) (λ t. let c = carries .0 t in h .1 (c .0) (c .1) (c .2)) in
-          (blindReading j, telling d s e (blind (blindReading j)) (ruling-blind j (stuck-none-iff j .1 (h .0)) u)),
+          let u = false-of (sound j (candidateNets j)) (λ t. let c = carries .0 t in h (c .0) (c .1) (c .2)) in
+          (blindReading j, fields-blind d s e u),
     )
+
+pub unfixable-blind : UnfixableBlind
+unfixable-blind d s x e h u =
+    let j = jobOf s in
+    let is = candidateNets j in
+    let r = reading j is x in
+    let n = shared-unrectifiable j is x h u in
+    let t = false-of (sound j is) (λ b. not-both (rectifiable-of-carries j is (carries-of-sound j is b) x h) u) in
+    let least : (r < blindReading j → ⊥) = λ l. blind-least j t .smaller r l n in
+    (n, (blindReading j, fields-blind d s e t, omega arith))
+
+pub blind-given : BlindGiven
+blind-given d s r e p =
+    let b = blind-unsound d s e r p in
+    choose-sheet d s e ∙ rw (b .1) (chosen-blind (jobOf s) (b .0) .1)
 
 -- ---- the patch in the buffer
 
-pub quad-fourBytes : (x : ℕ) → quad (fourBytes x) ≡ x
+quad-fourBytes : (x : ℕ) → quad (fourBytes x) ≡ x
 unfolding quad fourBytes word bytePair
 quad-fourBytes x = omega arith
 
-module _ (is t : List ℕ) (c : ℕ) (vs ns : List ℕ) where
+module _ (j : Job) (is : List ℕ) where
   abbrev patchBodies : List (List ℕ)
-  patchBodies = flat bytePair is ∷ t ∷ fourBytes c ∷ vs ∷ []
+  patchBodies = flat bytePair is ∷ tableOf j is ∷ fourBytes (cost j is) ∷ []
 
-  patch-joined : patchBytes is t c vs ns ≡ joined 16 patchBodies ++ field notesTag ns
-  unfolding patchBytes joined
+  patch-joined : patchSheet j is ≡ joined 16 patchBodies ++ field notesTag (notesOf j is)
+  unfolding patchSheet joined
   patch-joined = simp (append-assoc, append-nil)
 
-  four-whole : whole sheetTags (joined 16 patchBodies) ≡ true
+  three-whole : whole sheetTags (joined 16 patchBodies) ≡ true
   unfolding upFrom
-  four-whole = whole-joined 16 patchBodies
+  three-whole = whole-joined 16 patchBodies
 
-  pub patch-whole : whole (sheetTags ++ (notesTag ∷ [])) (patchBytes is t c vs ns) ≡ true
-  patch-whole = rw patch-joined (whole-field sheetTags (joined 16 patchBodies) notesTag ns four-whole)
+  pub patch-whole : whole (sheetTags ++ (notesTag ∷ [])) (patchSheet j is) ≡ true
+  patch-whole = rw patch-joined (whole-field sheetTags (joined 16 patchBodies) notesTag (notesOf j is) three-whole)
 
-  pub patch-nth : (k : ℕ) → k < 4 → nth k (patchBytes is t c vs ns) ≡ getD patchBodies k []
+  pub patch-nth : (k : ℕ) → k < 3 → nth k (patchSheet j is) ≡ getD patchBodies k []
   patch-nth k h =
       ap (nth k) patch-joined
-      ∙ nth-front sheetTags (joined 16 patchBodies) (field notesTag ns) four-whole k h
+      ∙ nth-front sheetTags (joined 16 patchBodies) (field notesTag (notesOf j is)) three-whole k h
       ∙ nth-joined 16 patchBodies k h
 
-  pub patch-notes : nth 4 (patchBytes is t c vs ns) ≡ ns
-  patch-notes = ap (nth 4) patch-joined ∙ nth-field sheetTags (joined 16 patchBodies) notesTag ns four-whole
+  pub patch-notes : nth 3 (patchSheet j is) ≡ notesOf j is
+  patch-notes = ap (nth 3) patch-joined ∙ nth-field sheetTags (joined 16 patchBodies) notesTag (notesOf j is) three-whole
 
-  pub patch-read : patchOf (patchBytes is t c vs ns) ≡ record { support = is; table = t; cost = c; vectors = vs; notes = ns }
+  pub patch-read : patchOf (patchSheet j is)
+      ≡ record { support = is; table = tableOf j is; cost = cost j is; notes = notesOf j is }
   unfolding patchOf
   patch-read =
       let n = patch-nth in
-      rw (n 0 (omega arith), n 1 (omega arith), n 2 (omega arith), n 3 (omega arith), patch-notes, netsOf-flat is, quad-fourBytes c)
+      rw (n 0 (omega arith), n 1 (omega arith), n 2 (omega arith), patch-notes, netsOf-flat is, quad-fourBytes (cost j is))
 
--- the sheet of a patch over the nets is
-abbrev pub patchSheet : Job → List ℕ → List ℕ
-patchSheet j is = patchBytes is (tableOf j is) (cost j is) (vectorLoop j .vectors) (notesOf j is)
+module _ (d s : List ℕ) (c : ℕ) (e : chooseNumber d s ≡ 0) (q : choiceFields (chooseReply d s .verdict) ≡ 18 ∷ c ∷ []) where
+  -- the verdict is the patch over the chosen support
+  pub chosen-ruling : ruling (jobOf s) ≡ patch (chosen (jobOf s))
+  chosen-ruling = sound-ruling (jobOf s) (patch-sound d s e c q .0)
 
-module _ (d s : List ℕ) (c : ℕ) (e : decideNumber d s ≡ 0) (q : verdictFields (decideReply d s .verdict) ≡ 18 ∷ c ∷ []) where
-  -- the support, which the verdict says, and its sheet in the buffer
-  pub decided-patch : (is : List ℕ)
-      × (ruling (jobOf s) ≡ patch is)
-      × (c ≡ cost (jobOf s) is)
-      × (take (decideReply d s .len) (decidedBytes d s) ≡ patchSheet (jobOf s) is)
-  decided-patch =
-      let j = jobOf s in
-      let f = patch-fields j (ruling j) c (sym (told d s e) ∙ q) in
-      let vs = vectorLoop j .vectors in (
-        f .0,
-        f .1,
-        f .2,
-        sheet-of d s e ∙ sym (patchBytes-ruling j vs (f .0) refl refl refl ∙ sheet-ruling j (f .1) refl),
-      )
+  -- .. and its sheet is in the buffer
+  pub chosen-sheet : take (chooseReply d s .len) (chosenBytes d s) ≡ patchSheet (jobOf s) (chosen (jobOf s))
+  chosen-sheet = choose-sheet d s e ∙ chosen-patch (jobOf s) (patch-sound d s e c q .0) .1
 
 pub patch-given : PatchGiven
 patch-given d s c e q =
     let j = jobOf s in
-    let f = decided-patch d s c e q in
-    let is = f .0 in
-    let r = f .1 in
-    let a = f .2 in
+    let is = chosen j in
+    let f = patch-sound d s e c q in
+    let a = f .1 in
+    let r = chosen-ruling d s c e q in
     let p = patch-table j is r in
-    let h = patch-sound j is r .0 in
-    let rows = length-notesOf j is in
+    let h = chosen-sound j (f .0) .0 in
     subst (PatchIn j c)
-    (sym (ap patchOf (f .3) ∙ patch-read is (tableOf j is) (cost j is) (vectorLoop j .vectors) (notesOf j is)))
+    (sym (ap patchOf (chosen-sheet d s c e q) ∙ patch-read j is))
     (record {
       nets = p .0;
       entries = length-tableOf j is;
@@ -354,13 +449,15 @@ patch-given d s c e q =
       given = sym a;
       sum = a;
       least = λ ks m k. subst (λ (x : ℕ). x ≤ cost j ks) (sym a) (least-cost j is r ks m k);
-      vectors = refl;
-      rows = rows ∙ sym (length-tableOf j is);
+      rows = length-notesOf j is ∙ sym (length-tableOf j is);
       notes =
           λ k l.
-          let b : k < 2 ^ length is = omega arith in
+          let b : k < 2 ^ length is = omega (arith, length-notesOf j is) in
           rw (getD-notesOf j is k b) (note-in j is k (sound-iff-found j is .0 h k b));
     })
+
+pub patch-fields : PatchFields
+patch-fields d s c e q = rw (chosen-sheet d s c e q) (patch-whole (jobOf s) (chosen (jobOf s)))
 
 -- ---- compare
 
@@ -461,9 +558,6 @@ compares-differs s p x e =
     let d = difference-some (jobOf s) (patchOf p .support) (patchOf p .table) x in
     let r = result-of s p e in
     (λ q. d .0 (differs-injective _ x (sym r ∙ q)), λ h. r ∙ ap comparisonOf (d .1 h))
-
-pub compare-ignores-vectors : CompareIgnoresVectors
-compare-ignores-vectors s p q e f g h = compared s p e ∙ rw (g, h) (sym (compared s q f))
 
 pub compare-ignores-notes : CompareIgnoresNotes
 unfolding compareReply compareNumber pairTests

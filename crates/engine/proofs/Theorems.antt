@@ -10,12 +10,13 @@ use Rattle.engine.specs.Choice.{any}
 use Rattle.engine.specs.Rectify.{rectifies, vectorLoop}
 use Rattle.engine.specs.Support.{sound, candidateNets, subsets, chosen, tableOf}
 use Rattle.engine.specs.Verdict.{patch, blind, blindReading, ruling}
-use Rattle.engine.specs.Claims.{In, Rectifiable, TernaryKnown, TernaryUnknown, TernaryListKnown, TernaryListUnknown, TernaryFold, TernaryInverts, LoopEnds, EveryTable, Readings, PatchExactly, PatchTable, LeastCost, UnfixableExactly, BlindExactly, HalvesEqual}
+use Rattle.engine.specs.Claims.{In, Rectifiable, TernaryKnown, TernaryUnknown, TernaryListKnown, TernaryListUnknown, TernaryFold, TernaryInverts, LoopEnds, EveryTable, Readings, PatchExactly, PatchTable, LeastCost, UnfixableExactly, BlindExactly, HalvesEqual, SharesNone}
 use Rattle.engine.proofs.Laws.Choice.{any-iff-member, none-or-some}
 use Rattle.engine.proofs.Laws.Ternary.{entry-known-iff, entry-unknown-iff, list-known-iff, list-unknown-iff, fold-more, fold-inverts}
-use Rattle.engine.proofs.Laws.Support.{golden-iff, golden-iff-readings, golden-of-sound, carries-of-sound, sound-of-carries, sound-iff-subset-carries, reading-vector, rectifiable-of-carries}
+use Rattle.engine.proofs.Laws.Support.{golden-iff, golden-iff-readings, golden-of-sound, carries-of-sound, sound-of-carries, sound-iff-subset-carries, reading-vector, rectifiable-of-carries, shared-none-iff}
 use Rattle.engine.proofs.Laws.Best.{chosen-sound, chosen-least}
 use Rattle.engine.proofs.Laws.Loop.{rectifiable-iff, listed-of-none, listed-of-some, unlisted-of-some, stuck-iff, stuck-none-iff}
+use Rattle.engine.proofs.Laws.Notes.{rectify-iff}
 use Rattle.engine.proofs.Laws.Tree.{same-iff-bits}
 use Rattle.engine.proofs.Laws.Verdict.{LeastBlind, ruling-unfixable, ruling-patch, ruling-blind, unfixable-stuck, patch-chosen, blind-reading, blind-least, blind-unique, unsound-of-blind}
 
@@ -61,16 +62,18 @@ every-table j is t = (
 pub readings : Readings
 readings j g is m x v = reading-vector j g is m x v
 
+-- where all candidates together are sound, every input is fixable, and the verdict is the patch over the chosen support
+pub sound-ruling : (j : Job) → sound j (candidateNets j) ≡ true → ruling j ≡ patch (chosen j)
+sound-ruling j s =
+    ruling-patch j
+    (stuck-none-iff j .1 (rectifiable-of-carries j (candidateNets j) (carries-of-sound j (candidateNets j) s))) s
+
 pub patch-exactly : PatchExactly
-patch-exactly j = (
-  λ p.
-      let c = patch-chosen j (p .0) (p .1) in
-      sound-iff-subset-carries j (candidateNets j) .0 (c .1),
-  λ c.
-      let s = sound-iff-subset-carries j (candidateNets j) .1 c in
-      let r = stuck-none-iff j .1 (rectifiable-of-carries j (candidateNets j) (carries-of-sound j (candidateNets j) s)) in
-      (chosen j, ruling-patch j r s),
-)
+patch-exactly j =
+    let carries = sound-iff-subset-carries j (candidateNets j) in (
+      λ p. carries .0 (patch-chosen j (p .0) (p .1) .1),
+      λ c. (chosen j, sound-ruling j (carries .1 c)),
+    )
 
 -- a patch's nets are a sound set of candidates
 pub patch-sound : (j : Job) (is : List ℕ) → ruling j ≡ patch is → (sound j is ≡ true) × In is (subsets (candidateNets j))
@@ -103,6 +106,13 @@ blind-exactly j r = (
       let u = unsound-of-blind j r l in
       ruling-blind j (stuck-none-iff j .1 (h .0)) u ∙ ap blind (blind-unique j (blindReading j) r (blind-least j u) l),
 )
+
+pub shares-none : SharesNone
+shares-none j is r =
+    let i = shared-none-iff j is r in (
+      λ e v a. let s = rectify-iff j is r v .0 a in i .0 e v (s .0) (s .1),
+      λ h. i .1 (λ v l f. h v (rectify-iff j is r v .1 (l, f))),
+    )
 
 pub halves-equal : HalvesEqual
 halves-equal tb at half t h = same-iff-bits tb at (at + half) half t (omega arith) h

@@ -1,7 +1,8 @@
 -- What is promised of the engine beyond the contracts of its functions: the request's demands 1 to 3, of the definitions and of
--- what decide, compare and fit reply. What is claimed of the definitions is proved in proofs/Theorems.antt (of the fitted netlist in
--- proofs/Laws/Fitted.antt), of a reply's number, of decide and of compare in proofs/Replies.antt, of fit in proofs/FitReplies.antt,
--- of decide, then compare or fit, in proofs/InARow.antt, and that the longest replies are attained in proofs/Attained.antt. Assumes
+-- what judge, choose, compare and fit reply. What is claimed of the definitions is proved in proofs/Theorems.antt (of the fitted netlist
+-- in proofs/Laws/Fitted.antt), of a reply's number, of judge, choose and compare in proofs/Replies.antt, of fit, and of sheets that both
+-- refuse, in proofs/FitReplies.antt,
+-- of choose, then compare or fit, in proofs/InARow.antt, and that the longest replies are attained in proofs/Attained.antt. Assumes
 -- nothing.
 --
 --   In x xs                 x is an element of xs
@@ -16,21 +17,26 @@
 --   UnfixableExactly, BlindExactly          the two other verdicts
 --   HalvesEqual             when the test of a column's halves says equal
 --   FittedOutputs, FittedGood               the outputs of the netlist that fit gives, for any accepted sheet, and that it is one
---   NumberGiven             the number in a reply is document 01's
---   DecideAccepts, DecideRefuses, DecideKeeps, DecideIndependent      what decide accepts; a refusal alters nothing, a reply nothing
+--   NumberGiven             the number in a reply is the papers'
+--   JudgeAccepts, JudgeRefuses, JudgeKeeps, JudgeIndependent          what judge accepts; a refusal alters nothing, a reply nothing
 --                           behind its length; what the buffer held before plays no part
---   LongestSheet, LongestSheetMet           no sheet has more than 2,103 bytes, and one has as many
---   OneVerdict              an accepted job gets one of the three verdicts, and only one
---   GivesPatch, PatchIn, PatchGiven         when decide replies a patch, and what the patch in the buffer is
+--   ChooseAccepts, ChooseRefuses, ChooseKeeps, ChooseIndependent      .. for choose
+--   RefuseAlike             a buffer too short is 1; else both refuse 2 to 6 alike
+--   LongestJudge, LongestJudgeMet, LongestChoose, LongestChooseMet    no sheet is longer than 26 and 2,084 bytes, and one is as long
+--   OneJudgement, GivesFixable, GivesUnfixable              judge says fixable or unfixable, and when
+--   VectorsGiven            the bytes in judge's buffer, of which the last field is the vector list
+--   OneChoice               choose says patch or blind
+--   GivesPatch, PatchIn, PatchGiven         when choose replies a patch, and what the patch in the buffer is
 --   SomeGives, RectifyAll, NoteIn           what the note beside a row of its table says (card 1)
---   GivesUnfixable, GivesBlind, GivesBlindExactly           when it replies the two other verdicts
---   VectorsGiven            the bytes in the buffer: the verdict's fields, the vector list, and behind it the notes of a patch
---   CompareAccepts, CompareRefuses, ComparesEqual, ComparesDiffers, CompareIgnoresVectors     what compare accepts and replies
+--   PatchFields, SharesNone                 the fields of a patch's sheet; when inputs share no vector
+--   GivesBlind, GivesBlindExactly, UnfixableBlind, BlindGiven         when it replies blind, on unfixable jobs too, and its sheet
+--   CompareAccepts, CompareRefuses, ComparesEqual, ComparesDiffers    what compare accepts and replies
 --   CompareIgnoresNotes, FitIgnoresNotes    a sheet with notes gets the replies that it gets without (card 1)
---   FitAccepts, FitRefuses, FitKeeps, FitIndependent        as for decide
+--   VectorsSeven, NotesSeven                a sheet with a vector list, or with wrong notes, gets 7 from both
+--   FitAccepts, FitRefuses, FitKeeps, FitIndependent        as for choose
 --   LongestFit, LongestFitMet               no result has more than 4,075 bytes, and one has as many
---   FittedIn, FittedGiven, FitIgnoresVectors                what the netlist in the buffer is, and what plays no part in it
---   DecidedEqual, DecidedFits, DecidedFitted                decide, then compare or fit
+--   FittedIn, FittedGiven                   what the netlist in the buffer is
+--   ChosenEqual, ChosenFits, ChosenFitted                   choose, then compare or fit
 use Prim.Native.Nat.{ℕ, suc, _+_, _%_, _^_, _≤_, _<_}
 use mathlib.Core.Path.{_≡_}
 use mathlib.Core.Logic.{_↔_, _⊎_}
@@ -39,11 +45,11 @@ use mathlib.Core.Bool.{true, false}
 use mathlib.Core.Option.{none, some}
 use lib.Dec.{leb, ltb}
 use lib.ListN.{length, getD, take, drop}
-use Rattle.records.specs.Bytes.{all, flat, bytePair, field, whole, nth}
+use Rattle.records.specs.Bytes.{all, flat, bytePair, field, fits as fieldFits, whole, nth}
 use Rattle.records.specs.Gate.{kindCount, gateValue}
 use Rattle.records.specs.Netlist.{netAt, values}
 use Rattle.records.specs.Job.{Job, jobWhole, jobOf, gatesOf, netsOf, netlistOf, gateBytes}
-use Rattle.records.specs.Refusal.{maxGates, gatesGood, candidatesGood}
+use Rattle.records.specs.Refusal.{maxGates, gatesGood, candidatesGood, jobRefusal}
 use Rattle.records.specs.Sheet.{Patch, sheetTags, notesTag, patchOf, sheetWhole, patchGood}
 use Rattle.records.specs.Claims.{Below, PartsGood}
 use Rattle.engine.specs.Choice.{any, same}
@@ -51,8 +57,8 @@ use Rattle.engine.specs.Eval.{bit, bits, numberOf, oldValues, oldOutputs
 use Rattle.engine.specs.Ternary.{unknown, ternaryValue, ternaryTable, entry, Completes, CompletesAll, Possible, PossibleOf}
 use Rattle.engine.specs.Rectify.{rectifies, rectifiable, vectorLoop}
 use Rattle.engine.specs.Support.{reading, drivenBy, Carries, shared, tableOf, candidateNets, subsets, cost}
-use Rattle.engine.specs.Verdict.{patch, unfixable, blind, ruling, rulingFields, rulingNotes, sheetOf, longestSheet, decideNumber, decidedBytes}
-use Rattle.engine.specs.Reply.{verdictFields, declinedReply, decideReply, comparisonOf, compareNumber, compareReply, fitNumber, fitReply, fittedBuffer}
+use Rattle.engine.specs.Verdict.{patch, unfixable, blind, ruling, fourBytes, judgeSheet, chooseSheet, longestJudge, longestChoose, judgeNumber, judgedBytes, chooseNumber, chosenBytes}
+use Rattle.engine.specs.Reply.{judgementFields, declinedJudge, judgeReply, choiceFields, declinedChoose, chooseReply, comparisonOf, compareNumber, compareReply, fitNumber, fitReply, fittedBuffer}
 use Rattle.engine.specs.declared.comparing.Comparison.the-variants as Comparison
 use Rattle.engine.specs.Tree.{column}
 use Rattle.engine.specs.Fit.{fitted, fittedBytes, fits, longestFit}
@@ -210,65 +216,134 @@ FittedGood =
 -- Demand 1: "each with the number that document 01 names": a reply's number is the number of the first test that fails, or 0.
 abbrev pub NumberGiven : Type 0
 NumberGiven =
-    ((d s : List ℕ) → decideReply d s .number ≡ decideNumber d s)
+    ((d s : List ℕ) → judgeReply d s .number ≡ judgeNumber d s)
+    × ((d s : List ℕ) → chooseReply d s .number ≡ chooseNumber d s)
     × ((s p : List ℕ) → compareReply s p .number ≡ compareNumber s p)
     × ((d s p : List ℕ) → fitReply d s p .number ≡ fitNumber d s p)
 
--- ---- what decide replies
+-- ---- what judge and choose accept, and what they leave
 
 -- Demand 1: "Everything else is accepted": a buffer for the longest sheet and bytes that are a whole job with good parts.
-abbrev pub DecideAccepts : Type 0
-DecideAccepts =
+abbrev pub JudgeAccepts : Type 0
+JudgeAccepts =
     (d s : List ℕ)
-    → (decideNumber d s ≡ 0) ↔ ((longestSheet ≤ length d) × (jobWhole s ≡ true) × PartsGood (jobOf s))
+    → (judgeNumber d s ≡ 0) ↔ ((longestJudge ≤ length d) × (jobWhole s ≡ true) × PartsGood (jobOf s))
+
+abbrev pub ChooseAccepts : Type 0
+ChooseAccepts =
+    (d s : List ℕ)
+    → (chooseNumber d s ≡ 0) ↔ ((longestChoose ≤ length d) × (jobWhole s ≡ true) × PartsGood (jobOf s))
 
 -- Demand 1: "each with the number that document 01 names, length 0 and no lent byte altered".
-abbrev pub DecideRefuses : Type 0
-DecideRefuses =
-    (d s : List ℕ) → (decideNumber d s ≡ 0 → ⊥)
-    → (decideReply d s ≡ declinedReply (decideNumber d s)) × (decidedBytes d s ≡ d)
+abbrev pub JudgeRefuses : Type 0
+JudgeRefuses =
+    (d s : List ℕ) → (judgeNumber d s ≡ 0 → ⊥)
+    → (judgeReply d s ≡ declinedJudge (judgeNumber d s)) × (judgedBytes d s ≡ d)
+
+abbrev pub ChooseRefuses : Type 0
+ChooseRefuses =
+    (d s : List ℕ) → (chooseNumber d s ≡ 0 → ⊥)
+    → (chooseReply d s ≡ declinedChoose (chooseNumber d s)) × (chosenBytes d s ≡ d)
+
+-- Card 7: judge "wants 26 bytes", choose "2,084": a shorter buffer is 1, whatever the job. Given room, both give the job's number: they refuse
+-- 2 to 6 alike.
+abbrev pub RefuseAlike : Type 0
+RefuseAlike =
+    ((d s : List ℕ) → length d < longestJudge → judgeNumber d s ≡ 1)
+    × ((d s : List ℕ) → length d < longestChoose → chooseNumber d s ≡ 1)
+    × ((d s : List ℕ) → longestJudge ≤ length d → judgeNumber d s ≡ jobRefusal s)
+    × ((d s : List ℕ) → longestChoose ≤ length d → chooseNumber d s ≡ jobRefusal s)
 
 -- Document 01: "its reply fills the buffer's start; bytes or places behind its length are untouched".
-abbrev pub DecideKeeps : Type 0
-DecideKeeps =
-    (d s : List ℕ) → let n = decideReply d s .len in (n ≤ length d) × (drop n (decidedBytes d s) ≡ drop n d)
+abbrev pub JudgeKeeps : Type 0
+JudgeKeeps =
+    (d s : List ℕ) → let n = judgeReply d s .len in (n ≤ length d) × (drop n (judgedBytes d s) ≡ drop n d)
+
+abbrev pub ChooseKeeps : Type 0
+ChooseKeeps =
+    (d s : List ℕ) → let n = chooseReply d s .len in (n ≤ length d) × (drop n (chosenBytes d s) ≡ drop n d)
 
 -- Demand 1: "no earlier job plays any part in its reply": two buffers of one length, whatever they held, get one reply, and the
 -- same bytes as far as its length says.
-abbrev pub DecideIndependent : Type 0
-DecideIndependent =
+abbrev pub JudgeIndependent : Type 0
+JudgeIndependent =
     (d e s : List ℕ) → length d ≡ length e
-    → (decideReply d s ≡ decideReply e s)
-    × (take (decideReply d s .len) (decidedBytes d s) ≡ take (decideReply e s .len) (decidedBytes e s))
+    → (judgeReply d s ≡ judgeReply e s)
+    × (take (judgeReply d s .len) (judgedBytes d s) ≡ take (judgeReply e s .len) (judgedBytes e s))
 
--- Card 1: "Decide's buffer must now hold 2,103 bytes": the longest sheet has as many.
-abbrev pub LongestSheet : Type 0
-LongestSheet = (j : Job) → PartsGood j → length (sheetOf j) ≤ longestSheet
+abbrev pub ChooseIndependent : Type 0
+ChooseIndependent =
+    (d e s : List ℕ) → length d ≡ length e
+    → (chooseReply d s ≡ chooseReply e s)
+    × (take (chooseReply d s .len) (chosenBytes d s) ≡ take (chooseReply e s .len) (chosenBytes e s))
 
-abbrev pub LongestSheetMet : Type 0
-LongestSheetMet =
-    (d s : List ℕ) × Below 256 s × (decideNumber d s ≡ 0) × (decideReply d s .len ≡ longestSheet)
+-- Card 7: judge "wants 26 bytes", choose "2,084": the longest sheets have as many.
+abbrev pub LongestJudge : Type 0
+LongestJudge = (j : Job) → PartsGood j → length (judgeSheet j) ≤ longestJudge
 
--- Document 01: "A verdict is a patch, an unfixable input or a blind reading." An accepted job gets one of them, and, as their tags
--- differ, only one.
-abbrev pub OneVerdict : Type 0
-OneVerdict =
-    (d s : List ℕ) → decideNumber d s ≡ 0
-    → let fields = verdictFields (decideReply d s .verdict) in
-    let isPatch = (c : ℕ) × (fields ≡ 18 ∷ c ∷ []) in
+abbrev pub LongestJudgeMet : Type 0
+LongestJudgeMet =
+    (d s : List ℕ) × Below 256 s × (judgeNumber d s ≡ 0) × (judgeReply d s .len ≡ longestJudge)
+
+abbrev pub LongestChoose : Type 0
+LongestChoose = (j : Job) → PartsGood j → length (chooseSheet j) ≤ longestChoose
+
+abbrev pub LongestChooseMet : Type 0
+LongestChooseMet =
+    (d s : List ℕ) × Below 256 s × (chooseNumber d s ≡ 0) × (chooseReply d s .len ≡ longestChoose)
+
+-- ---- what judge replies
+
+-- Card 7: "Judge answers fixable or unfixable": one of them, and, as their tags differ, only one. Every input is fixable exactly when it
+-- says so.
+abbrev pub OneJudgement : Type 0
+OneJudgement =
+    (d s : List ℕ) → judgeNumber d s ≡ 0
+    → let fields = judgementFields (judgeReply d s .verdict) in
+    let isFixable = fields ≡ 19 ∷ [] in
     let isUnfixable = (x : ℕ) × (fields ≡ 20 ∷ x ∷ []) in
+    (isFixable ⊎ isUnfixable) × (isFixable → isUnfixable → ⊥)
+
+abbrev pub GivesFixable : Type 0
+GivesFixable =
+    (d s : List ℕ) → judgeNumber d s ≡ 0
+    → (judgementFields (judgeReply d s .verdict) ≡ 19 ∷ [])
+    ↔ ((x : ℕ) → x < 2 ^ jobOf s .inputs → rectifiable (jobOf s) x ≡ true)
+
+-- Demand 3: "An unfixable input is given exactly when there is one, and it is the smallest."
+abbrev pub GivesUnfixable : Type 0
+GivesUnfixable =
+    (d s : List ℕ) (x : ℕ) → judgeNumber d s ≡ 0
+    → (judgementFields (judgeReply d s .verdict) ≡ 20 ∷ x ∷ [])
+    ↔ ((x < 2 ^ jobOf s .inputs) × (rectifiable (jobOf s) x ≡ false) × ((y : ℕ) → y < x → rectifiable (jobOf s) y ≡ true))
+
+-- Demand 2: "its loop, smallest choices first, gives the listed settings": judge's sheet is the loop's list, behind the unfixable input
+-- if there is one.
+abbrev pub VectorsGiven : Type 0
+VectorsGiven =
+    (d s : List ℕ) → judgeNumber d s ≡ 0
+    → let sheet = take (judgeReply d s .len) (judgedBytes d s) in
+    let fields = judgementFields (judgeReply d s .verdict) in
+    let list = field 19 (vectorLoop (jobOf s) .vectors) in
+    (fields ≡ 19 ∷ [] → sheet ≡ list) × ((x : ℕ) → fields ≡ 20 ∷ x ∷ [] → sheet ≡ field 20 (fourBytes x) ++ list)
+
+-- ---- what choose replies
+
+-- Card 7: "Choose answers patch or blind": one of them, and only one.
+abbrev pub OneChoice : Type 0
+OneChoice =
+    (d s : List ℕ) → chooseNumber d s ≡ 0
+    → let fields = choiceFields (chooseReply d s .verdict) in
+    let isPatch = (c : ℕ) × (fields ≡ 18 ∷ c ∷ []) in
     let isBlind = (r : ℕ) × (fields ≡ 21 ∷ r ∷ []) in
-    (isPatch ⊎ (isUnfixable ⊎ isBlind))
-    × (isPatch → isUnfixable → ⊥)
-    × (isPatch → isBlind → ⊥)
-    × (isUnfixable → isBlind → ⊥)
+    (isPatch ⊎ isBlind) × (isPatch → isBlind → ⊥)
 
 -- Demand 3: "A patch is given exactly when the old circuit driven by some table over priced nets has the golden outputs on every
 -- input."
 abbrev pub GivesPatch : Type 0
 GivesPatch =
-    (d s : List ℕ) → decideNumber d s ≡ 0
-    → ((c : ℕ) × (verdictFields (decideReply d s .verdict) ≡ 18 ∷ c ∷ []))
+    (d s : List ℕ) → chooseNumber d s ≡ 0
+    → ((c : ℕ) × (choiceFields (chooseReply d s .verdict) ≡ 18 ∷ c ∷ []))
     ↔ ((is : List ℕ) × In is (subsets (candidateNets (jobOf s))) × Carries (jobOf s) is)
 
 -- Card 1: "one byte a reading: 0 for a reading that no input gives, 1 where exactly one vector fixes all its inputs, 2 where several
@@ -298,50 +373,56 @@ pub record PatchIn (j : Job) (c : ℕ) (p : Patch) : Type 0 where
   pub given : p .cost ≡ c
   pub sum : c ≡ cost j (p .support)
   pub least : (ks : List ℕ) → In ks (subsets (candidateNets j)) → Carries j ks → c ≤ cost j ks
-  pub vectors : p .vectors ≡ vectorLoop j .vectors
   pub rows : length (p .notes) ≡ length (p .table)
   pub notes : (r : ℕ) → r < length (p .notes) → NoteIn j (p .support) r (getD (p .notes) r 0)
 
 abbrev pub PatchGiven : Type 0
 PatchGiven =
-    (d s : List ℕ) (c : ℕ) → decideNumber d s ≡ 0 → verdictFields (decideReply d s .verdict) ≡ 18 ∷ c ∷ []
-    → PatchIn (jobOf s) c (patchOf (take (decideReply d s .len) (decidedBytes d s)))
+    (d s : List ℕ) (c : ℕ) → chooseNumber d s ≡ 0 → choiceFields (chooseReply d s .verdict) ≡ 18 ∷ c ∷ []
+    → PatchIn (jobOf s) c (patchOf (take (chooseReply d s .len) (chosenBytes d s)))
 
--- Demand 3: "An unfixable input is given exactly when there is one, and it is the smallest."
-abbrev pub GivesUnfixable : Type 0
-GivesUnfixable =
-    (d s : List ℕ) (x : ℕ) → decideNumber d s ≡ 0
-    → (verdictFields (decideReply d s .verdict) ≡ 20 ∷ x ∷ [])
-    ↔ ((x < 2 ^ jobOf s .inputs) × (rectifiable (jobOf s) x ≡ false) × ((y : ℕ) → y < x → rectifiable (jobOf s) y ≡ true))
+-- Card 7: its fields are "16, 17, 18, 22", and nothing after.
+abbrev pub PatchFields : Type 0
+PatchFields =
+    (d s : List ℕ) (c : ℕ) → chooseNumber d s ≡ 0 → choiceFields (chooseReply d s .verdict) ≡ 18 ∷ c ∷ []
+    → whole (16 ∷ 17 ∷ 18 ∷ 22 ∷ []) (take (chooseReply d s .len) (chosenBytes d s)) ≡ true
 
--- Demand 3: "Where every input is fixable and no table will do, we give the smallest reading of all priced nets whose inputs share
--- no setting."
+-- Inputs "share no setting" (demand 3) where none rectifies all that give the reading.
+abbrev pub SharesNone : Type 0
+SharesNone = (j : Job) (is : List ℕ) (r : ℕ) → (shared j is r ≡ none) ↔ ((v : ℕ) → RectifyAll j is r v → ⊥)
+
+-- Demand 3: ".. no table will do, we give the smallest reading of all priced nets whose inputs share no setting." With card 7 choose says
+-- so whether or not every input is fixable.
 abbrev pub GivesBlind : Type 0
 GivesBlind =
-    (d s : List ℕ) (r : ℕ) → decideNumber d s ≡ 0
-    → (verdictFields (decideReply d s .verdict) ≡ 21 ∷ r ∷ [])
-    ↔ (((x : ℕ) → x < 2 ^ jobOf s .inputs → rectifiable (jobOf s) x ≡ true)
-    × (r < 2 ^ length (candidateNets (jobOf s)))
+    (d s : List ℕ) (r : ℕ) → chooseNumber d s ≡ 0
+    → (choiceFields (chooseReply d s .verdict) ≡ 21 ∷ r ∷ [])
+    ↔ ((r < 2 ^ length (candidateNets (jobOf s)))
     × (shared (jobOf s) (candidateNets (jobOf s)) r ≡ none)
     × ((q : ℕ) → q < r → shared (jobOf s) (candidateNets (jobOf s)) q ≡ none → ⊥))
 
--- .. and blind is said exactly there: every input is fixable, and no set of priced nets carries a table.
+-- .. and blind is said exactly where no set of priced nets carries a table.
 abbrev pub GivesBlindExactly : Type 0
 GivesBlindExactly =
-    (d s : List ℕ) → decideNumber d s ≡ 0
-    → ((r : ℕ) × (verdictFields (decideReply d s .verdict) ≡ 21 ∷ r ∷ []))
-    ↔ (((x : ℕ) → x < 2 ^ jobOf s .inputs → rectifiable (jobOf s) x ≡ true)
-    × ((is : List ℕ) → In is (subsets (candidateNets (jobOf s))) → Carries (jobOf s) is → ⊥))
+    (d s : List ℕ) → chooseNumber d s ≡ 0
+    → ((r : ℕ) × (choiceFields (chooseReply d s .verdict) ≡ 21 ∷ r ∷ []))
+    ↔ ((is : List ℕ) → In is (subsets (candidateNets (jobOf s))) → Carries (jobOf s) is → ⊥)
 
--- Demand 2: "its loop, smallest choices first, gives the listed settings": every sheet has the loop's list behind the verdict's fields,
--- and behind it only a patch has anything, its notes.
-abbrev pub VectorsGiven : Type 0
-VectorsGiven =
-    (d s : List ℕ) → decideNumber d s ≡ 0
-    → take (decideReply d s .len) (decidedBytes d s)
-    ≡ rulingFields (jobOf s) (ruling (jobOf s))
-    ++ field 19 (vectorLoop (jobOf s) .vectors)
-    ++ rulingNotes (jobOf s) (ruling (jobOf s))
+-- Card 7: "An unfixable job given to choose is blind, at the smallest reading whose inputs share no vector." There is one: the inputs that
+-- give the reading of an unfixable input share no vector, as none rectifies that input. So the one given is at most this.
+abbrev pub UnfixableBlind : Type 0
+UnfixableBlind =
+    (d s : List ℕ) (x : ℕ) → chooseNumber d s ≡ 0 → x < 2 ^ jobOf s .inputs → rectifiable (jobOf s) x ≡ false
+    → let j = jobOf s in
+    let r = reading j (candidateNets j) x in
+    (shared j (candidateNets j) r ≡ none)
+    × ((q : ℕ) × (choiceFields (chooseReply d s .verdict) ≡ 21 ∷ q ∷ []) × (q ≤ r))
+
+-- A blind sheet is field 21 alone.
+abbrev pub BlindGiven : Type 0
+BlindGiven =
+    (d s : List ℕ) (r : ℕ) → chooseNumber d s ≡ 0 → choiceFields (chooseReply d s .verdict) ≡ 21 ∷ r ∷ []
+    → take (chooseReply d s .len) (chosenBytes d s) ≡ field 21 (bytePair r)
 
 -- ---- what compare replies
 
@@ -352,7 +433,7 @@ CompareAccepts =
     → (compareNumber s p ≡ 0)
     ↔ ((jobWhole s ≡ true)
     × PartsGood (jobOf s)
-    × (sheetWhole (jobOf s .targets) p ≡ true)
+    × (sheetWhole p ≡ true)
     × (patchGood (jobOf s .targets) (jobOf s .candidates) (patchOf p) ≡ true))
 
 -- Demand 1: "each with the number that document 01 names", and no result.
@@ -378,16 +459,8 @@ ComparesDiffers =
     × ((y : ℕ) → y < x
     → oldOutputs (jobOf s) y (drivenBy (jobOf s) (patchOf p .support) (patchOf p .table) y) ≡ goldenOutputs (jobOf s) y))
 
--- Document 01: "Field 19 is checked for length (1 to 2^m) and for entries below 2^m, and has no other effect", here for
--- compare.
-abbrev pub CompareIgnoresVectors : Type 0
-CompareIgnoresVectors =
-    (s p q : List ℕ) → compareNumber s p ≡ 0 → compareNumber s q ≡ 0
-    → patchOf p .support ≡ patchOf q .support → patchOf p .table ≡ patchOf q .table
-    → compareReply s p ≡ compareReply s q
-
 -- Card 1: "Fit and compare take sheets with or without it." Notes ns, one for each entry of the table and none above 2, put behind the
--- four fields of a sheet, whatever these say, leave compare's reply as it is.
+-- three fields of a sheet, whatever these say, leave compare's reply as it is.
 abbrev pub CompareIgnoresNotes : Type 0
 CompareIgnoresNotes =
     (s p ns : List ℕ) → Below 256 p → whole sheetTags p ≡ true → length ns ≡ length (patchOf p .table) → Below 3 ns
@@ -455,41 +528,50 @@ FittedGiven =
     (d s p : List ℕ) → fitNumber d s p ≡ 0
     → FittedIn (jobOf s) (patchOf p) (take (fitReply d s p .len) (fittedBuffer d s p))
 
--- Document 01: "Field 19 is checked for length (1 to 2^m) and for entries below 2^m, and has no other effect", here for fit.
-abbrev pub FitIgnoresVectors : Type 0
-FitIgnoresVectors =
-    (d s p q : List ℕ) → fitNumber d s p ≡ 0 → fitNumber d s q ≡ 0
-    → patchOf p .support ≡ patchOf q .support → patchOf p .table ≡ patchOf q .table
-    → (fitReply d s p ≡ fitReply d s q) × (fittedBuffer d s p ≡ fittedBuffer d s q)
-
 -- Card 1, for fit.
 abbrev pub FitIgnoresNotes : Type 0
 FitIgnoresNotes =
     (d s p ns : List ℕ) → Below 256 p → whole sheetTags p ≡ true → length ns ≡ length (patchOf p .table) → Below 3 ns
     → (fitReply d s (p ++ field notesTag ns) ≡ fitReply d s p) × (fittedBuffer d s (p ++ field notesTag ns) ≡ fittedBuffer d s p)
 
--- ---- decide, then compare or fit
+-- ---- sheets that both refuse with 7
 
--- What a user does with a decided patch. The sheet that decide leaves in its buffer d is accepted by compare, which says equal.
-abbrev pub DecidedEqual : Type 0
-DecidedEqual =
-    (d s : List ℕ) (c : ℕ) → decideNumber d s ≡ 0 → verdictFields (decideReply d s .verdict) ≡ 18 ∷ c ∷ []
-    → compareReply s (take (decideReply d s .len) (decidedBytes d s)) ≡ record { number = 0; result = comparisonOf none }
+-- Card 7: "a field 19 is 7", wherever it stands: behind any whole fields, and whatever stands behind it.
+abbrev pub VectorsSeven : Type 0
+VectorsSeven =
+    (s ts a b : List ℕ) → jobRefusal s ≡ 0 → whole ts a ≡ true → fieldFits 19 b ≡ true
+    → (compareNumber s (a ++ b) ≡ 7) × ((d : List ℕ) → longestFit ≤ length d → fitNumber d s (a ++ b) ≡ 7)
+
+-- Card 1: "another length or a byte above 2 is 7", whatever the three fields say.
+abbrev pub NotesSeven : Type 0
+NotesSeven =
+    (s p ns : List ℕ) → jobRefusal s ≡ 0 → whole sheetTags p ≡ true → length ns < 65536
+    → ((length ns ≡ length (patchOf p .table)) × Below 3 ns → ⊥)
+    → (compareNumber s (p ++ field notesTag ns) ≡ 7)
+    × ((d : List ℕ) → longestFit ≤ length d → fitNumber d s (p ++ field notesTag ns) ≡ 7)
+
+-- ---- choose, then compare or fit
+
+-- What a user does with a patch. The sheet that choose leaves in its buffer d is accepted by compare, which says equal.
+abbrev pub ChosenEqual : Type 0
+ChosenEqual =
+    (d s : List ℕ) (c : ℕ) → chooseNumber d s ≡ 0 → choiceFields (chooseReply d s .verdict) ≡ 18 ∷ c ∷ []
+    → compareReply s (take (chooseReply d s .len) (chosenBytes d s)) ≡ record { number = 0; result = comparisonOf none }
 
 -- Fit, with a buffer e for the longest result, accepts it, or gives 9 where the patched netlist has over 400 gates.
-abbrev pub DecidedFits : Type 0
-DecidedFits =
-    (d e s : List ℕ) (c : ℕ) → decideNumber d s ≡ 0 → verdictFields (decideReply d s .verdict) ≡ 18 ∷ c ∷ []
+abbrev pub ChosenFits : Type 0
+ChosenFits =
+    (d e s : List ℕ) (c : ℕ) → chooseNumber d s ≡ 0 → choiceFields (chooseReply d s .verdict) ≡ 18 ∷ c ∷ []
     → longestFit ≤ length e
-    → let p = take (decideReply d s .len) (decidedBytes d s) in
+    → let p = take (chooseReply d s .len) (chosenBytes d s) in
     (fitNumber e s p ≡ 0)
     ⊎ ((fitNumber e s p ≡ 9) × (fits (jobOf s) (patchOf p .support) (patchOf p .table) ≡ false))
 
 -- Where it accepts it, the netlist that the bytes in its buffer hold has the golden outputs on every input.
-abbrev pub DecidedFitted : Type 0
-DecidedFitted =
-    (d e s : List ℕ) (c : ℕ) → decideNumber d s ≡ 0 → verdictFields (decideReply d s .verdict) ≡ 18 ∷ c ∷ []
-    → let p = take (decideReply d s .len) (decidedBytes d s) in
+abbrev pub ChosenFitted : Type 0
+ChosenFitted =
+    (d e s : List ℕ) (c : ℕ) → chooseNumber d s ≡ 0 → choiceFields (chooseReply d s .verdict) ≡ 18 ∷ c ∷ []
+    → let p = take (chooseReply d s .len) (chosenBytes d s) in
     fitNumber e s p ≡ 0
     → let b = take (fitReply e s p .len) (fittedBuffer e s p) in
     (x : ℕ) → x < 2 ^ jobOf s .inputs

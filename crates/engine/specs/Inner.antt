@@ -10,12 +10,14 @@ pub mod Plan
 pub mod Masks
 pub mod Search
 pub mod Ranges
-pub mod Choose
+pub mod Best
 pub mod Given
 pub mod Table
 pub mod Sheet
-pub mod Deciding
+pub mod Judging
+pub mod Choosing
 pub mod Comparing
+pub mod Guess
 pub mod Tree
 pub mod Renumber
 pub mod Netlist

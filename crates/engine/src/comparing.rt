@@ -10,7 +10,7 @@ ghost use Rattle.engine.specs.Reply.{comparisonOf, compareReply};
 ghost use Rattle.engine.specs.Inner.Miter.{SomeParts};
 ghost use Rattle.engine.specs.Inner.Plan.{PlanHeld};
 ghost use Rattle.engine.specs.Inner.Comparing.{PlanReads, DrivenRow, TableCopied, sheetComparison};
-use super::choose::reading_count;
+use super::best::reading_count;
 use super::drive::set_targets;
 use super::drive::table_rows;
 use super::kernel::run;
@@ -50,7 +50,7 @@ pub struct CompareReply {
 // Where the old outputs driven by the table are the golden ones in block b: bit y of the row is 1 exactly when they are at input
 // 1,024 * b + y. It costs one gate evaluation a gate of both netlists, and one more for each gate that a target leads to, for 1,024
 // inputs.
-fn driven_row(
+pub(super) fn driven_row(
     gates: &[u64],
     plan: Plan,
     table: &[u8],

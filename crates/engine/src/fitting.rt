@@ -12,7 +12,7 @@ ghost use Rattle.engine.specs.Inner.Tree.{Nets, GateRoom, treesSize};
 ghost use Rattle.engine.specs.Fit.{fittedBytes};
 ghost use Rattle.engine.specs.Inner.Fitting.{TreesPlaced, sideJob, Fittable, patchedCount, GatesPlaced, FitGives, patchNumber, sheetFitNumber, OldOf, FitReady};
 ghost use Rattle.engine.specs.Inner.Renumber.{oldBase};
-use super::choose::reading_count;
+use super::best::reading_count;
 use super::limits::LONGEST_FIT;
 use super::miter::miter_of;
 use super::netlist::put_netlist;

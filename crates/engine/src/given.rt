@@ -1,4 +1,4 @@
-// Which readings of a support inputs give. A reading is open while no input seen gives it: its place is not 0.
+// Which readings of a support inputs give. A reading is unseen while no input looked at gives it: its place is not 0.
 ghost use mathlib.Core.Path.{_≡_};
 ghost use mathlib.Core.Bool.{true};
 ghost use mathlib.Core.List.{List};
@@ -11,9 +11,9 @@ ghost use Rattle.records.specs.Refusal.{oldNets};
 ghost use Rattle.engine.specs.Inner.Miter.{MiterRoom, MiterOf};
 ghost use Rattle.engine.specs.Inner.Plan.{NetsRead, PlanHeld};
 ghost use Rattle.engine.specs.Inner.Search.{BlockRange};
-ghost use Rattle.engine.specs.Inner.Choose.{SetsOf};
-ghost use Rattle.engine.specs.Inner.Given.{Opened, NextOpen, BlockSeen, Unseen, AllSeen};
-use super::choose::reading_count;
+ghost use Rattle.engine.specs.Inner.Best.{SetsOf};
+ghost use Rattle.engine.specs.Inner.Given.{MaybeUnseen, NextUnseen, BlockSeen, Unseen, AllSeen};
+use super::best::reading_count;
 use super::leaves::block_inputs;
 use super::leaves::read_rows;
 use super::limits::LISTED;
@@ -30,9 +30,9 @@ use records::Support;
 
 // A 1 for each reading of len nets whose set has all vectors: the only ones that no input may give, since an input leaves a vector out
 // or is one that every vector rectifies.
-fn open_readings(sets: [u16; READINGS], all: u16, len: usize) -> [u16; READINGS]
+fn maybe_unseen(sets: [u16; READINGS], all: u16, len: usize) -> [u16; READINGS]
     requires { ⌜ len ≤ 10 ⌝ }
-    ensures { λ r. ⌜ Opened sets all len r ⌝ }
+    ensures { λ r. ⌜ MaybeUnseen sets all len r ⌝ }
 {
     let count = reading_count(len);
     let mut unseen = [0u16; READINGS];
@@ -46,10 +46,10 @@ fn open_readings(sets: [u16; READINGS], all: u16, len: usize) -> [u16; READINGS]
     unseen
 }
 
-// The first open reading from at on, below count; count where there is none.
-fn next_open(unseen: &[u16; READINGS], at: usize, count: usize) -> usize
+// The first unseen reading from at on, below count; count where there is none.
+fn next_unseen(unseen: &[u16; READINGS], at: usize, count: usize) -> usize
     requires { ⌜ (at ≤ count) × (count ≤ 1024) ⌝ }
-    ensures { λ r. ⌜ NextOpen (now (unseen .entry)) at count r ⌝ }
+    ensures { λ r. ⌜ NextUnseen (now (unseen .entry)) at count r ⌝ }
 {
     let mut r = at;
     while r < count {
@@ -61,7 +61,7 @@ fn next_open(unseen: &[u16; READINGS], at: usize, count: usize) -> usize
     r
 }
 
-// What stays open after the first count inputs of block b. It costs one gate evaluation a gate of the plan, and some 1,000 steps: an input
+// What stays unseen after the first count inputs of block b. It costs one gate evaluation a gate of the plan, and some 1,000 steps: an input
 // narrows its reading's place as by an empty set of vectors.
 fn see_block(
     gates: &[u64],
@@ -82,20 +82,16 @@ fn see_block(
     meet_block([0u64; ROWS], readings, (count + 63) / 64, unseen);
 }
 
-// What stays open after all inputs. It ends at the block after which no reading is open.
-fn see_inputs(
-    gates: &[u64],
-    plan: Plan,
-    unseen: [u16; READINGS],
-    words: &mut [u64; WORDS],
-) -> [u16; READINGS]
-    requires { ⌜ PlanHeld plan (now gates) × (length unseen ≡ 1024) × (length (now words) ≡ 16384) ⌝ }
+// What stays unseen after all inputs. It ends at the block after which no reading is.
+fn see_inputs(gates: &[u64], plan: Plan, unseen: [u16; READINGS]) -> [u16; READINGS]
+    requires { ⌜ PlanHeld plan (now gates) × (length unseen ≡ 1024) ⌝ }
     ensures { λ r. ⌜ AllSeen plan (now (gates .entry)) unseen r ⌝ }
 {
     let count = reading_count(plan.reads);
     let size = 1usize << plan.inputs;
     let mut unseen = unseen;
-    let mut next = next_open(&unseen, 0, count);
+    let mut words = [0u64; WORDS];
+    let mut next = next_unseen(&unseen, 0, count);
     let mut b = 0usize;
     while 1024 * b < size {
         if next == count {
@@ -106,10 +102,10 @@ fn see_inputs(
             plan,
             b,
             block_inputs(size - 1024 * b),
-            words,
+            &mut words,
             &mut unseen,
         );
-        next = next_open(&unseen, next, count);
+        next = next_unseen(&unseen, next, count);
         b += 1;
     }
     unseen
@@ -122,19 +118,18 @@ pub(super) fn unseen_readings(
     miter: Miter,
     support: Support,
     sets: [u16; READINGS],
-    words: &mut [u64; WORDS],
 ) -> [u16; READINGS]
-    requires { ⌜ MiterRoom miter × NetsRead (support .nets) (support .len) × (length (now words) ≡ 16384) ⌝ }
+    requires { ⌜ MiterRoom miter × NetsRead (support .nets) (support .len) ⌝ }
     ensures { λ r. ⌜ ((j : Job) (is : List ℕ) → MiterOf j miter → take (support .len) (support .nets) ≡ is
         → all′ (λ i. ltb i (oldNets j)) is ≡ true → SetsOf j is sets → Unseen j is r) ⌝ }
 {
-    let unseen = open_readings(sets, all_vectors(miter.targets), support.len);
+    let unseen = maybe_unseen(sets, all_vectors(miter.targets), support.len);
     let count = reading_count(support.len);
-    if next_open(&unseen, 0, count) == count {
+    if next_unseen(&unseen, 0, count) == count {
         return unseen;
     }
     let mut gates = [0u64; LISTED];
     let nets = support.nets;
     let plan = reads_of(miter, nets, support.len, &mut gates);
-    see_inputs(&gates, plan, unseen, words)
+    see_inputs(&gates, plan, unseen)
 }

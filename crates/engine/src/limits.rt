@@ -11,6 +11,8 @@ pub const WORDS: usize = ROW * NETS;
 pub const VECTORS: usize = 16;
 
 pub const ROWS: usize = ROW * VECTORS;
+// How many blocks more a table of guesses may fail on than it does (src/guess.rt).
+pub const TRUST: usize = 64;
 // The readings of ten candidates.
 pub const READINGS: usize = 1024;
 // The gates of both netlists, and those with a list for each target and one for all.
@@ -18,6 +20,8 @@ pub const MITER_GATES: usize = GATES + GATES;
 
 pub const LISTED: usize = MITER_GATES + 5 * GATES;
 
-pub const LONGEST_SHEET: usize = 2103;
+pub const LONGEST_JUDGE: usize = 26;
+
+pub const LONGEST_CHOOSE: usize = 2084;
 
 pub const LONGEST_FIT: usize = 4075;

@@ -5,7 +5,7 @@ ghost use mathlib.Core.Path.{_≡_};
 ghost use Prim.Native.Nat.{ℕ, _+_, _*_, _/_, _%_, _^_, _≤_, _<_};
 ghost use lib.Bits.{bitOr};
 ghost use lib.ListN.{length, getD, take};
-ghost use Rattle.engine.specs.Inner.Note.{narrowed, setsFrom, gathered, ColumnMet, Joined, CoveredTo, ListNoted, BlockNoted};
+ghost use Rattle.engine.specs.Inner.Note.{narrowed, setsFrom, gathered, ColumnMet, Joined, CoveredTo, ListNoted};
 ghost use Rattle.engine.specs.Inner.List.{Held};
 use super::limits::READINGS;
 use super::limits::ROW;
@@ -132,7 +132,7 @@ fn next_uncovered(masks: &[u64; ROWS], list: Vectors, y: usize) -> usize
 
 // The list after the first count inputs of a block. Those that a listed vector rectifies leave it as it is, so it goes from one that
 // none rectifies to the next: at most 16 steps in the whole search, one for each vector.
-fn list_block(masks: [u64; ROWS], first: usize, count: usize, list: Vectors) -> Vectors
+pub(super) fn list_block(masks: [u64; ROWS], first: usize, count: usize, list: Vectors) -> Vectors
     requires { ⌜ (count ≤ 1024) × (first < 2 ^ 32) × Held list ⌝ }
     ensures { λ r. ⌜ ListNoted masks first count list r ⌝ }
 {
@@ -147,21 +147,4 @@ fn list_block(masks: [u64; ROWS], first: usize, count: usize, list: Vectors) -> 
         y = next_uncovered(&masks, list, y + 1);
     }
     list
-}
-
-// The list after the first count inputs of a block, which are those from first on, and the sets after the columns of 64 that they fill.
-pub(super) fn note_block(
-    masks: [u64; ROWS],
-    readings: [u64; ROWS],
-    first: usize,
-    count: usize,
-    list: Vectors,
-    sets: &mut [u16; READINGS],
-) -> Vectors
-    requires { ⌜ (count ≤ 1024) × (first < 2 ^ 32) × Held list × (length masks ≡ 256) × (length readings ≡ 256)
-        × (length (now sets) ≡ 1024) ⌝ }
-    ensures { λ r. ⌜ BlockNoted masks readings first count list (now (sets .entry)) r (now (sets .exit)) ⌝ }
-{
-    meet_block(masks, readings, (count + 63) / 64, sets);
-    list_block(masks, first, count, list)
 }

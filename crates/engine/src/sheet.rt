@@ -1,10 +1,11 @@
-// The sheets of the verdicts: their fields put into the reply.
+// The sheets of judge and choose: their fields put into the reply.
 ghost use mathlib.Core.Path.{_≡_};
+ghost use mathlib.Core.List.{_++_};
 ghost use Prim.Native.Nat.{_+_, _*_, _^_, _≤_, _<_};
 ghost use lib.ListN.{length, take};
 ghost use Rattle.records.specs.Bytes.{flat, bytePair, field};
 ghost use Rattle.engine.specs.Verdict.{fourBytes};
-ghost use Rattle.engine.specs.Inner.Sheet.{BytesPut, patchBytes, unfixableBytes, blindBytes};
+ghost use Rattle.engine.specs.Inner.Sheet.{BytesPut, patchBytes};
 use super::limits::VECTORS;
 use records::Support;
 use records::put_field;
@@ -86,28 +87,24 @@ pub(super) fn put_vectors(reply: &mut [u8], at: usize, list: [u8; VECTORS], len:
     put_field(reply, at, 19, &list[..len])
 }
 
-// The sheet of a patch: the support, its table, its cost, the vector list and the notes.
+// The sheet of a patch: the support, its table, its cost and the notes.
 pub(super) fn put_patch(
     reply: &mut [u8],
     support: Support,
     table: &[u8],
     cost: u32,
-    list: [u8; VECTORS],
-    len: usize,
     notes: &[u8],
 ) -> usize
-    requires { ⌜ (2103 ≤ length (now reply)) × (support .len ≤ 10) × (2 ^ support .len ≤ length (now table)) × (len ≤ 16) ⌝ }
+    requires { ⌜ (2084 ≤ length (now reply)) × (support .len ≤ 10) × (2 ^ support .len ≤ length (now table)) ⌝ }
     requires { ⌜ 2 ^ support .len ≤ length (now notes) ⌝ }
     ensures { λ r. ⌜ BytesPut (now (reply .entry)) 0
-        (patchBytes (take (support .len) (support .nets)) (take (2 ^ support .len) (now (table .entry))) cost (take len list)
-        (take (2 ^ support .len) (now (notes .entry))))
-        (now (reply .exit)) r ⌝ }
+        (patchBytes (take (support .len) (support .nets)) (take (2 ^ support .len) (now (table .entry))) cost
+        (take (2 ^ support .len) (now (notes .entry)))) (now (reply .exit)) r ⌝ }
 {
     let a = put_support(reply, support);
     let b = put_rows(reply, a, 17, table, support.len);
     let c = put_number(reply, b, 18, cost);
-    let d = put_vectors(reply, c, list, len);
-    put_rows(reply, d, 22, notes, support.len)
+    put_rows(reply, c, 22, notes, support.len)
 }
 
 // The sheet of an unfixable input: the input and the vector list.
@@ -117,19 +114,18 @@ pub(super) fn put_unfixable(
     list: [u8; VECTORS],
     len: usize,
 ) -> usize
-    requires { ⌜ (2103 ≤ length (now reply)) × (input < 4294967296) × (len ≤ 16) ⌝ }
-    ensures { λ r. ⌜ BytesPut (now (reply .entry)) 0 (unfixableBytes input (take len list)) (now (reply .exit)) r ⌝ }
+    requires { ⌜ (26 ≤ length (now reply)) × (input < 4294967296) × (len ≤ 16) ⌝ }
+    ensures { λ r. ⌜ BytesPut (now (reply .entry)) 0 (field 20 (fourBytes input) ++ field 19 (take len list)) (now (reply .exit)) r ⌝ }
 {
     let a = put_number(reply, 0, 20, input as u32);
     put_vectors(reply, a, list, len)
 }
 
-// The sheet of a blind reading: the reading and the vector list.
-pub(super) fn put_blind(reply: &mut [u8], reading: usize, list: [u8; VECTORS], len: usize) -> usize
-    requires { ⌜ (2103 ≤ length (now reply)) × (reading < 65536) × (len ≤ 16) ⌝ }
-    ensures { λ r. ⌜ BytesPut (now (reply .entry)) 0 (blindBytes reading (take len list)) (now (reply .exit)) r ⌝ }
+// The sheet of a blind reading.
+pub(super) fn put_blind(reply: &mut [u8], reading: usize) -> usize
+    requires { ⌜ (5 ≤ length (now reply)) × (reading < 65536) ⌝ }
+    ensures { λ r. ⌜ BytesPut (now (reply .entry)) 0 (field 21 (bytePair reading)) (now (reply .exit)) r ⌝ }
 {
     let bytes = two_bytes(reading as u16);
-    let a = put_field(reply, 0, 21, &bytes);
-    put_vectors(reply, a, list, len)
+    put_field(reply, 0, 21, &bytes)
 }

@@ -2,7 +2,7 @@
 ghost use mathlib.Core.Path.{_≡_};
 ghost use Prim.Native.Nat.{_≤_};
 ghost use Rattle.engine.specs.Inner.Table.{TableFilled, noteFrom, NotesFilled};
-use super::choose::reading_count;
+use super::best::reading_count;
 use super::limits::READINGS;
 use super::list::lowest_of;
 

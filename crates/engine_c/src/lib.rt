@@ -1,18 +1,30 @@
 // The engine's services for a C program: tools/bench measures them there. What a C caller owes is said in records_c.
 ghost use mathlib.Core.Path.{_≡_};
-ghost use Rattle.engine.specs.Verdict.{decidedBytes};
-ghost use Rattle.engine.specs.Reply.{decideReply, compareReply, fitReply, fittedBuffer};
+ghost use Rattle.engine.specs.Verdict.{judgedBytes, chosenBytes};
+ghost use Rattle.engine.specs.Reply.{judgeReply, chooseReply, compareReply, fitReply, fittedBuffer};
 ghost use Rattle.engine_c.specs.Difference.{differsOf, inputOf};
 
-// engine::decide: the length of the sheet is returned, 0 on refusal, and the reply's number is left in number, 0 where the job is
+// engine::judge: the length of the sheet is returned, 0 on refusal, and the reply's number is left in number, 0 where the job is
 // accepted: a refusal alters number and no byte of reply. The verdict and its value stand in the sheet.
 #[no_mangle]
-pub extern "C" fn engine_decide(job: &[u8], reply: &mut [u8], number: &mut u32) -> usize
-    ensures length { λ r. ⌜ r ≡ decideReply (now (reply .entry)) (now (job .entry)) .len ⌝ }
-    ensures number { λ _. ⌜ now (number .exit) ≡ decideReply (now (reply .entry)) (now (job .entry)) .number ⌝ }
-    ensures lent { λ _. ⌜ now (reply .exit) ≡ decidedBytes (now (reply .entry)) (now (job .entry)) ⌝ }
+pub extern "C" fn engine_judge(job: &[u8], reply: &mut [u8], number: &mut u32) -> usize
+    ensures length { λ r. ⌜ r ≡ judgeReply (now (reply .entry)) (now (job .entry)) .len ⌝ }
+    ensures number { λ _. ⌜ now (number .exit) ≡ judgeReply (now (reply .entry)) (now (job .entry)) .number ⌝ }
+    ensures lent { λ _. ⌜ now (reply .exit) ≡ judgedBytes (now (reply .entry)) (now (job .entry)) ⌝ }
 {
-    let r = engine::decide(job, reply);
+    let r = engine::judge(job, reply);
+    *number = r.number as u32;
+    r.len
+}
+
+// engine::choose, alike.
+#[no_mangle]
+pub extern "C" fn engine_choose(job: &[u8], reply: &mut [u8], number: &mut u32) -> usize
+    ensures length { λ r. ⌜ r ≡ chooseReply (now (reply .entry)) (now (job .entry)) .len ⌝ }
+    ensures number { λ _. ⌜ now (number .exit) ≡ chooseReply (now (reply .entry)) (now (job .entry)) .number ⌝ }
+    ensures lent { λ _. ⌜ now (reply .exit) ≡ chosenBytes (now (reply .entry)) (now (job .entry)) ⌝ }
+{
+    let r = engine::choose(job, reply);
     *number = r.number as u32;
     r.len
 }

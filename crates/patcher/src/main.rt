@@ -1,6 +1,7 @@
 // The services on files, a command each:
 //
-//     patcher decide JOB           the sheet
+//     patcher judge JOB            whether every input is fixable: the sheet
+//     patcher choose JOB           the cheapest patch: the sheet
 //     patcher fit JOB SHEET        the patched netlist: fields 1, 2 and 3
 //     patcher compare JOB SHEET    `equal`, `differs X` with the smallest input X at which the outputs differ, or `refused N`
 //     patcher show JOB             the job's counts, and under each its gates, nets or candidates
@@ -9,14 +10,15 @@
 // standard error, but for compare, whose answer it is. Other words, and a file that cannot be read, leave it empty too, and
 // standard error says what is wrong.
 mod compare;
-mod decide;
 mod fit;
+mod sheets;
 mod show;
 
 ghost use Rattle.io.specs.Counts.{Counts};
 
 enum Command {
-    Decide,
+    Judge,
+    Choose,
     Fit,
     Compare,
     Show,
@@ -25,8 +27,11 @@ enum Command {
 
 // The command on one file.
 fn job_command() -> Command {
-    if cli::is_argument(1, b"decide") {
-        return Command::Decide;
+    if cli::is_argument(1, b"judge") {
+        return Command::Judge;
+    }
+    if cli::is_argument(1, b"choose") {
+        return Command::Choose;
     }
     if cli::is_argument(1, b"show") {
         return Command::Show;
@@ -51,7 +56,8 @@ fn pair_command() -> Command {
 fn print_usage() {
     io::write_all(
         2,
-        b"usage: patcher decide JOB
+        b"usage: patcher judge JOB
+       patcher choose JOB
        patcher fit JOB SHEET
        patcher compare JOB SHEET
        patcher show JOB
@@ -69,7 +75,8 @@ fn answer(command: Command, job: &[u8], sheet: &[u8]) -> u8 {
         return 2;
     }
     match command {
-        Command::Decide => decide::write_sheet(job),
+        Command::Judge => sheets::write_judged(job),
+        Command::Choose => sheets::write_chosen(job),
         Command::Fit => fit::write_netlist(job, sheet),
         Command::Compare => compare::print_comparison(job, sheet),
         _ => show::print_job(job),

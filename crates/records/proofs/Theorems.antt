@@ -1,6 +1,6 @@
 -- What specs/Claims.antt and specs/Parts.antt promise of the record library, each by one citation. Assumes nothing.
 use Rattle.records.specs.Parts.{LoadGiven}
-use Rattle.records.specs.Claims.{First, ReadAccepts, WriteAccepts, SheetAccepts, ReadRefuses, WriteRefuses, SheetRefuses, NumberGiven, ReadKeeps, WriteKeeps, ReadIndependent, WriteIndependent, SheetIndependent, TruthTable, OperandsFold, OddInverts, PlacesGiven, ReadWrite, WriteRead, LongestJob, LongestJobMet, SheetGiven, SheetNotes, NotesSeven, ColumnsRead, ColumnsAccepts, ColumnsRefuses, ColumnsGiven, ColumnsWithin, ColumnsWrite, ColumnsWriteAccepts, ColumnsWriteRefuses, ColumnsReadWrite, ColumnsWriteRead, ColumnsKeeps, ColumnsWriteKeeps, ColumnsIndependent, ColumnsWriteIndependent}
+use Rattle.records.specs.Claims.{First, ReadAccepts, WriteAccepts, SheetAccepts, ReadRefuses, WriteRefuses, SheetRefuses, NumberGiven, ReadKeeps, WriteKeeps, ReadIndependent, WriteIndependent, SheetIndependent, TruthTable, OperandsFold, OddInverts, PlacesGiven, ReadWrite, WriteRead, LongestJob, LongestJobMet, SheetGiven, SheetNotes, NotesSeven, VectorsSeven, ColumnsRead, ColumnsAccepts, ColumnsRefuses, ColumnsGiven, ColumnsWithin, ColumnsWrite, ColumnsWriteAccepts, ColumnsWriteRefuses, ColumnsReadWrite, ColumnsWriteRead, ColumnsKeeps, ColumnsWriteKeeps, ColumnsIndependent, ColumnsWriteIndependent}
 use Rattle.records.proofs.Laws.Accepted as accepted
 use Rattle.records.proofs.Laws.Gate as gate
 use Rattle.records.proofs.Laws.Independent as independent
@@ -80,6 +80,9 @@ sheet-notes = notes.sheet-notes
 
 pub notes-seven : NotesSeven
 notes-seven = notes.notes-seven
+
+pub vectors-seven : VectorsSeven
+vectors-seven = notes.vectors-seven
 
 pub columns-read : ColumnsRead
 columns-read = over-columns.columns-read

@@ -22,6 +22,7 @@
 --   LongestJob, LongestJobMet     no accepted job has more than 8,188 bytes, and one has as many
 --   SheetIn m k nets weights s, SheetGiven      an accepted sheet's support, table and cost are replied
 --   SheetNotes, NotesSeven        a sheet with notes gets the reply that it gets without, and one with wrong notes gets 7
+--   VectorsSeven                  .. and so does one with a vector list, wherever it stands
 --   ColumnsRead       read_columns replies what read does
 --   ColumnsAccepts, ColumnsRefuses              what read_columns accepts; a refusal alters no column
 --   ColumnsGiven, ColumnsWithin   the columns of an accepted job hold it
@@ -39,7 +40,7 @@ use mathlib.Core.Logic.{_↔_}
 use mathlib.Core.List.{List, [], _∷_, _++_, map}
 use mathlib.Core.Bool.{true, false}
 use lib.ListN.{length, getD, take, drop, replicate}
-use Rattle.records.specs.Bytes.{upFrom, tabulate, all, placed, field, whole}
+use Rattle.records.specs.Bytes.{upFrom, tabulate, all, placed, field, fits, whole}
 use Rattle.records.specs.Gate.{slotCount, gateOf, kindCount, leastCount, mostCount, inverted, gateValue}
 use Rattle.records.specs.Netlist.{valueOf}
 use Rattle.records.specs.Job.{Job, jobWhole, jobOf}
@@ -85,7 +86,7 @@ SheetAccepts =
     (m k : ℕ) (nets weights s : List ℕ)
     → (sheetNumber m k nets weights s ≡ 0)
     ↔ ((sheetRoomy m k nets weights ≡ true)
-    × (sheetWhole m s ≡ true)
+    × (sheetWhole s ≡ true)
     × (patchGood m (candidatesFrom k nets weights) (patchOf s) ≡ true))
 
 -- "Each with the number that document 01 names, length 0 and no lent byte altered."
@@ -276,18 +277,24 @@ abbrev pub SheetGiven : Type 0
 SheetGiven = (m k : ℕ) (nets weights s : List ℕ) → sheetNumber m k nets weights s ≡ 0 → SheetIn m k nets weights s
 
 -- Card 1: "Fit and compare take sheets with or without it." Notes ns, one for each entry of the table and none above 2, put behind the
--- four fields of a sheet, whatever these say, leave the reply as it is.
+-- three fields of a sheet, whatever these say, leave the reply as it is.
 abbrev pub SheetNotes : Type 0
 SheetNotes =
     (m k : ℕ) (nets weights s ns : List ℕ) → Below 256 s → whole sheetTags s ≡ true → length ns ≡ length (patchOf s .table) → Below 3 ns
     → sheetReply m k nets weights (s ++ field notesTag ns) ≡ sheetReply m k nets weights s
 
--- .. "another length or a byte above 2 is 7", whatever the four fields say.
+-- .. "another length or a byte above 2 is 7", whatever the three fields say.
 abbrev pub NotesSeven : Type 0
 NotesSeven =
     (m k : ℕ) (nets weights s ns : List ℕ) → sheetRoomy m k nets weights ≡ true → whole sheetTags s ≡ true → length ns < 65536
     → ((length ns ≡ length (patchOf s .table)) × Below 3 ns → ⊥)
     → sheetNumber m k nets weights (s ++ field notesTag ns) ≡ 7
+
+-- Card 7: "a field 19 is 7", wherever it stands: behind any whole fields, and whatever stands behind it.
+abbrev pub VectorsSeven : Type 0
+VectorsSeven =
+    (m k : ℕ) (nets weights ts a b : List ℕ) → sheetRoomy m k nets weights ≡ true → whole ts a ≡ true → fits 19 b ≡ true
+    → sheetNumber m k nets weights (a ++ b) ≡ 7
 
 -- ---- the services over columns
 

@@ -395,40 +395,36 @@ sheetRoom m k n w = leb m maxTargets && leb k maxCandidates && leb k n && leb k 
 
 unfoldable pub spansOf : List ℕ → SheetSpans
 spansOf s =
-    record { nets = length (nth 0 s) / 2; table = startOf 1 s; cost = startOf 2 s; vectors = startOf 3 s }
+    record { nets = length (nth 0 s) / 2; table = startOf 1 s; cost = startOf 2 s }
 
 -- a whole sheet without notes
-unfoldable pub bareWhole : ℕ → List ℕ → Bool
-bareWhole m s =
+unfoldable pub bareWhole : List ℕ → Bool
+bareWhole s =
     whole sheetTags s
     && eqb (length (nth 0 s) % 2) 0
     && eqb (length (nth 1 s)) (2 ^ (length (nth 0 s) / 2))
     && eqb (length (nth 2 s)) 4
-    && leb 1 (length (nth 3 s))
-    && leb (length (nth 3 s)) (2 ^ m)
 
-unfoldable pub sheetShapeOf : ℕ → List ℕ → SheetShape
-sheetShapeOf m s = cond (bareWhole m s) (SheetShape.Whole (spansOf s)) SheetShape.Broken
+unfoldable pub sheetShapeOf : List ℕ → SheetShape
+sheetShapeOf s = cond (bareWhole s) (SheetShape.Whole (spansOf s)) SheetShape.Broken
 
 -- no bytes, or the field of the notes of n readings
 unfoldable pub notesAt : ℕ → List ℕ → Bool
 notesAt n t =
     eqb (length t) 0 || (whole (notesTag ∷ []) t && eqb (length (nth 0 t)) n && all (λ v. ltb v 3) (nth 0 t))
 
--- the fields' lengths are those of nets, of a table, a cost and vectors that fit each other and m targets; a table is shorter than
--- 65,536 bytes, so the nets are at most fifteen
-unfoldable pub sheetLengths : List ℕ → ℕ → Bool
-sheetLengths ns m =
+-- the fields' lengths are those of nets, of a table and a cost that fit each other; a table is shorter than 65,536 bytes, so the nets
+-- are at most fifteen
+unfoldable pub sheetLengths : List ℕ → Bool
+sheetLengths ns =
     leb (getD ns 0 0) 31
-    && (eqb (getD ns 0 0 % netSize) 0 && eqb (getD ns 1 0) (2 ^ (getD ns 0 0 / netSize)) && eqb (getD ns 2 0) 4
-    && leb 1 (getD ns 3 0)
-    && leb (getD ns 3 0) (2 ^ m))
+    && (eqb (getD ns 0 0 % netSize) 0 && eqb (getD ns 1 0) (2 ^ (getD ns 0 0 / netSize)) && eqb (getD ns 2 0) 4)
 
 -- the fields of these starts and lengths
-unfoldable pub spannedFrom : List ℕ → List ℕ → ℕ → SheetShape
-spannedFrom ss ns m =
-    cond (sheetLengths ns m)
-    (SheetShape.Whole (record { nets = getD ns 0 0 / netSize; table = getD ss 1 0; cost = getD ss 2 0; vectors = getD ss 3 0 }))
+unfoldable pub spannedFrom : List ℕ → List ℕ → SheetShape
+spannedFrom ss ns =
+    cond (sheetLengths ns)
+    (SheetShape.Whole (record { nets = getD ns 0 0 / netSize; table = getD ss 1 0; cost = getD ss 2 0 }))
     SheetShape.Broken
 
 -- the place of i in the list, from place k on

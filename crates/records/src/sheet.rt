@@ -29,15 +29,14 @@ pub struct SheetReply {
     pub cost: u32,
 }
 
-// How many support nets a whole sheet has, and where its table, cost and vectors start.
+// How many support nets a whole sheet has, and where its table and cost start.
 pub struct SheetSpans {
     pub nets: usize,
     pub table: usize,
     pub cost: usize,
-    pub vectors: usize,
 }
 
-// The four fields of a sheet without notes, or that its bytes are not such a sheet.
+// The three fields of a sheet without notes, or that its bytes are not such a sheet.
 pub enum SheetShape {
     Whole(SheetSpans),
     Broken,
@@ -93,23 +92,20 @@ fn power(k: usize) -> usize
     p
 }
 
-// The fields that start and are as long as these say, or that their lengths do not fit each other and the number of targets.
-fn spanned(starts: [usize; 6], lens: [usize; 6], targets: usize) -> SheetShape
-    requires { ⌜ (length starts ≡ 6) × (length lens ≡ 6) × (targets ≤ 4) ⌝ }
-    ensures { λ r. ⌜ r ≡ spannedFrom starts lens targets ⌝ }
+// The fields that start and are as long as these say, or that their lengths do not fit each other.
+fn spanned(starts: [usize; 6], lens: [usize; 6]) -> SheetShape
+    requires { ⌜ (length starts ≡ 6) × (length lens ≡ 6) ⌝ }
+    ensures { λ r. ⌜ r ≡ spannedFrom starts lens ⌝ }
 {
     let long = lens[0];
     if 31 < long {
         return SheetShape::Broken;
     }
-    let vectors = lens[3];
-    let first = (long % 2 == 0) & (lens[1] == power(long / 2)) & (lens[2] == 4);
-    if first & (1 <= vectors) & (vectors <= power(targets)) {
+    if (long % 2 == 0) & (lens[1] == power(long / 2)) & (lens[2] == 4) {
         return SheetShape::Whole(SheetSpans {
             nets: long / 2,
             table: starts[1],
             cost: starts[2],
-            vectors: starts[3],
         });
     }
     SheetShape::Broken
@@ -135,19 +131,18 @@ fn fields_end(s: &[u8], count: usize) -> usize
     at
 }
 
-// The four fields of a sheet without notes, and that their lengths fit each other and the number of targets.
-fn sheet_shaped(sheet: &[u8], targets: usize) -> SheetShape
-    requires { ⌜ targets ≤ 4 ⌝ }
-    ensures { λ r. ⌜ r ≡ sheetShapeOf targets (now (sheet .entry)) ⌝ }
+// The three fields of a sheet without notes, and that their lengths fit each other.
+fn sheet_shaped(sheet: &[u8]) -> SheetShape
+    ensures { λ r. ⌜ r ≡ sheetShapeOf (now (sheet .entry)) ⌝ }
 {
-    let w = walked(sheet, 16, 4);
+    let w = walked(sheet, 16, 3);
     let check = w.check;
     let Check::Passed = check else {
         return SheetShape::Broken;
     };
     let starts = w.starts;
     let lens = w.lens;
-    spanned(starts, lens, targets)
+    spanned(starts, lens)
 }
 
 // Where net stands among the first count of nets.
@@ -247,8 +242,8 @@ fn support_from(s: &[u8], len: usize) -> Support
 
 // The service that reads a patch sheet against the first candidates of nets and weights of a job with so many targets.
 // The sheet may have notes, which have no effect. Refused are counts outside their ranges or above their places (3), what is no whole
-// sheet, with notes or without (7), and a support, an entry or a cost that does not fit the job (8). Time linear in the sheet's bytes and, for each support net, the
-// candidates.
+// sheet, with notes or without (7), and a support, an entry or a cost that does not fit the job (8). Time linear in the sheet's bytes
+// and, for each support net, the candidates.
 pub fn read_sheet(
     targets: usize,
     candidates: usize,
@@ -262,8 +257,8 @@ pub fn read_sheet(
     let Check::Passed = first else {
         return refused(3);
     };
-    let end = fields_end(sheet, 4);
-    let found = sheet_shaped(&sheet[..end], targets);
+    let end = fields_end(sheet, 3);
+    let found = sheet_shaped(&sheet[..end]);
     let SheetShape::Whole(at) = found else {
         return refused(7);
     };
@@ -278,10 +273,6 @@ pub fn read_sheet(
     let limit = power(targets);
     let second = check_entries(sheet, at.table, at.cost - 3, limit);
     let Check::Passed = second else {
-        return refused(8);
-    };
-    let third = check_entries(sheet, at.vectors, end, limit);
-    let Check::Passed = third else {
         return refused(8);
     };
     if sum != quad_at(sheet, at.cost) {

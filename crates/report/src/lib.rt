@@ -1,5 +1,5 @@
-// The report: what the program `rectify` prints for a job's bytes (rectify_text), written to a lent buffer. It asks the engine for
-// the verdict and prints its sheet as the lines of document 01, or `refused` and the number.
+// The report: what the program `rectify` prints for a job's bytes (rectify_text), written to a lent buffer. It asks the engine's
+// judge, then choose where every input is fixable, and prints their sheets as the lines of document 01, or `refused` and the number.
 mod text;
 
 pub use text::rectify_text;

@@ -7,8 +7,9 @@ ghost use Rattle.records.specs.Bytes.{nth, word as word′};
 ghost use Rattle.records.specs.Job.{netsOf};
 ghost use Rattle.records.specs.Sheet.{quad};
 ghost use Rattle.report.specs.Text.{digits, number, numbers, line, unfixableWord, blindWord, patchText, valueText, refusedText, longestText, printedLength, printedBytes};
-ghost use Rattle.report.specs.Inner.{PatchSheet, ValueSheet, WholeSheet, patchSheetText, sheetText, Printed, Texted};
-use engine::decide;
+ghost use Rattle.report.specs.Inner.{PatchSheet, BlindSheet, UnfixableSheet, ChoiceSheet, patchSheetText, choiceText, Printed, Texted};
+use engine::choose;
+use engine::judge;
 use records::wide;
 
 // The two-byte number at a position.
@@ -162,22 +163,21 @@ fn patch_lines(
     put_bytes_line(text, d, b"notes", notes)
 }
 
-// The text of a patch's sheet.
-fn patch_text(sheet: &[u8], text: &mut [u8]) -> usize
-    requires { ⌜ (PatchSheet (now sheet)) × (longestText ≤ length (now text)) ⌝ }
-    ensures { λ r. ⌜ Texted (now (text .entry)) (patchSheetText (now (sheet .entry))) r (now (text .exit)) ⌝ }
+// The text of a patch's sheet, with the vector list.
+fn patch_text(sheet: &[u8], vectors: &[u8], text: &mut [u8]) -> usize
+    requires { ⌜ (PatchSheet (now sheet)) × (length (now vectors) ≤ 16) × (longestText ≤ length (now text)) ⌝ }
+    ensures { λ r. ⌜ Texted (now (text .entry)) (patchSheetText (now (sheet .entry)) (now (vectors .entry))) r (now (text .exit)) ⌝ }
 {
     let table = field_end(sheet, 3) + 3;
     let cost = field_end(sheet, table) + 3;
-    let vectors = cost + 7;
-    let notes = field_end(sheet, vectors) + 3;
-    let paid = quad_at(&sheet[cost..vectors - 3]);
+    let notes = cost + 7;
+    let paid = quad_at(&sheet[cost..notes - 3]);
     patch_lines(
         text,
         paid,
         &sheet[3..table - 3],
         &sheet[table..cost - 3],
-        &sheet[vectors..notes - 3],
+        vectors,
         &sheet[notes..],
     )
 }
@@ -193,39 +193,36 @@ fn value_lines(text: &mut [u8], word: &[u8], x: usize, vectors: &[u8]) -> usize
 
 // The text of an unfixable input's sheet.
 fn unfixable_text(sheet: &[u8], text: &mut [u8]) -> usize
-    requires { ⌜ (ValueSheet 20 4 (now sheet)) × (longestText ≤ length (now text)) ⌝ }
+    requires { ⌜ (UnfixableSheet (now sheet)) × (longestText ≤ length (now text)) ⌝ }
     ensures { λ r. ⌜ Texted (now (text .entry))
         (valueText unfixableWord (quad (nth 0 (now (sheet .entry)))) (nth 1 (now (sheet .entry)))) r (now (text .exit)) ⌝ }
 {
     value_lines(text, b"unfixable", quad_at(&sheet[3..7]), &sheet[10..])
 }
 
-// The text of a blind reading's sheet.
-fn blind_text(sheet: &[u8], text: &mut [u8]) -> usize
-    requires { ⌜ (ValueSheet 21 2 (now sheet)) × (longestText ≤ length (now text)) ⌝ }
+// The text of a blind reading's sheet, with the vector list.
+fn blind_text(sheet: &[u8], vectors: &[u8], text: &mut [u8]) -> usize
+    requires { ⌜ (BlindSheet (now sheet)) × (length (now vectors) ≤ 16) × (longestText ≤ length (now text)) ⌝ }
     ensures { λ r. ⌜ Texted (now (text .entry))
-        (valueText blindWord (word′ (nth 0 (now (sheet .entry))) 0) (nth 1 (now (sheet .entry)))) r (now (text .exit)) ⌝ }
+        (valueText blindWord (word′ (nth 0 (now (sheet .entry))) 0) (now (vectors .entry))) r (now (text .exit)) ⌝ }
 {
-    value_lines(text, b"blind", word_at(&sheet[3..5], 0), &sheet[8..])
+    value_lines(text, b"blind", word_at(&sheet[3..5], 0), vectors)
 }
 
-// The text of a verdict's sheet.
-fn sheet_text(sheet: &[u8], text: &mut [u8]) -> usize
-    requires { ⌜ (WholeSheet (now sheet)) × (longestText ≤ length (now text)) ⌝ }
-    ensures { λ r. ⌜ Texted (now (text .entry)) (sheetText (now (sheet .entry))) r (now (text .exit)) ⌝ }
+// The text of choose's sheet, with the vector list.
+fn choice_text(sheet: &[u8], vectors: &[u8], text: &mut [u8]) -> usize
+    requires { ⌜ (ChoiceSheet (now sheet)) × (length (now vectors) ≤ 16) × (longestText ≤ length (now text)) ⌝ }
+    ensures { λ r. ⌜ Texted (now (text .entry)) (choiceText (now (sheet .entry)) (now (vectors .entry))) r (now (text .exit)) ⌝ }
 {
-    let tag = sheet[0];
-    if tag == 16 {
-        return patch_text(sheet, text);
+    if sheet[0] == 16 {
+        return patch_text(sheet, vectors, text);
     }
-    if tag == 20 {
-        return unfixable_text(sheet, text);
-    }
-    blind_text(sheet, text)
+    blind_text(sheet, vectors, text)
 }
 
-// What the program `rectify` prints for a job's bytes. Where text has fewer than 8,366 bytes nothing is printed and the length is 0;
-// else the length of the text, which stands at the start. Costs what decide costs.
+// What the program `rectify` prints for a job's bytes: judge's verdict where it is unfixable, else choose's with judge's vector list. Where
+// text has fewer than 8,366 bytes nothing is printed and the length is 0; else the length of the text, which stands at the start. Costs
+// what judge and choose cost.
 pub fn rectify_text(job: &[u8], text: &mut [u8]) -> usize
     ensures { λ r. ⌜ r ≡ printedLength (now (text .entry)) (now (job .entry)) ⌝ }
     ensures { λ _. ⌜ now (text .exit) ≡ printedBytes (now (text .entry)) (now (job .entry)) ⌝ }
@@ -237,11 +234,17 @@ pub fn rectify_text(job: &[u8], text: &mut [u8]) -> usize
     if 65535 < job.len() {
         return refused_text(2, text);
     }
-    let mut sheet = [0u8; 2103];
-    let found = decide(job, &mut sheet);
-    if found.number != 0 {
-        return refused_text(found.number, text);
+    let mut first = [0u8; 26];
+    let judged = judge(job, &mut first);
+    if judged.number != 0 {
+        return refused_text(judged.number, text);
     }
-    let len = found.len;
-    sheet_text(&sheet[..len], text)
+    let m = judged.len;
+    if first[0] == 20 {
+        return unfixable_text(&first[..m], text);
+    }
+    let mut second = [0u8; 2084];
+    let found = choose(job, &mut second);
+    let n = found.len;
+    choice_text(&second[..n], &first[3..m], text)
 }

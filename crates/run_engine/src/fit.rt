@@ -1,7 +1,7 @@
-// Calls of fit, and of decide, fit and compare in a row. The buffers have 4,200 bytes.
+// Calls of fit, and of choose, fit and compare in a row. The buffers have 4,200 bytes.
+use super::choose::chosen;
 use super::compare::print_compared;
-use super::decide::decided;
-use super::decide::print_hash;
+use super::verdict::print_hash;
 use samples::least;
 use samples::print_number;
 use samples::wide;
@@ -39,11 +39,11 @@ pub(super) fn fit_call(s: &[u8]) -> bool {
     true
 }
 
-// A job decided, fitted and compared, the last two with the sheet that decide wrote.
+// A job chosen for, fitted and compared, the last two with the sheet that choose wrote.
 fn row(job: &[u8], buffers: Buffers) -> Buffers {
     let sheets = buffers.sheets;
     let netlists = buffers.netlists;
-    let a = decided(job, sheets, 2103);
+    let a = chosen(job, sheets, 2084);
     let sheets = a.buf;
     let k = samples::lent(a.len, sheets);
     let netlists = fitted(job, &sheets[..k], netlists, 4075);

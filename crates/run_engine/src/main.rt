@@ -1,16 +1,18 @@
 // Makes the calls of the engine that its standard input asks for, and prints one line for each. The form of the calls and
-// the lines stands in tools/reference/decide_calls.py and fit_calls.py, which also say what each line must be. Input that is no
+// the lines stands in tools/reference/verdict_calls.py and fit_calls.py, which also say what each line must be. Input that is no
 // whole call ends the run.
+mod choose;
 mod compare;
-mod decide;
 mod fit;
+mod judge;
+mod verdict;
 
 // One call with these bytes; whether it was a whole one.
 fn answered(service: u8, s: &[u8]) -> bool {
     match service {
-        1 => decide::decide_call(s),
+        1 => verdict::judge_call(s),
         2 => compare::compare_call(s),
-        3 => decide::order_call(s),
+        3 => verdict::order_call(s),
         4 => fit::fit_call(s),
         5 => fit::row_call(s),
         _ => false,

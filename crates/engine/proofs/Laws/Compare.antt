@@ -1,4 +1,4 @@
--- Laws of compare: where the driven old outputs differ from the golden ones. Assumes nothing.
+-- Laws of compare: where the driven old outputs differ from the golden ones, and the sheets that it and fit refuse with 7. Assumes nothing.
 use Prim.Native.Nat.{ℕ, _+_, _-_, _*_, _%_, _^_, min, _≤_, _<_}
 use mathlib.Core.Path.{_≡_, refl, sym, _∙_, ap, subst}
 use mathlib.Core.Logic.{inr, ⊎-elim}
@@ -6,20 +6,21 @@ use mathlib.Core.List.{List, [], _∷_, _++_}
 use mathlib.Core.Bool.{Bool, true, false, cond, not}
 use native.Mathlib.Nat.{one-mul}
 use native.Mathlib.Omega.{arith}
-use borrow.Author.Tests.{ltb-true, ltb-false, eqb-true, eqb-false, eq-eqb, ne-eqb}
+use borrow.Author.Tests.{le-leb, ltb-true, ltb-false, eqb-true, eqb-false, eq-eqb, ne-eqb}
 use lib.Dec.{ltb, eqb, lit<}
 use lib.ListN.{length, getD, take, drop, replicate, List·getD-eq-default, length-take}
 use lib.Pow.{pow-mono, shl-exact}
 use lib.Seq.{getD-take, getD-drop}
 use Rattle.records.specs.Job.{Job, jobOf}
 use Rattle.records.specs.Refusal.{Test, firstFailing, partTests, jobTests, jobRefusal}
-use Rattle.records.specs.Sheet.{patchOf, sheetTests}
-use Rattle.records.specs.Service.{checkOf, loaded, sheetReply}
+use Rattle.records.specs.Sheet.{patchOf, sheetWhole, patchGood, sheetTests}
+use Rattle.records.specs.Service.{candidatesFrom, checkOf, loaded, sheetRoomy, sheetNumber, sheetReply}
 use Rattle.records.specs.Parts.{PartsOf}
 use Rattle.records.specs.declared.field.Check.the-variants as Check
 use Rattle.records.specs.declared.loading.JobParts.{JobParts}
 use Rattle.records.specs.declared.sheet.SheetReply.{SheetReply}
 use Rattle.records.proofs.Laws.Accepted.{job-accepts}
+use Rattle.records.proofs.Laws.Bytes.{false-of}
 use Rattle.records.proofs.Laws.Counts.{passes, fails}
 use Rattle.records.proofs.Laws.Loading.{loaded-number, loaded-check, loaded-parts}
 use Rattle.engine.specs.Choice.{first}
@@ -27,7 +28,8 @@ use Rattle.engine.specs.Eval.{allInputs}
 use Rattle.engine.specs.Rectify.{rectifies}
 use Rattle.engine.specs.Support.{reading, drivenBy}
 use Rattle.engine.specs.Compare.{difference, pairTests}
-use Rattle.engine.specs.Reply.{comparisonOf, compareNumber, compareReply}
+use Rattle.engine.specs.Fit.{longestFit}
+use Rattle.engine.specs.Reply.{comparisonOf, compareNumber, compareReply, fitTests, fitNumber}
 use Rattle.engine.specs.Inner.Kernel.{Filled, FirstUnequal}
 use Rattle.engine.specs.Inner.Comparing.{differing, PlanReads, DrivenRow, TableCopied, declinedComparison, sheetComparison}
 use Rattle.engine.specs.declared.comparing.Comparison.{Comparison}
@@ -190,6 +192,13 @@ failing-append (t ∷ ts) us z = go (t .number) (t .passes) (failing-append ts u
     go k true f y = f y
     go k false f y = refl
 
+-- .. and where a job's tests pass, the later ones alone do
+passing-append : (s : List ℕ) (us : List Test) → jobRefusal s ≡ 0 → firstFailing (jobTests s ++ us) ≡ firstFailing us
+unfolding jobTests partTests firstFailing jobRefusal
+passing-append s us n =
+    let a = job-accepts true s .0 n in
+    rw (a .1, a .2 .counts, a .2 .gates, a .2 .outputs, a .2 .candidates)
+
 module _ (s : List ℕ) {r : JobParts} (e : r ≡ loaded s) where
   check-job : r .check ≡ checkOf (eqb (jobRefusal s) 0)
   check-job = ap (λ (x : JobParts). x .check) e ∙ loaded-check s
@@ -210,7 +219,31 @@ module _ (s : List ℕ) {r : JobParts} (e : r ≡ loaded s) where
     accepted-job = rw e (loaded-parts s accepted-number)
 
     pub compared-job : (q : List ℕ) → sheetComparison (jobOf s) q ≡ compareReply s q
-    unfolding compareReply compareNumber pairTests jobTests partTests firstFailing sheetComparison declinedComparison jobRefusal
-    compared-job q =
-        let a = job-accepts true s .0 accepted-number in
-        rw (a .1, a .2 .counts, a .2 .gates, a .2 .outputs, a .2 .candidates)
+    unfolding compareReply compareNumber pairTests sheetComparison declinedComparison
+    compared-job q = rw (passing-append s (sheetTests (jobOf s .targets) (jobOf s .candidates) q) accepted-number)
+
+-- ---- sheets that get 7
+
+-- number 7 says nothing of the job: a sheet that gets it beside no targets and no candidates is not whole
+unwhole-of-seven : (p : List ℕ) → sheetNumber 0 0 [] [] p ≡ 7 → sheetWhole p ≡ false
+unfolding sheetNumber sheetRoomy sheetTests firstFailing
+unwhole-of-seven p e = false-of (sheetWhole p) (λ t. go (patchGood 0 (candidatesFrom 0 [] []) (patchOf p)) (rw t at e))
+  where
+    go : (b : Bool) → _≡_ {A = ℕ} (cond b 0 8) 7 → ⊥
+    go true z = omega arith
+    go false z = omega arith
+
+-- .. so it gets 7 beside any accepted job, also from fit, given room
+module _ (s p : List ℕ) (n : jobRefusal s ≡ 0) (e : sheetNumber 0 0 [] [] p ≡ 7) where
+  compare-seven : compareNumber s p ≡ 7
+  unfolding compareNumber pairTests sheetTests firstFailing
+  compare-seven = passing-append s (sheetTests (jobOf s .targets) (jobOf s .candidates) p) n ∙ rw (unwhole-of-seven p e)
+
+  pub both-seven : (compareNumber s p ≡ 7) × ((d : List ℕ) → longestFit ≤ length d → fitNumber d s p ≡ 7)
+  unfolding compareNumber fitNumber fitTests firstFailing
+  both-seven = (
+    compare-seven,
+    λ d l.
+        rw (le-leb longestFit (length d) l)
+        (failing-append (pairTests s p) _ (λ z. let f : ⊥ = omega (arith, compare-seven) in f) ∙ compare-seven),
+  )

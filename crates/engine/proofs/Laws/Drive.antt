@@ -3,9 +3,10 @@
 use Prim.Native.Nat.{ℕ, _+_, _*_, _%_, _^_, _≤_, _<_}
 use mathlib.Core.Path.{_≡_, sym, _∙_, ap}
 use mathlib.Core.List.{List, map}
-use mathlib.Core.Bool.{Bool, cond}
+use mathlib.Core.Bool.{Bool, true, cond}
 use native.Mathlib.Nat.{mod-eq-of-lt}
 use native.Mathlib.Omega.{arith}
+use borrow.Author.Tests.{eq-eqb}
 use lib.ListN.{length, getD, take, length-take}
 use lib.Pow.{pow-mono}
 use lib.Seq.{slice}
@@ -14,7 +15,7 @@ use Rattle.engine.specs.Choice.{same}
 use Rattle.engine.specs.Eval.{bit, numberOf}
 use Rattle.engine.specs.Rectify.{rectifies}
 use Rattle.engine.specs.Support.{reading, drivenBy}
-use Rattle.engine.specs.Inner.Kernel.{rowValue, valueIn, NetsSet, Ran}
+use Rattle.engine.specs.Inner.Kernel.{rowValue, valueIn, NetsSet, Ran, FirstUnequal}
 use Rattle.engine.specs.Inner.Plan.{ReadsOf, PlanHeld}
 use Rattle.engine.specs.Inner.Note.{gathered}
 use Rattle.engine.specs.Inner.Search.{BlockEvaluated}
@@ -24,6 +25,7 @@ use Rattle.engine.proofs.Laws.BlockRows.{equal-rectifies, read-values}
 use Rattle.engine.proofs.Laws.Plan.{block-driven, reads-of}
 use Rattle.engine.proofs.Laws.Rows.{bit-gathered}
 use Rattle.engine.proofs.Laws.Support.{reading-lt}
+use Rattle.engine.proofs.Laws.VectorSets.{eqb-cond}
 
 -- a reading of ten nets at most
 reading-small : (j : Job) (is : List ℕ) (x : ℕ) → length is ≤ 10 → reading j is x < 1024
@@ -77,3 +79,12 @@ module _ (p : Plan) (gates table : List ℕ) (b : ℕ) (w w₁ w₂ readings vec
 
   pub driven-row : DrivenRow p gates table b row
   driven-row = record { values = row-driven }
+
+-- the table's vectors rectify the inputs before the first of which the row says 0
+pub driven-rectifies : {p : Plan} {gates table row : List ℕ} {b r : ℕ} → DrivenRow p gates table b row → FirstUnequal row r
+    → (j : Job) (is : List ℕ) → PlanReads j is p gates → (y : ℕ) → y < r
+    → rectifies j (1024 * b + y) (drivenBy j is table (1024 * b + y)) ≡ true
+driven-rectifies {table = table} {b = b} w f j is q y h =
+    let t = rectifies j (1024 * b + y) (drivenBy j is table (1024 * b + y)) in
+    let m = f .most in
+    sym (eqb-cond t) ∙ eq-eqb (cond t 1 0) 1 (sym (w .values j is q y (omega arith)) ∙ f .equal y h)

@@ -223,7 +223,7 @@ outputs-most {j} q = let n = job-within j (q .good) in omega (arith, outputs-cou
 
 -- an accepted sheet passes both of its tests
 sheet-passes : (m : ℕ) (cs : List Candidate) (p : List ℕ) → firstFailing (sheetTests m cs p) ≡ 0
-    → (sheetWhole m p ≡ true) × (patchGood m cs (patchOf p) ≡ true)
+    → (sheetWhole p ≡ true) × (patchGood m cs (patchOf p) ≡ true)
 unfolding sheetTests
 sheet-passes m cs p e = let u = passes-of-none _ (omega arith, (omega arith, tt)) e in (u .0, u .1 .0)
 
@@ -242,7 +242,7 @@ module _ {j : Job} {parts : JobParts} (q : PartsOf j parts) (p : List ℕ) {a : 
       rw (declined-number z) (gives-refused (fittedBytes j (patchOf p .support) (patchOf p .table)) d (a .number) z)
 
   module _ (z : a .number ≡ 0) where
-    both : (sheetWhole (j .targets) p ≡ true) × (patchGood (j .targets) (j .candidates) (patchOf p) ≡ true)
+    both : (sheetWhole p ≡ true) × (patchGood (j .targets) (j .candidates) (patchOf p) ≡ true)
     both = sheet-passes (j .targets) (j .candidates) p (parts-number q p e ∙ z)
 
     accepted-number : sheetFitNumber j p ≡ patchNumber j (patchOf p .support) (patchOf p .table)

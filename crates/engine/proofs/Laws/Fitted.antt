@@ -279,7 +279,6 @@ support-free j g p e i m =
     row-at (ascending (p .support))
     (all (isCandidate (j .candidates)) (p .support)
     ∷ all (λ v. ltb v (2 ^ j .targets)) (p .table)
-    ∷ all (λ v. ltb v (2 ^ j .targets)) (p .vectors)
     ∷ eqb (p .cost) (costOf (j .candidates) (p .support))
     ∷ [])
     e
@@ -295,9 +294,9 @@ support-free j g p e i m =
     (ltb-true i (oldNets j) (and-left below unmarked c), eqb-true (netAt (led j) i) 0 (and-right below unmarked c))
 
 -- an accepted sheet's table has an entry for each reading
-pub sheet-entries : (m : ℕ) (s : List ℕ) → sheetWhole m s ≡ true → length (patchOf s .table) ≡ 2 ^ length (patchOf s .support)
+pub sheet-entries : (s : List ℕ) → sheetWhole s ≡ true → length (patchOf s .table) ≡ 2 ^ length (patchOf s .support)
 unfolding patchOf
-sheet-entries m s e = sheetWhole-facts m s e .table ∙ ap (λ (k : ℕ). 2 ^ k) (sym (length-netsOf (nth 0 s)))
+sheet-entries s e = sheetWhole-facts s e .table ∙ ap (λ (k : ℕ). 2 ^ k) (sym (length-netsOf (nth 0 s)))
 
 pub fitted-driven : FittedOutputs
 fitted-driven j g p e l x =

@@ -11,7 +11,7 @@ use borrow.Author.Tests.{eqb-true, eqb-false, ltb-true, ltb-false}
 use lib.Bits.{bitAnd, and-zero-r}
 use lib.Dec.{eqb, ltb}
 use lib.ListN.{length, getD, take, set, replicate, length-set, length-take}
-use lib.Pow.{pow-pos, pow-add, pow-mono}
+use lib.Pow.{pow-pos, pow-mono}
 use lib.Seq.{getD-set-same, getD-set-other}
 use Rattle.records.specs.Bytes.{upFrom, tabulate, all}
 use Rattle.records.specs.Job.{Job}
@@ -19,8 +19,8 @@ use Rattle.records.specs.Refusal.{oldNets}
 use Rattle.engine.specs.Claims.{SomeGives}
 use Rattle.engine.specs.Eval.{numberOf}
 use Rattle.engine.specs.Support.{reading}
-use Rattle.engine.specs.Inner.Choose.{SetsOf}
-use Rattle.engine.specs.Inner.Given.{Opened, NextOpen, BlockSeen, Unseen, AllSeen}
+use Rattle.engine.specs.Inner.Best.{SetsOf}
+use Rattle.engine.specs.Inner.Given.{MaybeUnseen, NextUnseen, BlockSeen, Unseen, AllSeen}
 use Rattle.engine.specs.Inner.Kernel.{valueIn}
 use Rattle.engine.specs.Inner.Note.{narrowed, setsFrom, gathered, filled}
 use Rattle.engine.specs.Inner.Plan.{ReadsOf}
@@ -32,7 +32,7 @@ use Rattle.engine.proofs.Laws.Leaves.{valueIn-zero}
 use Rattle.engine.proofs.Laws.List.{setsFrom-append}
 use Rattle.engine.proofs.Laws.Notes.{giving-cases}
 use Rattle.engine.proofs.Laws.Rows.{bit-ext, setsFrom-length}
-use Rattle.engine.proofs.Laws.Search.{noted-sets}
+use Rattle.engine.proofs.Laws.Search.{noted-sets, block-range}
 use Rattle.engine.proofs.Laws.Searching.{block-readings}
 use Rattle.engine.proofs.Laws.VectorSets.{bit-ones}
 
@@ -112,26 +112,6 @@ block-seen b count readings words before after k r e g n =
           (d .1);
     }
 
--- the next inputs, at most 1,024, are a block
-block-of : (n b : ℕ) → 1024 * b < 2 ^ n → BlockRange n b (min (2 ^ n - 1024 * b) 1024)
-block-of n b h =
-    record {
-      few = omega arith;
-      within = omega arith;
-      whole =
-          ⊎-elim
-          (λ (t : ltb n 10 ≡ true).
-          let m : 2 ^ n ≤ 1024 = pow-mono {j = 10} (omega (arith, ltb-true n 10 t)) in
-          let z : b ≡ 0 = omega arith in
-          inr (z, omega arith))
-          (λ (t : ltb n 10 ≡ false).
-          let i : n ≡ (n - 10) + 10 = omega (arith, ltb-false n 10 t) in
-          let e : 2 ^ n ≡ 2 ^ (n - 10) * 1024 = ap (λ (k : ℕ). 2 ^ k) i ∙ pow-add 2 (n - 10) 10 in
-          let c : ℕ = 2 ^ (n - 10) in
-          inl (omega arith))
-          (true-or-false (ltb n 10));
-    }
-
 -- ---- block after block
 
 -- how far the look at a plan's inputs has come, before block b: the places after those passed, from the places before; of the count
@@ -148,7 +128,7 @@ pub record Seeing (p : Plan) (gates before : List ℕ) (count size b next : ℕ)
       → (after ≡ setsFrom (λ y. 0) (reading j is) before 0 (min (1024 * b) size)) × ((q : ℕ) → q < next → getD after q 0 ≡ 0)
 
 pub seeing-none : (p : Plan) (gates : List ℕ) {before : List ℕ} {count next : ℕ} → p .inputs ≤ 20 → p .reads ≤ 10 → length before ≡ 1024
-    → count ≡ 2 ^ p .reads → NextOpen before 0 count next
+    → count ≡ 2 ^ p .reads → NextUnseen before 0 count next
     → Seeing p gates before count (1 * 2 ^ p .inputs % 18446744073709551616) 0 next before
 unfolding setsFrom
 seeing-none p gates {before} {count} {next} a b l c o =
@@ -169,9 +149,9 @@ seeing-none p gates {before} {count} {next} a b l c o =
 module _ {p : Plan} {gates before mid : List ℕ} {count size b next n : ℕ} (s : Seeing p gates before count size b next mid)
     (h : 1024 * b < size) (e : n ≡ min (size - 1024 * b) 1024) where
   pub seeing-range : BlockRange (p .inputs) b n
-  seeing-range = rw (e, s .inputs) (block-of (p .inputs) b (omega (arith, s .inputs)))
+  seeing-range = rw (e, s .inputs) (block-range (p .inputs) b (omega (arith, s .inputs)))
 
-  pub seeing-next : {after : List ℕ} {later : ℕ} → BlockSeen p gates b n mid after → NextOpen after next count later
+  pub seeing-next : {after : List ℕ} {later : ℕ} → BlockSeen p gates b n mid after → NextUnseen after next count later
       → Seeing p gates before count size (b + 1) later after
   seeing-next {after} {later} t o =
       record {
@@ -249,13 +229,13 @@ gives-of-lacking j is ss s r l m n =
     (giving-cases j is r)
 
 -- a reading that is not open from the start is one that some input gives, where full is the set of all vectors
-pub opened-gives : (j : Job) (is ss os : List ℕ) {full n : ℕ} → full ≡ 2 ^ 2 ^ j .targets - 1 → length is ≤ n → SetsOf j is ss
-    → ((r : ℕ) → getD ss r 0 < 65536) → Opened ss full n os
+pub unseen-gives : (j : Job) (is ss os : List ℕ) {full n : ℕ} → full ≡ 2 ^ 2 ^ j .targets - 1 → length is ≤ n → SetsOf j is ss
+    → ((r : ℕ) → getD ss r 0 < 65536) → MaybeUnseen ss full n os
     → (r : ℕ) → r < 2 ^ length is → getD os r 0 ≡ 0 → SomeGives j is r
-opened-gives j is ss os e k s small o r h z =
+unseen-gives j is ss os e k s small o r h z =
     gives-of-lacking j is ss s r h (small r) (λ t. o .full r (omega (arith, pow-mono k)) z (t ∙ sym e))
 
 -- .. and where none is open that holds of all
-pub none-open : (j : Job) (is : List ℕ) {os : List ℕ} {n count next : ℕ} → length is ≤ n → count ≡ 2 ^ n → NextOpen os 0 count next
+pub all-seen : (j : Job) (is : List ℕ) {os : List ℕ} {n count next : ℕ} → length is ≤ n → count ≡ 2 ^ n → NextUnseen os 0 count next
     → next ≡ count → ((r : ℕ) → r < 2 ^ length is → getD os r 0 ≡ 0 → SomeGives j is r) → Unseen j is os
-none-open j is k c t d f r h = (f r h, λ a. t .seen r (omega arith) (omega (arith, pow-mono k)))
+all-seen j is k c t d f r h = (f r h, λ a. t .seen r (omega arith) (omega (arith, pow-mono k)))

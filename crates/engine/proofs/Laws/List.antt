@@ -1,9 +1,9 @@
--- Laws of the walk over the inputs (specs/Walk): a step of the list, steps one after the other, and steps that change nothing.
+-- Laws of the walk over the inputs (specs/Inner/List): a step of the list, steps one after the other, and steps that change nothing.
 -- Assumes nothing.
 use Prim.Native.Nat.{ℕ, zero, suc, _+_, _-_, _^_, _≤_, _<_}
-use mathlib.Core.Path.{_≡_, refl, _∙_, ap}
-use mathlib.Core.Logic.{_⊎_, ⊎-elim}
-use mathlib.Core.List.{List, [], _∷_, _++_, List·Memᴰ as Mem, List·Memᴰ·head as here, Memᴰ·append-left as append-left}
+use mathlib.Core.Path.{_≡_, refl, sym, _∙_, ap}
+use mathlib.Core.Logic.{_⊎_, inl, inr, ⊎-elim}
+use mathlib.Core.List.{List, [], _∷_, _++_, List·Memᴰ as Mem, List·Memᴰ·head as here, Memᴰ·append-left as append-left, List·Memᴰ·append-cases as append-cases, List·Memᴰ·eq-of-singleton as eq-of-singleton}
 use mathlib.Core.Bool.{Bool, true, false, cond}
 use mathlib.Core.Option.{Option, none, some}
 use native.Mathlib.Nat.{zero-add, add-zero, suc-add, mod-eq-of-lt, eq-or-lt-of-le}
@@ -63,13 +63,18 @@ module _ {A : Type 0} (step : A → ℕ → A) where
 
 -- ---- lists
 
--- a store keeps a bound of all elements
+-- a store keeps what holds of all elements
+pub set-holds : (P : ℕ → Type 0) (xs : List ℕ) (i x : ℕ) → ((k : ℕ) → P (getD xs k 0)) → P x
+    → (k : ℕ) → P (getD (set xs i x) k 0)
+set-holds P [] i x b h k = b k
+set-holds P (y ∷ ys) zero x b h zero = h
+set-holds P (y ∷ ys) zero x b h (suc k) = b (suc k)
+set-holds P (y ∷ ys) (suc i) x b h zero = b zero
+set-holds P (y ∷ ys) (suc i) x b h (suc k) = set-holds P ys i x (λ m. b (suc m)) h k
+
+-- .. as a bound
 pub set-below : (xs : List ℕ) (i x n : ℕ) → ((k : ℕ) → getD xs k 0 < n) → x < n → (k : ℕ) → getD (set xs i x) k 0 < n
-set-below [] i x n b h k = b k
-set-below (y ∷ ys) zero x n b h zero = h
-set-below (y ∷ ys) zero x n b h (suc k) = b (suc k)
-set-below (y ∷ ys) (suc i) x n b h zero = b zero
-set-below (y ∷ ys) (suc i) x n b h (suc k) = set-below ys i x n (λ m. b (suc m)) h k
+set-below xs i x n = set-holds (λ y. y < n) xs i x
 
 pub eq-or-below : (x y : ℕ) → x < y + 1 → (x ≡ y) ⊎ (x < y)
 eq-or-below x y h = eq-or-lt-of-le (omega arith)
@@ -160,49 +165,77 @@ stuck-stays f l x k y e =
 
 -- ---- steps that change nothing
 
--- a step keeps the listed vectors
-listStep-keeps : (l : Listed) (s x v : ℕ) → Mem v (l .vectors) → Mem v (listStep l s x .vectors)
-listStep-keeps l s x v m =
+-- a step keeps the listed vectors, or appends the smallest of the set
+listStep-vectors : (l : Listed) (s x : ℕ)
+    → (listStep l s x .vectors ≡ l .vectors) ⊎ ((v : ℕ) × (lowest s ≡ some v) × (listStep l s x .vectors ≡ l .vectors ++ (v ∷ [])))
+listStep-vectors l s x =
+    let vs : Listed → List ℕ = λ k. k .vectors in
     ⊎-elim
     (λ (n : l .stuck ≡ none).
     ⊎-elim
-    (λ (a : any (inSet s) (l .vectors) ≡ true). rw (listStep-listed l s x a) m)
+    (λ (a : any (inSet s) (l .vectors) ≡ true). inl (ap vs (listStep-listed l s x a)))
     (λ (a : any (inSet s) (l .vectors) ≡ false).
     ⊎-elim
-    (λ (e : lowest s ≡ none). rw (listStep-none l s x n a e) m)
+    (λ (e : lowest s ≡ none). inl (ap vs (listStep-none l s x n a e)))
     (λ r.
     ⊎-elim
     (λ (t : ltb (length (l .vectors)) 16 ≡ true).
-    rw (listStep-append l s x n a (r .0) (r .1) (ltb-true (length (l .vectors)) 16 t)) (append-left (r .0 ∷ []) m))
+    inr (r .0, r .1, ap vs (listStep-append l s x n a (r .0) (r .1) (ltb-true (length (l .vectors)) 16 t))))
     (λ (t : ltb (length (l .vectors)) 16 ≡ false).
-    rw (listStep-full l s x n a (r .0) (r .1) (ltb-false (length (l .vectors)) 16 t)) m)
+    inl (ap vs (listStep-full l s x n a (r .0) (r .1) (ltb-false (length (l .vectors)) 16 t))))
     (true-or-false (ltb (length (l .vectors)) 16)))
     (none-or-some (lowest s)))
     (true-or-false (any (inSet s) (l .vectors))))
-    (λ r. rw (listStep-stuck l s x (r .0) (r .1)) m)
+    (λ r. inl (ap vs (listStep-stuck l s x (r .0) (r .1))))
     (none-or-some (l .stuck))
 
 module _ (f : ℕ → ℕ) where
   -- vector 0 stays listed
-  zero-listed : (x : ℕ) → Mem 0 (listedFrom f startList 0 x .vectors)
+  pub zero-listed : (x : ℕ) → Mem 0 (listedFrom f startList 0 x .vectors)
   zero-listed x =
       rw (listedFrom-walked f startList 0 x)
       (walked-holds (listing f) (λ y l. Mem 0 (l .vectors)) startList 0 x (here refl)
-      (λ y a b l m. listStep-keeps l (f y) y 0 m))
+      (λ y a b l m.
+      ⊎-elim
+      (λ (e : listStep l (f y) y .vectors ≡ l .vectors). rw e m)
+      (λ r. rw (r .2) (append-left (r .0 ∷ []) m))
+      (listStep-vectors l (f y) y)))
 
-  -- inputs that vector 0 rectifies add nothing to the list
-  pub listedFrom-skip : (x k : ℕ) → ((y : ℕ) → x ≤ y → y < x + k → bit 0 (f y) ≡ 1)
+  -- any other listed vector is the smallest of a set
+  pub listed-cases : (x v : ℕ) → Mem v (listedFrom f startList 0 x .vectors) → (v ≡ 0) ⊎ ((y : ℕ) × (lowest (f y) ≡ some v))
+  listed-cases x v =
+      rw (listedFrom-walked f startList 0 x)
+      (walked-holds (listing f) (λ y l. Mem v (l .vectors) → (v ≡ 0) ⊎ ((z : ℕ) × (lowest (f z) ≡ some v))) startList 0 x
+      (λ m. inl (eq-of-singleton m))
+      (λ y a b l h m.
+      ⊎-elim
+      (λ (e : listStep l (f y) y .vectors ≡ l .vectors). h (rw e at m))
+      (λ r.
+      ⊎-elim
+      (λ (n : Mem v (l .vectors)). h n)
+      (λ (n : Mem v (r .0 ∷ [])). inr (y, r .1 ∙ ap some (sym (eq-of-singleton n))))
+      (append-cases (l .vectors) (rw (r .2) at m)))
+      (listStep-vectors l (f y) y)))
+
+  -- inputs of whose set some vector is listed add nothing to the list
+  pub listedFrom-still : (x k : ℕ)
+      → ((y : ℕ) → x ≤ y → y < x + k → any (inSet (f y)) (listedFrom f startList 0 x .vectors) ≡ true)
       → listedFrom f startList 0 (x + k) ≡ listedFrom f startList 0 x
-  listedFrom-skip x k h =
+  listedFrom-still x k h =
       let l : Listed = listedFrom f startList 0 x in
       let o : 0 + x ≡ x = zero-add x in
       listedFrom-append f startList 0 x k
       ∙ ap (λ (z : ℕ). listedFrom f l z k) o
       ∙ listedFrom-walked f l x k
-      ∙ walked-still (listing f) l x k
+      ∙ walked-still (listing f) l x k (λ y a b. listStep-listed l (f y) y (h y a b))
+
+  -- .. as those that vector 0 rectifies
+  pub listedFrom-skip : (x k : ℕ) → ((y : ℕ) → x ≤ y → y < x + k → bit 0 (f y) ≡ 1)
+      → listedFrom f startList 0 (x + k) ≡ listedFrom f startList 0 x
+  listedFrom-skip x k h =
+      listedFrom-still x k
       (λ y a b.
-      listStep-listed l (f y) y
-      (any-of-member (inSet (f y)) (l .vectors) 0 (zero-listed x) (eq-eqb (bit 0 (f y)) 1 (h y a b))))
+      any-of-member (inSet (f y)) (listedFrom f startList 0 x .vectors) 0 (zero-listed x) (eq-eqb (bit 0 (f y)) 1 (h y a b)))
 
 module _ (f g : ℕ → ℕ) (n : ℕ) where
   -- no set grows

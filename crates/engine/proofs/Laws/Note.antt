@@ -4,7 +4,7 @@ use Prim.Native.Nat.{ℕ, zero, suc, _+_, _-_, _*_, _/_, _%_, _^_, max, _≤_, _
 use mathlib.Core.Path.{_≡_, refl, sym, _∙_, ap, subst}
 use mathlib.Core.Logic.{_⊎_, inl, inr, ⊎-elim}
 use mathlib.Core.List.{List, [], _∷_, _++_, List·Memᴰ·head as here, Memᴰ·append-left as append-left, Memᴰ·append-right as append-right}
-use mathlib.Core.Bool.{true}
+use mathlib.Core.Bool.{Bool, true}
 use native.Mathlib.Numerals.{add-one}
 use native.Mathlib.Omega.{arith}
 use borrow.Author.Tests.{eq-eqb}
@@ -13,6 +13,7 @@ use lib.ListN.{length, getD, take, drop, replicate, getD-replicate}
 use lib.Seq.{take-suc}
 use Rattle.records.specs.Bytes.{tabulate}
 use Rattle.records.proofs.Laws.Bytes.{drop-tabulate, drop-tabulate-end}
+use Rattle.engine.specs.Choice.{any}
 use Rattle.engine.specs.Eval.{bit, numberOf}
 use Rattle.engine.specs.Rectify.{Listed}
 use Rattle.engine.specs.Inner.List.{listStep, listedFrom, listedOf, Held, Stepped}
@@ -64,6 +65,22 @@ module _ (x : List ℕ) (y : ℕ) where
   unfolding numberOf valueIn bit
   rowsFrom-turn i h = omega (arith, ap numberOf (drop-tabulate 16 (valueIn x y) i h))
 
+-- ---- the first places of a list
+
+-- one of the first i elements with p, or the one at i, is one of the first i + 1
+pub any-next : (p : ℕ → Bool) (list : List ℕ) (i : ℕ) → i < length list → (any p (take i list) ≡ true) ⊎ (p (getD list i 0) ≡ true)
+    → any p (take (i + 1) list) ≡ true
+any-next p list i l h =
+    let v = getD list i 0 in
+    let t : take (i + 1) list ≡ take i list ++ (v ∷ []) = rw (add-one i) (take-suc list i 0 l) in
+    rw t
+    (⊎-elim
+    (λ (a : any p (take i list) ≡ true).
+    let r = any-true p (take i list) a in
+    any-of-member p (take i list ++ (v ∷ [])) (r .0) (append-left (v ∷ []) (r .1)) (r .2))
+    (λ (a : p v ≡ true). any-of-member p (take i list ++ (v ∷ [])) v (append-right (take i list) (here refl)) a)
+    h)
+
 -- ---- rows joined
 
 pub joined-none : (masks vs : List ℕ) → Joined masks vs (replicate 16 0)
@@ -73,7 +90,7 @@ joined-none masks vs y h e =
     ap (bit (y % 64)) (getD-replicate 16 (y / 64) 0 0 (omega arith)) ∙ bit-zero (y % 64) in
     let f : ⊥ = omega arith in absurd f
 
-either-one : (a b : ℕ) → a < 2 → b < 2 → max a b ≡ 1 → (a ≡ 1) ⊎ (b ≡ 1)
+pub either-one : (a b : ℕ) → a < 2 → b < 2 → max a b ≡ 1 → (a ≡ 1) ⊎ (b ≡ 1)
 either-one zero b h k e = inr (omega arith)
 either-one (suc a) b h k e = inl (omega arith)
 
@@ -95,15 +112,10 @@ pub joined-next : (masks list words next : List ℕ) (i : ℕ) → i < length li
     → Joined masks (take i list) words → Joined masks (take (i + 1) list) next
 joined-next masks list words next i l h j p y k e =
     let v = getD list i 0 in
-    let t : take (i + 1) list ≡ take i list ++ (v ∷ []) = rw (add-one i) (take-suc list i 0 l) in
-    rw t
+    any-next (inSet (gathered masks y)) list i l
     (⊎-elim
-    (λ (a : rowValue words y ≡ 1).
-    let r = any-true (inSet (gathered masks y)) (take i list) (p y k a) in
-    any-of-member (inSet (gathered masks y)) (take i list ++ (v ∷ [])) (r .0) (append-left (v ∷ []) (r .1)) (r .2))
-    (λ (b : valueIn masks y v ≡ 1).
-    any-of-member (inSet (gathered masks y)) (take i list ++ (v ∷ [])) v (append-right (take i list) (here refl))
-    (eq-eqb (bit v (gathered masks y)) 1 (bit-gathered masks y v h ∙ b)))
+    (λ (a : rowValue words y ≡ 1). inl (p y k a))
+    (λ (b : valueIn masks y v ≡ 1). inr (eq-eqb (bit v (gathered masks y)) 1 (bit-gathered masks y v h ∙ b)))
     (either-one (rowValue words y) (valueIn masks y v) (rowValue-lt words y) (valueIn-lt masks y v)
     (sym (joined-row masks words next v j y k) ∙ e)))
 

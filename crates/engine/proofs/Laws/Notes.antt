@@ -19,7 +19,7 @@ use Rattle.engine.specs.Rectify.{rectifies}
 use Rattle.engine.specs.Support.{reading, giving, shared, sharing, noteOf, notesOf}
 use Rattle.engine.specs.Claims.{SomeGives, RectifyAll, NoteIn}
 use Rattle.engine.specs.Inner.List.{maxVectors, lowest}
-use Rattle.engine.specs.Inner.Choose.{RectifiesAll, SetsOf}
+use Rattle.engine.specs.Inner.Best.{RectifiesAll, SetsOf}
 use Rattle.engine.specs.Inner.Given.{Unseen}
 use Rattle.engine.specs.Inner.Table.{noteFrom}
 use Rattle.engine.proofs.Laws.Choice.{true-or-false, mem-keep, mem-below, mem-upFrom, found-some}
@@ -211,7 +211,7 @@ module _ (j : Job) (is ss os : List ℕ) (h : SetsOf j is ss) (g : Unseen j is o
 
 module _ (j : Job) (is : List ℕ) (r : ℕ) where
   -- the vectors that make the old outputs the golden ones at every input giving the reading are those that are shared
-  rectify-iff : (v : ℕ) → RectifyAll j is r v ↔ Shares j is r v
+  pub rectify-iff : (v : ℕ) → RectifyAll j is r v ↔ Shares j is r v
   rectify-iff v = (
     λ a. (a .0, λ x h e. rectifies-iff-outputs j x v .1 (a .1 x h e)),
     λ a. (a .0, λ x h e. rectifies-iff-outputs j x v .0 (a .1 x h e)),

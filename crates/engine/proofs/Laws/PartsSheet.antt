@@ -23,7 +23,7 @@ use Rattle.records.proofs.Laws.Bytes.{and-both}
 use Rattle.engine.specs.Support.{candidateNets}
 use Rattle.engine.specs.Inner.Plan.{NetsRead}
 use Rattle.engine.proofs.Laws.Choice.{all-true, all-of-members, all-below-more}
-use Rattle.engine.proofs.Laws.Decide.{below-append, below-zeros}
+use Rattle.engine.proofs.Laws.Loaded.{below-append, below-zeros}
 use Rattle.engine.proofs.Laws.Miter.{job-within, oldNets-le, miter-nets, candidates-below}
 use Rattle.engine.proofs.Laws.SheetRead.{ReadSheet, sheet-number, read-sheet}
 use Rattle.engine.proofs.Laws.Support.{candidate-passes}

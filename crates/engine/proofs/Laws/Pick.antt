@@ -18,10 +18,10 @@ use Rattle.records.specs.Refusal.{ascending}
 use Rattle.records.proofs.Laws.Bytes.{false-of}
 use Rattle.records.specs.declared.sheet.Support.{Support}
 use Rattle.engine.specs.Support.{sound, candidateNets, cost, earlier, better, chosen}
-use Rattle.engine.specs.Inner.Choose.{picked, total, lowFirst, before, openAt, candidateWeights, SetsOf, LeftOut, OpenPick, WeightsOf, PickOf, OpenOf, BestFrom, PickedNets, HeldSupport, Choosable, ChosenOf}
-use Rattle.engine.specs.declared.choose.Chosen.{Chosen}
-use Rattle.engine.specs.declared.choose.Left.{Left}
-use Rattle.engine.specs.declared.choose.Pick.{Pick}
+use Rattle.engine.specs.Inner.Best.{picked, total, lowFirst, before, openAt, candidateWeights, SetsOf, LeftOut, OpenPick, WeightsOf, PickOf, OpenOf, BestFrom, PickedNets, HeldSupport, Choosable, ChosenOf}
+use Rattle.engine.specs.declared.best.Chosen.{Chosen}
+use Rattle.engine.specs.declared.best.Left.{Left}
+use Rattle.engine.specs.declared.best.Pick.{Pick}
 use Rattle.engine.proofs.Laws.Best.{better-irrefl, better-trans, better-neither, chosen-unique}
 use Rattle.engine.proofs.Laws.Choice.{not-both, true-or-false}
 use Rattle.engine.proofs.Laws.Picked.{length-picked-le, picked-all, picked-subset, subset-picked, total-from-le, open-none, open-all, open-among, open-suc, open-in, open-out, total-in, total-out, above-first, low-earlier, cost-picked, nets-from, weights-from, in-or-out}

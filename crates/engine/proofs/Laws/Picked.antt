@@ -22,7 +22,7 @@ use Rattle.records.proofs.Laws.Bytes.{and-left, and-right, false-of}
 use Rattle.records.proofs.Laws.Job.{tabulate-getD}
 use Rattle.engine.specs.Eval.{bit, bits, numberOf}
 use Rattle.engine.specs.Support.{subsets, earlier}
-use Rattle.engine.specs.Inner.Choose.{picked, total, lowFirst, openAt}
+use Rattle.engine.specs.Inner.Best.{picked, total, lowFirst, openAt}
 use Rattle.engine.proofs.Laws.Choice.{map-agree}
 use Rattle.engine.proofs.Laws.Eval.{Bits, bits-nil, bits-cons, bit-lt}
 use Rattle.engine.proofs.Laws.Support.{subsets-among}

@@ -15,7 +15,7 @@ use lib.Pow.{pow-mono}
 use Rattle.records.specs.Job.{Job}
 use Rattle.engine.specs.Eval.{bit}
 use Rattle.engine.specs.Rectify.{rectifies}
-use Rattle.engine.specs.Inner.Choose.{ReadingSets}
+use Rattle.engine.specs.Inner.Best.{ReadingSets}
 use Rattle.engine.specs.Support.{reading, candidateNets}
 use Rattle.engine.specs.Inner.Masks.{rectifiers}
 use Rattle.engine.specs.Inner.Note.{narrowed, setsFrom, startSets}

@@ -1,107 +1,116 @@
--- Laws of decide's replies: the verdict and the sheet that the vector list, the sets and the choice give are those of the
--- definitions. Assumes nothing.
+-- Laws of the replies that judge and choose make: the judgement of the vector list, and the choice of the sets, with their sheets, are
+-- those of the definitions. Assumes nothing.
 use Prim.Native.Nat.{ℕ, _^_, _≤_, _<_}
-use mathlib.Core.Path.{_≡_, refl, sym, _∙_, ap}
-use mathlib.Core.List.{List, map}
+use mathlib.Core.Path.{_≡_, sym, _∙_, ap}
+use mathlib.Core.List.{List, _++_, map}
 use mathlib.Core.Bool.{Bool, true, false}
-use mathlib.Core.Option.{none, some}
 use native.Mathlib.Nat.{zero-add}
 use native.Mathlib.Omega.{arith}
 use lib.Pow.{pow-mono}
 use lib.Dec.{ltb}
 use lib.ListN.{length, take, length-map}
-use Rattle.records.specs.Bytes.{all, placed}
+use lib.Seq.{length-take-le}
+use Rattle.records.specs.Bytes.{all, bytePair, placed, field}
 use Rattle.records.specs.Job.{Job, Candidate}
-use Rattle.engine.specs.Rectify.{Listed, vectorLoop}
-use Rattle.engine.specs.Support.{sound, tableOf, notesOf, candidateNets, cost, chosen}
-use Rattle.engine.specs.Verdict.{Ruling, patch, unfixable, blind, blindReading, ruling, sheetOf}
-use Rattle.engine.specs.Reply.{verdictFrom, verdictOf}
-use Rattle.engine.specs.Inner.Sheet.{patchBytes, unfixableBytes, blindBytes, BytesPut}
-use Rattle.engine.specs.Inner.List.{listedOf}
-use Rattle.engine.specs.Inner.Search.{Progress}
-use Rattle.engine.specs.Inner.Choose.{ReadingSets, SetsOf, FirstEmpty, Choosable, ChosenOf}
-use Rattle.engine.specs.Inner.Given.{Unseen}
-use Rattle.engine.specs.Inner.Table.{TableFilled, NotesFilled}
-use Rattle.engine.specs.Inner.Deciding.{Decided}
-use Rattle.engine.specs.declared.choose.Chosen.{Chosen}
-use Rattle.engine.specs.declared.deciding.Verdict.{Verdict}
-use Rattle.engine.specs.declared.deciding.Verdict.the-variants as Verdict
-use Rattle.engine.specs.declared.list.Vectors.{Vectors}
 use Rattle.records.specs.Refusal.{oldNets, ascending, candidateGood, candidatesGood}
 use Rattle.records.specs.Claims.{PartsGood}
-use Rattle.records.proofs.Laws.Bytes.{false-of, and-left}
-use lib.Seq.{length-take-le}
-use Rattle.engine.proofs.Laws.Picked.{nets-from}
-use Rattle.engine.proofs.Laws.Sets.{sound-iff-full, blind-of-empty}
 use Rattle.records.specs.Service.{candidatesFrom, countsOf}
 use Rattle.records.specs.Inner.{Within}
 use Rattle.records.specs.Parts.{PartsOf}
 use Rattle.records.specs.declared.loading.JobParts.{JobParts}
 use Rattle.records.specs.declared.job.Counts.{Counts}
+use Rattle.records.proofs.Laws.Bytes.{false-of, and-left}
+use Rattle.engine.specs.Rectify.{Listed, vectorLoop}
+use Rattle.engine.specs.Support.{sound, tableOf, notesOf, candidateNets, cost, chosen}
+use Rattle.engine.specs.Verdict.{blindReading, fourBytes, judgeSheet, chooseSheet}
+use Rattle.engine.specs.Reply.{judgementOf, choiceOf}
+use Rattle.engine.specs.Inner.Sheet.{patchBytes, BytesPut}
+use Rattle.engine.specs.Inner.List.{listedOf}
+use Rattle.engine.specs.Inner.Guess.{ListTo}
+use Rattle.engine.specs.Inner.Search.{SetsTo}
+use Rattle.engine.specs.Inner.Best.{ReadingSets, SetsOf, FirstEmpty, Choosable, ChosenOf}
+use Rattle.engine.specs.Inner.Given.{Unseen}
+use Rattle.engine.specs.Inner.Table.{TableFilled, NotesFilled}
+use Rattle.engine.specs.Inner.Judging.{JudgedJob}
+use Rattle.engine.specs.Inner.Choosing.{ChosenJob}
+use Rattle.engine.specs.declared.best.Chosen.{Chosen}
+use Rattle.engine.specs.declared.list.Vectors.{Vectors}
+use Rattle.engine.specs.declared.judging.Judgement.{Judgement}
+use Rattle.engine.specs.declared.judging.Judgement.the-variants as Judgement
+use Rattle.engine.specs.declared.judging.JudgeReply.{JudgeReply}
+use Rattle.engine.specs.declared.choosing.Choice.{Choice}
+use Rattle.engine.specs.declared.choosing.Choice.the-variants as Choice
+use Rattle.engine.specs.declared.choosing.ChooseReply.{ChooseReply}
 use Rattle.engine.proofs.Laws.Loop.{stuck-iff}
 use Rattle.engine.proofs.Laws.Best.{chosen-sound}
 use Rattle.engine.proofs.Laws.Choice.{all-true, all-of-members}
 use Rattle.engine.proofs.Laws.Support.{subsets-among}
+use Rattle.engine.proofs.Laws.Picked.{nets-from}
+use Rattle.engine.proofs.Laws.Sets.{sound-iff-full, blind-of-empty}
 use Rattle.engine.proofs.Laws.Miter.{job-within, candidates-below}
 use Rattle.engine.proofs.Laws.ListLoop.{walk-list}
 use Rattle.engine.proofs.Laws.ReadingSets.{walk-reading-sets}
 use Rattle.engine.proofs.Laws.Search.{listed-stuck, listed-free}
-use Rattle.engine.proofs.Laws.Sheet.{rulingBytes, patchBytes-ruling, unfixableBytes-ruling, blindBytes-ruling, sheet-ruling}
-use Rattle.engine.proofs.Laws.Verdict.{ruling-unfixable, ruling-patch, ruling-blind}
+use Rattle.engine.proofs.Laws.Sheet.{patchBytes-sheet}
+use Rattle.engine.proofs.Laws.Verdict.{judged-unfixable, judged-fixable, chosen-patch, chosen-blind}
 
--- a verdict whose bytes are put into the buffer
-decided-of : (j : Job) (u : Ruling) (vs bs : List ℕ) (v : Verdict) {d e : List ℕ} {n : ℕ} → ruling j ≡ u
-    → vectorLoop j .vectors ≡ vs → verdictFrom j u ≡ v → bs ≡ rulingBytes j u vs → BytesPut d 0 bs e n
-    → Decided j d (record { number = 0; len = n; verdict = v }) e
-unfolding verdictOf
-decided-of j u vs bs v {d} {e} {n} a b c q w =
-    let s : bs ≡ sheetOf j = q ∙ sheet-ruling j a b in
-    let f : verdictOf j ≡ v = ap (verdictFrom j) a ∙ c in
-    record {
-      reply =
-          ap (λ (x : ℕ). record { number = 0; len = x; verdict = v }) (w .end ∙ zero-add _ ∙ ap length s)
-          ∙ ap (λ (x : Verdict). record { number = 0; len = length (sheetOf j); verdict = x }) (sym f);
-      bytes = w .bytes ∙ ap (placed d 0) s;
-    }
+-- ---- a reply r of a length and a verdict, whose bytes are put into the buffer
+
+module _ {R A : Type 0} (r : ℕ → A → R) {u v : A} {xs bs d e : List ℕ} {n : ℕ} (h : (u ≡ v) × (xs ≡ bs)) (w : BytesPut d 0 bs e n) where
+  reply-put : r n v ≡ r (length xs) u
+  reply-put = ap (λ (k : ℕ). r k v) (w .end ∙ zero-add (length bs) ∙ ap length (sym (h .1))) ∙ ap (r (length xs)) (sym (h .0))
+
+  bytes-put : e ≡ placed d 0 xs
+  bytes-put = w .bytes ∙ ap (placed d 0) (sym (h .1))
+
+-- ---- judge
+
+abbrev judgement : ℕ → Judgement → JudgeReply
+judgement n v = record { number = 0; len = n; verdict = v }
+
+judged-put : (j : Job) {v : Judgement} {bs d e : List ℕ} {n : ℕ} → (judgementOf j ≡ v) × (judgeSheet j ≡ bs) → BytesPut d 0 bs e n
+    → JudgedJob j d (judgement n v) e
+judged-put j h w = record { reply = reply-put judgement h w; bytes = bytes-put judgement h w }
 
 module _ (j : Job) (v : Vectors) (h : listedOf v ≡ vectorLoop j) where
-  vectors-of : vectorLoop j .vectors ≡ take (v .len) (v .list)
+  abbrev vectors : List ℕ
+  vectors = take (v .len) (v .list)
+
+  vectors-of : vectorLoop j .vectors ≡ vectors
   unfolding listedOf
   vectors-of = ap (λ (l : Listed). l .vectors) (sym h)
 
-  pub stuck-of : v .stuck ≡ true → vectorLoop j .stuck ≡ some (v .input)
-  stuck-of s = ap (λ (l : Listed). l .stuck) (sym h) ∙ listed-stuck v s
+  pub unfixable-judged : {d e : List ℕ} {n : ℕ} → v .stuck ≡ true → BytesPut d 0 (field 20 (fourBytes (v .input)) ++ field 19 vectors) e n
+      → JudgedJob j d (judgement n (Judgement.Unfixable (record { input = v .input }))) e
+  unfixable-judged s =
+      let f = judged-unfixable j (ap (λ (l : Listed). l .stuck) (sym h) ∙ listed-stuck v s) in
+      judged-put j (f .0, f .1 ∙ rw vectors-of)
 
-  pub free-of : v .stuck ≡ false → vectorLoop j .stuck ≡ none
-  free-of s = ap (λ (l : Listed). l .stuck) (sym h) ∙ listed-free v s
+  pub fixable-judged : {d e : List ℕ} {n : ℕ} → v .stuck ≡ false → BytesPut d 0 (field 19 vectors) e n
+      → JudgedJob j d (judgement n Judgement.Fixable) e
+  fixable-judged s =
+      let f = judged-fixable j (ap (λ (l : Listed). l .stuck) (sym h) ∙ listed-free v s) in
+      judged-put j (f .0, f .1 ∙ ap (field 19) vectors-of)
 
-  pub unfixable-decided : {d e : List ℕ} {n : ℕ} → v .stuck ≡ true
-      → BytesPut d 0 (unfixableBytes (v .input) (take (v .len) (v .list))) e n
-      → Decided j d (record { number = 0; len = n; verdict = Verdict.Unfixable (record { input = v .input }) }) e
-  unfolding verdictFrom
-  unfixable-decided s w =
-      decided-of j (unfixable (v .input)) (take (v .len) (v .list)) _ (Verdict.Unfixable (record { input = v .input }))
-      (ruling-unfixable j (v .input) (stuck-of s)) vectors-of refl (unfixableBytes-ruling j _ (v .input)) w
+-- ---- choose
 
-  pub blind-decided : {d e : List ℕ} {r n : ℕ} → v .stuck ≡ false → sound j (candidateNets j) ≡ false → r ≡ blindReading j
-      → BytesPut d 0 (blindBytes r (take (v .len) (v .list))) e n
-      → Decided j d (record { number = 0; len = n; verdict = Verdict.Blind (record { reading = r }) }) e
-  unfolding verdictFrom
-  blind-decided {r = r} s f q w =
-      decided-of j (blind r) (take (v .len) (v .list)) _ (Verdict.Blind (record { reading = r }))
-      (ruling-blind j (free-of s) f ∙ ap blind (sym q)) vectors-of refl (blindBytes-ruling j _ r) w
+abbrev choice : ℕ → Choice → ChooseReply
+choice n v = record { number = 0; len = n; verdict = v }
 
-  pub patch-decided : {d e is t ns : List ℕ} {c n : ℕ} → v .stuck ≡ false → sound j (candidateNets j) ≡ true → is ≡ chosen j
-      → t ≡ tableOf j is → c ≡ cost j is → ns ≡ notesOf j is → BytesPut d 0 (patchBytes is t c (take (v .len) (v .list)) ns) e n
-      → Decided j d (record { number = 0; len = n; verdict = Verdict.Patch (record { cost = c }) }) e
-  unfolding verdictFrom
-  patch-decided {is = is} {c = c} s f q a b g w =
-      decided-of j (patch is) (take (v .len) (v .list)) _ (Verdict.Patch (record { cost = c }))
-      (ruling-patch j (free-of s) f ∙ ap patch (sym q))
-      vectors-of
-      (ap (λ (x : ℕ). Verdict.Patch (record { cost = x })) (sym b))
-      (patchBytes-ruling j _ is a b g)
-      w
+chosen-put : (j : Job) {v : Choice} {bs d e : List ℕ} {n : ℕ} → (choiceOf j ≡ v) × (chooseSheet j ≡ bs) → BytesPut d 0 bs e n
+    → ChosenJob j d (choice n v) e
+chosen-put j h w = record { reply = reply-put choice h w; bytes = bytes-put choice h w }
+
+module _ (j : Job) {d e : List ℕ} {n : ℕ} where
+  pub blind-choice : {r : ℕ} → sound j (candidateNets j) ≡ false → r ≡ blindReading j → BytesPut d 0 (field 21 (bytePair r)) e n
+      → ChosenJob j d (choice n (Choice.Blind (record { reading = r }))) e
+  blind-choice s q = let f = chosen-blind j s in chosen-put j (f .0 ∙ rw q, f .1 ∙ rw q)
+
+  pub patch-choice : {is t ns : List ℕ} {c : ℕ} → sound j (candidateNets j) ≡ true → is ≡ chosen j → t ≡ tableOf j is → c ≡ cost j is
+      → ns ≡ notesOf j is → BytesPut d 0 (patchBytes is t c ns) e n → ChosenJob j d (choice n (Choice.Patch (record { cost = c }))) e
+  patch-choice {is} s q a b g =
+      let f = chosen-patch j s in
+      chosen-put j (f .0 ∙ rw (b, q), f .1 ∙ sym (patchBytes-sheet j is a b g ∙ rw q))
 
 -- ---- the chosen support
 
@@ -145,26 +154,28 @@ chosen-below {j} g s =
     (λ i m.
     all-true old (candidateNets j) (candidates-below j g) i (subsets-among (candidateNets j) (chosen j) (chosen-sound j s .1) i m))
 
--- ---- after the search
+-- ---- after the walk over all inputs
 
-module _ {j : Job} {p : JobParts} {v : Vectors} {ss : List ℕ} (r : PartsOf j p) (g : Progress j (2 ^ j .inputs) v ss) where
+module _ {j : Job} {p : JobParts} (r : PartsOf j p) where
   few : Within (countsOf j)
   few = job-within j (r .good)
 
-  pub search-loop : listedOf v ≡ vectorLoop j
-  unfolding countsOf
-  search-loop = g .listed ∙ walk-list j (few .targets)
+  module _ (v : Vectors) (g : ListTo j (2 ^ j .inputs) v) where
+    -- the list is the loop's
+    pub list-loop : listedOf v ≡ vectorLoop j
+    unfolding countsOf
+    list-loop = g ∙ walk-list j (few .targets)
 
-  -- where the list is stuck, it is at an input
-  pub stuck-small : v .stuck ≡ true → v .input < 4294967296
-  unfolding countsOf
-  stuck-small s =
-      let l = stuck-iff j (v .input) .0 (ap (λ (k : Listed). k .stuck) (sym search-loop) ∙ listed-stuck v s) .0 in
-      let m : 2 ^ j .inputs ≤ 1048576 = pow-mono {j = 20} (few .inputs) in
-      omega arith
+    -- where it is stuck, it is at an input
+    pub stuck-small : v .stuck ≡ true → v .input < 4294967296
+    unfolding countsOf
+    stuck-small s =
+        let l = stuck-iff j (v .input) .0 (ap (λ (k : Listed). k .stuck) (sym list-loop) ∙ listed-stuck v s) .0 in
+        let m : 2 ^ j .inputs ≤ 1048576 = pow-mono {j = 20} (few .inputs) in
+        omega arith
 
-  -- .. and else a reading of all candidates with an empty set is blind
-  module _ (s : v .stuck ≡ false) {n q : ℕ} (e : n ≡ 2 ^ p .counts .candidates) (f : FirstEmpty ss n q) where
+  -- a reading of all candidates with an empty set is blind
+  module _ {ss : List ℕ} (g : SetsTo j (2 ^ j .inputs) ss) {n q : ℕ} (e : n ≡ 2 ^ p .counts .candidates) (f : FirstEmpty ss n q) where
     abbrev is : List ℕ
     is = candidateNets j
 
@@ -178,7 +189,7 @@ module _ {j : Job} {p : JobParts} {v : Vectors} {ss : List ℕ} (r : PartsOf j p
     sets : ReadingSets j ss
     unfolding countsOf candidateNets
     sets =
-        rw (g .sets s) (walk-reading-sets j (omega (arith, length-map (j .candidates) (λ (c : Candidate). c .net), few .candidates)))
+        rw (g .sets) (walk-reading-sets j (omega (arith, length-map (j .candidates) (λ (c : Candidate). c .net), few .candidates)))
 
     all-sets : SetsOf j is ss
     unfolding countsOf

@@ -1,12 +1,15 @@
--- Laws of the search over ranges of inputs: halves, blocks, and ranges that change nothing. Assumes nothing.
-use Prim.Native.Nat.{ℕ, zero, suc, _+_, _-_, _*_, _%_, _^_, _≤_, _<_}
+-- Laws of the walk over a job's inputs, block by block: the list and the sets after a block, inputs that change nothing, and how far
+-- the walk has come. Assumes nothing.
+use Prim.Native.Nat.{ℕ, zero, suc, _+_, _-_, _*_, _%_, _^_, min, _≤_, _<_}
 use mathlib.Core.Path.{_≡_, refl, sym, _∙_, ap, subst}
 use mathlib.Core.List.{List}
-use mathlib.Core.Bool.{Bool, true, false, cond, true≢false}
+use mathlib.Core.Bool.{Bool, true, false, cond}
 use mathlib.Core.Option.{none, some}
 use native.Mathlib.Omega.{arith}
 use mathlib.Core.Logic.{inl, inr, ⊎-elim}
-use native.Mathlib.Nat.{mul-assoc, mul-comm, mul-le-mul-left, mul-le-mul-right, le-trans, eq-or-lt-of-le, one-mul, zero-mul, add-mul, zero-add}
+use native.Mathlib.Nat.{zero-add}
+use borrow.Author.Tests.{ltb-true, ltb-false}
+use lib.Dec.{ltb}
 use lib.ListN.{length, getD, replicate, length-replicate}
 use lib.Pow.{pow-add, pow-pos, pow-mono}
 use Rattle.records.specs.Job.{Job}
@@ -14,111 +17,16 @@ use Rattle.records.proofs.Laws.Bytes.{tabulate-ext}
 use Rattle.engine.specs.Eval.{bit, bits, oldValues, oldOutputs, goldenOutputs}
 use Rattle.engine.specs.Rectify.{rectifies, Listed}
 use Rattle.engine.specs.Support.{reading, candidateNets}
+use Rattle.engine.specs.Inner.Guess.{ListTo}
 use Rattle.engine.specs.Inner.Masks.{rectifiers}
 use Rattle.engine.specs.Inner.List.{listedOf, listedFrom, startList, Held}
-use Rattle.engine.specs.Inner.Note.{setsFrom, startSets, gathered, filled, BlockNoted}
-use Rattle.engine.specs.Inner.Search.{Progress, Aligned, BlockRange}
+use Rattle.engine.specs.Inner.Note.{setsFrom, startSets, gathered, filled, ListNoted}
+use Rattle.engine.specs.Inner.Search.{SetsTo, BlockRange}
+use Rattle.engine.proofs.Laws.Choice.{true-or-false}
 use Rattle.engine.proofs.Laws.Shift.{bit-mod}
 use Rattle.engine.proofs.Laws.Rows.{setsFrom-agree, setsFrom-repeats, block-sets, setsFrom-length}
 use Rattle.engine.proofs.Laws.List.{listedFrom-append, setsFrom-append, stuck-stays, walk-skip-list, walk-skip-sets}
 use Rattle.engine.specs.declared.list.Vectors.{Vectors}
-
--- ---- halves of a range
-
-double : (k : ℕ) → 0 < k → 2 ^ k ≡ 2 * 2 ^ (k - 1)
-double k h =
-    let e : k ≡ 1 + (k - 1) = omega arith in
-    ap (λ (i : ℕ). 2 ^ i) e ∙ pow-add 2 1 (k - 1)
-
-pub half-start : (p k : ℕ) → 0 < k → 2 * p * 2 ^ (k - 1) ≡ p * 2 ^ k
-half-start p k h =
-    ap (λ (i : ℕ). i * 2 ^ (k - 1)) (mul-comm 2 p)
-    ∙ mul-assoc p 2 (2 ^ (k - 1))
-    ∙ ap (λ (i : ℕ). p * i) (sym (double k h))
-
-pub half-end : (p k : ℕ) → 0 < k → (2 * p + 1 + 1) * 2 ^ (k - 1) ≡ (p + 1) * 2 ^ k
-half-end p k h =
-    let e : 2 * p + 1 + 1 ≡ 2 * (p + 1) = omega arith in
-    ap (λ (i : ℕ). i * 2 ^ (k - 1)) e ∙ half-start (p + 1) k h
-
-pub range-le : (p k : ℕ) → p * 2 ^ k ≤ (p + 1) * 2 ^ k
-range-le p k = mul-le-mul-right (2 ^ k) (omega arith)
-
-module _ {n k p : ℕ} (a : Aligned n k p) where
-  pub aligned-high : 10 < k → Aligned n (k - 1) (2 * p + 1)
-  aligned-high h =
-      let e = half-end p k (omega arith) in
-      let w = a .within in
-      let l = a .among in
-      record { among = omega arith; within = rw e w; blocks = λ b. let f : ⊥ = omega arith in absurd f }
-
-  pub aligned-low : 10 < k → Aligned n (k - 1) (2 * p)
-  aligned-low h =
-      let w = aligned-high h .within in
-      let l = a .among in
-      let m : (2 * p + 1) * 2 ^ (k - 1) ≤ (2 * p + 1 + 1) * 2 ^ (k - 1) =
-      mul-le-mul-right (2 ^ (k - 1)) (omega arith) in
-      record { among = omega arith; within = le-trans m w; blocks = λ b. let f : ⊥ = omega arith in absurd f }
-
-  -- the prefix is below the number of inputs
-  pub aligned-small : n ≤ 20 → p < 1048576
-  aligned-small h =
-      let m : (p + 1) * 1 ≤ (p + 1) * 2 ^ k = mul-le-mul-left (p + 1) (pow-pos k) in
-      let w = a .within in
-      let q : 2 ^ n ≤ 1048576 = pow-mono h in
-      omega arith
-
-  -- ---- blocks
-
-  pub block-start : k < 11 → 1024 * p ≡ p * 2 ^ k
-  block-start h =
-      let l : k ≤ 10 = omega arith in
-      ⊎-elim
-      (λ e. mul-comm 1024 p ∙ ap (λ (i : ℕ). p * 2 ^ i) (sym e))
-      (λ b. ap (λ (i : ℕ). 1024 * i) (a .blocks b .0) ∙ sym (zero-mul (2 ^ k)) ∙ ap (λ (i : ℕ). i * 2 ^ k) (sym (a .blocks b .0)))
-      (eq-or-lt-of-le l)
-
-  pub block-end : k < 11 → 1024 * p + 2 ^ k ≡ (p + 1) * 2 ^ k
-  block-end h =
-      let s = block-start h in
-      ap (λ (i : ℕ). i + 2 ^ k) s ∙ ap (λ (i : ℕ). p * 2 ^ k + i) (sym (one-mul (2 ^ k))) ∙ sym (add-mul p 1 (2 ^ k))
-
-  -- a shift by the lower inputs is a power of two
-  pub shifted : k < 11 → 1 * 2 ^ k % 18446744073709551616 ≡ 2 ^ k
-  shifted h = let q : 2 ^ k ≤ 1024 = pow-mono {j = 10} (omega arith) in omega arith
-
-  pub block-room : k < 11
-      → (1 * 2 ^ k % 18446744073709551616 ≤ 1024) × (1024 * p + 1 * 2 ^ k % 18446744073709551616 ≤ 2 ^ n)
-  block-room h =
-      let q : 2 ^ k ≤ 1024 = pow-mono {j = 10} (omega arith) in
-      let e = block-end h in
-      let w = a .within in
-      let m = shifted h in
-      (omega arith, omega arith)
-
-  pub block-next : k < 11 → 1024 * p + 1 * 2 ^ k % 18446744073709551616 ≡ (p + 1) * 2 ^ k
-  block-next h = ap (λ (i : ℕ). 1024 * p + i) (shifted h) ∙ block-end h
-
-short : {k : ℕ} → k < 11 → k ≤ 10
-short h = omega arith
-
--- the block that a short range is
-pub block-range : {n k p : ℕ} → Aligned n k p → k < 11 → BlockRange n p (1 * 2 ^ k % 18446744073709551616)
-block-range {n} {k} {p} a h =
-    let r = block-room a h in
-    let s = shifted a h in
-    record {
-      few = r .0;
-      within = r .1;
-      whole =
-          ⊎-elim
-          (λ (e : k ≡ 10). inl (s ∙ ap (λ (i : ℕ). 2 ^ i) e))
-          (λ (b : k < 10). inr (a .blocks b .0, s ∙ ap (λ (i : ℕ). 2 ^ i) (a .blocks b .1)))
-          (eq-or-lt-of-le (short h));
-    }
-
-pub descends : {t : ℕ} (k : ℕ) → k ≡ t → 10 < k → k - 1 < t
-descends k e h = omega arith
 
 -- ---- the inputs of a block
 
@@ -163,42 +71,7 @@ module _ (j : Job) (is : List ℕ) (f : ℕ → ℕ) (low : (x : ℕ) → f x �
       ∙ ap (setsFrom f h ss (1024 * b)) (sym (e .1)))
       (r .whole)
 
-pub progress-noted : {j : Job} (b count : ℕ) (masks readings : List ℕ) {v after : Vectors} {ss ss′ : List ℕ}
-    → Progress j (1024 * b) v ss → v .stuck ≡ false → BlockRange (j .inputs) b count
-    → ((y : ℕ) → y < 1024 → gathered masks y ≡ rectifiers j (1024 * b + y))
-    → ((y : ℕ) → y < 1024 → gathered readings y ≡ reading j (candidateNets j) (1024 * b + y))
-    → ((x : ℕ) → reading j (candidateNets j) x < 1024)
-    → BlockNoted masks readings (1024 * b) count v ss after ss′
-    → Progress j (1024 * b + count) after ss′
-progress-noted {j} b count masks readings {v} {after} {ss} {ss′} p s r m w l n =
-    let f = rectifiers j in
-    let g = reading j (candidateNets j) in
-    record {
-      held = n .list .held;
-      long = ap length (n .sets) ∙ setsFrom-length (gathered masks) (λ y. gathered readings y % 1024) ss 0 (filled count) ∙ p .long;
-      listed =
-          n .list .listed f (λ y h. m y (omega (arith, r .few)))
-          ∙ ap (λ (k : Listed). listedFrom f k (1024 * b) count) (p .listed)
-          ∙ sym
-          (listedFrom-append f startList 0 (1024 * b) count
-          ∙ ap (λ (z : ℕ). listedFrom f (listedFrom f startList 0 (1024 * b)) z count) (zero-add (1024 * b)));
-      sets = λ e.
-          n .sets
-          ∙ noted-sets j (candidateNets j) f (rectifiers-low j) b count masks readings ss r m w l
-          ∙ ap (λ (k : List ℕ). setsFrom f g k (1024 * b) count) (p .sets s)
-          ∙ sym
-          (setsFrom-append f g (startSets (j .targets)) 0 (1024 * b) count
-          ∙ ap (λ (z : ℕ). setsFrom f g (setsFrom f g (startSets (j .targets)) 0 (1024 * b)) z count) (zero-add (1024 * b)));
-    }
-
--- ---- ranges that change nothing
-
-pub progress-at : {j : Job} {x y : ℕ} {v : Vectors} {ss : List ℕ} → Progress j x v ss → x ≡ y → Progress j y v ss
-progress-at {j} {x} {y} {v} {ss} p e = subst (λ (z : ℕ). Progress j z v ss) e p
-
--- the inputs from x up to y
-upTo : {x y : ℕ} → x ≤ y → x + (y - x) ≡ y
-upTo h = omega arith
+-- ---- the list
 
 pub listed-stuck : (v : Vectors) → v .stuck ≡ true → listedOf v .stuck ≡ some (v .input)
 unfolding listedOf
@@ -208,42 +81,39 @@ pub listed-free : (v : Vectors) → v .stuck ≡ false → listedOf v .stuck ≡
 unfolding listedOf
 listed-free v e = ap (λ (b : Bool). cond b (some (v .input)) none) e
 
-pub progress-stuck : {j : Job} {x y : ℕ} {v : Vectors} {ss : List ℕ} → Progress j x v ss → x ≤ y → v .stuck ≡ true
-    → Progress j y v ss
-progress-stuck {j} {x} {y} {v} {ss} p h s =
-    let f = rectifiers j in
-    let e : listedFrom f startList 0 x .stuck ≡ some (v .input) = ap (λ (l : Listed). l .stuck) (sym (p .listed)) ∙ listed-stuck v s in
-    record {
-      held = p .held;
-      long = p .long;
-      listed =
-          p .listed
-          ∙ sym (stuck-stays f startList x (y - x) (v .input) e)
-          ∙ ap (λ (z : ℕ). listedFrom f startList 0 z) (upTo h);
-      sets = λ n. absurd (true≢false (sym s ∙ n));
-    }
+-- the inputs from x up to y
+upTo : {x y : ℕ} → x ≤ y → x + (y - x) ≡ y
+upTo h = omega arith
 
-pub progress-skip : {j : Job} {x y : ℕ} {v : Vectors} {ss : List ℕ} → Progress j x v ss → x ≤ y
-    → ((z : ℕ) → x ≤ z → z < y → (u : ℕ) → u < 2 ^ j .targets → rectifies j z u ≡ true) → Progress j y v ss
-progress-skip {j} {x} {y} {v} {ss} p h r =
-    let f = rectifiers j in
-    let g = reading j (candidateNets j) in
-    let a : (z : ℕ) → x ≤ z → z < x + (y - x) → (u : ℕ) → u < 2 ^ j .targets → rectifies j z u ≡ true =
-    λ z l b. r z l (omega (arith, upTo h)) in
-    progress-at
-    (record {
-      held = p .held;
-      long = p .long;
-      listed = p .listed ∙ sym (walk-skip-list j x (y - x) a);
-      sets = λ e. p .sets e ∙ sym (walk-skip-sets j x (y - x) a g);
-    })
-    (upTo h)
+module _ (j : Job) where
+  list-at : (x y : ℕ) (v : Vectors) → x ≡ y → ListTo j x v → ListTo j y v
+  list-at x y v e p = subst (λ (z : ℕ). ListTo j z v) e p
 
--- ---- the start
+  -- after a block
+  pub list-noted : (b count : ℕ) {masks : List ℕ} {v w : Vectors} → count ≤ 1024
+      → ((y : ℕ) → y < 1024 → gathered masks y ≡ rectifiers j (1024 * b + y)) → ListNoted masks (1024 * b) count v w
+      → ListTo j (1024 * b) v → ListTo j (1024 * b + count) w
+  list-noted b count {masks} {v} {w} few m n p =
+      let f = rectifiers j in
+      n .listed f (λ y h. m y (omega arith))
+      ∙ ap (λ (k : Listed). listedFrom f k (1024 * b) count) p
+      ∙ sym
+      (listedFrom-append f startList 0 (1024 * b) count
+      ∙ ap (λ (z : ℕ). listedFrom f (listedFrom f startList 0 (1024 * b)) z count) (zero-add (1024 * b)))
 
--- all inputs are a range that the search takes
-pub aligned-all : (n : ℕ) → Aligned n n 0
-aligned-all n = record { among = omega arith; within = omega (arith, one-mul (2 ^ n)); blocks = λ h. (refl, refl) }
+  module _ (x y : ℕ) (v : Vectors) (h : x ≤ y) where
+    -- once stuck, it stays
+    pub list-stuck : v .stuck ≡ true → ListTo j x v → ListTo j y v
+    list-stuck s p =
+        let f = rectifiers j in
+        let e : listedFrom f startList 0 x .stuck ≡ some (v .input) = ap (λ (l : Listed). l .stuck) (sym p) ∙ listed-stuck v s in
+        list-at (x + (y - x)) y v (upTo h) (p ∙ sym (stuck-stays f startList x (y - x) (v .input) e))
+
+    -- inputs that every vector rectifies leave it
+    pub list-skip : ((z u : ℕ) → x ≤ z → z < y → rectifies j z u ≡ true) → ListTo j x v → ListTo j y v
+    list-skip r p =
+        list-at (x + (y - x)) y v (upTo h)
+        (p ∙ sym (walk-skip-list j x (y - x) (λ z l b u c. r z u l (omega (arith, upTo h)))))
 
 zeros-below : (n i : ℕ) → getD {A = ℕ} (replicate n 0) i 0 < 16
 zeros-below zero i = omega arith
@@ -253,21 +123,104 @@ zeros-below (suc n) (suc i) = zeros-below n i
 pub start-held : (b : Bool) → Held (record { list = replicate 16 0; len = 1; stuck = b; input = 0 })
 start-held b = record { long = omega arith; below = zeros-below 16 }
 
-pub progress-start : (j : Job) (n all : ℕ) → all ≡ 2 ^ 2 ^ j .targets - 1
-    → Progress j (0 * 2 ^ n) (record { list = replicate 16 0; len = 1; stuck = false; input = 0 }) (replicate 1024 all)
-unfolding listedOf listedFrom setsFrom startSets
-progress-start j n all f =
-    progress-at
-    (record {
-      held = start-held false;
-      long = length-replicate 1024 all;
-      listed = refl;
-      sets = λ h. ap (replicate 1024) f;
-    })
-    (sym (zero-mul (2 ^ n)))
+pub list-start : (j : Job) → ListTo j 0 (record { list = replicate 16 0; len = 1; stuck = false; input = 0 })
+unfolding listedOf listedFrom
+list-start j = refl
 
--- all inputs are passed at the end
-pub progress-end : {j : Job} {n : ℕ} {v : Vectors} {ss : List ℕ} → n ≡ j .inputs → Progress j ((0 + 1) * 2 ^ n) v ss
-    → Progress j (2 ^ j .inputs) v ss
-progress-end {j} {n} {v} {ss} e p =
-    progress-at p (one-mul (2 ^ n) ∙ ap (λ (i : ℕ). 2 ^ i) e)
+-- ---- the sets
+
+module _ {j : Job} where
+  -- after a block
+  pub sets-noted : (b count : ℕ) (masks readings : List ℕ) {ss ts : List ℕ} → BlockRange (j .inputs) b count
+      → ((y : ℕ) → y < 1024 → gathered masks y ≡ rectifiers j (1024 * b + y))
+      → ((y : ℕ) → y < 1024 → gathered readings y ≡ reading j (candidateNets j) (1024 * b + y))
+      → ((x : ℕ) → reading j (candidateNets j) x < 1024)
+      → ts ≡ setsFrom (gathered masks) (λ y. gathered readings y % 1024) ss 0 (filled count)
+      → SetsTo j (1024 * b) ss → SetsTo j (1024 * b + count) ts
+  sets-noted b count masks readings {ss} {ts} r m w l n p =
+      let f = rectifiers j in
+      let g = reading j (candidateNets j) in
+      record {
+        long = ap length n ∙ setsFrom-length (gathered masks) (λ y. gathered readings y % 1024) ss 0 (filled count) ∙ p .long;
+        sets =
+            n
+            ∙ noted-sets j (candidateNets j) f (rectifiers-low j) b count masks readings ss r m w l
+            ∙ ap (λ (k : List ℕ). setsFrom f g k (1024 * b) count) (p .sets)
+            ∙ sym
+            (setsFrom-append f g (startSets (j .targets)) 0 (1024 * b) count
+            ∙ ap (λ (z : ℕ). setsFrom f g (setsFrom f g (startSets (j .targets)) 0 (1024 * b)) z count) (zero-add (1024 * b)));
+      }
+
+  -- inputs that every vector rectifies leave them
+  pub sets-skip : {x y : ℕ} {ss : List ℕ} → x ≤ y → ((z u : ℕ) → x ≤ z → z < y → rectifies j z u ≡ true) → SetsTo j x ss → SetsTo j y ss
+  sets-skip {x} {y} {ss} h r p =
+      let g = reading j (candidateNets j) in
+      subst (λ (z : ℕ). SetsTo j z ss) (upTo h)
+      (record {
+        long = p .long;
+        sets = p .sets ∙ sym (walk-skip-sets j x (y - x) (λ z l b u c. r z u l (omega (arith, upTo h))) g);
+      })
+
+pub sets-start : (j : Job) {all : ℕ} → all ≡ 2 ^ 2 ^ j .targets - 1 → SetsTo j 0 (replicate 1024 all)
+unfolding setsFrom startSets
+sets-start j {all} e = record { long = length-replicate 1024 all; sets = ap (replicate 1024) e }
+
+-- ---- how far the walk has come
+
+-- the next inputs, at most 1,024, are a block
+pub block-range : (n b : ℕ) → 1024 * b < 2 ^ n → BlockRange n b (min (2 ^ n - 1024 * b) 1024)
+block-range n b h =
+    record {
+      few = omega arith;
+      within = omega arith;
+      whole =
+          ⊎-elim
+          (λ (t : ltb n 10 ≡ true).
+          let m : 2 ^ n ≤ 1024 = pow-mono {j = 10} (omega (arith, ltb-true n 10 t)) in
+          let z : b ≡ 0 = omega arith in
+          inr (z, omega arith))
+          (λ (t : ltb n 10 ≡ false).
+          let i : n ≡ (n - 10) + 10 = omega (arith, ltb-false n 10 t) in
+          let e : 2 ^ n ≡ 2 ^ (n - 10) * 1024 = ap (λ (k : ℕ). 2 ^ k) i ∙ pow-add 2 (n - 10) 10 in
+          let c : ℕ = 2 ^ (n - 10) in
+          inl (omega arith))
+          (true-or-false (ltb n 10));
+    }
+
+-- the walk over the 2 ^ n inputs, size in number, stands before block b, and P holds of how many inputs it has passed
+pub record WalkTo (P : ℕ → Type 0) (n size b : ℕ) : Type 0 where
+  pub inputs : size ≡ 2 ^ n
+  pub few : size ≤ 1048576
+  pub reached : 1024 * b < size + 1024
+  pub passed : P (min (1024 * b) size)
+
+pub walk-start : (P : ℕ → Type 0) {n : ℕ} → n ≤ 20 → P 0 → WalkTo P n (1 * 2 ^ n % 18446744073709551616) 0
+walk-start P {n} h p =
+    let m : 2 ^ n ≤ 1048576 = pow-mono {j = 20} h in
+    let z : 0 ≡ min (1024 * 0) (1 * 2 ^ n % 18446744073709551616) = omega arith in
+    record { inputs = omega arith; few = omega arith; reached = omega (arith, pow-pos n); passed = subst P z p }
+
+module _ {P : ℕ → Type 0} {n size b : ℕ} (w : WalkTo P n size b) where
+  module _ (h : 1024 * b < size) where
+    pub walk-here : P (1024 * b)
+    walk-here = let e : min (1024 * b) size ≡ 1024 * b = omega arith in subst P e (w .passed)
+
+    -- the next inputs, c in number, are a block
+    module _ {c : ℕ} (e : c ≡ min (size - 1024 * b) 1024) where
+      pub walk-range : BlockRange n b c
+      walk-range = rw (e, w .inputs) (block-range n b (omega (arith, w .inputs)))
+
+      pub walk-block : (Q : ℕ → Type 0) → Q (1024 * b + c) → WalkTo Q n size (b + 1)
+      walk-block Q q =
+          let d : 1024 * b + c ≡ min (1024 * (b + 1)) size = omega arith in
+          record { inputs = w .inputs; few = w .few; reached = omega arith; passed = subst Q d q }
+
+    -- some blocks are passed without a look
+    pub walk-skip : (Q : ℕ → Type 0) (r : ℕ) → 1024 * (b + r) ≤ 2 ^ n → Q (1024 * (b + r)) → WalkTo Q n size (b + r)
+    walk-skip Q r l q =
+        let d : 1024 * (b + r) ≡ min (1024 * (b + r)) size = omega (arith, w .inputs) in
+        record { inputs = w .inputs; few = w .few; reached = omega (arith, w .inputs); passed = subst Q d q }
+
+  -- all inputs are passed at the end
+  pub walk-end : size ≤ 1024 * b → P (2 ^ n)
+  walk-end h = let e : min (1024 * b) size ≡ 2 ^ n = omega (arith, w .inputs) in subst P e (w .passed)

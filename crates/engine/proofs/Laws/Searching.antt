@@ -1,14 +1,14 @@
--- Laws of the steps of the search over a job's inputs (specs/Inner/Search). Assumes nothing.
+-- Laws of the steps of the walk over a job's inputs (specs/Inner/Search). Assumes nothing.
 use Prim.Native.Nat.{ℕ, _+_, _-_, _*_, _/_, _%_, _^_, _≤_, _<_}
-use mathlib.Core.Path.{_≡_, refl, sym, _∙_, ap, subst}
+use mathlib.Core.Path.{_≡_, sym, _∙_, ap, subst}
 use mathlib.Core.Logic.{inl, ⊎-elim}
 use mathlib.Core.List.{List, map}
-use mathlib.Core.Bool.{Bool, true, false, cond}
+use mathlib.Core.Bool.{Bool, true, cond}
 use native.Mathlib.Nat.{zero-add, div-one}
 use native.Mathlib.Omega.{arith}
 use lib.Dec.{ltb}
 use lib.ListN.{length, getD, take, replicate, length-take}
-use lib.Pow.{pow-mono}
+use lib.Pow.{pow-add, pow-mono}
 use lib.Seq.{slice}
 use Rattle.records.specs.Bytes.{all}
 use Rattle.records.specs.Job.{Job}
@@ -19,18 +19,17 @@ use Rattle.engine.specs.Rectify.{rectifies}
 use Rattle.engine.specs.Inner.Kernel.{Ran, NetSet, NetsSet, valueIn, rowValue}
 use Rattle.engine.specs.Inner.Masks.{ordered, turns, Among}
 use Rattle.engine.specs.Inner.Plan.{BlockAt, ReadsOf, PlannedOf}
-use Rattle.engine.specs.Inner.Search.{BlockEvaluated, TargetTurned, BlockMasks, BlockRange, Searched}
-use Rattle.engine.specs.Inner.Note.{gathered, filled, BlockNoted}
+use Rattle.engine.specs.Inner.Search.{BlockEvaluated, TargetTurned, BlockMasks, BlockRange, BlockMet, SettledFrom}
+use Rattle.engine.specs.Inner.Note.{gathered, filled, setsFrom}
+use Rattle.engine.specs.Inner.Ranges.{InRange}
 use Rattle.engine.specs.Support.{candidateNets, reading}
-use Rattle.engine.specs.Inner.List.{Held}
-use Rattle.engine.specs.declared.list.Vectors.{Vectors}
 use Rattle.engine.specs.declared.plan.Plan.{Plan}
 use Rattle.engine.proofs.Laws.BlockRows.{equal-rectifies, read-values, MasksTo, masks-none, masks-next, masks-gathered}
 use Rattle.engine.proofs.Laws.Gray.{ordered-none, turns-among, ordered-kept}
 use Rattle.engine.proofs.Laws.Miter.{candidates-below}
 use Rattle.engine.proofs.Laws.Plan.{block-based, block-target, reads-of}
 use Rattle.engine.proofs.Laws.Rows.{setsFrom-length}
-use Rattle.engine.proofs.Laws.Search.{progress-noted, progress-at, progress-stuck, progress-skip}
+use Rattle.engine.proofs.Laws.Search.{sets-noted}
 use Rattle.engine.proofs.Laws.Support.{reading-lt}
 
 module _ (p : Plan) (gates : List ℕ) where
@@ -134,29 +133,9 @@ module _ (p : Plan) (gates : List ℕ) where
               h;
         }
 
--- ---- the list and the sets
+-- ---- a block
 
 module _ {p : Plan} {gates : List ℕ} where
-  pub searched-stuck : {x z : ℕ} {v : Vectors} {ss : List ℕ} → Held v → x ≤ z → v .stuck ≡ true → Searched p gates x z v ss v ss
-  searched-stuck h l s = record { held = h; long = refl; progress = λ j q g. progress-stuck g l s }
-
-  -- inputs that every vector rectifies
-  pub searched-skip : {x z : ℕ} {v : Vectors} {ss : List ℕ} → Held v → x ≤ z
-      → ((j : Job) (is : List ℕ) → PlannedOf j is p gates → (y u : ℕ) → x ≤ y → y < z → rectifies j y u ≡ true)
-      → Searched p gates x z v ss v ss
-  searched-skip h l r =
-      record { held = h; long = refl; progress = λ j q g. progress-skip g l (λ y a b u c. r j (candidateNets j) q y u a b) }
-
-  pub searched-at : {x y z w : ℕ} {v v′ : Vectors} {ss ss′ : List ℕ} → x ≡ y → z ≡ w → Searched p gates x z v ss v′ ss′
-      → Searched p gates y w v ss v′ ss′
-  searched-at d e s =
-      record { held = s .held; long = s .long; progress = λ j q g. progress-at (s .progress j q (progress-at g (sym d))) e }
-
-  pub searched-then : {x y z : ℕ} {v v′ v″ : Vectors} {ss ss′ ss″ : List ℕ} → Searched p gates x y v ss v′ ss′
-      → Searched p gates y z v′ ss′ v″ ss″ → Searched p gates x z v ss v″ ss″
-  searched-then s t =
-      record { held = t .held; long = t .long ∙ s .long; progress = λ j q g. t .progress j q (s .progress j q g) }
-
   -- what the rows say that are read of a block's words are its readings
   pub block-readings : {j : Job} {is : List ℕ} (q : ReadsOf j is p gates) (b : ℕ) (readings words : List ℕ) → p .reads ≤ 10
       → BlockEvaluated p gates b words
@@ -172,25 +151,26 @@ module _ {p : Plan} {gates : List ℕ} where
         λ x. omega (arith, reading-lt j is x, pow-mono {j = 10} few),
       )
 
-  -- a block
-  pub searched-block : (b count : ℕ) (masks readings words : List ℕ) {v v′ : Vectors} {ss ss′ : List ℕ} → v .stuck ≡ false
-      → p .reads ≤ 10 → BlockRange (p .inputs) b count → BlockEvaluated p gates b words
+  -- the sets after it
+  pub block-met : (b count : ℕ) (masks readings words : List ℕ) {ss ts : List ℕ} → p .reads ≤ 10 → BlockRange (p .inputs) b count
+      → BlockEvaluated p gates b words
       → ((y : ℕ) → y < 1024 → gathered readings y ≡ numberOf (map (valueIn words y) (take (p .reads) (p .nets))))
-      → BlockMasks p gates words masks → BlockNoted masks readings (1024 * b) count v ss v′ ss′
-      → Searched p gates (1024 * b) (1024 * b + count) v ss v′ ss′
-  searched-block b count masks readings words {v} {v′} {ss} {ss′} s k r e g m n =
+      → BlockMasks p gates words masks
+      → ts ≡ setsFrom (gathered masks) (λ y. gathered readings y % 1024) ss 0 (filled count)
+      → BlockMet p gates b count ss ts
+  block-met b count masks readings words {ss} {ts} k r e g m n =
       record {
-        held = n .list .held;
-        long = ap length (n .sets) ∙ setsFrom-length (gathered masks) (λ y. gathered readings y % 1024) ss 0 (filled count);
-        progress = λ j q h.
+        long = ap length n ∙ setsFrom-length (gathered masks) (λ y. gathered readings y % 1024) ss 0 (filled count);
+        sets = λ j q h.
             let is = candidateNets j in
             let d = block-readings (reads-of q) b readings words k e g (candidates-below j (q .good)) in
-            progress-noted b count masks readings h s
+            sets-noted b count masks readings
             (subst (λ (i : ℕ). BlockRange i b count) (q .inputs) r)
             (m .sets j is q b (e .values j is (reads-of q)))
             (d .0)
             (d .1)
-            n;
+            n
+            h;
       }
 
 -- a block's number is small
@@ -200,3 +180,31 @@ block-small {n} {b} {count} r h = omega (arith, r .within, pow-mono {j = 20} h)
 -- four targets have sixteen vectors at most
 pub vectors-many : {m : ℕ} → m ≤ 4 → 2 ^ m ≤ 16
 vectors-many h = pow-mono {j = 4} h
+
+-- ---- blocks that need no look
+
+-- the 32 blocks from b on are the numbers that begin with b / 32
+blocks-range : (b x : ℕ) → b % 32 ≡ 0 → 1024 * b ≤ x → x < 1024 * (b + 32) → InRange 15 (b / 32) x
+blocks-range b x e l h = record { least = omega arith; most = omega arith }
+
+-- .. and among the inputs
+blocks-within : (n b : ℕ) → 15 ≤ n → b % 32 ≡ 0 → 1024 * b < 2 ^ n → 1024 * (b + 32) ≤ 2 ^ n
+blocks-within n b l e h =
+    let i : n ≡ (n - 15) + 15 = omega arith in
+    let d : 2 ^ n ≡ 2 ^ (n - 15) * 32768 = ap (λ (k : ℕ). 2 ^ k) i ∙ pow-add 2 (n - 15) 15 in
+    let c : ℕ = 2 ^ (n - 15) in
+    omega arith
+
+module _ {p : Plan} {gates : List ℕ} {b : ℕ} (h : 1024 * b < 2 ^ p .inputs) where
+  pub settled-none : SettledFrom p gates b 0
+  settled-none = record { within = omega arith; few = omega arith; settled = λ j is q x v l u. let f : ⊥ = omega arith in absurd f }
+
+  pub settled-blocks : 15 ≤ p .inputs → b % 32 ≡ 0
+      → ((j : Job) (is : List ℕ) → PlannedOf j is p gates → (x v : ℕ) → InRange 15 (b / 32) x → rectifies j x v ≡ true)
+      → SettledFrom p gates b 32
+  settled-blocks l e r =
+      record {
+        within = blocks-within (p .inputs) b l e h;
+        few = omega arith;
+        settled = λ j is q x v a u. r j is q x v (blocks-range b x e a u);
+      }

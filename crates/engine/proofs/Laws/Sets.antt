@@ -22,7 +22,7 @@ use Rattle.engine.specs.Eval.{bit, numberOf, oldValues}
 use Rattle.engine.specs.Support.{reading, shared, sound, tableOf, candidateNets}
 use Rattle.engine.specs.Verdict.{blindReading}
 use Rattle.engine.specs.Inner.List.{maxVectors, lowest}
-use Rattle.engine.specs.Inner.Choose.{RectifiesAll, SetsOf, NotEmpty, FirstEmpty, spread, joinedAt}
+use Rattle.engine.specs.Inner.Best.{RectifiesAll, SetsOf, NotEmpty, FirstEmpty, spread, joinedAt}
 use Rattle.engine.proofs.Laws.Choice.{Least, first-least, first-none-below, found-first, not-both}
 use Rattle.engine.proofs.Laws.Eval.{bit-lt, netAt-lt, oldValues-bits}
 use Rattle.engine.proofs.Laws.Support.{shared-least, shared-none, sound-iff-found, length-tableOf, getD-tableOf}

@@ -1,4 +1,4 @@
--- Laws of the sheets' bytes: put one after the other, how many they are, and whose verdict they say. Assumes nothing.
+-- Laws of the sheets' bytes: put one after the other, how many they are, and that a patch's are those of its definition. Assumes nothing.
 use Prim.Native.Nat.{ℕ, _+_, _*_, _/_, _%_, _^_, _≤_, _<_}
 use mathlib.Core.Path.{_≡_, refl, sym, _∙_, ap}
 use mathlib.Core.List.{List, [], _∷_, _++_, map, append-nil}
@@ -17,10 +17,9 @@ use Rattle.records.proofs.Laws.Job.{Put, sets-placed, placed-then, tabulate-get
 use Rattle.records.proofs.Laws.Front.{nth-behind, whole-append, whole-front}
 use Rattle.records.proofs.Laws.RoundTrip.{fits-field, body-field, rest-field}
 use Rattle.records.proofs.Laws.Put.{FieldPut, put-field-put}
-use Rattle.engine.specs.Rectify.{vectorLoop}
 use Rattle.engine.specs.Support.{tableOf, notesOf, cost}
-use Rattle.engine.specs.Verdict.{Ruling, patch, unfixable, blind, ruling, fourBytes, rulingFields, rulingNotes, sheetOf, longestSheet}
-use Rattle.engine.specs.Inner.Sheet.{BytesPut, patchBytes, unfixableBytes, blindBytes}
+use Rattle.engine.specs.Verdict.{fourBytes, patchSheet, longestChoose}
+use Rattle.engine.specs.Inner.Sheet.{BytesPut, patchBytes}
 
 -- ---- numbers as bytes
 
@@ -107,87 +106,41 @@ module _ {d d′ : List ℕ} {at r : ℕ} (t : ℕ) where
   pub number-end : (x : ℕ) → BytesPut d at (field t (fourBytes x)) d′ r → r ≡ at + 7
   number-end x w = omega (arith, w .end, length-field t (fourBytes x), length-fourBytes x)
 
-  pub pair-end : (x : ℕ) → BytesPut d at (field t (bytePair x)) d′ r → r ≡ at + 5
-  pair-end x w = omega (arith, w .end, length-field t (bytePair x), length-bytePair x)
+-- the fields of an unfixable input, of a blind reading and of a patch
+pub length-unfixable : (x : ℕ) (vs : List ℕ) → length (field 20 (fourBytes x) ++ field 19 vs) ≡ 10 + length vs
+length-unfixable x vs = simp (length-append, length-field, length-fourBytes) (omega arith)
 
-module _ (vs : List ℕ) where
-  pub length-patchBytes : (is t : List ℕ) (c : ℕ) (ns : List ℕ)
-      → length (patchBytes is t c vs ns) ≡ 19 + 2 * length is + length t + length vs + length ns
-  unfolding patchBytes
-  length-patchBytes is t c ns = simp (length-append, length-field, length-outputs, length-fourBytes) (omega arith)
+pub length-blind : (r : ℕ) → length (field 21 (bytePair r)) ≡ 5
+length-blind r = simp (length-field, length-bytePair)
 
-  pub length-unfixableBytes : (x : ℕ) → length (unfixableBytes x vs) ≡ 10 + length vs
-  unfolding unfixableBytes
-  length-unfixableBytes x = simp (length-append, length-field, length-fourBytes) (omega arith)
+pub length-patchBytes : (is t : List ℕ) (c : ℕ) (ns : List ℕ)
+    → length (patchBytes is t c ns) ≡ 16 + 2 * length is + length t + length ns
+unfolding patchBytes
+length-patchBytes is t c ns = simp (length-append, length-field, length-outputs, length-fourBytes) (omega arith)
 
-  pub length-blindBytes : (r : ℕ) → length (blindBytes r vs) ≡ 8 + length vs
-  unfolding blindBytes
-  length-blindBytes r = simp (length-append, length-field, length-bytePair) (omega arith)
+-- ---- a patch put field by field
 
-  pub patchBytes-le : (is t : List ℕ) (c : ℕ) (ns : List ℕ) → length is ≤ 10 → length t ≤ 1024 → length vs ≤ 16
-      → length ns ≤ 1024 → length (patchBytes is t c vs ns) ≤ longestSheet
-  patchBytes-le is t c ns h k l m = omega (arith, length-patchBytes is t c ns)
+pub patch-put : {d d₁ d₂ d₃ d₄ : List ℕ} {a b c r : ℕ} → longestChoose ≤ length d
+    → (is t : List ℕ) (x : ℕ) (ns : List ℕ) → length is ≤ 10 → length t ≤ 1024 → length ns ≤ 1024
+    → BytesPut d 0 (field 16 (flat bytePair is)) d₁ a → BytesPut d₁ a (field 17 t) d₂ b
+    → BytesPut d₂ b (field 18 (fourBytes x)) d₃ c → BytesPut d₃ c (field notesTag ns) d₄ r
+    → BytesPut d 0 (patchBytes is t x ns) d₄ r
+unfolding patchBytes
+patch-put h is t x ns m n o u₁ u₂ u₃ u₄ =
+    let f₁ : List ℕ = field 16 (flat bytePair is) in
+    let f₂ : List ℕ = field 17 t in
+    let f₃ : List ℕ = field 18 (fourBytes x) in
+    let n₁ : length f₁ ≡ 3 + 2 * length is = length-field 16 (flat bytePair is) ∙ rw (length-outputs is) in
+    let n₂ : length f₂ ≡ 3 + length t = length-field 17 t in
+    let n₃ : length f₃ ≡ 7 = length-field 18 (fourBytes x) ∙ rw (length-fourBytes x) in
+    let n₄ = length-field notesTag ns in
+    let n₁₂ = length-append f₁ f₂ in
+    let n₁₃ = length-append (f₁ ++ f₂) f₃ in
+    put-then (put-then (put-then u₁ (omega arith) u₂) (omega arith) u₃) (omega arith) u₄
 
-  pub unfixableBytes-le : (x : ℕ) → length vs ≤ 16 → length (unfixableBytes x vs) ≤ longestSheet
-  unfixableBytes-le x l = omega (arith, length-unfixableBytes x)
+-- ---- the patch of the definition
 
-  pub blindBytes-le : (r : ℕ) → length vs ≤ 16 → length (blindBytes r vs) ≤ longestSheet
-  blindBytes-le r l = omega (arith, length-blindBytes r)
-
--- ---- the sheets put field by field
-
-module _ {d d₁ d₂ : List ℕ} {a b : ℕ} (vs : List ℕ) (l : length vs ≤ 16) (h : longestSheet ≤ length d) where
-  pub unfixable-put : (x : ℕ) → BytesPut d 0 (field 20 (fourBytes x)) d₁ a → BytesPut d₁ a (field 19 vs) d₂ b
-      → BytesPut d 0 (unfixableBytes x vs) d₂ b
-  unfolding unfixableBytes
-  unfixable-put x u w =
-      put-then u (omega (arith, length-field 20 (fourBytes x), length-fourBytes x, length-field 19 vs)) w
-
-  pub blind-put : (r : ℕ) → BytesPut d 0 (field 21 (bytePair r)) d₁ a → BytesPut d₁ a (field 19 vs) d₂ b
-      → BytesPut d 0 (blindBytes r vs) d₂ b
-  unfolding blindBytes
-  blind-put r u w = put-then u (omega (arith, length-field 21 (bytePair r), length-bytePair r, length-field 19 vs)) w
-
-  pub patch-put : {d₃ d₄ d₅ : List ℕ} {c e r : ℕ} (is t : List ℕ) (x : ℕ) (ns : List ℕ) → length is ≤ 10 → length t ≤ 1024
-      → length ns ≤ 1024 → BytesPut d 0 (field 16 (flat bytePair is)) d₁ a → BytesPut d₁ a (field 17 t) d₂ b
-      → BytesPut d₂ b (field 18 (fourBytes x)) d₃ c → BytesPut d₃ c (field 19 vs) d₄ e → BytesPut d₄ e (field notesTag ns) d₅ r
-      → BytesPut d 0 (patchBytes is t x vs ns) d₅ r
-  unfolding patchBytes
-  patch-put is t x ns m n o u₁ u₂ u₃ u₄ u₅ =
-      let f₁ : List ℕ = field 16 (flat bytePair is) in
-      let f₂ : List ℕ = field 17 t in
-      let f₃ : List ℕ = field 18 (fourBytes x) in
-      let n₁ : length f₁ ≡ 3 + 2 * length is = length-field 16 (flat bytePair is) ∙ rw (length-outputs is) in
-      let n₂ : length f₂ ≡ 3 + length t = length-field 17 t in
-      let n₃ : length f₃ ≡ 7 = length-field 18 (fourBytes x) ∙ rw (length-fourBytes x) in
-      let n₄ = length-field 19 vs in
-      let n₅ = length-field notesTag ns in
-      let n₁₂ = length-append f₁ f₂ in
-      let n₁₃ = length-append (f₁ ++ f₂) f₃ in
-      let n₁₄ = length-append (f₁ ++ f₂ ++ f₃) (field 19 vs) in
-      put-then (put-then (put-then (put-then u₁ (omega arith) u₂) (omega arith) u₃) (omega arith) u₄) (omega arith) u₅
-
--- ---- whose verdict they say
-
--- the bytes of the verdict v with the vector list vs
-abbrev pub rulingBytes : Job → Ruling → List ℕ → List ℕ
-rulingBytes j v vs = rulingFields j v ++ field 19 vs ++ rulingNotes j v
-
-module _ (j : Job) (vs : List ℕ) where
-  pub patchBytes-ruling : (is : List ℕ) {t : List ℕ} {c : ℕ} {ns : List ℕ} → t ≡ tableOf j is → c ≡ cost j is → ns ≡ notesOf j is
-      → patchBytes is t c vs ns ≡ rulingBytes j (patch is) vs
-  unfolding patchBytes rulingFields rulingNotes
-  patchBytes-ruling is e f g = rw (e, f, g)
-
-  pub unfixableBytes-ruling : (x : ℕ) → unfixableBytes x vs ≡ rulingBytes j (unfixable x) vs
-  unfolding unfixableBytes rulingFields rulingNotes
-  unfixableBytes-ruling x = sym (append-nil _)
-
-  pub blindBytes-ruling : (r : ℕ) → blindBytes r vs ≡ rulingBytes j (blind r) vs
-  unfolding blindBytes rulingFields rulingNotes
-  blindBytes-ruling r = sym (append-nil _)
-
--- .. and the job's own verdict is its sheet
-pub sheet-ruling : (j : Job) {v : Ruling} {vs : List ℕ} → ruling j ≡ v → vectorLoop j .vectors ≡ vs → rulingBytes j v vs ≡ sheetOf j
-unfolding sheetOf
-sheet-ruling j e f = rw (e, f)
+pub patchBytes-sheet : (j : Job) (is : List ℕ) {t : List ℕ} {c : ℕ} {ns : List ℕ} → t ≡ tableOf j is → c ≡ cost j is → ns ≡ notesOf j is
+    → patchBytes is t c ns ≡ patchSheet j is
+unfolding patchBytes patchSheet
+patchBytes-sheet j is e f g = rw (e, f, g)

@@ -39,7 +39,6 @@ good-support m cs q h =
     row-at (ascending (q .support))
     (all (isCandidate cs) (q .support)
     ∷ all (λ v. ltb v (2 ^ m)) (q .table)
-    ∷ all (λ v. ltb v (2 ^ m)) (q .vectors)
     ∷ eqb (q .cost) (costOf cs (q .support))
     ∷ [])
     h in
@@ -59,7 +58,7 @@ module _ (m k : ℕ) (nets weights p : List ℕ) where
       let cs = candidatesFrom k nets weights in
       let is = netsOf (nth 0 p) in
       let a = sheet-accepts m k nets weights p .0 n in
-      let w = sheetWhole-facts m p (a .1) in
+      let w = sheetWhole-facts p (a .1) in
       let g = good-support m cs (patchOf p) (a .2) in
       rw (eq-eqb (sheetNumber m k nets weights p) 0 n)
       (record {
@@ -67,8 +66,8 @@ module _ (m k : ℕ) (nets weights p : List ℕ) where
         long = omega (arith, length-append is (replicate (10 - length is) 0));
         nets = take-append-seam is (replicate (10 - length is) 0);
         candidates = g .1;
-        end = table-end m p w;
-        table = table-bytes m p w;
+        end = table-end p w;
+        table = table-bytes p w;
       })
 
   pub read-sheet : {r : SheetReply} → r ≡ sheetReply m k nets weights p → r .number ≡ 0

@@ -22,9 +22,9 @@ use Rattle.engine.specs.Choice.{found, orZero}
 use Rattle.engine.specs.Eval.{numberOf, allInputs, allVectors, oldValues, oldOutputs, goldenOutputs}
 use Rattle.engine.specs.Rectify.{rectifies, rectifiable}
 use Rattle.engine.specs.Support.{reading, giving, drivenBy, equalsGolden, Carries, shared, sound, tableOf, subsets, candidateNets}
-use Rattle.engine.specs.Inner.Choose.{RectifiesAll}
+use Rattle.engine.specs.Inner.Best.{RectifiesAll}
 use Rattle.engine.proofs.Laws.Eval.{bits-map, netAt-lt, oldValues-bits, numberOf-lt, numberOf-agree, oldValues-agree}
-use Rattle.engine.proofs.Laws.Choice.{any-of-member, all-iff-below, all-true, all-of-members, all-false, mem-keep, mem-below, first-least, first-none-below, found-some, found-none, found-first, same-iff-equal, map-agree, not-both, true-or-false, or-left, or-right, or-cases}
+use Rattle.engine.proofs.Laws.Choice.{any-of-member, all-iff-below, all-true, all-of-members, all-false, mem-keep, mem-below, first-least, first-none-below, found-some, found-none, found-first, none-or-some, same-iff-equal, map-agree, not-both, true-or-false, or-left, or-right, or-cases}
 
 module _ (j : Job) where
   pub rectifies-iff-outputs : (x v : ℕ) → (rectifies j x v ≡ true) ↔ (oldOutputs j x v ≡ goldenOutputs j x)
@@ -144,6 +144,17 @@ module _ (j : Job) (is : List ℕ) (r : ℕ) where
   unfolding shared allVectors rectifiesGiving
   found-shared v h f = found-first rectifiesGiving (2 ^ j .targets) v h (all-rectifies v f)
 
+  -- .. and none exactly where no vector does
+  pub shared-none-iff : (shared j is r ≡ none) ↔ ((v : ℕ) → v < 2 ^ j .targets → RectifiesAll j is r v → ⊥)
+  shared-none-iff = (
+    λ e v h f. let x = shared-none e v h in not-both (f (x .0) (x .1) (x .2)) (x .3),
+    λ h.
+        ⊎-elim
+        (λ e. e)
+        (λ s. let l = shared-least (s .0) (s .1) in absurd (h (s .0) (l .below) (l .rectifies)))
+        (none-or-some (shared j is r)),
+  )
+
 -- ---- sound supports
 
 module _ (j : Job) (is : List ℕ) where
@@ -189,6 +200,11 @@ module _ (j : Job) (is : List ℕ) where
       (λ r h.
       found-shared j is r (getD (c .table) r 0) (c .below r (omega (arith, c .entries)))
       (λ x l q. golden-iff-readings j is (c .table) .0 (c .equal) r x l q x l q))
+
+  -- the inputs that give the reading of one that no vector rectifies share none
+  pub shared-unrectifiable : (x : ℕ) → x < 2 ^ j .inputs → rectifiable j x ≡ false → shared j is (reading j is x) ≡ none
+  shared-unrectifiable x h u =
+      shared-none-iff j is (reading j is x) .1 (λ v l f. not-both (rectifiable-of j x v l (f x h refl)) u)
 
 -- more nets are sound where some of them are
 pub sound-mono : (j : Job) (is ks : List ℕ) → ((i : ℕ) → Mem i is → Mem i ks) → sound j is ≡ true → sound j ks ≡ true

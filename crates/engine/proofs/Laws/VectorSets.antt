@@ -9,7 +9,7 @@ use mathlib.Core.Option.{none, some}
 use native.Mathlib.Nat.{mod-lt, zero-mul, zero-add, suc-add, zero-div, div-one, pow-suc}
 use native.Mathlib.Numerals.{one-add}
 use native.Mathlib.Omega.{arith}
-use borrow.Author.Tests.{eq-eqb, eqb-false, ltb-true, ltb-false}
+use borrow.Author.Tests.{eq-eqb, eqb-true, eqb-false, ltb-true, ltb-false}
 use lib.Dec.{eqb, ltb}
 use lib.ListN.{getD, set, List·getD-eq-default}
 use lib.Pow.{pow-pos, pow-mono, shr-lt, shr-shr, split}
@@ -94,6 +94,11 @@ lowest-lt s =
     (λ r. omega (arith, ap orZero (r .1), first-least (inSet s) 16 (r .0) (r .1) .below))
     (none-or-some (lowest s))
 
+-- it is in the set
+pub lowest-bit : (s v : ℕ) → lowest s ≡ some v → (v < 16) × (bit v s ≡ 1)
+unfolding lowest
+lowest-bit s v e = let l = first-least (inSet s) 16 v e in (l .below, eqb-true (bit v s) 1 (l .holds))
+
 -- ---- the bits of a number made of bits
 
 pub bit-numberOf : {bs : List ℕ} → Bits bs → (v : ℕ) → bit v (numberOf bs) ≡ getD bs v 0
@@ -138,7 +143,7 @@ numberOf-ones n = ones-from 0 n
 
 -- ---- the set of the vectors that rectify an input
 
-eqb-cond : (b : Bool) → eqb (cond b 1 0) 1 ≡ b
+pub eqb-cond : (b : Bool) → eqb (cond b 1 0) 1 ≡ b
 eqb-cond true = refl
 eqb-cond false = refl
 

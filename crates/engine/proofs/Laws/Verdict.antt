@@ -1,8 +1,9 @@
--- Laws of the verdict: which case is given, the least blind reading, and how long a sheet is. Assumes nothing.
+-- Laws of the verdict: which case is given, by judge and by choose too, the least blind reading, and how long the sheets are. Assumes
+-- nothing.
 use Prim.Native.Nat.{ℕ, _^_, _≤_, _<_}
-use mathlib.Core.Path.{_≡_, refl, sym, _∙_, ap, subst}
+use mathlib.Core.Path.{_≡_, refl, sym, _∙_, ap}
 use mathlib.Core.Logic.{⊎-elim}
-use mathlib.Core.List.{List}
+use mathlib.Core.List.{List, _++_}
 use mathlib.Core.Bool.{Bool, true, false, true≢false, cond, not}
 use mathlib.Core.Option.{Option, none, some}
 use native.Mathlib.Omega.{arith}
@@ -10,22 +11,26 @@ use borrow.Author.Tests.{not-true}
 use lib.Dec.{eqb}
 use lib.ListN.{length, getD, length-map}
 use lib.Pow.{pow-mono}
-use Rattle.records.specs.Bytes.{upFrom}
+use Rattle.records.specs.Bytes.{upFrom, bytePair, field}
 use Rattle.records.specs.Job.{Candidate, Job}
 use Rattle.records.specs.Service.{countsOf}
 use Rattle.records.specs.Claims.{Below, PartsGood}
 use Rattle.records.proofs.Laws.Accepted.{below-of-all}
 use Rattle.records.proofs.Laws.Bytes.{all-below, length-tabulate, getD-tabulate}
 use Rattle.records.proofs.Laws.Counts.{countsWithin-facts, countsWithin-countsOf}
+use Rattle.records.proofs.Laws.Job.{length-field}
 use Rattle.engine.specs.Choice.{first, found, orZero}
 use Rattle.engine.specs.Rectify.{vectorLoop}
 use Rattle.engine.specs.Support.{giving, shared, sharing, sound, candidateNets, chosen, cost, tableOf, noteOf, notesOf}
-use Rattle.engine.specs.Verdict.{Ruling, patch, unfixable, blind, blindReading, ruling, sheetOf, longestSheet}
-use Rattle.engine.proofs.Laws.Choice.{Least, first-least, first-none-below, found-none, not-both, true-or-false}
+use Rattle.engine.specs.Verdict.{Ruling, patch, unfixable, blind, blindReading, ruling, fourBytes, judgeSheet, longestJudge, patchSheet, chooseSheet, longestChoose}
+use Rattle.engine.specs.Reply.{judgementOf, choiceOf}
+use Rattle.engine.specs.declared.judging.Judgement.the-variants as Judgement
+use Rattle.engine.specs.declared.choosing.Choice.the-variants as Choice
+use Rattle.engine.proofs.Laws.Choice.{Least, first-least, first-none-below, found-none, none-or-some, not-both, true-or-false}
 use Rattle.engine.proofs.Laws.Support.{sound-iff-found, length-tableOf, length-subset-le}
 use Rattle.engine.proofs.Laws.Best.{chosen-sound}
 use Rattle.engine.proofs.Laws.Loop.{length-vectors-le}
-use Rattle.engine.proofs.Laws.Sheet.{rulingBytes, patchBytes-ruling, unfixableBytes-ruling, blindBytes-ruling, patchBytes-le, unfixableBytes-le, blindBytes-le}
+use Rattle.engine.proofs.Laws.Sheet.{length-unfixable, length-blind, length-patchBytes, patchBytes-sheet}
 
 -- ---- the three cases
 
@@ -78,6 +83,31 @@ module _ (j : Job) where
   pub blind-reading : (r : ℕ) → ruling j ≡ blind r
       → (vectorLoop j .stuck ≡ none) × (sound j (candidateNets j) ≡ false) × (r ≡ blindReading j)
   blind-reading r e = pick-blind _ _ (chosen j) (blindReading j) r (sym ruling-pick ∙ e)
+
+-- ---- judge and choose
+
+module _ (j : Job) where
+  abbrev vectors : List ℕ
+  vectors = vectorLoop j .vectors
+
+  pub judged-unfixable : {x : ℕ} → vectorLoop j .stuck ≡ some x
+      → (judgementOf j ≡ Judgement.Unfixable (record { input = x })) × (judgeSheet j ≡ field 20 (fourBytes x) ++ field 19 vectors)
+  unfolding judgementOf judgeSheet
+  judged-unfixable e = (rw (judgementOf, e), rw (judgeSheet, e))
+
+  pub judged-fixable : vectorLoop j .stuck ≡ none → (judgementOf j ≡ Judgement.Fixable) × (judgeSheet j ≡ field 19 vectors)
+  unfolding judgementOf judgeSheet
+  judged-fixable e = (rw (judgementOf, e), rw (judgeSheet, e))
+
+  pub chosen-patch : sound j (candidateNets j) ≡ true
+      → (choiceOf j ≡ Choice.Patch (record { cost = cost j (chosen j) })) × (chooseSheet j ≡ patchSheet j (chosen j))
+  unfolding choiceOf chooseSheet
+  chosen-patch s = (rw (choiceOf, s), rw (chooseSheet, s))
+
+  pub chosen-blind : sound j (candidateNets j) ≡ false
+      → (choiceOf j ≡ Choice.Blind (record { reading = blindReading j })) × (chooseSheet j ≡ field 21 (bytePair (blindReading j)))
+  unfolding choiceOf chooseSheet
+  chosen-blind s = (rw (choiceOf, s), rw (chooseSheet, s))
 
 -- ---- the blind reading
 
@@ -157,7 +187,7 @@ module _ (j : Job) (is : List ℕ) where
       below-of-all 3 (omega arith) ns
       (all-below 3 ns (λ r h. rw (getD-notesOf r (omega (arith, length-notesOf))) (noteOf-lt r)))
 
--- ---- the sheet of an accepted job
+-- ---- the sheets of an accepted job
 
 module _ (j : Job) (g : PartsGood j) where
   targets-le : j .targets ≤ 4
@@ -176,30 +206,26 @@ module _ (j : Job) (g : PartsGood j) where
   pub vectors-le : length (vectorLoop j .vectors) ≤ 16
   vectors-le = omega (arith, length-vectors-le j, pow-mono targets-le)
 
-  pub support-le : (is : List ℕ) → ruling j ≡ patch is → length is ≤ 10
-  support-le is e =
-      let c = patch-chosen j is e in
-      rw (c .2) (omega (arith, candidates-le, length-subset-le (candidateNets j) (chosen j) (chosen-sound j (c .1) .1)))
+  -- judge's has at most 26 bytes
+  pub longest-judge : length (judgeSheet j) ≤ longestJudge
+  longest-judge =
+      ⊎-elim
+      (λ (e : vectorLoop j .stuck ≡ none). rw (judged-fixable j e .1) (omega (arith, vectors-le, length-field 19 (vectorLoop j .vectors))))
+      (λ r. rw (judged-unfixable j (r .1) .1) (omega (arith, vectors-le, length-unfixable (r .0) (vectorLoop j .vectors))))
+      (none-or-some (vectorLoop j .stuck))
 
-  pub table-le : (is : List ℕ) → ruling j ≡ patch is → length (tableOf j is) ≤ 1024
-  table-le is e = omega (arith, length-tableOf j is, pow-mono {j = 10} (support-le is e))
+  pub chosen-le : sound j (candidateNets j) ≡ true → length (chosen j) ≤ 10
+  chosen-le s = omega (arith, candidates-le, length-subset-le (candidateNets j) (chosen j) (chosen-sound j s .1))
 
-  notes-le : (is : List ℕ) → ruling j ≡ patch is → length (notesOf j is) ≤ 1024
-  notes-le is e = omega (arith, length-notesOf j is, pow-mono {j = 10} (support-le is e))
-
-  ruling-le : (v : Ruling) → ruling j ≡ v → length (rulingBytes j v (vectorLoop j .vectors)) ≤ longestSheet
-  ruling-le (patch is) e =
-      let vs = vectorLoop j .vectors in
-      subst (λ (xs : List ℕ). length xs ≤ longestSheet) (patchBytes-ruling j vs is refl refl refl)
-      (patchBytes-le vs is (tableOf j is) (cost j is) (notesOf j is) (support-le is e) (table-le is e) vectors-le (notes-le is e))
-  ruling-le (unfixable x) e =
-      let vs = vectorLoop j .vectors in
-      subst (λ (xs : List ℕ). length xs ≤ longestSheet) (unfixableBytes-ruling j vs x) (unfixableBytes-le vs x vectors-le)
-  ruling-le (blind r) e =
-      let vs = vectorLoop j .vectors in
-      subst (λ (xs : List ℕ). length xs ≤ longestSheet) (blindBytes-ruling j vs r) (blindBytes-le vs r vectors-le)
-
-  -- it has at most 2,103 bytes
-  pub longest-sheet : length (sheetOf j) ≤ longestSheet
-  unfolding sheetOf
-  longest-sheet = ruling-le (ruling j) refl
+  -- choose's at most 2,084
+  pub longest-choose : length (chooseSheet j) ≤ longestChoose
+  longest-choose =
+      ⊎-elim
+      (λ s.
+      let is = chosen j in
+      let l = chosen-le s in
+      let m : 2 ^ length is ≤ 1024 = pow-mono {j = 10} l in
+      rw (chosen-patch j s .1, ← patchBytes-sheet j is refl refl refl)
+      (omega (arith, length-patchBytes is (tableOf j is) (cost j is) (notesOf j is), length-tableOf j is, length-notesOf j is)))
+      (λ s. rw (chosen-blind j s .1) (omega (arith, length-blind (blindReading j))))
+      (true-or-false (sound j (candidateNets j)))

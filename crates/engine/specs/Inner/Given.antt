@@ -1,8 +1,8 @@
--- Which readings of a support inputs give (src/given.rt). A reading is open while no input seen gives it: its place is not 0. No public
+-- Which readings of a support inputs give (src/given.rt). A reading is unseen while no input looked at gives it: its place is not 0. No public
 -- contract cites this file. Assumes nothing.
 --
---   Opened ss all n os     the places os of n nets' readings are not 0 where the set of ss is all
---   NextOpen os at n r     r is the first of the places from at on, below n, that is not 0, or n
+--   MaybeUnseen ss all n os   the places os of n nets' readings are not 0 where the set of ss is all
+--   NextUnseen os at n r   r is the first of the places from at on, below n, that is not 0, or n
 --   BlockSeen ..           the places after the count inputs of a block, where the nets read are old ones
 --   Unseen j is os         the place of a reading of the nets is is 0 exactly when some input gives the reading
 --   AllSeen ..             the places after all inputs, from places that are 0 only where some input gives the reading
@@ -22,11 +22,11 @@ use Rattle.engine.specs.Inner.Note.{maxReadings, setsFrom}
 use Rattle.engine.specs.Inner.Plan.{ReadsOf}
 use Rattle.engine.specs.declared.plan.Plan.{Plan}
 
-pub record Opened (ss : List ℕ) (all n : ℕ) (os : List ℕ) : Type 0 where
+pub record MaybeUnseen (ss : List ℕ) (all n : ℕ) (os : List ℕ) : Type 0 where
   pub long : length os ≡ maxReadings
   pub full : (r : ℕ) → r < 2 ^ n → getD os r 0 ≡ 0 → getD ss r 0 ≡ all → ⊥
 
-pub record NextOpen (os : List ℕ) (at n r : ℕ) : Type 0 where
+pub record NextUnseen (os : List ℕ) (at n r : ℕ) : Type 0 where
   pub past : at ≤ r
   pub most : r ≤ n
   pub seen : (q : ℕ) → at ≤ q → q < r → getD os q 0 ≡ 0

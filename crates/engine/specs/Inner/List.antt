@@ -4,9 +4,9 @@
 --   lowest s                     the smallest vector of the set s
 --   listStep l s x               the vector list after input x, which the vectors s rectify
 --   listedFrom f l x k           .. after the k inputs from x on, where f says what rectifies each
---   startList, startSets         what the walk starts from
+--   startList                    what the walk starts from
 --   listedOf v, Held v           the vector list that a struct holds; its places hold vectors
---   Appended, Stepped, Noted     what the code gives for one vector more, for one input, and for the inputs of a block
+--   Appended, Stepped            what the code gives for one vector more, and for one input
 use Prim.Native.Nat.{ℕ, zero, suc, _+_, _-_, _≤_, _<_}
 use mathlib.Core.Path.{_≡_}
 use mathlib.Core.List.{[], _∷_, _++_}

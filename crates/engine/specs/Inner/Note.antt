@@ -9,7 +9,7 @@
 --   Covered ..       a listed vector is in the set of a scenario
 --   Joined ..        .. of each of which a row says 1
 --   CoveredTo ..     .. of each from one on to another
---   BlockNoted ..    the list and the sets after a block's inputs
+--   ListNoted ..     the list after a block's inputs
 use Prim.Native.Nat.{ℕ, zero, suc, _+_, _-_, _*_, _/_, _%_, _^_, _≤_, _<_}
 use mathlib.Core.Path.{_≡_}
 use mathlib.Core.List.{List}
@@ -74,8 +74,3 @@ Gathers masks first count f = (y : ℕ) → y < count → gathered masks y ≡ f
 pub record ListNoted (masks : List ℕ) (first count : ℕ) (v w : Vectors) : Type 0 where
   pub held : Held w
   pub listed : (f : ℕ → ℕ) → Gathers masks first count f → listedOf w ≡ listedFrom f (listedOf v) first count
-
--- .. and the sets ts after the columns that they fill, from the sets ss
-pub record BlockNoted (masks readings : List ℕ) (first count : ℕ) (v : Vectors) (ss : List ℕ) (w : Vectors) (ts : List ℕ) : Type 0 where
-  pub list : ListNoted masks first count v w
-  pub sets : ts ≡ setsFrom (gathered masks) (λ y. gathered readings y % 1024) ss 0 (filled count)

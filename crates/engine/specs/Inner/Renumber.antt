@@ -25,7 +25,7 @@ use Rattle.engine.specs.Inner.Packed.{fields, kindOf, countOf}
 use Rattle.engine.specs.Inner.Tree.{Nets, GatesPut}
 use Rattle.engine.specs.declared.renumber.OldSide.{OldSide}
 use Rattle.engine.specs.declared.renumber.NewSide.{NewSide}
-use Rattle.engine.specs.Inner.Choose.{before}
+use Rattle.engine.specs.Inner.Best.{before}
 
 unfoldable pub gateIn : ℕ → Gate
 gateIn c = record { kind = kindOf c; count = countOf c; slots = fields slotCount (c / 131072) }

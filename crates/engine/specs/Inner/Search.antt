@@ -1,13 +1,13 @@
--- What the search over a job's inputs keeps, block by block (src/masks.rt, src/search.rt). No public contract cites this file.
+-- What the walk over a job's inputs keeps, block by block (src/masks.rt, src/search.rt). No public contract cites this file.
 -- Assumes nothing.
 --
---   Progress j x v ss   what stands after the inputs below x: the list v and the sets ss
+--   SetsTo j x ss       the sets of all readings after the inputs below x
 --   BlockEvaluated ..   the words of a block at vector 0
 --   TargetTurned ..     the words of a block at one vector have become those at another, which differs in target t alone
 --   BlockMasks ..       the rows of a block's masks: the set of the vectors that rectify each of its inputs
---   Aligned n low prefix     the inputs from prefix * 2 ^ low on, as many as 2 ^ low: whole blocks, or all inputs of a job with fewer
---   BlockRange n b count     .. of one block
---   Searched ..         the list and the sets after the inputs below z, from those after the inputs below x
+--   BlockRange n b count     the first count inputs of block b: all 1,024, or all inputs of a job with fewer
+--   SettledFrom ..      some blocks from b on in which every vector rectifies every input
+--   BlockMet ..         the sets after a block, from those before
 use Prim.Native.Nat.{ℕ, _+_, _*_, _^_, _≤_, _<_, _-_}
 use mathlib.Core.Path.{_≡_}
 use mathlib.Core.Logic.{_⊎_}
@@ -17,20 +17,15 @@ use Rattle.records.specs.Job.{Job}
 use Rattle.engine.specs.Eval.{bit}
 use Rattle.engine.specs.Support.{candidateNets, reading}
 use Rattle.engine.specs.Inner.Masks.{rectifiers}
-use Rattle.engine.specs.Inner.List.{Held, listedFrom, listedOf, startList}
+use Rattle.engine.specs.Rectify.{rectifies}
 use Rattle.engine.specs.Inner.Plan.{BlockAt, ReadsOf, PlannedOf}
 use Rattle.engine.specs.Inner.Note.{gathered, maxReadings, setsFrom, startSets}
 use Rattle.engine.specs.declared.plan.Plan.{Plan}
-use Rattle.engine.specs.declared.list.Vectors.{Vectors}
-use mathlib.Core.Bool.{false}
+use mathlib.Core.Bool.{true}
 
--- Once the list is stuck the sets play no part.
-pub record Progress (j : Job) (x : ℕ) (v : Vectors) (ss : List ℕ) : Type 0 where
-  pub held : Held v
+pub record SetsTo (j : Job) (x : ℕ) (ss : List ℕ) : Type 0 where
   pub long : length ss ≡ maxReadings
-  pub listed : listedOf v ≡ listedFrom (rectifiers j) startList 0 x
-  pub sets : v .stuck ≡ false
-      → ss ≡ setsFrom (rectifiers j) (reading j (candidateNets j)) (startSets (j .targets)) 0 x
+  pub sets : ss ≡ setsFrom (rectifiers j) (reading j (candidateNets j)) (startSets (j .targets)) 0 x
 
 pub record BlockEvaluated (p : Plan) (gates : List ℕ) (b : ℕ) (words : List ℕ) : Type 0 where
   pub long : length words ≡ 16384
@@ -48,17 +43,18 @@ pub record BlockMasks (p : Plan) (gates words masks : List ℕ) : Type 0 where
   pub sets : (j : Job) (is : List ℕ) (q : PlannedOf j is p gates) (b : ℕ) → BlockAt j (q .live) b (λ y. 0) words
       → (y : ℕ) → y < 1024 → gathered masks y ≡ rectifiers j (1024 * b + y)
 
-pub record Aligned (n low prefix : ℕ) : Type 0 where
-  pub among : low ≤ n
-  pub within : (prefix + 1) * 2 ^ low ≤ 2 ^ n
-  pub blocks : low < 10 → (prefix ≡ 0) × (low ≡ n)
-
 pub record BlockRange (n b count : ℕ) : Type 0 where
   pub few : count ≤ 1024
   pub within : 1024 * b + count ≤ 2 ^ n
   pub whole : (count ≡ 1024) ⊎ ((b ≡ 0) × (count ≡ 2 ^ n))
 
-pub record Searched (p : Plan) (gates : List ℕ) (x z : ℕ) (v : Vectors) (ss : List ℕ) (w : Vectors) (ts : List ℕ) : Type 0 where
-  pub held : Held w
-  pub long : length ts ≡ length ss
-  pub progress : (j : Job) → PlannedOf j (candidateNets j) p gates → Progress j x v ss → Progress j z w ts
+-- the inputs of r blocks from b on are rectified by every vector
+pub record SettledFrom (p : Plan) (gates : List ℕ) (b r : ℕ) : Type 0 where
+  pub within : 1024 * (b + r) ≤ 2 ^ p .inputs
+  pub few : r ≤ 32
+  pub settled : (j : Job) (is : List ℕ) → PlannedOf j is p gates
+      → (x v : ℕ) → 1024 * b ≤ x → x < 1024 * (b + r) → rectifies j x v ≡ true
+
+pub record BlockMet (p : Plan) (gates : List ℕ) (b count : ℕ) (before after : List ℕ) : Type 0 where
+  pub long : length after ≡ length before
+  pub sets : (j : Job) → PlannedOf j (candidateNets j) p gates → SetsTo j (1024 * b) before → SetsTo j (1024 * b + count) after

@@ -12,7 +12,7 @@ use lib.ListN.{length, take}
 use Rattle.records.specs.Job.{Job}
 use Rattle.engine.specs.Support.{tableOf, notesOf}
 use Rattle.engine.specs.Inner.Note.{maxReadings}
-use Rattle.engine.specs.Inner.Choose.{SetsOf}
+use Rattle.engine.specs.Inner.Best.{SetsOf}
 use Rattle.engine.specs.Inner.Given.{Unseen}
 use Rattle.engine.specs.Inner.List.{lowest}
 use Rattle.engine.specs.Choice.{orZero}

@@ -1,5 +1,5 @@
 -- Laws of the first fields of a record and of what stands behind them: where they end, that cutting the record there leaves them as
--- they are, and that it is whole exactly when both parts are. Assumes nothing.
+-- they are, and that it is whole exactly when both parts are; and that a field behind whole ones is one of the record's. Assumes nothing.
 use Prim.Native.Nat.{ℕ, zero, suc, _+_, _-_, _≤_, _<_, min}
 use mathlib.Core.Path.{_≡_, refl, sym, _∙_, ap}
 use mathlib.Core.List.{List, [], _∷_, _++_}
@@ -7,9 +7,9 @@ use mathlib.Core.Bool.{Bool, true, false, _&&_}
 use native.Mathlib.Omega.{arith}
 use borrow.Author.Tests.{le-leb, lt-leb, leb-true, leb-false, eqb-true}
 use lib.Dec.{leb}
-use lib.ListN.{length, take, drop, length-take, length-drop, List·getD-append}
+use lib.ListN.{length, getD, take, drop, length-take, length-drop, length-append, List·getD-append}
 use lib.Seq.{getD-take, take-take, drop-drop, drop-append-le, take-append-seam}
-use Rattle.records.specs.Bytes.{word, bodyLength, body, rest, fits, whole, nth}
+use Rattle.records.specs.Bytes.{all, word, bodyLength, body, rest, fits, whole, nth}
 use Rattle.records.proofs.Laws.Bytes.{and-left, and-right, and-assoc, drop-take}
 use Rattle.records.proofs.Laws.Field.{skip-drop, positionOf, fits-room, nth-body}
 
@@ -110,3 +110,23 @@ nth-front ts a b w k h =
     sym (nth-cut (length ts) k (a ++ b) h)
     ∙ ap (λ (n : ℕ). nth k (take n (a ++ b))) (whole-front ts a b w)
     ∙ ap (nth k) (take-append-seam a b)
+
+-- ---- a field behind whole fields is one of the record's
+
+fits-tag : (t : ℕ) (s : List ℕ) → fits t s ≡ true → getD s 0 0 ≡ t
+unfolding fits
+fits-tag t s h = eqb-true _ _ (and-right (leb 3 (length s)) _ (and-left _ (leb (3 + bodyLength s) (length s)) h))
+
+-- what holds of each tag of a record holds of that field's
+pub whole-behind : (p : ℕ → Bool) (t : ℕ) (ts us a b : List ℕ) → whole ts a ≡ true → fits t b ≡ true → whole us (a ++ b) ≡ true
+    → all p us ≡ true → p t ≡ true
+unfolding whole all
+whole-behind p t ts [] a b v f w h =
+    absurd (omega (arith, eqb-true (length (a ++ b)) 0 w, length-append a b, fits-room t b f))
+whole-behind p t [] (u ∷ us) [] b v f w h =
+    ap p (sym (fits-tag t b f) ∙ fits-tag u b (and-left _ _ w)) ∙ and-left (p u) (all p us) h
+whole-behind p t [] (u ∷ us) (x ∷ a) b v f w h = absurd (omega (arith, eqb-true (length (x ∷ a)) 0 v))
+whole-behind p t (q ∷ ts) (u ∷ us) a b v f w h =
+    let r = rest-append a b (fits-room q a (and-left (fits q a) (whole ts (rest a)) v)) in
+    let k : whole us (rest a ++ b) ≡ true = rw (← r) (and-right (fits u (a ++ b)) (whole us (rest (a ++ b))) w) in
+    whole-behind p t ts us (rest a) b (and-right (fits q a) (whole ts (rest a)) v) f k (and-right (p u) (all p us) h)

@@ -1,7 +1,8 @@
--- Laws of a sheet's notes: a sheet is whole exactly when its first four fields are a whole sheet without notes and behind them stand
--- good notes or nothing; good notes leave what read_sheet replies as it is, and others get 7. Assumes nothing.
+-- Laws of a sheet's notes: a sheet is whole exactly when its first three fields are a whole sheet without notes and behind them stand
+-- good notes or nothing; good notes leave what read_sheet replies as it is, and others get 7, as does a vector list. Assumes nothing.
 use Prim.Native.Nat.{ℕ, _+_, _-_, _≤_, _<_}
 use mathlib.Core.Path.{_≡_, refl, sym, _∙_, ap}
+use mathlib.Core.Logic.{⊎-elim}
 use mathlib.Core.List.{List, [], _∷_, _++_, append-nil}
 use mathlib.Core.Bool.{Bool, true, false, true≢false, not, _&&_, _||_}
 use native.Mathlib.Omega.{arith}
@@ -16,86 +17,85 @@ use Rattle.records.specs.Sheet.{sheetTags, notesTag, patchOf, notesWhole
 use Rattle.records.specs.Inner.{startOf, fieldAt, endOf, bareWhole, notesAt}
 use Rattle.records.specs.declared.field.Field.the-variants.{Body, Missing}
 use Rattle.records.specs.Service.{candidatesFrom, sheetRoomy, sheetNumber, sheetReply}
-use Rattle.records.specs.Claims.{Below, SheetNotes, NotesSeven}
+use Rattle.records.specs.Claims.{Below, SheetNotes, NotesSeven, VectorsSeven}
 use Rattle.records.proofs.Laws.Accepted.{below-of-all}
 use Rattle.records.proofs.Laws.Bytes.{row, row-and, and-left, and-right, and-both, and-false-right, and-assoc, false-of, all-below}
 use Rattle.records.proofs.Laws.Field.{positionOf, startOf-position, whole-end, fits-room, length-body, fieldAt-body, fieldAt-missing, end-within}
-use Rattle.records.proofs.Laws.Front.{positionOf-cut, nth-cut, nth-behind, whole-append, whole-front, nth-front}
+use Rattle.records.proofs.Laws.Front.{positionOf-cut, nth-cut, nth-behind, whole-append, whole-front, nth-front, whole-behind}
 use Rattle.records.proofs.Laws.Job.{length-field}
 use Rattle.records.proofs.Laws.RoundTrip.{fits-field, body-field, rest-field}
 use Rattle.records.proofs.Laws.Walk.{ends-there}
-use Rattle.records.proofs.Laws.SheetShape.{sizeTests, bareWhole-facts}
+use Rattle.records.proofs.Laws.SheetShape.{sizeTests, bareWhole-facts, sheetWhole-facts}
 
--- ---- a sheet cut behind its fourth field
+-- ---- a sheet cut behind its third field
 
 either : (a z b c d : Bool) → ((a && z) || ((a && b) && (c && d))) ≡ (a && (z || ((b && c) && d)))
 either true z b c d = ap (λ (x : Bool). z || x) (sym (and-assoc b c d))
 either false z b c d = refl
 
-module _ (m : ℕ) (s : List ℕ) (e : ℕ) (p : e ≡ positionOf 4 s) where
+module _ (s : List ℕ) (e : ℕ) (p : e ≡ positionOf 3 s) where
   fields-split : (whole sheetTags s || (whole (sheetTags ++ (notesTag ∷ [])) s && notesWhole s))
       ≡ (whole sheetTags (take e s) && notesAt (length (nth 1 s)) (drop e s))
   unfolding notesWhole notesAt whole
   fields-split =
-      rw (p, whole-append sheetTags [] s, whole-append sheetTags (notesTag ∷ []) s, nth-behind 4 s)
-      (either (whole sheetTags (take (positionOf 4 s) s)) (eqb (length (drop (positionOf 4 s) s)) 0) _ _ _)
+      rw (p, whole-append sheetTags [] s, whole-append sheetTags (notesTag ∷ []) s, nth-behind 3 s)
+      (either (whole sheetTags (take (positionOf 3 s) s)) (eqb (length (drop (positionOf 3 s) s)) 0) _ _ _)
 
-  sizes-cut : sizeTests m (take e s) ≡ sizeTests m s
-  sizes-cut =
-      rw (p, nth-cut 4 0 s (omega arith), nth-cut 4 1 s (omega arith), nth-cut 4 2 s (omega arith), nth-cut 4 3 s (omega arith))
+  sizes-cut : sizeTests (take e s) ≡ sizeTests s
+  sizes-cut = rw (p, nth-cut 3 0 s (omega arith), nth-cut 3 1 s (omega arith), nth-cut 3 2 s (omega arith))
 
-  sheet-cut : sheetWhole m s ≡ (bareWhole m (take e s) && notesAt (length (nth 1 s)) (drop e s))
+  sheet-cut : sheetWhole s ≡ (bareWhole (take e s) && notesAt (length (nth 1 s)) (drop e s))
   unfolding sheetWhole bareWhole
   sheet-cut =
       let a = whole sheetTags (take e s) in
       let n = notesAt (length (nth 1 s)) (drop e s) in
-      ap (λ (f : Bool). row f (sizeTests m s)) fields-split
-      ∙ sym (row-and a n (sizeTests m s))
+      ap (λ (f : Bool). row f (sizeTests s)) fields-split
+      ∙ sym (row-and a n (sizeTests s))
       ∙ ap (λ (ts : List Bool). row a ts && n) (sym sizes-cut)
 
 -- ---- what fields_end says of where it ends
 
-module _ (m : ℕ) (s : List ℕ) (e : ℕ) (l : e ≤ length s) where
-  cut-front : whole sheetTags (take e s) ≡ true → e ≡ positionOf 4 s
+module _ (s : List ℕ) (e : ℕ) (l : e ≤ length s) where
+  cut-front : whole sheetTags (take e s) ≡ true → e ≡ positionOf 3 s
   cut-front w =
       sym (length-take-le e s l)
       ∙ sym (whole-front sheetTags (take e s) (drop e s) w)
-      ∙ ap (positionOf 4) (take-append-drop e s)
+      ∙ ap (positionOf 3) (take-append-drop e s)
 
-  module _ (h : startOf 4 s ≤ length s + 3 → e + 3 ≡ startOf 4 s) where
-    cut-whole : sheetWhole m s ≡ true → e ≡ positionOf 4 s
+  module _ (h : startOf 3 s ≤ length s + 3 → e + 3 ≡ startOf 3 s) where
+    cut-whole : sheetWhole s ≡ true → e ≡ positionOf 3 s
     cut-whole t =
-        let p = positionOf 4 s in
-        let b = bareWhole m (take p s) in
-        let w = bareWhole-facts m (take p s) (and-left b _ (sym (sheet-cut m s p refl) ∙ t)) .fields in
+        let p = positionOf 3 s in
+        let b = bareWhole (take p s) in
+        let w = bareWhole-facts (take p s) (and-left b _ (sym (sheet-cut s p refl) ∙ t)) .fields in
         let n : p ≤ length s =
-        omega (arith, positionOf-cut 4 4 s (omega arith), whole-end sheetTags (take p s) w, length-take p s) in
-        omega (arith, startOf-position 4 s, h (omega (arith, startOf-position 4 s)))
+        omega (arith, positionOf-cut 3 3 s (omega arith), whole-end sheetTags (take p s) w, length-take p s) in
+        omega (arith, startOf-position 3 s, h (omega (arith, startOf-position 3 s)))
 
-    -- a sheet is whole exactly when its first four fields are without notes and good notes or nothing stands behind them
-    pub sheet-split : sheetWhole m s ≡ (bareWhole m (take e s) && notesAt (length (nth 1 s)) (drop e s))
-    sheet-split = pick (sheetWhole m s) refl
+    -- a sheet is whole exactly when its first three fields are without notes and good notes or nothing stands behind them
+    pub sheet-split : sheetWhole s ≡ (bareWhole (take e s) && notesAt (length (nth 1 s)) (drop e s))
+    sheet-split = pick (sheetWhole s) refl
       where
         b : Bool
-        b = bareWhole m (take e s)
+        b = bareWhole (take e s)
 
         n : Bool
         n = notesAt (length (nth 1 s)) (drop e s)
 
-        pick : (x : Bool) → sheetWhole m s ≡ x → x ≡ (b && n)
-        pick true q = sym q ∙ sheet-cut m s e (cut-whole q)
+        pick : (x : Bool) → sheetWhole s ≡ x → x ≡ (b && n)
+        pick true q = sym q ∙ sheet-cut s e (cut-whole q)
         pick false q =
             sym
             (false-of (b && n)
             (λ t.
-            let w = bareWhole-facts m (take e s) (and-left b n t) .fields in
-            true≢false (sym t ∙ sym (sheet-cut m s e (cut-front w)) ∙ q)))
+            let w = bareWhole-facts (take e s) (and-left b n t) .fields in
+            true≢false (sym t ∙ sym (sheet-cut s e (cut-front w)) ∙ q)))
 
--- ---- four fields and what is put behind them
+-- ---- three fields and what is put behind them
 
-pub notesWhole-true : (s : List ℕ) → length (nth 4 s) ≡ length (nth 1 s) → Below 3 (nth 4 s) → notesWhole s ≡ true
+pub notesWhole-true : (s : List ℕ) → length (nth 3 s) ≡ length (nth 1 s) → Below 3 (nth 3 s) → notesWhole s ≡ true
 unfolding notesWhole
-notesWhole-true s n b = and-both _ _ (eq-eqb _ _ n) (all-below 3 (nth 4 s) (λ i l. b i))
+notesWhole-true s n b = and-both _ _ (eq-eqb _ _ n) (all-below 3 (nth 3 s) (λ i l. b i))
 
 notes-field : (n : ℕ) (ns : List ℕ) → notesAt n (field notesTag ns) ≡ (eqb (length ns) n && all (λ v. ltb v 3) ns)
 unfolding notesAt whole nth
@@ -104,25 +104,25 @@ notes-field n ns =
     rw (ne-eqb (length f) 0 (omega (arith, length-field notesTag ns)), ← append-nil f, fits-field notesTag ns [], rest-field notesTag ns [], body-field notesTag ns [])
 
 module _ (s : List ℕ) (w : whole sheetTags s ≡ true) where
-  sheet-append : (m : ℕ) (r : List ℕ) → sheetWhole m (s ++ r) ≡ (bareWhole m s && notesAt (length (nth 1 s)) r)
-  sheet-append m r =
-      sheet-cut m (s ++ r) (length s) (sym (whole-front sheetTags s r w))
+  sheet-append : (r : List ℕ) → sheetWhole (s ++ r) ≡ (bareWhole s && notesAt (length (nth 1 s)) r)
+  sheet-append r =
+      sheet-cut (s ++ r) (length s) (sym (whole-front sheetTags s r w))
       ∙ rw (take-append-seam s r, drop-append-seam s r, nth-front sheetTags s r w 1 (omega arith))
 
-  sheet-behind : (m : ℕ) (r : List ℕ) → notesAt (length (nth 1 s)) r ≡ true → sheetWhole m (s ++ r) ≡ sheetWhole m s
+  sheet-behind : (r : List ℕ) → notesAt (length (nth 1 s)) r ≡ true → sheetWhole (s ++ r) ≡ sheetWhole s
   unfolding notesAt
-  sheet-behind m r e =
-      sheet-append m r
-      ∙ ap (λ (b : Bool). bareWhole m s && b) e
-      ∙ sym (sheet-append m [])
-      ∙ ap (sheetWhole m) (append-nil s)
+  sheet-behind r e =
+      sheet-append r
+      ∙ ap (λ (b : Bool). bareWhole s && b) e
+      ∙ sym (sheet-append [])
+      ∙ ap sheetWhole (append-nil s)
 
 -- a sheet with good notes says what it says without
 module _ (s ns : List ℕ) (w : whole sheetTags s ≡ true) (n : length ns ≡ length (patchOf s .table)) (l : Below 3 ns) where
   abbrev noted : List ℕ
   noted = s ++ field notesTag ns
 
-  pub notes-part : (k : ℕ) → k < 4 → nth k noted ≡ nth k s
+  pub notes-part : (k : ℕ) → k < 3 → nth k noted ≡ nth k s
   notes-part k h = nth-front sheetTags s (field notesTag ns) w k h
 
   pub notes-support : patchOf noted .support ≡ patchOf s .support
@@ -139,7 +139,7 @@ module _ (s ns : List ℕ) (w : whole sheetTags s ≡ true) (n : length ns ≡ l
       let p = notes-part in
       let e : notesAt (length (nth 1 s)) (field notesTag ns) ≡ true =
       notes-field (length (nth 1 s)) ns ∙ and-both _ _ (eq-eqb _ _ n) (all-below 3 ns (λ i h. l i)) in
-      rw (sheet-behind s w m (field notesTag ns) e, p 0 (omega arith), p 1 (omega arith), p 2 (omega arith), p 3 (omega arith))
+      rw (sheet-behind s w (field notesTag ns) e, p 0 (omega arith), p 1 (omega arith), p 2 (omega arith))
 
 pub sheet-notes : SheetNotes
 unfolding sheetReply sheetNumber patchOf
@@ -148,7 +148,7 @@ sheet-notes m k nets weights s ns b w n l =
     rw (notes-tests s ns w n l m (candidatesFrom k nets weights), p 0 (omega arith), p 2 (omega arith))
 
 -- what is no whole sheet gets 7
-number-seven : (m k : ℕ) (nets weights s : List ℕ) → sheetRoomy m k nets weights ≡ true → sheetWhole m s ≡ false
+number-seven : (m k : ℕ) (nets weights s : List ℕ) → sheetRoomy m k nets weights ≡ true → sheetWhole s ≡ false
     → sheetNumber m k nets weights s ≡ 7
 unfolding sheetNumber sheetTests firstFailing
 number-seven m k nets weights s r e = rw (r, e)
@@ -163,7 +163,20 @@ notes-seven m k nets weights s ns r w l h =
     let u = sym (notes-field n ns) ∙ t in
     h (eqb-true _ _ (and-left _ _ u), below-of-all 3 (omega arith) ns (and-right (eqb (length ns) n) _ u))) in
     number-seven m k nets weights (s ++ field notesTag ns) r
-    (sheet-append s w m (field notesTag ns) ∙ and-false-right (bareWhole m s) _ f)
+    (sheet-append s w (field notesTag ns) ∙ and-false-right (bareWhole s) _ f)
+
+-- a field behind whole ones is one of the sheet's, and a sheet has no vector list
+pub vectors-seven : VectorsSeven
+unfolding all
+vectors-seven m k nets weights ts a b r w f =
+    let other : ℕ → Bool = λ t. not (eqb t 19) in
+    let none : (us : List ℕ) → all other us ≡ true → whole us (a ++ b) ≡ true → ⊥ =
+    λ us n u. true≢false (sym (whole-behind other 19 ts us a b w f u n)) in
+    number-seven m k nets weights (a ++ b) r
+    (false-of (sheetWhole (a ++ b))
+    (λ t.
+    ⊎-elim (λ v. none sheetTags refl v) (λ v. none (sheetTags ++ (notesTag ∷ [])) refl (v .0))
+    (sheetWhole-facts (a ++ b) t .fields)))
 
 -- ---- what check_notes finds at a position
 

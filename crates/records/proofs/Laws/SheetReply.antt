@@ -50,11 +50,11 @@ module _ (m k : ℕ) (nets weights s : List ℕ) where
   reply-room e = rw e
 
   module _ (r : sheetRoom m k (length nets) (length weights) ≡ true) where
-    pub reply-whole : sheetWhole m s ≡ false → refusedSheet 7 ≡ sheetReply m k nets weights s
+    pub reply-whole : sheetWhole s ≡ false → refusedSheet 7 ≡ sheetReply m k nets weights s
     unfolding sheetReply sheetNumber sheetTests firstFailing sheetRoomy sheetRoom refusedSheet
     reply-whole e = rw (r, e)
 
-    module _ (w : sheetWhole m s ≡ true) where
+    module _ (w : sheetWhole s ≡ true) where
       pub reply-good : patchGood m (candidatesFrom k nets weights) (patchOf s) ≡ false
           → refusedSheet 8 ≡ sheetReply m k nets weights s
       unfolding sheetReply sheetNumber sheetTests firstFailing sheetRoomy sheetRoom refusedSheet
@@ -70,10 +70,10 @@ module _ (m k : ℕ) (nets weights s : List ℕ) where
 pub sheet-given : SheetGiven
 unfolding sheetReply patchOf
 sheet-given m k nets weights s e =
-    let w = sheetWhole-facts m s (sheet-accepts m k nets weights s .0 e .1) in
+    let w = sheetWhole-facts s (sheet-accepts m k nets weights s .0 e .1) in
     let is = netsOf (nth 0 s) in
     let z = eq-eqb (sheetNumber m k nets weights s) 0 e in
-    record { support = rw z (take-append-seam is _); table = rw z (table-bytes m s w); cost = rw z }
+    record { support = rw z (take-append-seam is _); table = rw z (table-bytes s w); cost = rw z }
 
 -- ---- number 8
 
@@ -90,14 +90,13 @@ pub entries : (limit m : ℕ) (part xs : List ℕ) → limit ≡ 2 ^ m → part 
 entries limit m part xs p q = rw (p, q)
 
 module _ (m : ℕ) (cs : List Candidate) (s : List ℕ) where
-  -- the support ascends and is of candidates; the entries of the table and of the vectors are small; the cost is the sum
+  -- the support ascends and is of candidates; the entries of the table are small; the cost is the sum
   fit : Bool
   fit = ascending (netsOf (nth 0 s)) && all (isCandidate cs) (netsOf (nth 0 s))
 
   others : List Bool
   others =
       all (λ v. ltb v (2 ^ m)) (nth 1 s)
-      ∷ all (λ v. ltb v (2 ^ m)) (nth 3 s)
       ∷ eqb (quad (nth 2 s)) (costOf cs (netsOf (nth 0 s)))
       ∷ []
 
@@ -116,10 +115,6 @@ module _ (m : ℕ) (cs : List Candidate) (s : List ℕ) where
   unfolding others
   bad-table e = bad 1 e
 
-  pub bad-vectors : all (λ v. ltb v (2 ^ m)) (nth 3 s) ≡ false → patchGood m cs (patchOf s) ≡ false
-  unfolding others
-  bad-vectors e = bad 2 e
-
   module _ (v : ℕ) (e : supportOf cs (netsOf (nth 0 s)) ≡ Sum v) where
     sum : (fit ≡ true) × (costOf cs (netsOf (nth 0 s)) ≡ v)
     unfolding supportOf fit
@@ -127,13 +122,11 @@ module _ (m : ℕ) (cs : List Candidate) (s : List ℕ) where
 
     pub bad-cost : (v ≡ quad (nth 2 s) → ⊥) → patchGood m cs (patchOf s) ≡ false
     unfolding others
-    bad-cost h = bad 3 (ne-eqb _ _ (λ q. h (sym (sum .1) ∙ sym q)))
+    bad-cost h = bad 2 (ne-eqb _ _ (λ q. h (sym (sum .1) ∙ sym q)))
 
-    pub good : all (λ v. ltb v (2 ^ m)) (nth 1 s) ≡ true → all (λ v. ltb v (2 ^ m)) (nth 3 s) ≡ true → v ≡ quad (nth 2 s)
-        → patchGood m cs (patchOf s) ≡ true
+    pub good : all (λ v. ltb v (2 ^ m)) (nth 1 s) ≡ true → v ≡ quad (nth 2 s) → patchGood m cs (patchOf s) ≡ true
     unfolding others
-    good t w q =
-        good-row ∙ and-both _ _ (and-both _ _ (and-both _ _ (sum .0) t) w) (eq-eqb _ _ (sym q ∙ sym (sum .1)))
+    good t q = good-row ∙ and-both _ _ (and-both _ _ (sum .0) t) (eq-eqb _ _ (sym q ∙ sym (sum .1)))
 
     -- there are no more support nets than candidates
     pub few-support : length (netsOf (nth 0 s)) ≤ length cs

@@ -3,11 +3,13 @@ use Prim.Native.Nat.{ℕ, _+_, _*_, _/_, _≤_, _<_}
 use mathlib.Core.Path.{_≡_, refl, sym, _∙_, ap}
 use mathlib.Core.List.{List, [], _∷_, _++_}
 use mathlib.Core.Logic.{⊎-elim}
+use mathlib.Core.Bool.{true, false}
+use mathlib.Core.Option.{none, some}
 use native.Mathlib.Nat.{div-add-mod}
 use native.Mathlib.Omega.{arith}
 use borrow.Author.Tests.{lt-ltb, le-ltb, ne-eqb, ltb-true, ltb-false}
 use lib.Dec.{ltb}
-use lib.ListN.{length, getD, replicate, length-append, List·getD-eq-default}
+use lib.ListN.{length, getD, length-append, List·getD-eq-default}
 use Rattle.records.specs.Bytes.{bytePair, word, field, nth}
 use Rattle.records.specs.Job.{Job, jobOf, netsOf}
 use Rattle.records.specs.Sheet.{Patch, quad, sheetTags, notesTag, patchOf}
@@ -16,17 +18,15 @@ use Rattle.records.specs.Claims.{Below}
 use Rattle.records.proofs.Laws.Shape.{length-netsOf}
 use Rattle.records.proofs.Laws.Sheet.{word-lt, net-at}
 use Rattle.engine.specs.Rectify.{vectorLoop}
-use Rattle.engine.specs.Support.{tableOf, notesOf, cost}
-use Rattle.engine.specs.Verdict.{Ruling, patch, unfixable, blind, ruling, fourBytes, sheetOf, longestSheet, decideNumber}
-use Rattle.engine.specs.Inner.Sheet.{patchBytes, unfixableBytes, blindBytes}
+use Rattle.engine.specs.Support.{sound, candidateNets, chosen}
+use Rattle.engine.specs.Verdict.{blindReading, ruling, fourBytes, judgeSheet, patchSheet, chooseSheet}
 use Rattle.engine.proofs.Laws.Choice.{true-or-false}
-use Rattle.engine.proofs.Laws.Decide.{number-long}
-use Rattle.engine.proofs.Laws.Sheet.{rulingBytes, patchBytes-ruling, unfixableBytes-ruling, blindBytes-ruling, sheet-ruling}
-use Rattle.engine.proofs.Replies.{quad-fourBytes, patch-read}
+use Rattle.engine.proofs.Laws.Verdict.{ruling-unfixable, ruling-patch, ruling-blind, judged-unfixable, chosen-patch, chosen-blind}
+use Rattle.engine.proofs.Replies.{patch-read}
 use Rattle.report.specs.Text.{patchWord, supportWord, tableWord, vectorsWord, notesWord, unfixableWord, blindWord, refusedWord, line, patchText, valueText, rulingText, refusedText, inputLimit, rectifyText, longestText}
-use Rattle.report.specs.Inner.{PatchSheet, ValueSheet, patchSheetText, sheetText, Printed, Texted}
+use Rattle.report.specs.Inner.{PatchSheet, patchSheetText, choiceText, Printed, Texted}
 use Rattle.report.proofs.Laws.Line.{printed-then, length-number-line, length-nets-line, length-bytes-line}
-use Rattle.report.proofs.Laws.Sheet.{below-field, value-fields}
+use Rattle.report.proofs.Laws.Sheet.{below-field, field-body, value-fields}
 
 -- ---- numbers of a sheet
 
@@ -69,18 +69,11 @@ module _ (w : List ℕ) (x : ℕ) (vs : List ℕ) where
   unfolding valueText
   value-texted h a b = texted h (printed-then a b (omega arith))
 
-pub value-room : (t size : ℕ) (s : List ℕ) → ValueSheet t size s → Below 256 s
-    → (w : List ℕ) {x y : ℕ} {vs : List ℕ} → length w ≤ 9 → y < 4294967296 → x ≡ y → vs ≡ nth 1 s
-    → length (valueText w x vs) ≤ longestText
-value-room t size s v b w {x} {y} h l e f =
+pub value-room : (w : List ℕ) {x y : ℕ} {vs us : List ℕ} → length w ≤ 9 → y < 4294967296 → length us ≤ 16 → Below 256 us
+    → x ≡ y → vs ≡ us → length (valueText w x vs) ≤ longestText
+value-room w {x} {y} {vs} {us} h l n b e f =
     rw (e, f)
-    (omega (
-      arith,
-      v .vectors,
-      length-valueText w y (nth 1 s),
-      length-number-line w y l,
-      length-bytes-line vectorsWord (nth 1 s) (below-field (t ∷ 19 ∷ []) s (v .fields) 1 (omega arith) b),
-    ))
+    (omega (arith, length-valueText w y us, length-number-line w y l, length-bytes-line vectorsWord us b))
 
 module _ (c : ℕ) (is es vs ns : List ℕ) where
   abbrev costLine : List ℕ
@@ -119,97 +112,92 @@ module _ (c : ℕ) (is es vs ns : List ℕ) where
       let three = printed-then (printed-then i j (omega arith)) k (omega arith) in
       texted h (printed-then (printed-then three l (omega arith)) m (omega arith))
 
--- the lines of the parts of a patch's sheet
-pub patch-same : (s : List ℕ) {c : ℕ} {is es vs ns : List ℕ} → c ≡ quad (nth 2 s) → is ≡ nth 0 s → es ≡ nth 1 s → vs ≡ nth 3 s
-    → ns ≡ nth 4 s → patchText c (netsOf is) es vs ns ≡ patchSheetText s
-unfolding patchSheetText patchOf
-patch-same s p q o r n = rw (p, q, o, r, n)
+-- the lines of the parts of a patch's sheet, beside the vector list
+module _ (s vs : List ℕ) where
+  pub patch-same : {c : ℕ} {is es ns : List ℕ} → c ≡ quad (nth 2 s) → is ≡ nth 0 s → es ≡ nth 1 s → ns ≡ nth 3 s
+      → patchText c (netsOf is) es vs ns ≡ patchSheetText s vs
+  unfolding patchSheetText patchOf
+  patch-same p q o n = rw (p, q, o, n)
 
-pub patch-room : (s : List ℕ) → PatchSheet s → Below 256 s → length (patchSheetText s) ≤ longestText
-unfolding patchSheetText patchOf
-patch-room s p b =
-    let bytes : (k : ℕ) → k < 5 → Below 256 (nth k s) = λ k h. below-field (sheetTags ++ (notesTag ∷ [])) s (p .fields) k h b in
-    omega (
-      arith,
-      p .support,
-      p .table,
-      p .vectors,
-      p .notes,
-      length-patchText (quad (nth 2 s)) (netsOf (nth 0 s)) (nth 1 s) (nth 3 s) (nth 4 s),
-      length-netsOf (nth 0 s),
-      length-number-line patchWord (quad (nth 2 s)) (quad-lt (nth 2 s) (bytes 2 (omega arith))),
-      length-nets-line supportWord (netsOf (nth 0 s)) (below-nets (nth 0 s) (bytes 0 (omega arith))),
-      length-bytes-line tableWord (nth 1 s) (bytes 1 (omega arith)),
-      length-bytes-line vectorsWord (nth 3 s) (bytes 3 (omega arith)),
-      length-bytes-line notesWord (nth 4 s) (bytes 4 (omega arith)),
-    )
+  pub patch-room : PatchSheet s → Below 256 s → length vs ≤ 16 → Below 256 vs → length (patchSheetText s vs) ≤ longestText
+  unfolding patchSheetText patchOf
+  patch-room p b h v =
+      let bytes : (k : ℕ) → k < 4 → Below 256 (nth k s) = λ k l. below-field (sheetTags ++ (notesTag ∷ [])) s (p .fields) k l b in
+      omega (
+        arith,
+        p .support,
+        p .table,
+        p .notes,
+        length-patchText (quad (nth 2 s)) (netsOf (nth 0 s)) (nth 1 s) vs (nth 3 s),
+        length-netsOf (nth 0 s),
+        length-number-line patchWord (quad (nth 2 s)) (quad-lt (nth 2 s) (bytes 2 (omega arith))),
+        length-nets-line supportWord (netsOf (nth 0 s)) (below-nets (nth 0 s) (bytes 0 (omega arith))),
+        length-bytes-line tableWord (nth 1 s) (bytes 1 (omega arith)),
+        length-bytes-line vectorsWord vs v,
+        length-bytes-line notesWord (nth 3 s) (bytes 3 (omega arith)),
+      )
 
--- ---- which text
+  -- which text, by the first tag
+  pub choice-patched : getD s 0 0 ≡ 16 → choiceText s vs ≡ patchSheetText s vs
+  unfolding choiceText
+  choice-patched e = rw e
 
-module _ (s : List ℕ) where
-  pub text-patch : getD s 0 0 ≡ 16 → sheetText s ≡ patchSheetText s
-  unfolding sheetText
-  text-patch e = rw e
+  pub choice-blinded : (getD s 0 0 ≡ 16 → ⊥) → choiceText s vs ≡ valueText blindWord (word (nth 0 s) 0) vs
+  unfolding choiceText
+  choice-blinded n = rw (ne-eqb (getD s 0 0) 16 n)
 
-  pub text-unfixable : getD s 0 0 ≡ 20 → sheetText s ≡ valueText unfixableWord (quad (nth 0 s)) (nth 1 s)
-  unfolding sheetText
-  text-unfixable e = rw e
-
-  pub text-blind : (getD s 0 0 ≡ 16 → ⊥) → (getD s 0 0 ≡ 20 → ⊥)
-      → sheetText s ≡ valueText blindWord (word (nth 0 s) 0) (nth 1 s)
-  unfolding sheetText
-  text-blind m n = rw (ne-eqb (getD s 0 0) 16 m, ne-eqb (getD s 0 0) 20 n)
-
--- ---- the text of a verdict's sheet
+-- ---- the texts of judge's and choose's sheets are the verdict's
 
 word-bytePair : (x : ℕ) → word (bytePair x) 0 ≡ x
 unfolding word bytePair
 word-bytePair x = div-add-mod x 256
 
-module _ (j : Job) where
-  ruling-text : (v : Ruling) → sheetText (rulingBytes j v (vectorLoop j .vectors)) ≡ rulingText j v
-  unfolding rulingText patchSheetText patchBytes unfixableBytes blindBytes field
-  ruling-text (patch is) =
-      let vs = vectorLoop j .vectors in
-      let s = patchBytes is (tableOf j is) (cost j is) vs (notesOf j is) in
-      ap sheetText (sym (patchBytes-ruling j vs is refl refl refl))
-      ∙ text-patch s refl
-      ∙ ap (λ (p : Patch). patchText (p .cost) (p .support) (p .table) (p .vectors) (p .notes))
-      (patch-read is (tableOf j is) (cost j is) vs (notesOf j is))
-  ruling-text (unfixable x) =
-      let vs = vectorLoop j .vectors in
-      let f = value-fields 20 (fourBytes x) vs in
-      ap sheetText (sym (unfixableBytes-ruling j vs x))
-      ∙ text-unfixable (unfixableBytes x vs) refl
-      ∙ rw (f .0, f .1, quad-fourBytes x)
-  ruling-text (blind r) =
-      let vs = vectorLoop j .vectors in
-      let f = value-fields 21 (bytePair r) vs in
-      ap sheetText (sym (blindBytes-ruling j vs r))
-      ∙ text-blind (blindBytes r vs) (λ z. omega arith) (λ z. omega arith)
-      ∙ rw (f .0, f .1, word-bytePair r)
+quad-fourBytes : (x : ℕ) → quad (fourBytes x) ≡ x
+unfolding quad fourBytes word bytePair
+quad-fourBytes x = omega arith
 
-  pub text-sheetOf : sheetText (sheetOf j) ≡ rulingText j (ruling j)
-  text-sheetOf = ap sheetText (sym (sheet-ruling j refl refl)) ∙ ruling-text (ruling j)
+module _ (j : Job) where
+  abbrev vectors : List ℕ
+  vectors = vectorLoop j .vectors
+
+  pub judge-text : {x : ℕ} → vectorLoop j .stuck ≡ some x
+      → valueText unfixableWord (quad (nth 0 (judgeSheet j))) (nth 1 (judgeSheet j)) ≡ rulingText j (ruling j)
+  unfolding rulingText
+  judge-text {x} e =
+      let f = value-fields 20 (fourBytes x) vectors in
+      rw (ruling-unfixable j x e, judged-unfixable j e .1, f .0, f .1, quad-fourBytes x) refl
+
+  patch-text : vectorLoop j .stuck ≡ none → sound j (candidateNets j) ≡ true
+      → choiceText (chooseSheet j) vectors ≡ rulingText j (ruling j)
+  unfolding rulingText patchSheetText patchSheet field
+  patch-text e t =
+      rw (ruling-patch j e t, chosen-patch j t .1)
+      (choice-patched (patchSheet j (chosen j)) vectors refl
+      ∙ ap (λ (p : Patch). patchText (p .cost) (p .support) (p .table) vectors (p .notes)) (patch-read j (chosen j)))
+
+  blind-text : vectorLoop j .stuck ≡ none → sound j (candidateNets j) ≡ false
+      → choiceText (chooseSheet j) vectors ≡ rulingText j (ruling j)
+  unfolding rulingText field
+  blind-text e t =
+      let r = blindReading j in
+      rw (ruling-blind j e t, chosen-blind j t .1)
+      (choice-blinded (field 21 (bytePair r)) vectors (λ z. omega arith)
+      ∙ rw (field-body 21 (bytePair r), word-bytePair r))
+
+  pub choose-text : vectorLoop j .stuck ≡ none → choiceText (chooseSheet j) vectors ≡ rulingText j (ruling j)
+  choose-text e = ⊎-elim (λ t. patch-text e t) (λ t. blind-text e t) (true-or-false (sound j (candidateNets j)))
 
 -- ---- what is printed for job bytes
 
--- the buffer that rectify_text lends to decide, and the number that decide gives with it
-abbrev pub blank : List ℕ
-blank = replicate longestSheet 0
-
 module _ (s : List ℕ) where
-  blank-number : decideNumber blank s ≡ jobRefusal s
-  blank-number = number-long blank s (omega arith)
-
   pub rectify-long : inputLimit < length s → rectifyText s ≡ refusedText 2
   unfolding rectifyText
   rectify-long h = rw (lt-ltb inputLimit (length s) h)
 
-  pub rectify-accepted : length s ≤ inputLimit → decideNumber blank s ≡ 0 → rectifyText s ≡ sheetText (sheetOf (jobOf s))
+  pub rectify-accepted : length s ≤ inputLimit → jobRefusal s ≡ 0 → rectifyText s ≡ rulingText (jobOf s) (ruling (jobOf s))
   unfolding rectifyText
-  rectify-accepted h e = rw (le-ltb inputLimit (length s) h, ← blank-number, e) (sym (text-sheetOf (jobOf s)))
+  rectify-accepted h e = rw (le-ltb inputLimit (length s) h, e)
 
-  pub rectify-refused : length s ≤ inputLimit → (decideNumber blank s ≡ 0 → ⊥) → rectifyText s ≡ refusedText (decideNumber blank s)
+  pub rectify-refused : length s ≤ inputLimit → (jobRefusal s ≡ 0 → ⊥) → rectifyText s ≡ refusedText (jobRefusal s)
   unfolding rectifyText
-  rectify-refused h n = rw (le-ltb inputLimit (length s) h, ← blank-number, ne-eqb (decideNumber blank s) 0 n)
+  rectify-refused h n = rw (le-ltb inputLimit (length s) h, ne-eqb (jobRefusal s) 0 n)

@@ -1,28 +1,28 @@
 -- `engine::given::see_inputs` meets its contract. The invariant: the places after the blocks passed, all 0 before the first open reading.
 -- Assumes nothing.
-use Prim.Native.Nat.{_-_, _*_}
+use Prim.Native.Nat.{ℕ, _-_, _*_}
 use mathlib.Core.Path.{_≡_}
 use mathlib.Core.Logic.{inl, inr}
 use native.Mathlib.Omega.{arith}
 use denote.Ref.{now}
-use lib.ListN.{length}
+use lib.ListN.{length, length-replicate}
 use Rattle.engine.proofs.Laws.Given.{Seeing, seeing-none, seeing-range, seeing-next, seeing-all}
 use Rattle.engine.proofs.Laws.Rule.{readings-many}
 use Rattle.engine.proofs.given.see_inputs.Statement.{statement}
 use Rattle.engine.proofs.given.see_inputs.Tie as tie
 
 abbrev Inv-loop : tie.InvT-loop
-Inv-loop gates plan words₀ count size unseen₀ next₀ b₀ words unseen next b =
+Inv-loop gates plan count size unseen₀ words₀ next₀ b₀ unseen words next b =
     (length words ≡ 16384) × Seeing plan gates unseen₀ count size b next unseen
 
 abbrev μ-loop : tie.MeasureT-loop
-μ-loop gates plan words₀ count size unseen₀ next₀ b₀ words unseen next b = size - 1024 * b
+μ-loop gates plan count size unseen₀ words₀ next₀ b₀ unseen words next b = size - 1024 * b
 
 reading-count-requires : tie.Need-reading-count-requires Inv-loop μ-loop
 reading-count-requires c κs = c .before .pre .0 .reads
 
-next-open-requires : tie.Need-next-open-requires Inv-loop μ-loop
-next-open-requires c κs =
+next-unseen-requires : tie.Need-next-unseen-requires Inv-loop μ-loop
+next-unseen-requires c κs =
     let m = readings-many (c .before .before .before .before .pre .0 .reads) in
     (omega arith, omega (arith, c .before .before .reading-count .ensures))
 
@@ -30,9 +30,9 @@ loop-holds : tie.Need-loop-holds Inv-loop μ-loop
 loop-holds c =
     let s = c .before .before .before .before .before in
     let p = s .pre in (
-      p .2,
+      length-replicate {A = ℕ} 16384 0,
       seeing-none (s .args .plan) (now (s .args .gates)) (p .0 .inputs) (p .0 .reads) (p .1) (c .before .before .before .reading-count .ensures)
-          (c .next-open .ensures),
+          (c .next-unseen .ensures),
     )
 
 returns : tie.Need-returns Inv-loop μ-loop
@@ -46,8 +46,8 @@ see-block-requires c κs =
     let s = l .before .before .before .before .before .before in
     ((s .pre .0, seeing-range (l .loop .inv .1) (omega arith) (c .before .before .block-inputs .ensures)), (l .loop .inv .0, l .loop .inv .1 .long))
 
-next-open-requires-2 : tie.Need-next-open-requires-2 Inv-loop μ-loop
-next-open-requires-2 c κs =
+next-unseen-requires-2 : tie.Need-next-unseen-requires-2 Inv-loop μ-loop
+next-unseen-requires-2 c κs =
     let i = c .before .before .before .before .before .before .before .loop .inv .1 in
     (i .most, i .places)
 
@@ -57,7 +57,7 @@ loop-again c =
     let l = b .before .before .before .before .before .before in (
       b .see-block .ensures .1,
       seeing-next (l .loop .inv .1) (omega arith) (b .before .before .before .block-inputs .ensures) (b .see-block .ensures .0)
-          (c .next-open2 .ensures),
+          (c .next-unseen2 .ensures),
     )
 
 returns-2 : tie.Need-returns-2 Inv-loop μ-loop
@@ -68,6 +68,6 @@ returns-2 c =
 pub see-inputs-spec : {M : Type 1} → statement M
 see-inputs-spec =
     tie.close
-    (tie.spec Inv-loop μ-loop reading-count-requires (λ c. omega arith) next-open-requires loop-holds (λ c. omega arith) returns
-    (λ c. omega arith) (λ c. omega arith) (λ c κs. tt) see-block-requires next-open-requires-2 (λ c. omega arith) (λ c. omega arith)
+    (tie.spec Inv-loop μ-loop reading-count-requires (λ c. omega arith) next-unseen-requires loop-holds (λ c. omega arith) returns
+    (λ c. omega arith) (λ c. omega arith) (λ c κs. tt) see-block-requires next-unseen-requires-2 (λ c. omega arith) (λ c. omega arith)
     loop-again returns-2)

@@ -1,4 +1,4 @@
--- `engine::sheet::put_patch` meets its contract: five fields, one behind the other. Assumes nothing.
+-- `engine::sheet::put_patch` meets its contract: four fields, one behind the other. Assumes nothing.
 use Prim.Native.Nat.{_+_, _*_, _^_, _≤_}
 use mathlib.Core.Path.{_≡_}
 use native.Mathlib.Omega.{arith}
@@ -16,26 +16,22 @@ start u = u .before .before .before .before .before
 -- what the arrays hold, and how long the table is
 pub record Sizes (s : tie.Start) : Type 0 where
   pub nets : length (s .args .support .nets) ≡ 10
-  pub list : length (s .args .list) ≡ 16
   pub table : 2 ^ s .args .support .len ≤ 1024
-  pub room : 2103 ≤ length (now (s .args .reply))
+  pub room : 2084 ≤ length (now (s .args .reply))
   pub few : s .args .support .len ≤ 10
   pub held : 2 ^ s .args .support .len ≤ length (now (s .args .table))
   pub noted : 2 ^ s .args .support .len ≤ length (now (s .args .notes))
-  pub short : s .args .len ≤ 16
 
 sizes : (s : tie.Start) → Sizes s
 sizes s =
     let p = s .pre .0 in
     record {
       nets = ten (s .args .support .nets) (s .good .1 .0 .1 .1 .0 .1 .0 .1);
-      list = s .good .1 .1 .1 .1 .0 .1 .0 .1;
       table = pow-table (s .args .support .len) (p .1);
       room = p .0;
       few = p .1;
       held = p .2;
       noted = s .pre .1;
-      short = p .3;
     }
 
 -- where the fields end
@@ -75,43 +71,29 @@ past-number : (v : tie.After-put-number)
     → let a = start (support (rows v)) .args in v .put-number .result ≡ 13 + 2 * a .support .len + 2 ^ a .support .len
 past-number v = omega (arith, past-table (rows v), number-end 18 (start (support (rows v)) .args .cost) (v .put-number .ensures))
 
-put-vectors-requires : tie.Need-put-vectors-requires
-put-vectors-requires c κs =
+put-rows-requires-2 : tie.Need-put-rows-requires-2
+put-rows-requires-2 c κs =
     let v = c .before .before .before in
     let z = sizes (start (support (rows v))) in
     omega (arith, past-number v)
 
-put-rows-requires-2 : tie.Need-put-rows-requires-2
-put-rows-requires-2 c κs =
-    let w = c .before .before .before in
-    let v = w .before .before .before .before in
-    let s = start (support (rows v)) in
-    let a = s .args in
-    let z = sizes s in
-    let e = list-end 19 (a .list) (a .len) (omega arith) (w .put-vectors .ensures) in
-    omega (arith, past-number v, rows v .before .before .before .reply .given, v .before .before .before .reply2 .given)
-
 returns : tie.Need-returns
 returns c =
     let x = c .before .before in
-    let w = x .before .before .before .before in
-    let v = w .before .before .before .before in
+    let v = x .before .before .before .before in
     let t = rows v in
     let u = support t in
     let a = start u .args in
     let z = sizes (start u) in
     let k = 2 ^ a .support .len in
-    let n = length-take-le (a .len) (a .list) (omega arith) in
     let i = length-take-le (a .support .len) (a .support .nets) (omega arith) in
     let m = length-take-le k (now (a .table)) (omega arith) in
     let o = length-take-le k (now (a .notes)) (omega arith) in
-    patch-put (take (a .len) (a .list)) (omega arith) (omega arith)
-    (take (a .support .len) (a .support .nets)) (take k (now (a .table))) (a .cost) (take k (now (a .notes)))
+    patch-put (z .room) (take (a .support .len) (a .support .nets)) (take k (now (a .table))) (a .cost) (take k (now (a .notes)))
     (omega arith) (omega arith) (omega arith)
-    (u .put-support .ensures) (t .put-rows .ensures) (v .put-number .ensures) (w .put-vectors .ensures) (x .put-rows2 .ensures)
+    (u .put-support .ensures) (t .put-rows .ensures) (v .put-number .ensures) (x .put-rows2 .ensures)
 
 pub put-patch-spec : {M : Type 1} → statement M
 put-patch-spec =
     tie.close
-    (tie.spec (λ c κs. search needs) put-rows-requires put-number-requires put-vectors-requires put-rows-requires-2
-    (λ c. search needs) returns)
+    (tie.spec (λ c κs. search needs) put-rows-requires put-number-requires put-rows-requires-2 (λ c. search needs) returns)

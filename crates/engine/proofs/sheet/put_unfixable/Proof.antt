@@ -3,7 +3,9 @@ use native.Mathlib.Omega.{arith}
 use borrow.Author.Needs.{needs}
 use lib.ListN.{take}
 use lib.Seq.{length-take-le}
-use Rattle.engine.proofs.Laws.Sheet.{number-end, unfixable-put}
+use Rattle.records.proofs.Laws.Job.{length-field}
+use Rattle.engine.specs.Verdict.{fourBytes}
+use Rattle.engine.proofs.Laws.Sheet.{number-end, put-then, length-fourBytes}
 use Rattle.engine.proofs.sheet.put_unfixable.Statement.{statement}
 use Rattle.engine.proofs.sheet.put_unfixable.Tie as tie
 
@@ -17,10 +19,12 @@ returns : tie.Need-returns
 returns c =
     let w = c .before .before in
     let u = w .before .before .before .before in
-    let s = u .before .before .before in
-    let a = s .args in
+    let a = u .before .before .before .args in
+    let vs = take (a .len) (a .list) in
     let n = length-take-le (a .len) (a .list) (omega arith) in
-    unfixable-put (take (a .len) (a .list)) (omega arith) (omega arith) (a .input) (u .put-number .ensures) (w .put-vectors .ensures)
+    put-then (u .put-number .ensures)
+    (omega (arith, length-field 20 (fourBytes (a .input)), length-fourBytes (a .input), length-field 19 vs))
+    (w .put-vectors .ensures)
 
 pub put-unfixable-spec : {M : Type 1} → statement M
 put-unfixable-spec =

@@ -21,7 +21,7 @@ use Rattle.records.proofs.Laws.Notes.{sheet-split}
 use Rattle.records.proofs.Laws.Shape.{length-netsOf}
 use Rattle.records.proofs.Laws.Sheet.{length-candidatesFrom}
 use Rattle.records.proofs.Laws.SheetShape.{Spans, shape-whole, shape-broken}
-use Rattle.records.proofs.Laws.SheetReply.{Room, room-facts, reply-room, reply-whole, reply-good, reply-accepted, entries, bad-support, bad-table, bad-vectors, bad-cost, good, few-support}
+use Rattle.records.proofs.Laws.SheetReply.{Room, room-facts, reply-room, reply-whole, reply-good, reply-accepted, entries, bad-support, bad-table, bad-cost, good, few-support}
 use Rattle.records.proofs.sheet.read_sheet.Statement.{statement}
 use Rattle.records.proofs.sheet.read_sheet.Tie as tie
 
@@ -50,11 +50,8 @@ at-sum c = c .before .before .before .before
 abbrev at-power : tie.After-check-entries → tie.After-power
 at-power c = c .before .before
 
-abbrev at-table : tie.After-check-entries2 → tie.After-check-entries
+abbrev at-table : tie.After-quad-at → tie.After-check-entries
 at-table c = c .before .before .before
-
-abbrev at-vectors : tie.After-quad-at → tie.After-check-entries2
-at-vectors c = c .before .before .before
 
 abbrev start : tie.After-found → tie.Start
 start c = entry (at-room (at-told c))
@@ -105,7 +102,7 @@ room c =
     let a = entry (at-room c) .args in
     room-facts (a .targets) (a .candidates) (length (a .nets .now)) (length (a .weights .now)) (roomy c)
 
--- where the four fields end; the sheet is whole exactly when they are and what stands behind them is
+-- where the three fields end; the sheet is whole exactly when they are and what stands behind them is
 abbrev at-start : tie.After-fields-end → tie.Start
 at-start c = entry (at-room (c .before))
 
@@ -113,22 +110,18 @@ abbrev end : tie.After-fields-end → ℕ
 end c = c .fields-end .result
 
 abbrev bare : tie.After-fields-end → Bool
-bare c = bareWhole (at-start c .args .targets) (take (end c) (sheet (at-start c)))
+bare c = bareWhole (take (end c) (sheet (at-start c)))
 
 abbrev behind : tie.After-fields-end → Bool
 behind c = let s = sheet (at-start c) in notesAt (length (nth 1 s)) (drop (end c) s)
 
-split : (c : tie.After-fields-end) → sheetWhole (at-start c .args .targets) (sheet (at-start c)) ≡ (bare c && behind c)
-split c =
-    sheet-split (at-start c .args .targets) (sheet (at-start c)) (end c) (c .fields-end .ensures .0) (c .fields-end .ensures .1)
+split : (c : tie.After-fields-end) → sheetWhole (sheet (at-start c)) ≡ (bare c && behind c)
+split c = sheet-split (sheet (at-start c)) (end c) (c .fields-end .ensures .0) (c .fields-end .ensures .1)
 
 slice-aggregate-sheet-shaped : tie.Need-slice-aggregate-sheet-shaped
 slice-aggregate-sheet-shaped c =
     let e = c .before in
     sym (length-take-le (end e) (sheet (at-start e)) (e .fields-end .ensures .0))
-
-sheet-shaped-requires : tie.Need-sheet-shaped-requires
-sheet-shaped-requires c κs = room (c .before .before) .targets
 
 enum-known-found : tie.Need-enum-known-found
 enum-known-found c = c .match2 .keys1
@@ -150,15 +143,14 @@ returns-2 c =
     c .refused2 .ensures
     ∙ broken e
     (and-false-left (bare e) (behind e)
-    (shape-broken (o .args .targets) (take (end e) (sheet o)) (sym (v .sheet-shaped .ensures) ∙ c .before .enum-told3 .given .1)))
+    (shape-broken (take (end e) (sheet o)) (sym (v .sheet-shaped .ensures) ∙ c .before .enum-told3 .given .1)))
 
 -- where the fields stand
-spans : (c : tie.After-found)
-    → let o = start c in Spans (o .args .targets) (sheet o) (end (at-end c)) (c .found .given .0 .0)
+spans : (c : tie.After-found) → Spans (sheet (start c)) (end (at-end c)) (c .found .given .0 .0)
 spans c =
     let o = start c in
     let byte = at-room (at-told c) .before .shared-slice-known3 .given in
-    shape-whole (o .args .targets) (sheet o) (λ i. byte i .fits) (end (at-end c)) (at-end c .fields-end .ensures .0)
+    shape-whole (sheet o) (λ i. byte i .fits) (end (at-end c)) (at-end c .fields-end .ensures .0)
     (c .found .given .0 .0) (sym (c .before .before .sheet-shaped .ensures) ∙ c .found .given .1)
 
 sub-check-notes : tie.Need-sub-check-notes
@@ -192,8 +184,7 @@ returns-3 c =
     ∙ broken e (and-false-right (bare e) (behind e) (fails _ (sym (noted v) ∙ c .before .enum-told5 .given .1)))
 
 -- past number 7
-whole : (c : tie.After-support-cost)
-    → let o = start (at-spans c) in sheetWhole (o .args .targets) (sheet o) ≡ true
+whole : (c : tie.After-support-cost) → sheetWhole (sheet (start (at-spans c))) ≡ true
 whole c =
     split (at-end (at-spans c))
     ∙ and-both _ _ (spans (at-spans c) .whole)
@@ -249,7 +240,7 @@ enum-told-7 c = c .match5 .keys1
 enum-told-8 : tie.Need-enum-told-8
 enum-told-8 c = c .match5 .keys2
 
--- the entries of the table, and of the vectors
+-- the entries of the table
 table-tested : (c : tie.After-check-entries)
     → let o = start (shape c) in
     c .check-entries .result ≡ checkOf (all (λ v. ltb v (2 ^ o .args .targets)) (nth 1 (sheet o)))
@@ -266,33 +257,8 @@ returns-5 c =
     (bad-table (o .args .targets) (candidates o) (sheet o)
     (fails _ (sym (table-tested v) ∙ c .before .enum-told8 .given .1)))
 
-check-entries-requires-2 : tie.Need-check-entries-requires-2
-check-entries-requires-2 c κs = omega (arith, spans (shape (c .before .before)))
-
-enum-told-9 : tie.Need-enum-told-9
-enum-told-9 c = c .match6 .keys1
-
-enum-told-10 : tie.Need-enum-told-10
-enum-told-10 c = c .match6 .keys2
-
-vectors-tested : (c : tie.After-check-entries2)
-    → let o = start (shape (at-table c)) in
-    c .check-entries2 .result ≡ checkOf (all (λ v. ltb v (2 ^ o .args .targets)) (nth 3 (sheet o)))
-vectors-tested c =
-    c .check-entries2 .ensures
-    ∙ ap checkOf (entries _ _ _ _ (at-power (at-table c) .power .ensures) (spans (shape (at-table c)) .vectorsPart))
-
-returns-6 : tie.Need-returns-6
-returns-6 c =
-    let v = c .before .before .before in
-    let o = start (shape (at-table v)) in
-    c .refused6 .ensures
-    ∙ unfit (summed (at-table v))
-    (bad-vectors (o .args .targets) (candidates o) (sheet o)
-    (fails _ (sym (vectors-tested v) ∙ c .before .enum-told10 .given .1)))
-
 quad-at-requires : tie.Need-quad-at-requires
-quad-at-requires c κs = omega (arith, spans (shape (at-table (c .before .before))))
+quad-at-requires c κs = omega (arith, spans (shape (c .before .before)))
 
 -- the support's cost as a number, and the sheet's
 sum : (c : tie.After-power)
@@ -300,22 +266,22 @@ sum : (c : tie.After-power)
     supportOf (candidates o) (netsOf (nth 0 (sheet o))) ≡ Sum (c .before .before .costs .given .0 .0)
 sum c = sym (supported (at-sum c)) ∙ c .before .before .costs .given .1
 
-cost : (c : tie.After-quad-at) → c .quad-at .result ≡ quad (nth 2 (sheet (start (shape (at-table (at-vectors c))))))
-cost c = c .quad-at .ensures ∙ spans (shape (at-table (at-vectors c))) .costPart
+cost : (c : tie.After-quad-at) → c .quad-at .result ≡ quad (nth 2 (sheet (start (shape (at-table c)))))
+cost c = c .quad-at .ensures ∙ spans (shape (at-table c)) .costPart
 
-returns-7 : tie.Need-returns-7
-returns-7 c =
+returns-6 : tie.Need-returns-6
+returns-6 c =
     let v = c .before .before in
-    let e = at-table (at-vectors v) in
+    let e = at-table v in
     let o = start (shape e) in
-    c .refused7 .ensures
+    c .refused6 .ensures
     ∙ unfit (summed e)
     (bad-cost (o .args .targets) (candidates o) (sheet o) _ (sum (at-power e))
     (λ q. c .before .if1 .taken (q ∙ sym (cost v))))
 
 support-from-requires : tie.Need-support-from-requires
 support-from-requires c κs =
-    let e = at-table (at-vectors (c .before)) in
+    let e = at-table (c .before) in
     let f = shape e in
     let o = start f in
     let n = few-support (o .args .targets) (candidates o) (sheet o) _ (sum (at-power e)) in
@@ -328,18 +294,16 @@ support-from-requires c κs =
       room (at-told f) .candidates,
     )
 
-returns-8 : tie.Need-returns-8
-returns-8 c =
+returns-7 : tie.Need-returns-7
+returns-7 c =
     let q = c .before .before in
-    let v = at-vectors q in
-    let e = at-table v in
+    let e = at-table q in
     let f = shape e in
     let o = start f in
     let a = o .args in
     let p = c .before .if1 .left ∙ cost q in
-    let t = passes _ (sym (table-tested e) ∙ v .before .enum-told7 .given .1) in
-    let w = passes _ (sym (vectors-tested v) ∙ q .before .enum-told9 .given .1) in
-    let g = good (a .targets) (candidates o) (sheet o) _ (sum (at-power e)) t w p in
+    let t = passes _ (sym (table-tested e) ∙ q .before .enum-told7 .given .1) in
+    let g = good (a .targets) (candidates o) (sheet o) _ (sum (at-power e)) t p in
     reply-accepted (a .targets) (a .candidates) (a .nets .now) (a .weights .now) (a .sheet .now) (roomy (at-told f))
     (whole (summed e)) g (c .support-from .result) (f .found .given .0 .0 .table) _
     (c .support-from .ensures ∙ ap tenPlaces (spans f .netsPart)) (spans f .table) p
@@ -348,8 +312,7 @@ pub read-sheet-spec : {M : Type 1} → statement M
 read-sheet-spec =
     tie.close
     (tie.spec (λ c κs. tt) enum-told enum-told-2 (λ c κs. tt) returns (λ c κs. tt) slice-aggregate-sheet-shaped
-    sheet-shaped-requires enum-known-found enum-told-3 (λ c κs. tt) returns-2 sub-check-notes sub-check-notes-2
+    (λ c κs. tt) enum-known-found enum-told-3 (λ c κs. tt) returns-2 sub-check-notes sub-check-notes-2
     check-notes-requires enum-told-4 enum-told-5 (λ c κs. tt) returns-3 support-cost-requires enum-known-costs
     enum-told-6 (λ c κs. tt) returns-4 power-requires sub-check-entries check-entries-requires enum-told-7 enum-told-8
-    (λ c κs. tt) returns-5 check-entries-requires-2 enum-told-9 enum-told-10 (λ c κs. tt) returns-6 quad-at-requires
-    (λ c κs. tt) returns-7 support-from-requires returns-8)
+    (λ c κs. tt) returns-5 quad-at-requires (λ c κs. tt) returns-6 support-from-requires returns-7)

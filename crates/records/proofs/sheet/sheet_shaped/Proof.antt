@@ -17,13 +17,13 @@ returns : tie.Need-returns
 returns c =
     let v = c .before .before in
     let a = v .before .before .args in
-    broken-of-walk (a .targets) (now (a .sheet)) (v .walked .result) (v .walked .ensures) (c .enum-told2 .given .1)
+    broken-of-walk (now (a .sheet)) (v .walked .result) (v .walked .ensures) (c .enum-told2 .given .1)
 
 spanned-requires : tie.Need-spanned-requires
 spanned-requires c κs =
     let v = c .before .before .before .before in
     let l = v .walked .ensures .sizes in
-    (l .0, l .1, v .before .before .pre)
+    (l .0, l .1)
 
 returns-2 : tie.Need-returns-2
 returns-2 c =
@@ -31,7 +31,7 @@ returns-2 c =
     let v = t .before .before in
     let a = v .before .before .args in
     c .spanned .ensures
-    ∙ walk-spans (a .targets) (now (a .sheet)) (v .walked .result) (v .walked .ensures)
+    ∙ walk-spans (now (a .sheet)) (v .walked .result) (v .walked .ensures)
     (λ i. v .before .shared-slice-known .given i .fits) (t .enum-told .given .1)
 
 pub sheet-shaped-spec : {M : Type 1} → statement M

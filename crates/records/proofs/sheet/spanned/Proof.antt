@@ -12,20 +12,17 @@ returns c = rw (lt-leb _ _ (c .if1 .taken))
 returns-2 : tie.Need-returns-2
 unfolding spannedFrom sheetLengths
 returns-2 c =
-    let q = c .before in
-    let p = q .before in
-    rw (le-leb _ _ (p .before .if1 .left), ← p .power .ensures, ← q .power2 .ensures, c .if2 .taken)
+    let p = c .before in
+    rw (le-leb _ _ (p .before .if1 .left), ← p .power .ensures, c .if2 .taken)
 
 returns-3 : tie.Need-returns-3
 unfolding spannedFrom sheetLengths
 returns-3 c =
-    let q = c .before in
-    let p = q .before in
-    rw (le-leb _ _ (p .before .if1 .left), ← p .power .ensures, ← q .power2 .ensures, c .if2 .left)
+    let p = c .before in
+    rw (le-leb _ _ (p .before .if1 .left), ← p .power .ensures, c .if2 .left)
 
 pub spanned-spec : {M : Type 1} → statement M
 spanned-spec =
     tie.close
-    (tie.spec (λ c. omega arith) returns (λ c. omega arith) (λ c. omega arith) (λ c κs. omega arith)
-    (λ c. omega arith) (λ c κs. omega arith) (λ c. omega arith) (λ c. omega arith) (λ c. omega arith) returns-2
-    returns-3)
+    (tie.spec (λ c. omega arith) returns (λ c. omega arith) (λ c κs. omega arith) (λ c. omega arith)
+    (λ c. omega arith) (λ c. omega arith) returns-2 returns-3)

@@ -6,14 +6,14 @@ use lib.ListN.{length}
 use Rattle.records.specs.Bytes.{nth}
 use Rattle.records.specs.Sheet.{quad}
 use Rattle.records.specs.Claims.{Below}
-use Rattle.report.proofs.Laws.Sheet.{PatchSpans, PatchBehind, patch-first, patch-length, patch-second, patch-spans, patch-behind}
+use Rattle.report.proofs.Laws.Sheet.{PatchSpans, patch-first, patch-length, patch-second, patch-spans}
 use Rattle.report.proofs.Laws.Text.{patch-same, patch-room}
 use borrow.Author.Needs.{needs}
 use Rattle.report.proofs.text.patch_text.Statement.{statement}
 use Rattle.report.proofs.text.patch_text.Tie as tie
 
 abbrev start : tie.After-field-end → tie.Start
-start c = c .before .before .before
+start c = c .before .before .before .before
 
 spans : (c : tie.After-field-end2)
     → PatchSpans (start (c .before) .args .sheet .now) (c .before .field-end .result) (c .field-end2 .result)
@@ -23,25 +23,13 @@ spans c =
     (c .field-end2 .result)
     (c .field-end2 .ensures)
 
-behind : (c : tie.After-field-end3)
-    → PatchBehind (start (c .before .before) .args .sheet .now) (c .before .field-end2 .result) (c .field-end3 .result)
-behind c =
-    let b = c .before in
-    let s = start (b .before) in
-    patch-behind (s .args .sheet .now) (s .pre .0) (b .before .field-end .result) (b .before .field-end .ensures)
-    (b .field-end2 .result)
-    (b .field-end2 .ensures)
-    (c .field-end3 .result)
-    (c .field-end3 .ensures)
-
 -- the cost that the code reads
-paid : (c : tie.After-quad-at)
-    → c .quad-at .result ≡ quad (nth 2 (start (c .before .before .before .before) .args .sheet .now))
-paid c = let f = c .before .before .before in rw (spans f .cost) at (c .quad-at .ensures)
+paid : (c : tie.After-quad-at) → c .quad-at .result ≡ quad (nth 2 (start (c .before .before .before) .args .sheet .now))
+paid c = let f = c .before .before in rw (spans f .cost) at (c .quad-at .ensures)
 
 field-end-requires : tie.Need-field-end-requires
 field-end-requires c κs =
-    let s = c .before .before in
+    let s = c .before .before .before in
     let a = s .args .sheet .now in
     (omega arith, omega (arith, patch-first a (s .pre .0), patch-length a (s .pre .0)))
 
@@ -62,67 +50,50 @@ field-end-requires-2 c κs =
 add-cost : tie.Need-add-cost
 add-cost c = let p = spans c in omega arith
 
-add-vectors : tie.Need-add-vectors
-add-vectors c = let p = spans c in omega arith
-
-field-end-requires-3 : tie.Need-field-end-requires-3
-field-end-requires-3 c κs = let p = spans c in (omega arith, omega arith)
-
 add-notes : tie.Need-add-notes
-add-notes c = let b = behind c in omega arith
+add-notes c = let p = spans c in omega arith
 
 part-quad-at-end : tie.Need-part-quad-at-end
-part-quad-at-end c = let p = spans (c .before) in omega arith
+part-quad-at-end c = let p = spans c in omega arith
 
 part-patch-lines-end : tie.Need-part-patch-lines-end
-part-patch-lines-end c = let p = spans (c .before .before .before .before) in omega arith
+part-patch-lines-end c = let p = spans (c .before .before .before) in omega arith
 
 part-patch-lines-end-2 : tie.Need-part-patch-lines-end-2
-part-patch-lines-end-2 c = let p = spans (c .before .before .before .before .before) in omega arith
+part-patch-lines-end-2 c = let p = spans (c .before .before .before .before) in omega arith
 
-sub-patch-lines-6 : tie.Need-sub-patch-lines-6
-sub-patch-lines-6 c = behind (c .before .before .before .before .before) .ordered
+sub-patch-lines-5 : tie.Need-sub-patch-lines-5
+sub-patch-lines-5 c = let p = spans (c .before .before .before .before .before) in omega arith
 
 part-patch-lines-start-3 : tie.Need-part-patch-lines-start-3
-part-patch-lines-start-3 c = behind (c .before .before .before .before .before) .ordered
-
-part-patch-lines-end-3 : tie.Need-part-patch-lines-end-3
-part-patch-lines-end-3 c = behind (c .before .before .before .before .before) .within
-
-sub-patch-lines-7 : tie.Need-sub-patch-lines-7
-sub-patch-lines-7 c = behind (c .before .before .before .before .before .before) .last
-
-part-patch-lines-start-4 : tie.Need-part-patch-lines-start-4
-part-patch-lines-start-4 c = behind (c .before .before .before .before .before .before) .last
+part-patch-lines-start-3 c = let p = spans (c .before .before .before .before .before) in omega arith
 
 patch-lines-requires : tie.Need-patch-lines-requires
 patch-lines-requires c κs =
-    let q = c .before .before .before .before .before in
+    let q = c .before .before .before .before in
     let f = q .before .before in
-    let s = start (f .before .before) in
-    let a = s .args .sheet .now in
-    let p = spans (f .before) in
-    let b = behind f in
-    let bytes : Below 256 a = λ i. f .before .before .before .before .shared-slice-known .given i .fits in
-    let e = patch-same a (paid q) (p .nets) (p .table) (b .vectors) (b .notes) in
-    omega (arith, ap length e, patch-room a (s .pre .0) bytes)
+    let k = f .before .before .before in
+    let s = start (f .before) in
+    let a = s .args in
+    let p = spans f in
+    let bytes : Below 256 (a .sheet .now) = λ i. k .before .shared-slice-known .given i .fits in
+    let vectors : Below 256 (a .vectors .now) = λ i. k .shared-slice-known2 .given i .fits in
+    let e = patch-same (a .sheet .now) (a .vectors .now) (paid q) (p .nets) (p .table) (p .notes) in
+    omega (arith, ap length e, patch-room (a .sheet .now) (a .vectors .now) (s .pre .0) bytes (s .pre .1) vectors)
 
 returns : tie.Need-returns
 returns c =
     let w = c .before .before in
-    let q = w .before .before .before .before .before .before in
+    let q = w .before .before .before .before .before in
     let f = q .before .before in
-    let p = spans (f .before) in
-    let b = behind f in
-    let a = start (f .before .before) .args .sheet .now in
-    rw (patch-same a (paid q) (p .nets) (p .table) (b .vectors) (b .notes)) at (w .patch-lines .ensures)
+    let p = spans f in
+    let a = start (f .before) .args in
+    rw (patch-same (a .sheet .now) (a .vectors .now) (paid q) (p .nets) (p .table) (p .notes)) at (w .patch-lines .ensures)
 
 pub patch-text-spec : {M : Type 1} → statement M
 patch-text-spec =
     tie.close
-    (tie.spec field-end-requires add-table field-end-requires-2 add-cost add-vectors field-end-requires-3 add-notes
-    (λ c. search needs) (λ c. search needs) (λ c. search needs) part-quad-at-end (λ c κs. search needs)
-    (λ c. search needs) (λ c. search needs) (λ c. search needs) part-patch-lines-end (λ c. search needs)
-    (λ c. search needs) (λ c. search needs) part-patch-lines-end-2 (λ c. search needs) sub-patch-lines-6
-    part-patch-lines-start-3 part-patch-lines-end-3 sub-patch-lines-7 part-patch-lines-start-4 (λ c. search needs)
-    patch-lines-requires (λ c. search needs) returns)
+    (tie.spec field-end-requires add-table field-end-requires-2 add-cost add-notes (λ c. search needs) (λ c. search needs)
+    (λ c. search needs) part-quad-at-end (λ c κs. search needs) (λ c. search needs) (λ c. search needs) (λ c. search needs)
+    part-patch-lines-end (λ c. search needs) (λ c. search needs) (λ c. search needs) part-patch-lines-end-2
+    sub-patch-lines-5 part-patch-lines-start-3 (λ c. search needs) patch-lines-requires (λ c. search needs) returns)

@@ -6,7 +6,7 @@ use Rattle.records.specs.Bytes.{nth}
 use Rattle.records.specs.Sheet.{quad}
 use Rattle.records.specs.Claims.{Below}
 use Rattle.report.specs.Text.{unfixableWord}
-use Rattle.report.proofs.Laws.Sheet.{value-length, value-part, value-vectors, value-bytes}
+use Rattle.report.proofs.Laws.Sheet.{unfixable-length, unfixable-input, unfixable-vectors, unfixable-below}
 use Rattle.report.proofs.Laws.Text.{value-room, quad-lt}
 use borrow.Author.Needs.{needs}
 use Rattle.report.proofs.text.unfixable_text.Statement.{statement}
@@ -15,17 +15,17 @@ use Rattle.report.proofs.text.unfixable_text.Tie as tie
 part-quad-at-end : tie.Need-part-quad-at-end
 part-quad-at-end c =
     let s = c .before .before .before .before in
-    omega (arith, value-length 20 4 (s .args .sheet .now) (s .pre .0))
+    omega (arith, unfixable-length (s .args .sheet .now) (s .pre .0))
 
 sub-value-lines : tie.Need-sub-value-lines
 sub-value-lines c =
     let s = c .before .before .before .before .before .before in
-    omega (arith, value-length 20 4 (s .args .sheet .now) (s .pre .0))
+    omega (arith, unfixable-length (s .args .sheet .now) (s .pre .0))
 
 part-value-lines-start : tie.Need-part-value-lines-start
 part-value-lines-start c =
     let s = c .before .before .before .before .before .before in
-    omega (arith, value-length 20 4 (s .args .sheet .now) (s .pre .0))
+    omega (arith, unfixable-length (s .args .sheet .now) (s .pre .0))
 
 value-lines-requires : tie.Need-value-lines-requires
 value-lines-requires c κs =
@@ -33,9 +33,11 @@ value-lines-requires c κs =
     let a = t .before .args .sheet .now in
     let v = t .before .pre .0 in
     let bytes : Below 256 a = λ i. t .shared-slice-known .given i .fits in
-    let e : c .before .quad-at .result ≡ quad (nth 0 a) = rw (value-part 20 4 a v) at (c .before .quad-at .ensures) in
-    let l = quad-lt (nth 0 a) (value-bytes 20 4 a v bytes) in
-    omega (arith, value-room 20 4 a v bytes unfixableWord (omega arith) l e (value-vectors 20 4 a v 10 (omega arith)))
+    let e : c .before .quad-at .result ≡ quad (nth 0 a) = rw (unfixable-input a v) at (c .before .quad-at .ensures) in
+    let below = unfixable-below a v bytes in
+    let l = quad-lt (nth 0 a) (below 0 (omega arith)) in
+    let f = unfixable-vectors a v in
+    omega (arith, value-room unfixableWord (omega arith) l (v .vectors) (below 1 (omega arith)) e f)
 
 returns : tie.Need-returns
 returns c =
@@ -44,8 +46,8 @@ returns c =
     let a = s .args .sheet .now in
     let v = s .pre .0 in
     let q = w .before .before in
-    let e : q .quad-at .result ≡ quad (nth 0 a) = rw (value-part 20 4 a v) at (q .quad-at .ensures) in
-    rw (e, value-vectors 20 4 a v 10 (omega arith)) at (w .value-lines .ensures)
+    let e : q .quad-at .result ≡ quad (nth 0 a) = rw (unfixable-input a v) at (q .quad-at .ensures) in
+    rw (e, unfixable-vectors a v) at (w .value-lines .ensures)
 
 pub unfixable-text-spec : {M : Type 1} → statement M
 unfixable-text-spec =

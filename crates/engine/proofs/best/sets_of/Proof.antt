@@ -1,0 +1,60 @@
+-- `engine::best::sets_of` meets its contract. The invariant: the sets are those of the candidates before place i and of the set's
+-- from there on. Assumes nothing.
+use Prim.Native.Nat.{suc, _-_, _≤_}
+use mathlib.Core.Path.{_≡_}
+use mathlib.Core.Logic.{⊎-elim}
+use native.Mathlib.Omega.{arith}
+use Rattle.engine.proofs.Laws.Picked.{in-or-out}
+use Rattle.engine.proofs.Laws.Pick.{SetsTo, sets-all, sets-none, sets-kept, sets-out}
+use Rattle.engine.proofs.best.sets_of.Statement.{statement}
+use Rattle.engine.proofs.best.sets_of.Tie as tie
+
+abbrev Inv-loop : tie.InvT-loop
+Inv-loop candidates set found₀ len₀ i₀ found len i =
+    (i ≤ candidates) × (i ≤ len) × (len ≤ 10) × SetsTo found₀ candidates set i len found
+
+abbrev μ-loop : tie.MeasureT-loop
+μ-loop candidates set found₀ len₀ i₀ found len i = i
+
+loop-holds : tie.Need-loop-holds Inv-loop μ-loop
+loop-holds c = (omega arith, omega arith, omega arith, sets-all (c .args .sets) (c .args .candidates) (c .args .set))
+
+leave-out-requires : tie.Need-leave-out-requires Inv-loop μ-loop
+leave-out-requires c κs = (omega arith, omega arith)
+
+loop-again : tie.Need-loop-again Inv-loop μ-loop
+loop-again c =
+    let a = c .before .before .before .before .before .args in
+    let l = c .before .before .before .before .loop in
+    let e : suc (l .i - 1) ≡ l .i = omega arith in (
+      omega arith,
+      omega arith,
+      omega arith,
+      sets-out (a .sets) (a .candidates) (a .set) (l .i - 1) (l .len) (l .found) (omega arith) (rw e (l .inv .3)) (c .before .before .if1 .taken)
+          (c .before .leave-out .ensures),
+    )
+
+loop-again-2 : tie.Need-loop-again-2 Inv-loop μ-loop
+loop-again-2 c =
+    let a = c .before .before .before .args in
+    let l = c .before .before .loop in
+    let e : suc (l .i - 1) ≡ l .i = omega arith in (
+      omega arith,
+      omega arith,
+      omega arith,
+      sets-kept (a .sets) (a .candidates) (a .set) (l .i - 1) (l .len) (l .found) (omega arith) (rw e (l .inv .3))
+          (⊎-elim (λ o. o) (λ o. absurd (c .if1 .left o)) (in-or-out _)),
+    )
+
+returns : tie.Need-returns Inv-loop μ-loop
+returns c =
+    let a = c .before .before .args in
+    let l = c .before .loop in
+    let e : l .i ≡ 0 = omega arith in
+    sets-none (a .sets) (a .candidates) (a .set) (l .len) (l .found) (rw e at (l .inv .3))
+
+pub sets-of-spec : {M : Type 1} → statement M
+sets-of-spec =
+    tie.close
+    (tie.spec Inv-loop μ-loop loop-holds (λ c. omega arith) (λ c. omega arith) leave-out-requires (λ c. omega arith)
+    (λ c. omega arith) loop-again (λ c. omega arith) loop-again-2 returns)

@@ -1,0 +1,248 @@
+// The choice of the support. It works on sets of vectors alone: place r of a support's sets holds the vectors that rectify every
+// input giving reading r of its nets.
+ghost use mathlib.Core.Path.{_≡_};
+ghost use mathlib.Core.Bool.{true};
+ghost use Prim.Native.Nat.{_-_, _^_, _≤_, _<_};
+ghost use lib.ListN.{length, take};
+ghost use Rattle.records.specs.Job.{Job};
+ghost use Rattle.engine.specs.Support.{sound, candidateNets};
+ghost use Rattle.records.specs.Claims.{Below};
+ghost use Rattle.engine.specs.Inner.Plan.{NetsRead};
+ghost use Rattle.engine.specs.Inner.Best.{picked, total, lowFirst, before, PickedNets, FirstEmpty, SetsOf, LeftOut, OpenPick, WeightsOf, PickOf, OpenOf, BestFrom, HeldSupport, Choosable, ChosenOf};
+use super::limits::READINGS;
+use records::CANDIDATES;
+use records::Support;
+
+// A set of candidates, bit i for candidate i, its cost, and how many nets it has.
+pub struct Pick {
+    pub set: usize,
+    pub cost: u32,
+    pub len: usize,
+}
+
+// The sets of a support with one net fewer, and whether none is empty; the places from the first empty one on are not filled.
+pub struct Left {
+    pub sets: [u16; READINGS],
+    pub sound: bool,
+}
+
+// A support, its cost and its sets.
+pub struct Chosen {
+    pub support: Support,
+    pub cost: u32,
+    pub sets: [u16; READINGS],
+}
+
+// How many readings k nets have.
+pub(super) fn reading_count(k: usize) -> usize
+    requires { ⌜ k ≤ 10 ⌝ }
+    ensures { λ r. ⌜ r ≡ 2 ^ k ⌝ }
+{
+    1usize << k
+}
+
+// The smallest place below count whose set is empty, else count: the blind reading, or that all candidates are sound.
+pub(super) fn first_empty(sets: [u16; READINGS], count: usize) -> usize
+    requires { ⌜ count ≤ 1024 ⌝ }
+    ensures { λ r. ⌜ FirstEmpty sets count r ⌝ }
+{
+    let mut r = 0usize;
+    while r < count {
+        if sets[r] == 0 {
+            return r;
+        }
+        r += 1;
+    }
+    r
+}
+
+// The sets of len nets without the one at place: a reading of the others leaves what both readings share that it comes from. It
+// ends at the first set that is empty, since the support is not sound then, and takes at most 2 ^ (len - 1) steps.
+fn leave_out(sets: [u16; READINGS], len: usize, place: usize) -> Left
+    requires { ⌜ (place < len) × (len ≤ 10) ⌝ }
+    ensures { λ r. ⌜ LeftOut sets (len - 1) place r ⌝ }
+{
+    let count = reading_count(len - 1);
+    let other = reading_count(place);
+    let mut out = [0u16; READINGS];
+    let mut q = 0usize;
+    while q < count {
+        let r = q + ((q >> place) << place);
+        let both = sets[r] & sets[r + other];
+        if both == 0 {
+            return Left {
+                sets: out,
+                sound: false,
+            };
+        }
+        out[q] = both;
+        q += 1;
+    }
+    Left {
+        sets: out,
+        sound: true,
+    }
+}
+
+// The sets of the candidates that are in a sound set, from those of all.
+fn sets_of(sets: [u16; READINGS], candidates: usize, set: usize) -> [u16; READINGS]
+    requires { ⌜ candidates ≤ 10 ⌝ }
+    ensures { λ r. ⌜ ((j : Job) → length (candidateNets j) ≡ candidates → SetsOf j (candidateNets j) sets
+        → sound j (picked (candidateNets j) set) ≡ true → SetsOf j (picked (candidateNets j) set) r) ⌝ }
+{
+    let mut found = sets;
+    let mut len = candidates;
+    let mut i = candidates;
+    while 0 < i {
+        i -= 1;
+        if (set >> i) % 2 == 0 {
+            let left = leave_out(found, len, i);
+            let next = left.sets;
+            found = next;
+            len -= 1;
+        }
+    }
+    found
+}
+
+// The nets whose places are in the set.
+fn pick_support(nets: [u16; CANDIDATES], count: usize, set: usize) -> Support
+    requires { ⌜ count ≤ 10 ⌝ }
+    ensures { λ r. ⌜ PickedNets (take count nets) set r × (Below 1024 nets → NetsRead (r .nets) (r .len)) ⌝ }
+{
+    let mut picks = [0u16; CANDIDATES];
+    let mut len = 0usize;
+    let mut i = 0usize;
+    while i < count {
+        if (set >> i) % 2 == 1 {
+            picks[len] = nets[i];
+            len += 1;
+        }
+        i += 1;
+    }
+    Support { nets: picks, len }
+}
+
+// The sum of the first count weights.
+fn sum_weights(weights: [u16; CANDIDATES], count: usize) -> u32
+    requires { ⌜ count ≤ 10 ⌝ }
+    ensures { λ r. ⌜ r ≡ total (take count weights) ⌝ }
+{
+    let mut sum = 0u32;
+    let mut i = 0usize;
+    while i < count {
+        sum += weights[i] as u32;
+        i += 1;
+    }
+    sum
+}
+
+// Whether of two sets a has the lowest candidate in which they differ.
+fn low_first(a: usize, b: usize) -> bool
+    ensures { λ r. ⌜ r ≡ lowFirst 10 a b ⌝ }
+{
+    let mut i = 0usize;
+    while i < 10 {
+        let x = (a >> i) % 2;
+        if x != (b >> i) % 2 {
+            return x == 1;
+        }
+        i += 1;
+    }
+    false
+}
+
+// Whether a is chosen before b: lower cost, then fewer nets, then the smaller net at the first place where they differ. Candidates
+// ascend, so that is the lowest one in which the sets differ.
+fn precedes(a: Pick, b: Pick) -> bool
+    ensures { λ r. ⌜ r ≡ before a b ⌝ }
+{
+    if a.cost < b.cost {
+        return true;
+    }
+    if b.cost < a.cost {
+        return false;
+    }
+    if a.len < b.len {
+        return true;
+    }
+    if b.len < a.len {
+        return false;
+    }
+    low_first(a.set, b.set)
+}
+
+// The one that is chosen of best and all sound sets of candidates which have, from place i on, those in from.set, at from.cost. The
+// support of these and all i candidates before them has from.len nets; it is sound, and sets are its sets. A support that costs
+// more than best is not looked into, nor one that is not sound, since no part of it is. With the calls that it makes it takes at
+// most 3 ^ i * 2 ^ (from.len - i) steps.
+fn best_from(
+    weights: [u16; CANDIDATES],
+    sets: [u16; READINGS],
+    best: Pick,
+    from: Pick,
+    i: usize,
+) -> Pick
+    requires { ⌜ OpenPick i from ⌝ }
+    ensures { λ r. ⌜ ((j : Job) → WeightsOf j weights → PickOf j best → OpenOf j i from sets
+        → BestFrom j i (from .set) best r) ⌝ }
+{
+    if best.cost < from.cost {
+        return best;
+    }
+    if i == 0 {
+        if precedes(from, best) {
+            return from;
+        }
+        return best;
+    }
+    let place = i - 1;
+    let mut found = best;
+    let left = leave_out(sets, from.len, place);
+    if left.sound {
+        let fewer = Pick {
+            set: 2 * from.set,
+            cost: from.cost,
+            len: from.len - 1,
+        };
+        let next = left.sets;
+        found = best_from(weights, next, best, fewer, place);
+    }
+    let kept = Pick {
+        set: 2 * from.set + 1,
+        cost: from.cost + weights[place] as u32,
+        len: from.len,
+    };
+    best_from(weights, sets, found, kept, place)
+}
+
+// The chosen support of the candidates that stand in places: the best sound one. For k candidates it takes at most 3 ^ k steps, and
+// evaluates no gate.
+pub(super) fn best_support(
+    nets: [u16; CANDIDATES],
+    weights: [u16; CANDIDATES],
+    candidates: usize,
+    sets: [u16; READINGS],
+) -> Chosen
+    requires { ⌜ candidates ≤ 10 ⌝ }
+    ensures { λ r. ⌜ HeldSupport (r .support) × (Below 1024 nets → NetsRead (r .support .nets) (r .support .len)) ⌝ }
+    ensures { λ r. ⌜ ((j : Job) → Choosable j candidates nets weights sets → ChosenOf j r) ⌝ }
+{
+    let all = Pick {
+        set: reading_count(candidates) - 1,
+        cost: sum_weights(weights, candidates),
+        len: candidates,
+    };
+    let none = Pick {
+        set: 0,
+        cost: 0,
+        len: candidates,
+    };
+    let best = best_from(weights, sets, all, none, candidates);
+    let found = sets_of(sets, candidates, best.set);
+    Chosen {
+        support: pick_support(nets, candidates, best.set),
+        cost: best.cost,
+        sets: found,
+    }
+}

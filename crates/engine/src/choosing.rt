@@ -1,0 +1,148 @@
+// The service choose.
+ghost use mathlib.Core.Path.{_≡_};
+ghost use mathlib.Core.Bool.{true, false};
+ghost use Prim.Native.Nat.{_≤_, _<_};
+ghost use lib.ListN.{length};
+ghost use Rattle.records.specs.Job.{Job};
+ghost use Rattle.records.specs.Claims.{Below};
+ghost use Rattle.records.specs.Parts.{PartsOf};
+ghost use Rattle.engine.specs.Support.{sound, candidateNets, chosen};
+ghost use Rattle.engine.specs.Verdict.{blindReading, chosenBytes};
+ghost use Rattle.engine.specs.Reply.{declinedChoose, chooseReply};
+ghost use Rattle.engine.specs.Inner.Miter.{SomeParts};
+ghost use Rattle.engine.specs.Inner.Best.{HeldSupport, ChosenOf};
+ghost use Rattle.engine.specs.Inner.Given.{Unseen};
+ghost use Rattle.engine.specs.Inner.Choosing.{ChosenJob};
+use super::best::Chosen;
+use super::best::best_support;
+use super::best::first_empty;
+use super::best::reading_count;
+use super::given::unseen_readings;
+use super::limits::LISTED;
+use super::limits::LONGEST_CHOOSE;
+use super::limits::READINGS;
+use super::miter::miter_of;
+use super::plan::plan_of;
+use super::search::sets_of_inputs;
+use super::sheet::put_blind;
+use super::sheet::put_patch;
+use super::table::fill_notes;
+use super::table::fill_table;
+use records::Check;
+use records::JobParts;
+use records::load;
+
+pub struct PatchCost {
+    pub cost: u32,
+}
+
+pub struct BlindReading {
+    pub reading: u16,
+}
+
+// A patch or a blind reading; declined where the call is.
+pub enum Choice {
+    Patch(PatchCost),
+    Blind(BlindReading),
+    Declined,
+}
+
+// The number, how many bytes of the reply buffer the sheet takes, and the choice; on refusal the length is 0.
+pub struct ChooseReply {
+    pub number: u8,
+    pub len: usize,
+    pub verdict: Choice,
+}
+
+fn declined(number: u8) -> ChooseReply
+    ensures { λ r. ⌜ r ≡ declinedChoose number ⌝ }
+{
+    ChooseReply {
+        number,
+        len: 0,
+        verdict: Choice::Declined,
+    }
+}
+
+// The choice where the inputs of a reading share no vector, and its sheet.
+fn rule_blind(reading: usize, reply: &mut [u8]) -> ChooseReply
+    requires { ⌜ (reading < 65536) × (2084 ≤ length (now reply)) ⌝ }
+    ensures { λ r. ⌜ ((j : Job) → sound j (candidateNets j) ≡ false → reading ≡ blindReading j
+        → ChosenJob j (now (reply .entry)) r (now (reply .exit))) ⌝ }
+{
+    let len = put_blind(reply, reading);
+    ChooseReply {
+        number: 0,
+        len,
+        verdict: Choice::Blind(BlindReading {
+            reading: reading as u16,
+        }),
+    }
+}
+
+// The choice where all candidates together are sound: the chosen support with its table and notes, and its sheet; unseen is not 0 at its
+// readings that no input gives.
+fn rule_patch(best: Chosen, unseen: [u16; READINGS], reply: &mut [u8]) -> ChooseReply
+    requires { ⌜ HeldSupport (best .support) × (2084 ≤ length (now reply)) ⌝ }
+    ensures { λ r. ⌜ ((j : Job) → sound j (candidateNets j) ≡ true → ChosenOf j best → Unseen j (chosen j) unseen
+        → ChosenJob j (now (reply .entry)) r (now (reply .exit))) ⌝ }
+{
+    let support = best.support;
+    let sets = best.sets;
+    let table = fill_table(sets, support.len);
+    let notes = fill_notes(sets, unseen, support.len);
+    let len = put_patch(reply, support, &table, best.cost, &notes);
+    ChooseReply {
+        number: 0,
+        len,
+        verdict: Choice::Patch(PatchCost { cost: best.cost }),
+    }
+}
+
+// The choice on a good job's parts, and its sheet.
+fn choose_job(job: JobParts, reply: &mut [u8]) -> ChooseReply
+    requires { ⌜ SomeParts job × Below 1024 (job .nets) × (2084 ≤ length (now reply)) ⌝ }
+    ensures { λ r. ⌜ ((j : Job) → PartsOf j job → ChosenJob j (now (reply .entry)) r (now (reply .exit))) ⌝ }
+{
+    let candidates = job.counts.candidates;
+    let nets = job.nets;
+    let weights = job.weights;
+    let miter = miter_of(job);
+    let mut gates = [0u64; LISTED];
+    let plan = plan_of(miter, nets, candidates, &mut gates);
+    let sets = sets_of_inputs(&gates, plan);
+    let count = reading_count(candidates);
+    let reading = first_empty(sets, count);
+    if reading < count {
+        return rule_blind(reading, reply);
+    }
+    let best = best_support(nets, weights, candidates, sets);
+    let support = best.support;
+    let left = best.sets;
+    let unseen = unseen_readings(miter, support, left);
+    rule_patch(best, unseen, reply)
+}
+
+// The service choose: the cheapest patch of a job, or the blind reading, and its sheet at the start of the reply buffer. Refused are a
+// buffer below 2,084 bytes (1) and what is no whole job (2 to 6). It walks all inputs, also those that no vector rectifies. It costs, for
+// each block of 1,024 inputs, one gate evaluation a gate of both netlists, and one for every second vector and each gate that the
+// target with the fewest leads to, for every fourth vector and each gate that another leads to, and so on; an evaluation takes 16
+// words. Noting a block's inputs takes some 1,000 steps. Partial evaluation is tried on each 2 ^ 15 inputs: one gate evaluation a gate
+// on 0, 1 and not yet known, which may spare all their blocks. The choice among the sets of k candidates leaves out one net after the
+// other and stops at unsound and at too dear sets: at most 3 ^ k steps, whatever the gates are. The notes cost, for each block until
+// all readings of the support are seen, one gate evaluation a gate that leads to it, and nothing where each of these readings leaves a
+// vector out.
+pub fn choose(job: &[u8], reply: &mut [u8]) -> ChooseReply
+    ensures reply { λ r. ⌜ r ≡ chooseReply (now (reply .entry)) (now (job .entry)) ⌝ }
+    ensures lent { λ _. ⌜ now (reply .exit) ≡ chosenBytes (now (reply .entry)) (now (job .entry)) ⌝ }
+{
+    if reply.len() < LONGEST_CHOOSE {
+        return declined(1);
+    }
+    let parts = load(job);
+    let check = parts.check;
+    let Check::Passed = check else {
+        return declined(parts.number);
+    };
+    choose_job(parts, reply)
+}

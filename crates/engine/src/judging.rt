@@ -1,0 +1,112 @@
+// The service judge.
+ghost use mathlib.Core.Path.{_≡_};
+ghost use mathlib.Core.Bool.{true};
+ghost use Prim.Native.Nat.{_≤_, _<_};
+ghost use lib.ListN.{length};
+ghost use Rattle.records.specs.Job.{Job};
+ghost use Rattle.records.specs.Claims.{Below};
+ghost use Rattle.records.specs.Parts.{PartsOf};
+ghost use Rattle.engine.specs.Verdict.{judgedBytes};
+ghost use Rattle.engine.specs.Reply.{declinedJudge, judgeReply};
+ghost use Rattle.engine.specs.Rectify.{vectorLoop};
+ghost use Rattle.engine.specs.Inner.List.{Held, listedOf};
+ghost use Rattle.engine.specs.Inner.Miter.{SomeParts};
+ghost use Rattle.engine.specs.Inner.Judging.{JudgedJob};
+use super::guess::list_of_inputs;
+use super::limits::LISTED;
+use super::limits::LONGEST_JUDGE;
+use super::list::Vectors;
+use super::miter::miter_of;
+use super::plan::plan_of;
+use super::sheet::put_unfixable;
+use super::sheet::put_vectors;
+use records::Check;
+use records::JobParts;
+use records::load;
+
+pub struct UnfixableInput {
+    pub input: u32,
+}
+
+// Every input is fixable, or the smallest that is not; declined where the call is.
+pub enum Judgement {
+    Fixable,
+    Unfixable(UnfixableInput),
+    Declined,
+}
+
+// The number, how many bytes of the reply buffer the sheet takes, and the judgement; on refusal the length is 0.
+pub struct JudgeReply {
+    pub number: u8,
+    pub len: usize,
+    pub verdict: Judgement,
+}
+
+fn declined(number: u8) -> JudgeReply
+    ensures { λ r. ⌜ r ≡ declinedJudge number ⌝ }
+{
+    JudgeReply {
+        number,
+        len: 0,
+        verdict: Judgement::Declined,
+    }
+}
+
+// The judgement that the vector list of all inputs gives, and its sheet: where the list is stuck, that input is unfixable.
+fn rule_list(list: Vectors, reply: &mut [u8]) -> JudgeReply
+    requires { ⌜ Held list × (list .stuck ≡ true → list .input < 4294967296) × (26 ≤ length (now reply)) ⌝ }
+    ensures { λ r. ⌜ ((j : Job) → listedOf list ≡ vectorLoop j → JudgedJob j (now (reply .entry)) r (now (reply .exit))) ⌝ }
+{
+    let vectors = list.list;
+    if list.stuck {
+        let len = put_unfixable(reply, list.input, vectors, list.len);
+        return JudgeReply {
+            number: 0,
+            len,
+            verdict: Judgement::Unfixable(UnfixableInput {
+                input: list.input as u32,
+            }),
+        };
+    }
+    let len = put_vectors(reply, 0, vectors, list.len);
+    JudgeReply {
+        number: 0,
+        len,
+        verdict: Judgement::Fixable,
+    }
+}
+
+// The judgement on a good job's parts, and its sheet.
+fn judge_job(job: JobParts, reply: &mut [u8]) -> JudgeReply
+    requires { ⌜ SomeParts job × Below 1024 (job .nets) × (26 ≤ length (now reply)) ⌝ }
+    ensures { λ r. ⌜ ((j : Job) → PartsOf j job → JudgedJob j (now (reply .entry)) r (now (reply .exit))) ⌝ }
+{
+    let candidates = job.counts.candidates;
+    let nets = job.nets;
+    let mut gates = [0u64; LISTED];
+    let plan = plan_of(miter_of(job), nets, candidates, &mut gates);
+    let list = list_of_inputs(&gates, plan);
+    rule_list(list, reply)
+}
+
+// The service judge: whether every input of a job is fixable, or the smallest that is not, and its sheet at the start of the reply buffer:
+// the unfixable input, if any, and the vector list. Refused are a buffer below 26 bytes (1) and what is no whole job (2 to 6). It ends at
+// the first block of 1,024 inputs that has an unfixable one. For each block before, it costs one gate evaluation a gate of both
+// netlists, and one more for each gate that a target leads to, where a table of listed vectors does (see guess.rt), and else that and
+// what choose costs. The table is given up where it fails too often: then it costs what choose does. An evaluation takes 16 words.
+// Partial evaluation is tried on each 2 ^ 15 inputs: one gate evaluation a gate on 0, 1 and not yet known, which may spare all
+// their blocks.
+pub fn judge(job: &[u8], reply: &mut [u8]) -> JudgeReply
+    ensures reply { λ r. ⌜ r ≡ judgeReply (now (reply .entry)) (now (job .entry)) ⌝ }
+    ensures lent { λ _. ⌜ now (reply .exit) ≡ judgedBytes (now (reply .entry)) (now (job .entry)) ⌝ }
+{
+    if reply.len() < LONGEST_JUDGE {
+        return declined(1);
+    }
+    let parts = load(job);
+    let check = parts.check;
+    let Check::Passed = check else {
+        return declined(parts.number);
+    };
+    judge_job(parts, reply)
+}
