@@ -6,7 +6,8 @@ says; case 2 goes by card 2 of document 02, the notes by card 1, case 12, which 
 
 Then it tries the reference where a second way is at hand: the values of gates beside the simulator's table and, on sets of
 inputs, beside gates.py; on small random jobs the verdict beside every table over every set of priced nets, the fitted
-netlist beside the driven old one, and compare and the notes beside one input at a time. Where something differs, it stops.
+netlist beside the driven old one, and compare and the notes beside one input at a time; and card 8's sentences on judge's
+list and on the order of the outputs (vector_lists.py). Where something differs, it stops.
 """
 
 import copy
@@ -21,6 +22,8 @@ import random_jobs as rj
 import random_sheets as rs
 import sheet as sheets
 import simulate
+import vector_lists
+from by_input import fixing_at, values_at
 from choose import choose
 from fit import fit, patched
 from job import Candidate, Gate, Job, Netlist
@@ -153,17 +156,6 @@ def check_verdict(job):
     return verdict.name
 
 
-def fixing_at(job, x):
-    """The vectors that fix one input."""
-    golden = values_at(job, job.golden, x, 0)
-    found = set()
-    for vector in range(2**job.targets):
-        old = values_at(job, job.old, x, vector)
-        if [old[net] for net in job.old.outputs] == [golden[net] for net in job.golden.outputs]:
-            found.add(vector)
-    return found
-
-
 def left_at(job, nets):
     """Input by input: of each reading that it gives, the vectors that fix this one too are left."""
     left = {}
@@ -185,15 +177,6 @@ def check_fit(job, patch):
     alone = Job(job.inputs, 0, netlist, netlist, [])
     assert jobs.number_of_parts(alone) in (0, 3), job
     assert simulate.output_values(alone, netlist, []) == compare.driven_outputs(job, patch), job
-
-
-def values_at(job, side, x, vector):
-    """The values of all nets of a side at one input, gate by gate."""
-    values = [x >> i & 1 for i in range(job.inputs)]
-    values += [vector >> t & 1 for t in range(job.targets)] if side is job.old else []
-    for gate in side.gates:
-        values.append(gates.value(gate.kind, [values[net] for net in gate.operands()]))
-    return values
 
 
 def check_compare(job, patch):
@@ -229,6 +212,7 @@ def main():
     check_gates()
     check_sheets()
     print("tried against every table over every set:", check_random(random.Random(1364), 100))
+    print("lists without waste, outputs in other orders:", vector_lists.check_random(random.Random(1364), 350))
 
 
 if __name__ == "__main__":

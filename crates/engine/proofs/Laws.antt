@@ -25,6 +25,7 @@ pub mod Leaves
 pub mod Loop
 pub mod Marks
 pub mod Miter
+pub mod Needed
 pub mod Note
 pub mod Notes
 pub mod MiterCode
@@ -41,6 +42,7 @@ pub mod Ranges
 pub mod PlanCode
 pub mod PlanLive
 pub mod PlanLists
+pub mod Reordered
 pub mod Rows
 pub mod Rule
 pub mod Run

@@ -1,9 +1,8 @@
 -- What is promised of the engine beyond the contracts of its functions: the request's demands 1 to 3, of the definitions and of
 -- what judge, choose, compare and fit reply. What is claimed of the definitions is proved in proofs/Theorems.antt (of the fitted netlist
 -- in proofs/Laws/Fitted.antt), of a reply's number, of judge, choose and compare in proofs/Replies.antt, of fit, and of sheets that both
--- refuse, in proofs/FitReplies.antt,
--- of choose, then compare or fit, in proofs/InARow.antt, and that the longest replies are attained in proofs/Attained.antt. Assumes
--- nothing.
+-- refuse, in proofs/FitReplies.antt, of choose, then compare or fit, in proofs/InARow.antt, that the longest replies are attained in
+-- proofs/Attained.antt, and card 8's in proofs/Waste.antt. Assumes nothing.
 --
 --   In x xs                 x is an element of xs
 --   Rectifiable             an input is fixable exactly when some vector makes the old outputs the golden ones
@@ -37,13 +36,15 @@
 --   LongestFit, LongestFitMet               no result has more than 4,075 bytes, and one has as many
 --   FittedIn, FittedGiven                   what the netlist in the buffer is
 --   ChosenEqual, ChosenFits, ChosenFitted                   choose, then compare or fit
+--   listIn, WithoutWaste, NoWaste           judge's list: no vector twice, at most 2 ^ m, each after the first needed (card 8)
+--   Rearranges, inOrder, reordered, AnyOrder                both output lists in one new order: the same replies and bytes (card 8)
 use Prim.Native.Nat.{ℕ, suc, _+_, _%_, _^_, _≤_, _<_}
 use mathlib.Core.Path.{_≡_}
 use mathlib.Core.Logic.{_↔_, _⊎_}
 use mathlib.Core.List.{List, [], _∷_, _++_, List·Memᴰ, map}
-use mathlib.Core.Bool.{true, false}
+use mathlib.Core.Bool.{true, false, cond}
 use mathlib.Core.Option.{none, some}
-use lib.Dec.{leb, ltb}
+use lib.Dec.{leb, ltb, eqb}
 use lib.ListN.{length, getD, take, drop}
 use Rattle.records.specs.Bytes.{all, flat, bytePair, field, fits as fieldFits, whole, nth}
 use Rattle.records.specs.Gate.{kindCount, gateValue}
@@ -576,3 +577,51 @@ ChosenFitted =
     → let b = take (fitReply e s p .len) (fittedBuffer e s p) in
     (x : ℕ) → x < 2 ^ jobOf s .inputs
     → map (netAt (values (bits (jobOf s .inputs) x) (gatesOf (nth 1 b)))) (netsOf (nth 2 b)) ≡ goldenOutputs (jobOf s) x
+
+-- ---- card 8: a vector list without waste
+
+-- The vector list in a sheet of judge: its last field.
+unfoldable pub listIn : List ℕ → List ℕ
+listIn b = cond (eqb (getD b 0 0) 20) (nth 1 b) (nth 0 b)
+
+-- "No vector is listed twice, .. there are at most 2^m, .. each after the first fixes an input that none before it fixes."
+pub record WithoutWaste (j : Job) (vs : List ℕ) : Type 0 where
+  pub once : (a b : ℕ) → a < length vs → b < length vs → getD vs a 0 ≡ getD vs b 0 → a ≡ b
+  pub most : length vs ≤ 2 ^ j .targets
+  pub needed : (a : ℕ) → 0 < a → a < length vs
+      → (x : ℕ)
+      × (x < 2 ^ j .inputs)
+      × (oldOutputs j x (getD vs a 0) ≡ goldenOutputs j x)
+      × ((b : ℕ) → b < a → oldOutputs j x (getD vs b 0) ≡ goldenOutputs j x → ⊥)
+
+abbrev pub NoWaste : Type 0
+NoWaste =
+    (d s : List ℕ) → judgeNumber d s ≡ 0
+    → WithoutWaste (jobOf s) (listIn (take (judgeReply d s .len) (judgedBytes d s)))
+
+-- "Putting both output lists in the same new order leaves judge's and choose's sheets byte for byte equal." The order is a list of
+-- places, each of the n once: as many as there are, and none left out. Output nets may repeat. Bytes t that hold the job so changed are
+-- accepted where s is.
+pub record Rearranges (n : ℕ) (ps : List ℕ) : Type 0 where
+  pub many : length ps ≡ n
+  pub below : (i : ℕ) → i < n → getD ps i 0 < n
+  pub each : (p : ℕ) → p < n → In p ps
+
+unfoldable pub inOrder : List ℕ → List ℕ → List ℕ
+inOrder ps xs = map (λ p. getD xs p 0) ps
+
+unfoldable pub reordered : List ℕ → Job → Job
+reordered ps j =
+    record {
+      inputs = j .inputs;
+      targets = j .targets;
+      old = record { gates = j .old .gates; outputs = inOrder ps (j .old .outputs) };
+      golden = record { gates = j .golden .gates; outputs = inOrder ps (j .golden .outputs) };
+      candidates = j .candidates;
+    }
+
+abbrev pub AnyOrder : Type 0
+AnyOrder =
+    (s t ps : List ℕ) → Rearranges (length (jobOf s .old .outputs)) ps → jobWhole t ≡ true → jobOf t ≡ reordered ps (jobOf s)
+    → ((d : List ℕ) → judgeNumber d s ≡ 0 → (judgeReply d s ≡ judgeReply d t) × (judgedBytes d s ≡ judgedBytes d t))
+    × ((d : List ℕ) → chooseNumber d s ≡ 0 → (chooseReply d s ≡ chooseReply d t) × (chosenBytes d s ≡ chosenBytes d t))
