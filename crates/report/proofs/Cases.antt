@@ -9,7 +9,7 @@ use native.Mathlib.Omega.{arith}
 use borrow.Author.Tests.{eqb-true, eqb-false}
 use lib.Dec.{eqb}
 use lib.ListN.{getD, replicate}
-use Rattle.records.specs.Bytes.{upFrom, tabulate, all, flat, word, bytePair, field, bodyLength, body, rest, nth}
+use Rattle.records.specs.Bytes.{upFrom, tabulate, all, flat, word, field, bodyLength, body, rest, nth}
 use Rattle.records.specs.Job.{jobOf, netsOf}
 use Rattle.records.specs.Refusal.{jobRefusal}
 use Rattle.records.specs.Sheet.{quad, patchOf}

@@ -1,6 +1,6 @@
 -- Laws of what rectify_text prints: by the buffer's length, the job's length and what judge and choose say. Assumes nothing.
 use Prim.Native.Nat.{ℕ, _+_, _-_, _≤_, _<_}
-use mathlib.Core.Path.{_≡_, refl, sym, _∙_, ap, subst}
+use mathlib.Core.Path.{_≡_, refl, sym, _∙_, ap}
 use mathlib.Core.List.{List}
 use mathlib.Core.Option.{none}
 use native.Mathlib.Omega.{arith}
@@ -14,7 +14,7 @@ use Rattle.records.specs.Sheet.{quad}
 use Rattle.records.specs.Claims.{PartsGood}
 use Rattle.records.proofs.Laws.Bytes.{drop-take}
 use Rattle.engine.specs.Rectify.{vectorLoop}
-use Rattle.engine.specs.Verdict.{longestJudge, longestChoose, judgeSheet, chooseSheet, judgeNumber, chooseNumber, judgedBytes, chosenBytes}
+use Rattle.engine.specs.Verdict.{longestJudge, longestChoose, judgeSheet, chooseSheet, judgedBytes, chosenBytes}
 use Rattle.engine.specs.Reply.{judgeReply, chooseReply}
 use Rattle.engine.specs.declared.judging.JudgeReply.{JudgeReply}
 use Rattle.engine.specs.declared.choosing.ChooseReply.{ChooseReply}

@@ -3,7 +3,7 @@
 use Prim.Native.Nat.{ℕ, suc, _+_, _-_, _^_, _≤_, _<_}
 use mathlib.Core.Path.{_≡_, refl, sym, _∙_, ap}
 use mathlib.Core.List.{List, [], _∷_, _++_, append-nil}
-use mathlib.Core.Bool.{true, false}
+use mathlib.Core.Bool.{true}
 use mathlib.Core.Option.{none, some}
 use mathlib.Core.Logic.{⊎-elim}
 use native.Mathlib.Omega.{arith}
@@ -21,7 +21,7 @@ use Rattle.records.proofs.Laws.Field.{skip, positionOf, skip-drop, bodyLength-d
 use Rattle.records.proofs.Laws.RoundTrip.{joined, whole-joined, body-field, below-take, below-drop}
 use Rattle.records.proofs.Laws.Job.{length-bytePair, length-outputs}
 use Rattle.engine.specs.Rectify.{vectorLoop}
-use Rattle.engine.specs.Support.{cost, tableOf, sound, candidateNets, chosen}
+use Rattle.engine.specs.Support.{cost, sound, candidateNets, chosen}
 use Rattle.engine.specs.Verdict.{blindReading, fourBytes, judgeSheet, patchSheet, chooseSheet}
 use Rattle.engine.proofs.Laws.Choice.{none-or-some, true-or-false}
 use Rattle.engine.proofs.Laws.Support.{length-tableOf}
