@@ -8,11 +8,7 @@ INLINE void walk_by(const struct job *j, const struct plan *p, struct list *l, u
     uint32_t blocks = (1u << j->inputs) / (64 * W);
     fill(values + ZERO * W, 0, W);
     for (uint32_t block = 0; block == 0 || block < blocks; block++) {
-        load_inputs(j->inputs, block, values, W);
-        clear_targets(j, values, W);
-        run(&p->miter.gates, values, W);
-        read_rows(j, values, readings, W);
-        find_rows(j, p, 0, values, masks, W);
+        rows_of_block(j, p, block, values, masks, readings, W);
         if (!list_vectors(j, l, masks, block, W)) return;
         note(masks, readings, sets, W);
     }

@@ -128,6 +128,16 @@ INLINE int list_vectors(const struct job *j, struct list *l, const uint64_t *mas
     return 1;
 }
 
+/* The masks and the readings of a block: every live gate at vector 0, then those that each vector changes. */
+INLINE void rows_of_block(const struct job *j, const struct plan *p, uint32_t block, uint64_t *values, uint64_t *masks,
+    uint64_t *readings, unsigned W) {
+    load_inputs(j->inputs, block, values, W);
+    clear_targets(j, values, W);
+    run(&p->miter.gates, values, W);
+    read_rows(j, values, readings, W);
+    find_rows(j, p, 0, values, masks, W);
+}
+
 /* Each input narrows the set of its reading, of which the bits above the vectors' go with the first one that gives it; the
  * reading and the vectors stand in the same sixteen bits of two words. */
 INLINE void note(uint64_t *masks, uint64_t *readings, uint32_t *sets, unsigned W) {
