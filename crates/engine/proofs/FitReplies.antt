@@ -215,7 +215,7 @@ fit-independent d e s p h = (
 
 pub fit-ignores-notes : FitIgnoresNotes
 unfolding fitReply fittedBuffer fitNumber fitTests pairTests
-fit-ignores-notes d s p ns b w n l =
+fit-ignores-notes d s p ns w n l =
     let t = notes-tests p ns w n l (jobOf s .targets) (jobOf s .candidates) in
     let i = notes-support p ns w n l in
     let k = notes-table p ns w n l in
@@ -229,4 +229,4 @@ vectors-seven s ts a b n w f = both-seven s (a ++ b) n (vectors-number 0 0 [] []
 
 pub notes-seven : NotesSeven
 unfolding sheetRoomy
-notes-seven s p ns n w l h = both-seven s (p ++ field notesTag ns) n (notes-number 0 0 [] [] p ns refl w l h)
+notes-seven s p ns n w h = both-seven s (p ++ field notesTag ns) n (notes-number 0 0 [] [] p ns refl w h)

@@ -386,7 +386,7 @@ blind-given d s r e p =
 
 -- ---- the patch in the buffer
 
-quad-fourBytes : (x : ℕ) → quad (fourBytes x) ≡ x
+pub quad-fourBytes : (x : ℕ) → quad (fourBytes x) ≡ x
 unfolding quad fourBytes word bytePair
 quad-fourBytes x = omega arith
 
@@ -561,5 +561,5 @@ compares-differs s p x e =
 
 pub compare-ignores-notes : CompareIgnoresNotes
 unfolding compareReply compareNumber pairTests
-compare-ignores-notes s p ns b w n l =
+compare-ignores-notes s p ns w n l =
     rw (notes-tests p ns w n l (jobOf s .targets) (jobOf s .candidates), notes-support p ns w n l, notes-table p ns w n l)

@@ -464,7 +464,7 @@ ComparesDiffers =
 -- three fields of a sheet, whatever these say, leave compare's reply as it is.
 abbrev pub CompareIgnoresNotes : Type 0
 CompareIgnoresNotes =
-    (s p ns : List ℕ) → Below 256 p → whole sheetTags p ≡ true → length ns ≡ length (patchOf p .table) → Below 3 ns
+    (s p ns : List ℕ) → whole sheetTags p ≡ true → length ns ≡ length (patchOf p .table) → Below 3 ns
     → compareReply s (p ++ field notesTag ns) ≡ compareReply s p
 
 -- ---- what fit replies
@@ -532,7 +532,7 @@ FittedGiven =
 -- Card 1, for fit.
 abbrev pub FitIgnoresNotes : Type 0
 FitIgnoresNotes =
-    (d s p ns : List ℕ) → Below 256 p → whole sheetTags p ≡ true → length ns ≡ length (patchOf p .table) → Below 3 ns
+    (d s p ns : List ℕ) → whole sheetTags p ≡ true → length ns ≡ length (patchOf p .table) → Below 3 ns
     → (fitReply d s (p ++ field notesTag ns) ≡ fitReply d s p) × (fittedBuffer d s (p ++ field notesTag ns) ≡ fittedBuffer d s p)
 
 -- ---- sheets that both refuse with 7
@@ -546,7 +546,7 @@ VectorsSeven =
 -- Card 1: "another length or a byte above 2 is 7", whatever the three fields say.
 abbrev pub NotesSeven : Type 0
 NotesSeven =
-    (s p ns : List ℕ) → jobRefusal s ≡ 0 → whole sheetTags p ≡ true → length ns < 65536
+    (s p ns : List ℕ) → jobRefusal s ≡ 0 → whole sheetTags p ≡ true
     → ((length ns ≡ length (patchOf p .table)) × Below 3 ns → ⊥)
     → (compareNumber s (p ++ field notesTag ns) ≡ 7)
     × ((d : List ℕ) → longestFit ≤ length d → fitNumber d s (p ++ field notesTag ns) ≡ 7)

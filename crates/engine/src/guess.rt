@@ -35,8 +35,8 @@ use super::search::settled_from;
 use super::word::first_unequal;
 
 // The vector list so far; for each reading the vectors that rectify all inputs giving it in the blocks where all vectors were evaluated,
-// a listed one of these, 0 where there is none; and how far the table is trusted: a block on which it fails takes one, one that it does
-// gives one back.
+// a listed one of these, 0 where there is none; and how far the table is trusted: a block on which it fails takes one, one on
+// which it does not gives one back.
 pub struct Guess {
     pub list: Vectors,
     pub sets: [u16; READINGS],

@@ -280,13 +280,13 @@ SheetGiven = (m k : ℕ) (nets weights s : List ℕ) → sheetNumber m k nets we
 -- three fields of a sheet, whatever these say, leave the reply as it is.
 abbrev pub SheetNotes : Type 0
 SheetNotes =
-    (m k : ℕ) (nets weights s ns : List ℕ) → Below 256 s → whole sheetTags s ≡ true → length ns ≡ length (patchOf s .table) → Below 3 ns
+    (m k : ℕ) (nets weights s ns : List ℕ) → whole sheetTags s ≡ true → length ns ≡ length (patchOf s .table) → Below 3 ns
     → sheetReply m k nets weights (s ++ field notesTag ns) ≡ sheetReply m k nets weights s
 
 -- .. "another length or a byte above 2 is 7", whatever the three fields say.
 abbrev pub NotesSeven : Type 0
 NotesSeven =
-    (m k : ℕ) (nets weights s ns : List ℕ) → sheetRoomy m k nets weights ≡ true → whole sheetTags s ≡ true → length ns < 65536
+    (m k : ℕ) (nets weights s ns : List ℕ) → sheetRoomy m k nets weights ≡ true → whole sheetTags s ≡ true
     → ((length ns ≡ length (patchOf s .table)) × Below 3 ns → ⊥)
     → sheetNumber m k nets weights (s ++ field notesTag ns) ≡ 7
 

@@ -143,7 +143,7 @@ module _ (s ns : List ℕ) (w : whole sheetTags s ≡ true) (n : length ns ≡ l
 
 pub sheet-notes : SheetNotes
 unfolding sheetReply sheetNumber patchOf
-sheet-notes m k nets weights s ns b w n l =
+sheet-notes m k nets weights s ns w n l =
     let p = notes-part s ns w n l in
     rw (notes-tests s ns w n l m (candidatesFrom k nets weights), p 0 (omega arith), p 2 (omega arith))
 
@@ -155,7 +155,7 @@ number-seven m k nets weights s r e = rw (r, e)
 
 pub notes-seven : NotesSeven
 unfolding patchOf
-notes-seven m k nets weights s ns r w l h =
+notes-seven m k nets weights s ns r w h =
     let n = length (nth 1 s) in
     let f : notesAt n (field notesTag ns) ≡ false =
     false-of _

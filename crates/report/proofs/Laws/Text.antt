@@ -22,7 +22,7 @@ use Rattle.engine.specs.Support.{sound, candidateNets, chosen}
 use Rattle.engine.specs.Verdict.{blindReading, ruling, fourBytes, judgeSheet, patchSheet, chooseSheet}
 use Rattle.engine.proofs.Laws.Choice.{true-or-false}
 use Rattle.engine.proofs.Laws.Verdict.{ruling-unfixable, ruling-patch, ruling-blind, judged-unfixable, chosen-patch, chosen-blind}
-use Rattle.engine.proofs.Replies.{patch-read}
+use Rattle.engine.proofs.Replies.{patch-read, quad-fourBytes}
 use Rattle.report.specs.Text.{patchWord, supportWord, tableWord, vectorsWord, notesWord, unfixableWord, blindWord, refusedWord, line, patchText, valueText, rulingText, refusedText, inputLimit, rectifyText, longestText}
 use Rattle.report.specs.Inner.{PatchSheet, patchSheetText, choiceText, Printed, Texted}
 use Rattle.report.proofs.Laws.Line.{printed-then, length-number-line, length-nets-line, length-bytes-line}
@@ -151,10 +151,6 @@ module _ (s vs : List ℕ) where
 word-bytePair : (x : ℕ) → word (bytePair x) 0 ≡ x
 unfolding word bytePair
 word-bytePair x = div-add-mod x 256
-
-quad-fourBytes : (x : ℕ) → quad (fourBytes x) ≡ x
-unfolding quad fourBytes word bytePair
-quad-fourBytes x = omega arith
 
 module _ (j : Job) where
   abbrev vectors : List ℕ
