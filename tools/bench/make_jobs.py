@@ -10,8 +10,12 @@
     CIRCUIT_SIZE.job         typical cuts: old and golden netlist are two designs of one circuit, some old nets cut open
     tiny_CIRCUIT_SIZE.job    the same of 2 to 6 inputs and up to 20 gates a side
     pair_GATES_four.job      gates of four operands, and in pair_GATES_chain.job each of them as three gates of two operands
+    ties_SOUND_WEIGHTS.job   20 inputs, 390 and 320 gates: all supports are sound, or a quarter of them, with irregular tables; all
+                             weights are 0 (zero), or no two sets cost the same (distinct)
+    decide_3_WEIGHTS.job     decide_patch_3.job with these weights; it needs all priced nets
     fit_GATES.job            patches of growing size, each with a .sheet and the .netlist that fit must give
     late.job, late.sheet     a sheet whose first difference is at one of the last inputs
+    ties_all_zero.sheet      the empty support with the vector that fixes every input
     SERIES_SIZE.job          growth: jobs that differ in one size
 
 The full-size jobs decide_*.job and four_*.job beside this file are made by tools/reference/bench_jobs.py.
@@ -20,6 +24,7 @@ The full-size jobs decide_*.job and four_*.job beside this file are made by tool
 import os
 import random
 import sys
+from dataclasses import replace
 
 BENCH = os.path.dirname(os.path.abspath(__file__))
 sys.path.insert(0, os.path.join(os.path.dirname(BENCH), "reference"))
@@ -29,7 +34,7 @@ import job as jobs
 import random_jobs as rj
 import sheet as sheets
 import simulate
-from choose import choice_of
+from choose import cheapest, choice_of, patch_gates, shared_vectors
 from fit import fit
 from job import Candidate, Gate, Job, Netlist
 from judge import fixed_inputs, judgement_of
@@ -66,6 +71,12 @@ class Circuit:
     def differ_by_nands(self, a, b):
         both = self.gate(NAND, a, b)
         return self.gate(NAND, self.gate(NAND, a, both), self.gate(NAND, b, both))
+
+    def all_of(self, nets):
+        """The and of nets, by gates of up to four operands; of one net, itself."""
+        while len(nets) > 1:
+            nets = nets[4:] + [self.gate(AND, *nets[:4])]
+        return nets[0]
 
     def half_add(self, a, b):
         return self.differ(a, b), self.both(a, b)
@@ -387,6 +398,66 @@ def pairs(rng):
         yield f"pair_{gates:03}_chain", Job(n, m, old, golden, candidates)
 
 
+def scrambled(rng, c, nets, steps):
+    """Nets whose values are a scrambled permutation of these nets' values: in each step one is summed with a function of two others."""
+    nets = list(nets)
+    for step in range(steps):
+        i = step % len(nets)
+        a, b = rng.sample(nets[:i] + nets[i + 1 :], 2)
+        nets[i] = c.differ(nets[i], c.gate(rng.choice([AND, NAND, OR, NOR]), a, b))
+    return nets
+
+
+def tied_job(rng, needed):
+    """Ten priced nets, of which every reading occurs. Old output v is the golden one but where the vector is v and net bad[v] is 1.
+    The last vector harms nowhere, so that every set is a sound support; or, where two nets are needed, the last two harm where these
+    differ, and where they do not. Vector v harms at one of 2, 2, 4, 4, 8, 8, .. readings, here and there, so that the smallest
+    harmless one is irregular for supports of every size. Weights are 0."""
+    n, m = 20, 4
+    c = Circuit(n)
+    named = [c.differ(i, n - 1 - i) for i in range(10)]
+    mixed = scrambled(rng, c, named, 75)
+    unread = list(range(n)) + mixed
+    while len(c.gates) < 320:
+        unread.append(c.gate(rng.choice(MIXED), unread.pop(0), rng.choice(range(n + len(c.gates)))))
+    outputs = unread
+
+    new_net = [net if net < n else net + m for net in range(n + len(c.gates))]
+    old = Circuit(n + m)
+    old.gates = [cj.renumbered(gate, new_net) for gate in c.gates]
+    bad = [old.all_of([new_net[net] for net in rng.sample(mixed, 1 + v // 2)]) for v in range(14 if needed else 15)]
+    if needed:
+        bad.append(old.differ(*[new_net[net] for net in named[:2]]))
+        bad.append(old.gate(NOT, bad[-1]))
+    targets = [(old.gate(NOT, net), net) for net in range(n, n + m)]
+    harmed = [new_net[net] for net in outputs]
+    for v, net in enumerate(bad):
+        vector = old.gate(AND, *[both[v >> t & 1] for t, both in enumerate(targets)])
+        harmed[v] = old.differ(harmed[v], old.both(vector, net))
+    return Job(n, m, Netlist(old.gates, harmed), Netlist(c.gates, outputs), [Candidate(new_net[net], 0) for net in named])
+
+
+def with_weights(job, weights):
+    return replace(job, candidates=[Candidate(c.net, weight) for c, weight in zip(job.candidates, weights)])
+
+
+def ties(rng):
+    """Each with distinct weights, then with all weights 0."""
+    for name, needed, least in (("all", False, 1024), ("quarter", True, 256)):
+        job = tied_job(rng, needed)
+        sound = cheapest(job, shared_vectors(job, fixed_inputs(job)))
+        gates = sum(patch_gates(job, table) for _, table in sound)
+        assert len(sound) >= least and gates > 200 * len(sound), (len(sound), gates)
+        yield f"ties_{name}_distinct", with_weights(job, rng.sample(POWERS, 10))
+        yield f"ties_{name}_zero", job
+    job = stored("decide_patch_3.job")
+    yield "decide_3_distinct", with_weights(job, rng.sample(POWERS, 10))
+    yield "decide_3_zero", with_weights(job, [0] * 10)
+
+
+POWERS = [2**i for i in range(10)]
+
+
 def growth(rng):
     """Series of jobs in each of which one size grows."""
     for n in range(4, 21, 2):
@@ -439,6 +510,12 @@ def late_sheet(job):
 # ---- files
 
 
+def stored(name):
+    """A job beside this file."""
+    with open(os.path.join(BENCH, name), "rb") as file:
+        return jobs.read(file.read())[1]
+
+
 def put(folder, name, data):
     with open(os.path.join(folder, name), "wb") as file:
         file.write(data)
@@ -456,10 +533,10 @@ def put_sheets(folder):
         put_jobs(folder, [(name, job)])
         put(folder, f"{name}.sheet", sheet)
         put(folder, f"{name}.netlist", netlist)
-    with open(os.path.join(BENCH, "decide_unfixable_4.job"), "rb") as file:
-        job = jobs.read(file.read())[1]
+    job = stored("decide_unfixable_4.job")
     put_jobs(folder, [("late", job)])
     put(folder, "late.sheet", late_sheet(job))
+    put(folder, "ties_all_zero.sheet", sheets.encode(Patch([], [15], 0)))
 
 
 def main():
@@ -469,7 +546,7 @@ def main():
     if what == "growth":
         put_jobs(folder, growth(rng))
         return
-    for made in (wide, cuts, tiny, pairs, unseen, rare):
+    for made in (wide, cuts, tiny, pairs, unseen, rare, ties):
         put_jobs(folder, made(rng))
     put_sheets(folder)
 

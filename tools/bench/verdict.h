@@ -1,5 +1,5 @@
-/* Judge and choose in C, as document 01 ("Verdicts") and cards 1 and 7 of document 02 word them: what the C programs have in
- * common. They differ in how they walk the inputs; what the walk finds is judged here, and written as a sheet. */
+/* Judge and choose in C, as document 01 ("Verdicts") and cards 1, 5 and 7 of document 02 word them: what the C programs have
+ * in common. They differ in how they walk the inputs; what the walk finds is judged here, and written as a sheet. */
 #ifndef VERDICT_H
 #define VERDICT_H
 #include "job.h"
@@ -76,10 +76,8 @@ static inline unsigned part(unsigned reading, unsigned set) {
     return own;
 }
 
-/* Lower cost, then fewer nets, then the smaller net at the first place where they differ. */
-static inline int before(const struct job *j, unsigned a, unsigned b) {
-    uint32_t cost_a = cost_of(j, a), cost_b = cost_of(j, b);
-    if (cost_a != cost_b) return cost_a < cost_b;
+/* Whether a set has fewer nets than another one, or as many and the smaller net at the first place where they differ. */
+static inline int fewer_nets(unsigned a, unsigned b) {
     int count_a = __builtin_popcount(a), count_b = __builtin_popcount(b);
     if (count_a != count_b) return count_a < count_b;
     return a != b && (a >> smallest(a ^ b) & 1);
@@ -107,6 +105,46 @@ static inline int rows_of(const struct sets *s, size_t candidates, unsigned set,
         rows->notes[own] = note_of(left[own]);
     }
     return 1;
+}
+
+/* ---- the gates of a table's trees, by card 2 of document 02 */
+
+/* What a column or half is: the constant 0 or 1, or mixed. */
+enum { MIXED = -1 };
+
+/* How many gates a split into halves that differ needs besides the trees of the mixed ones. */
+static inline unsigned split_gates(int low, int high) {
+    if (low == MIXED && high == MIXED) return 4; /* not, and, and, or */
+    if (low == MIXED) return high ? 1 : 2;       /* or; not, and */
+    if (high == MIXED) return low ? 2 : 1;       /* not, or; and */
+    return 1;                                    /* buf or not */
+}
+
+/* Constant where every bit is the next one. */
+static inline int constant(const uint8_t *column, unsigned size) {
+    return memcmp(column, column + 1, size - 1) ? MIXED : column[0];
+}
+
+static inline unsigned tree_gates(const uint8_t *column, unsigned size) {
+    if (constant(column, size) != MIXED) return 1;
+    const uint8_t *low = column, *high = column + size / 2;
+    if (!memcmp(low, high, size / 2)) return tree_gates(low, size / 2);
+    int low_constant = constant(low, size / 2), high_constant = constant(high, size / 2);
+    unsigned gates = split_gates(low_constant, high_constant);
+    if (low_constant == MIXED) gates += tree_gates(low, size / 2);
+    if (high_constant == MIXED) gates += tree_gates(high, size / 2);
+    return gates;
+}
+
+/* Summed over all targets. */
+static inline unsigned patch_gates(const struct job *j, const uint8_t *table, unsigned size) {
+    uint8_t column[READINGS];
+    unsigned gates = 0;
+    for (size_t t = 0; t < j->targets; t++) {
+        for (unsigned r = 0; r < size; r++) column[r] = table[r] >> t & 1;
+        gates += tree_gates(column, size);
+    }
+    return gates;
 }
 
 /* ---- sheets: each function gives the end */
@@ -139,19 +177,40 @@ static inline uint8_t *put_patch(uint8_t *p, const struct job *j, unsigned set, 
     return put_bytes(p, 22, rows->notes, 1u << count);
 }
 
-/* Every set of priced nets is tried. */
+/* A sound support. */
+struct support {
+    unsigned set;
+    uint32_t cost;
+    int gates; /* -1 as long as they are not counted */
+    struct rows rows;
+};
+
+static inline int gates_of(const struct job *j, struct support *s) {
+    if (s->gates < 0) s->gates = patch_gates(j, s->rows.table, 1u << __builtin_popcount(s->set));
+    return s->gates;
+}
+
+/* Lower cost, then fewer gates, then fewer nets, then the smaller net. */
+static inline int before(const struct job *j, struct support *a, struct support *b) {
+    if (a->cost != b->cost) return a->cost < b->cost;
+    if (gates_of(j, a) != gates_of(j, b)) return a->gates < b->gates;
+    return fewer_nets(a->set, b->set);
+}
+
+/* Every set of priced nets is tried that costs no more than the best. */
 static inline uint8_t *put_chosen(uint8_t *p, const struct job *j, const struct sets *s) {
     int stuck = stuck_reading(s, j->candidates);
     if (stuck >= 0) return put_blind(p, stuck);
-    struct rows rows, best_rows;
-    unsigned best = (1u << j->candidates) - 1;
-    rows_of(s, j->candidates, best, &best_rows);
-    for (unsigned set = 0; set < 1u << j->candidates; set++)
-        if (before(j, set, best) && rows_of(s, j->candidates, set, &rows)) {
-            best = set;
-            best_rows = rows;
-        }
-    return put_patch(p, j, best, &best_rows);
+    unsigned all = (1u << j->candidates) - 1;
+    struct support best = {all, cost_of(j, all), -1, {{0}, {0}}}, other;
+    rows_of(s, j->candidates, all, &best.rows);
+    for (other.set = 0; other.set < all; other.set++) {
+        other.cost = cost_of(j, other.set);
+        other.gates = -1;
+        if (other.cost > best.cost || !rows_of(s, j->candidates, other.set, &other.rows)) continue;
+        if (before(j, &other, &best)) best = other;
+    }
+    return put_patch(p, j, best.set, &best.rows);
 }
 
 /* ---- the services, with one of the walks */

@@ -7,7 +7,8 @@
  * Each job has three rows with the best turn of each: judge, choose, and both, which is what `rectify` calls: judge and,
  * where every input is fixable, choose, their times added. The last column is ours by the one walk. At the end stand the
  * median and the worst ratio of each group and service. In the group "pairs:" the second of each two jobs is also measured
- * by the first. */
+ * by the first; at the end of the group "all weights 0:" so is choose, on each job with weights 0 by the same with distinct
+ * ones. */
 #include "bench.h"
 
 enum { PLAIN, WORDS, BLOCKS, OURS, KINDS, GROUPS = 10, ROWS_A_GROUP = 64 };
@@ -120,6 +121,8 @@ static void rows(const char *path, int turns, size_t inputs, struct times *best)
 struct group {
     const char *name;
     size_t count;
+    const char *paths[ROWS_A_GROUP];
+    double choose_us[ROWS_A_GROUP][KINDS];
     double by_blocks[SERVICES][ROWS_A_GROUP], by_whole[SERVICES][ROWS_A_GROUP];
 };
 
@@ -143,12 +146,28 @@ static void summary(struct group *g) {
     }
 }
 
-static void add_ratios(struct group *g, const struct times *best) {
+static void add_row(struct group *g, const char *path, const struct times *best) {
+    g->paths[g->count] = path;
+    memcpy(g->choose_us[g->count], best->us[CHOOSE], sizeof g->choose_us[0]);
     for (int s = 0; s < SERVICES; s++) {
         g->by_blocks[s][g->count] = best->us[s][OURS] / best->us[s][BLOCKS];
         g->by_whole[s][g->count] = best->us[s][OURS] / best->us[s][KINDS];
     }
     g->count++;
+}
+
+/* Choose's time on each second job by that on the one before. */
+static void print_ties(const struct group *g) {
+    for (size_t k = 1; k < g->count; k += 2) {
+        const double *distinct = g->choose_us[k - 1], *zero = g->choose_us[k];
+        printf("    choose, %-18s by the one with distinct weights: block C %.2f, ours %.2f\n", base_name(g->paths[k]),
+            zero[BLOCKS] / distinct[BLOCKS], zero[OURS] / distinct[OURS]);
+    }
+}
+
+/* What stands at the end of a group's rows. */
+static void end_group(const struct group *g) {
+    if (g && !strcmp(g->name, "all weights 0:")) print_ties(g);
 }
 
 int main(int argc, char **argv) {
@@ -165,6 +184,7 @@ int main(int argc, char **argv) {
     for (int i = 3; i < argc; i++) {
         if (argv[i][strlen(argv[i]) - 1] == ':') {
             if (count == GROUPS) stop("too many groups", argv[i]);
+            end_group(g);
             g = &groups[count++];
             g->name = argv[i];
             printf("%s\n", argv[i]);
@@ -175,9 +195,10 @@ int main(int argc, char **argv) {
         if (g->count % 2 && !strcmp(g->name, "pairs:"))
             printf("    both to the one above: block C %.2f, ours %.2f\n", best.us[BOTH][BLOCKS] / last.us[BOTH][BLOCKS],
                 best.us[BOTH][OURS] / last.us[BOTH][OURS]);
-        add_ratios(g, &best);
+        add_row(g, argv[i], &best);
         last = best;
     }
+    end_group(g);
     for (size_t k = 0; k < count; k++) summary(&groups[k]);
     return 0;
 }

@@ -2,6 +2,7 @@
 
     values_at(job, side, x, vector)   the values of all nets of a side at an input
     fixing_at(job, x)                 the vectors that fix an input
+    left_at(job, nets)                for each reading of these nets that inputs give, the vectors that fix them all
 """
 
 import gates
@@ -23,3 +24,13 @@ def fixing_at(job, x):
         if [old[net] for net in job.old.outputs] == [golden[net] for net in job.golden.outputs]:
             found.add(vector)
     return found
+
+
+def left_at(job, nets):
+    """Of each reading that an input gives, the vectors that fix this one too are left."""
+    left = {}
+    for x in range(2**job.inputs):
+        fixing, old = fixing_at(job, x), values_at(job, job.old, x, 0)
+        reading = sum(old[net] << i for i, net in enumerate(nets))
+        left[reading] = left.get(reading, fixing) & fixing
+    return left

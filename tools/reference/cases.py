@@ -6,8 +6,8 @@ says; case 2 goes by card 2 of document 02, the notes by card 1, case 12, which 
 
 Then it tries the reference where a second way is at hand: the values of gates beside the simulator's table and, on sets of
 inputs, beside gates.py; on small random jobs the verdict beside every table over every set of priced nets, the fitted
-netlist beside the driven old one, and compare and the notes beside one input at a time; and card 8's sentences on judge's
-list and on the order of the outputs (vector_lists.py). Where something differs, it stops.
+netlist beside the driven old one, and compare and the notes beside one input at a time; card 5's rule (ties.py); and card 8's
+sentences on judge's list and on the order of the outputs (vector_lists.py). Where something differs, it stops.
 """
 
 import copy
@@ -22,8 +22,9 @@ import random_jobs as rj
 import random_sheets as rs
 import sheet as sheets
 import simulate
+import ties
 import vector_lists
-from by_input import fixing_at, values_at
+from by_input import fixing_at, left_at, values_at
 from choose import choose
 from fit import fit, patched
 from job import Candidate, Gate, Job, Netlist
@@ -128,13 +129,13 @@ def check_gates():
 
 
 def carrying(job):
-    """Each set of priced nets that carries a table: every table is tried."""
+    """Each set of priced nets that carries a table: every table is tried. Its cost, gates, number and nets."""
     for size in range(len(job.candidates) + 1):
         for chosen in combinations(job.candidates, size):
             nets, cost = [c.net for c in chosen], sum(c.weight for c in chosen)
             for table in product(range(2**job.targets), repeat=2**size):
                 if compare.smallest_difference(job, sheets.Patch(nets, table, cost)) is None:
-                    yield (cost, size, nets)
+                    yield (cost, ties.added_gates(job, nets), size, nets)
                     break
 
 
@@ -147,23 +148,13 @@ def check_verdict(job):
     assert (verdict.judged.name == "unfixable") == bool(unfixable), job
     if verdict.chosen.name == "patch":
         patch = verdict.patch
-        assert verdict.name == "patch" and best == (patch.cost, len(patch.support), patch.support), job
+        assert verdict.name == "patch" and (best[0], best[3]) == (patch.cost, patch.support), job
         assert compare.compare(jobs.encode(job), verdict.chosen.sheet) == (0, None), job
         check_notes(job, patch)
     else:
         assert best is None, job
         assert verdict.chosen.value == min(reading for reading, vectors in left.items() if not vectors), job
     return verdict.name
-
-
-def left_at(job, nets):
-    """Input by input: of each reading that it gives, the vectors that fix this one too are left."""
-    left = {}
-    for x in range(2**job.inputs):
-        fixing, old = fixing_at(job, x), values_at(job, job.old, x, 0)
-        reading = sum(old[net] << i for i, net in enumerate(nets))
-        left[reading] = left.get(reading, fixing) & fixing
-    return left
 
 
 def check_notes(job, patch):
@@ -212,6 +203,8 @@ def main():
     check_gates()
     check_sheets()
     print("tried against every table over every set:", check_random(random.Random(1364), 100))
+    print("decided at each step, by hand:", ties.check_hand())
+    print("tried against every set, one input at a time:", ties.check_random(random.Random(1364), 240))
     print("lists without waste, outputs in other orders:", vector_lists.check_random(random.Random(1364), 350))
 
 

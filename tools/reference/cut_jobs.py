@@ -4,6 +4,8 @@ the old one has a target in place of each cut gate. Every function takes the ran
     cut_job(rng, n, m, telling)      a job of up to some thirty gates, of any verdict
     crossed_job(rng)                 a job where sets {a, d} and {b, c} of priced nets a < b < c < d both do
     related_job(rng, n, m)           a patch over nets of which only some readings occur; at some of them several vectors do
+    tied_job(rng, n, m)              the same with nets that tell it in other words, many at the same cost, in small trees and large
+    masked_job(rng, n, m)            small trees over some nets, larger ones over as many others or fewer, at the same cost
     last_job(n, m, occurs)           a patch over two nets that are both 1 at the last input alone, where all vectors do, or nowhere
     full_job(rng, verdict, ..)       400 gates a side, 32 outputs, 4 targets, 10 priced nets: 8,188 bytes
 """
@@ -197,10 +199,10 @@ def related_nets(rng, golden, n, most):
     return found
 
 
-def related_job(rng, n, m):
+def related_circuit(rng, n, m):
     """Two inputs or more. Each cut net is a function of related nets; an output is the sum of a cut net and an input, of two
-    cut nets, or only one of these where some related nets are not all 1: then any vector does where they are. The related
-    nets are priced, others seldom and dear, so that they are the support."""
+    cut nets, or only one of these where some related nets are not all 1: then any vector does where they are. The job without its
+    priced nets; in the golden netlist the related nets, the cut nets, and how many nets stand before these."""
     golden = []
     nets = related_nets(rng, golden, n, 10)
     front = n + len(golden)
@@ -224,12 +226,71 @@ def related_job(rng, n, m):
         outputs.append(put(AND, net, open_net) if gated == "all" or gated == "some" and rng.random() < 0.5 else net)
     outputs = outputs or [put(XOR, 0, nets[0])]
     old = cut(n, m, golden, outputs, [root - n for root in roots], lambda: True)
-    job = Job(n, m, old, Netlist(golden, outputs), [])
-    named = {net if net < n else net + m for net in nets}
+    return Job(n, m, old, Netlist(golden, outputs), []), nets, roots, front
+
+
+def in_old(job, nets):
+    """Golden nets in an old netlist where every cut gate stays, ascending."""
+    return sorted({net if net < job.inputs else net + job.targets for net in nets})
+
+
+def related_job(rng, n, m):
+    """The related nets are priced, others seldom and dear, so that they are the support."""
+    job, nets, _, front = related_circuit(rng, n, m)
+    named = set(in_old(job, nets))
     others = [net for net in range(front) if net not in nets and rng.random() < 0.1]
-    dear = {net if net < n else net + m for net in others}
+    dear = set(in_old(job, others))
     chosen = sorted((sorted(named) + sorted(dear - named))[:10])
     job.candidates = [Candidate(net, rng.randrange(1, 9) if net in named else rng.randrange(100, 65536)) for net in chosen]
+    return job
+
+
+def tied_job(rng, n, m):
+    """Priced are some of the related nets, of what the cut nets must be, and of further old gates: each repeats one of these,
+    inverts it, or is the sum of one and another net, which tells it together with that net alone. Weights are all 0, all equal, or
+    small."""
+    job, nets, roots, _ = related_circuit(rng, n, m)
+    words = in_old(job, nets) + in_old(job, roots)
+    wanted = set(rng.sample(words, rng.randrange(len(words) + 1)))
+    for _ in range(rng.randrange(7)):
+        net, mask = rng.choice(words), rng.choice(list(range(n)) + words)
+        kind = rng.choice([2, 3, XOR, XOR, XNOR])
+        job.old.gates.append(Gate.of(kind, net) if kind < 4 else Gate.of(kind, net, mask))
+        wanted |= {job.net_count(job.old) - 1} | ({mask} if kind >= 4 else set())
+    chosen = sorted(rng.sample(sorted(wanted), min(len(wanted), 10)))
+    weight = rng.choice([1, 7, 65535])
+    weights = rng.choice([[0], [0], [weight], [0, weight], [1, 2, 3], [1, 1, 2]])
+    job.candidates = [Candidate(net, rng.choice(weights)) for net in chosen]
+    return job
+
+
+def masked_job(rng, n, m):
+    """Six inputs or more, one to three targets. Each cut net joins the same few nets in their order by and and or: a tree with about
+    a gate for each. Priced are these nets and, so that the price is the same, one input and its sum with each cut net, which are
+    mostly fewer: a tree of six gates for each. Often some nets are there twice."""
+    mask, *nets = rng.sample(range(n), rng.randrange(m + 2, 7))
+    golden = []
+    for i, net in enumerate(nets):
+        if rng.random() < 0.3:
+            golden.append(Gate.of(rng.choice(WIDE), net, rng.randrange(n)))
+            nets[i] = n + len(golden) - 1
+    roots = [chain(rng, golden, n, sorted(nets), [AND, OR]) for _ in range(m)]
+    outputs = []
+    for root in roots:
+        golden.append(Gate.of(rng.choice([XOR, XNOR]), root, rng.randrange(n)))
+        outputs.append(n + len(golden) - 1)
+    old = cut(n, m, golden, outputs, [root - n for root in roots], lambda: True)
+    job = Job(n, m, old, Netlist(golden, outputs), [])
+    weight = rng.choice([0, 0, 1, 13, 1000])
+    weights = {net: weight * (m + 1) for net in in_old(job, nets)} | {mask: weight * len(nets)}
+    for root in in_old(job, roots):
+        old.gates.append(Gate.of(rng.choice([XOR, XNOR]), mask, root))
+        weights[job.net_count(old) - 1] = weight * len(nets)
+    while len(weights) < 10 and rng.random() < 0.5:
+        net = rng.choice(list(weights))
+        old.gates.append(Gate.of(rng.choice([2, 3]), net))
+        weights[job.net_count(old) - 1] = weights[net]
+    job.candidates = [Candidate(net, weights[net]) for net in sorted(weights)]
     return job
 
 

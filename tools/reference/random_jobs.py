@@ -151,7 +151,7 @@ def moved_count(rng, job):
     """One operand more or fewer than there are, the places as they were."""
     gate, _ = some_gate(rng, job, lambda count: True)
     if gate:
-        gate.count = rng.choice([count for count in (gate.count - 1, gate.count + 1) if count >= 0])
+        gate.count = rng.choice([count for count in (gate.count - 1, gate.count + 1) if 0 <= count < 256])
 
 
 def wrong_operand(place):

@@ -4,7 +4,6 @@ random_engine.py stores them."""
 import random
 from collections import Counter
 from dataclasses import replace
-from itertools import combinations
 
 import cases
 import cut_jobs as cj
@@ -13,7 +12,8 @@ import random_jobs as rj
 import random_sheets as rs
 import sheet as sheets
 import simulate
-from choose import cost_of, shared_vectors, table_of
+import ties
+from choose import shared_vectors
 from job import Candidate, Gate, Job, Netlist, encode
 from judge import fixed_inputs
 from rectify import rectify
@@ -42,6 +42,27 @@ RELATED_QUOTAS = {
     "all vectors at a reading, others unseen": 40,
     "all vectors at a reading that no input below 1,024 gives": 30,
 }
+TIE_QUOTAS = {
+    "decided by cost": 2,
+    "decided by cost, all weights 0": 2,
+    "decided by gates": 10,
+    "decided by gates, all weights 0": 6,
+    "decided by gates, other nets than before card 5": 15,
+    "decided by gates, other nets than before card 5, all weights 0": 3,
+    "decided by gates, more nets than before card 5": 20,
+    "decided by gates, more nets than before card 5, all weights 0": 6,
+    "decided by number of nets": 4,
+    "decided by number of nets, all weights 0": 4,
+    "decided by number of nets, other nets than before card 5, all weights 0": 8,
+    "decided by number of nets, more nets than before card 5, all weights 0": 15,
+    "decided by net numbers": 4,
+    "decided by net numbers, all weights 0": 4,
+    "decided by net numbers, other nets than before card 5": 8,
+    "decided by net numbers, other nets than before card 5, all weights 0": 8,
+    "decided by net numbers, more nets than before card 5": 10,
+    "decided by net numbers, more nets than before card 5, all weights 0": 8,
+}
+LONGEST_TIED = 320  # bytes of a job of these
 
 
 def reading_at(job, x):
@@ -130,9 +151,21 @@ def related_jobs(rng):
 
 
 def tie_jobs(rng):
+    """Jobs with patches that are decided at each step, as many of each class as the quotas say; inputs 2 to 9 and targets 0 to 4 in
+    turn."""
     for _ in range(30):
         job = cj.crossed_job(rng)
         yield job, rectify(encode(job))
+    left = dict(TIE_QUOTAS)
+    turn = 0
+    while any(left.values()):
+        turn += 1
+        job = cj.masked_job(rng, 6 + turn % 4, 1 + turn // 4 % 3) if turn % 2 else cj.tied_job(rng, 2 + turn % 8, turn // 8 % 5)
+        verdict = rectify(encode(job))
+        name = ties.tie_class(job) if verdict.patch and len(encode(job)) <= LONGEST_TIED else None
+        if left.get(name):
+            left[name] -= 1
+            yield job, verdict
 
 
 def full_jobs(rng, n, count, names, related=False):
@@ -155,6 +188,8 @@ def hand_jobs():
     a = rj.job_a()
     one = Netlist([Gate.of(1)], [0])
     yield from cases.jobs_of_cases()
+    for job, _, _ in ties.by_hand():
+        yield job
     for m in range(5):
         yield Job(0, m, Netlist([Gate.of(1)], [m]), one, [])
         yield Job(0, m, Netlist([Gate.of(0)], [m]), one, [Candidate(m, 0)])
@@ -245,7 +280,7 @@ def order_calls(rng, accepted, longs, fulls):
     full_sheet = [encode(job) for job, verdict in longs if len(verdict.chosen.sheet) == CHOOSE]
     full_list = [encode(job) for job, verdict in longs if len(verdict.judged.sheet) == JUDGE]
     assert full_sheet and full_list
-    for k in range(8):
+    for k in range(6):
         full = (full_sheet, full_list)[k % 2]
         yield from both(rng.choice(data), rng.choice(data), full[k // 2 % len(full)])
     for k, (job, _) in enumerate(longs):
@@ -388,25 +423,6 @@ def compare_calls(rng, accepted, fulls):
 # ---- what the jobs cover
 
 
-def ties(job, patch):
-    """The levels of the rule at which another sound support loses to the chosen one of equal cost."""
-    shared = shared_vectors(job, fixed_inputs(job))
-    own = tuple(i for i, c in enumerate(job.candidates) if c.net in patch.support)
-    found = set()
-    for size in range(len(own), len(job.candidates) + 1):
-        for places in combinations(range(len(job.candidates)), size):
-            if places != own and cost_of(job, places) == patch.cost and table_of(shared, places) is not None:
-                if size > len(own):
-                    found.add("equal cost, more nets")
-                else:
-                    found.add("equal cost and count, other nets")
-                    if places[0] == own[0]:
-                        found.add("the same, first net equal")
-                    if places[-1] < own[-1]:
-                        found.add("the same, last net smaller")
-    return found
-
-
 def stuck_input(job):
     """The smallest input whose reading of all priced nets has no shared vector, and that reading."""
     shared = shared_vectors(job, fixed_inputs(job))
@@ -443,8 +459,12 @@ def covered(jobs_and_verdicts):
                 found["notes: " + related_class(job, verdict.patch)] += 1
             if 0 in verdict.patch.notes:
                 found[f"unseen readings, support nets {len(verdict.patch.support):2}"] += 1
-            for tie in ties(job, verdict.patch):
-                found["tie: " + tie] += 1
+            ranked = ties.ranks(job)
+            found["decided by " + ties.step_of(ranked)] += 1
+            found["another support than before card 5"] += ranked[0] != ties.before_card(ranked)
+            found["tie: " + ties.tie_class(job)] += 1
+            for way in ties.losing(ranked):
+                found["tie, another has " + way] += 1
     return found
 
 
@@ -468,7 +488,7 @@ def report(calls, jobs_and_verdicts, sheet_names):
 def made():
     rng = random.Random(SEED)
     accepted = list(quota_jobs(rng)) + list(related_jobs(rng)) + list(tie_jobs(rng))
-    longs = list(full_jobs(rng, 10, 6, ["patch", "unfixable"]))
+    longs = list(full_jobs(rng, 10, 5, ["patch", "unfixable"]))
     fulls = list(full_jobs(rng, 20, 5, ["patch", "unfixable", "blind"])) + list(full_jobs(rng, 20, 3, ["patch"], related=True))
     named = list(compare_calls(rng, accepted, fulls))
     calls = list(judge_calls(rng, accepted + longs, fulls)) + list(order_calls(rng, accepted, longs, fulls))

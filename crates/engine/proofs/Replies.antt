@@ -23,7 +23,7 @@ use Rattle.records.proofs.Laws.Notes.{notes-support, notes-table, notes-tests}
 use Rattle.records.proofs.Laws.RoundTrip.{joined, whole-joined, nth-joined, netsOf-flat}
 use Rattle.engine.specs.Rectify.{rectifies, vectorLoop}
 use Rattle.engine.specs.Eval.{allInputs, oldOutputs, goldenOutputs}
-use Rattle.engine.specs.Support.{reading, drivenBy, sound, tableOf, notesOf, candidateNets, cost, chosen}
+use Rattle.engine.specs.Support.{reading, drivenBy, sound, tableOf, notesOf, candidateNets, cost, patchGates, chosen}
 use Rattle.engine.specs.Compare.{difference, pairTests}
 use Rattle.engine.specs.Verdict.{patch, blindReading, ruling, fourBytes, judgeSheet, patchSheet, chooseSheet, longestJudge, longestChoose, replyNumber, replyBytes, judgeNumber, judgedBytes, chooseNumber, chosenBytes}
 use Rattle.engine.specs.Reply.{judgementOf, judgementFields, declinedJudge, judgeReply, choiceOf, choiceFields, declinedChoose, chooseReply, comparisonOf, compareNumber, compareReply, fitReply}
@@ -38,11 +38,11 @@ use Rattle.engine.proofs.Laws.Notes.{note-in}
 use Rattle.engine.proofs.Laws.Sheet.{whole-field, nth-field}
 use Rattle.engine.proofs.Laws.Choice.{cond-of, cond-zero, none-or-some, true-or-false, not-both, first-least, first-none-below}
 use Rattle.engine.proofs.Laws.ListLoop.{first-of-least, first-of-none}
-use Rattle.engine.proofs.Laws.Support.{rectifies-iff-outputs, length-tableOf, tableOf-below, sound-iff-found, carries-of-sound, shared-unrectifiable, sound-iff-subset-carries, rectifiable-of-carries}
+use Rattle.engine.proofs.Laws.Support.{rectifies-iff-outputs, length-tableOf, tableOf-below, sound-iff-found, sound-of-carries, carries-of-sound, shared-unrectifiable, sound-iff-subset-carries, rectifiable-of-carries}
 use Rattle.engine.proofs.Laws.Best.{chosen-sound}
 use Rattle.engine.proofs.Laws.Loop.{stuck-iff, stuck-none-iff}
 use Rattle.engine.proofs.Laws.Verdict.{LeastBlind, judged-unfixable, judged-fixable, chosen-patch, chosen-blind, blind-least, blind-unique, unsound-of-blind, longest-judge, longest-choose, length-notesOf, getD-notesOf}
-use Rattle.engine.proofs.Theorems.{sound-ruling, patch-table, least-cost}
+use Rattle.engine.proofs.Theorems.{sound-ruling, patch-table, least-cost, fewest-gates}
 
 -- ---- a reply in the buffer
 
@@ -431,6 +431,7 @@ module _ (d s : List ℕ) (c : ℕ) (e : chooseNumber d s ≡ 0) (q : choiceFiel
   chosen-sheet = choose-sheet d s e ∙ chosen-patch (jobOf s) (patch-sound d s e c q .0) .1
 
 pub patch-given : PatchGiven
+unfolding patchGates
 patch-given d s c e q =
     let j = jobOf s in
     let is = chosen j in
@@ -446,9 +447,11 @@ patch-given d s c e q =
       entries = length-tableOf j is;
       below = tableOf-below j is h;
       equal = p .1;
+      smallest = refl;
       given = sym a;
       sum = a;
       least = λ ks m k. subst (λ (x : ℕ). x ≤ cost j ks) (sym a) (least-cost j is r ks m k);
+      fewest = λ ks m k o. fewest-gates j is r ks m (sound-of-carries j ks k) (o ∙ a);
       rows = length-notesOf j is ∙ sym (length-tableOf j is);
       notes =
           λ k l.

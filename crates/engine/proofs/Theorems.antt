@@ -3,18 +3,18 @@ use Prim.Native.Nat.{ℕ, _+_}
 use mathlib.Core.Path.{_≡_, _∙_, ap}
 use mathlib.Core.Logic.{inl, inr, ⊎-elim}
 use mathlib.Core.List.{List}
-use mathlib.Core.Bool.{true}
+use mathlib.Core.Bool.{true, false}
 use native.Mathlib.Omega.{arith}
 use Rattle.records.specs.Job.{Job}
 use Rattle.engine.specs.Choice.{any}
 use Rattle.engine.specs.Rectify.{rectifies, vectorLoop}
-use Rattle.engine.specs.Support.{sound, candidateNets, subsets, chosen, tableOf}
+use Rattle.engine.specs.Support.{sound, candidateNets, subsets, better, chosen, tableOf}
 use Rattle.engine.specs.Verdict.{patch, blind, blindReading, ruling}
-use Rattle.engine.specs.Claims.{In, Rectifiable, TernaryKnown, TernaryUnknown, TernaryListKnown, TernaryListUnknown, TernaryFold, TernaryInverts, LoopEnds, EveryTable, Readings, PatchExactly, PatchTable, LeastCost, UnfixableExactly, BlindExactly, HalvesEqual, SharesNone}
-use Rattle.engine.proofs.Laws.Choice.{any-iff-member, none-or-some}
+use Rattle.engine.specs.Claims.{In, Rectifiable, TernaryKnown, TernaryUnknown, TernaryListKnown, TernaryListUnknown, TernaryFold, TernaryInverts, LoopEnds, EveryTable, Readings, PatchExactly, PatchTable, LeastCost, SoundExactly, FewestGates, WinsTies, UnfixableExactly, BlindExactly, HalvesEqual, SharesNone}
+use Rattle.engine.proofs.Laws.Choice.{any-iff-member, none-or-some, true-or-false}
 use Rattle.engine.proofs.Laws.Ternary.{entry-known-iff, entry-unknown-iff, list-known-iff, list-unknown-iff, fold-more, fold-inverts}
 use Rattle.engine.proofs.Laws.Support.{golden-iff, golden-iff-readings, golden-of-sound, carries-of-sound, sound-of-carries, sound-iff-subset-carries, reading-vector, rectifiable-of-carries, shared-none-iff}
-use Rattle.engine.proofs.Laws.Best.{chosen-sound, chosen-least}
+use Rattle.engine.proofs.Laws.Best.{better-neither, chosen-sound, chosen-least, chosen-fewest}
 use Rattle.engine.proofs.Laws.Loop.{rectifiable-iff, listed-of-none, listed-of-some, unlisted-of-some, stuck-iff, stuck-none-iff}
 use Rattle.engine.proofs.Laws.Notes.{rectify-iff}
 use Rattle.engine.proofs.Laws.Tree.{same-iff-bits}
@@ -88,6 +88,20 @@ pub least-cost : LeastCost
 least-cost j is e ks m c =
     let p = patch-chosen j is e in
     rw (p .2) (chosen-least j ks m (sound-of-carries j ks c) .0)
+
+pub sound-exactly : SoundExactly
+sound-exactly j is = (carries-of-sound j is, sound-of-carries j is)
+
+pub wins-ties : WinsTies
+wins-ties j is e ks m s =
+    let p = patch-chosen j is e in
+    let n : better j ks is ≡ false = rw (p .2) (chosen-least j ks m s .1) in
+    ⊎-elim inr (λ b. inl (better-neither j ks is n b)) (true-or-false (better j is ks))
+
+pub fewest-gates : FewestGates
+fewest-gates j is e ks m s c =
+    let p = patch-chosen j is e in
+    rw (p .2) (chosen-fewest j ks m s (rw (p .2) at c))
 
 pub unfixable-exactly : UnfixableExactly
 unfixable-exactly j x = (

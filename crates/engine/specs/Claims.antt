@@ -13,6 +13,8 @@
 --   EveryTable              when a table does, for every table over any nets
 --   Readings                a reading does not depend on the vector, so it is the one that the driven circuit has
 --   PatchExactly, PatchTable, LeastCost     a patch is given exactly when there is a table; it is one; none costs less
+--   SoundExactly            a support is sound exactly when it carries a table
+--   FewestGates, WinsTies   of the sound supports that cost as much none has fewer patch gates; the one given comes before every other (card 5)
 --   UnfixableExactly, BlindExactly          the two other verdicts
 --   HalvesEqual             when the test of a column's halves says equal
 --   FittedOutputs, FittedGood               the outputs of the netlist that fit gives, for any accepted sheet, and that it is one
@@ -57,12 +59,12 @@ use Rattle.engine.specs.Choice.{any, same}
 use Rattle.engine.specs.Eval.{bit, bits, numberOf, oldValues, oldOutputs, goldenOutputs}
 use Rattle.engine.specs.Ternary.{unknown, ternaryValue, ternaryTable, entry, Completes, CompletesAll, Possible, PossibleOf}
 use Rattle.engine.specs.Rectify.{rectifies, rectifiable, vectorLoop}
-use Rattle.engine.specs.Support.{reading, drivenBy, Carries, shared, tableOf, candidateNets, subsets, cost}
+use Rattle.engine.specs.Support.{reading, drivenBy, Carries, shared, sound, tableOf, candidateNets, subsets, cost, patchGates, better}
 use Rattle.engine.specs.Verdict.{patch, unfixable, blind, ruling, fourBytes, judgeSheet, chooseSheet, longestJudge, longestChoose, judgeNumber, judgedBytes, chooseNumber, chosenBytes}
 use Rattle.engine.specs.Reply.{judgementFields, declinedJudge, judgeReply, choiceFields, declinedChoose, chooseReply, comparisonOf, compareNumber, compareReply, fitNumber, fitReply, fittedBuffer}
 use Rattle.engine.specs.declared.comparing.Comparison.the-variants as Comparison
 use Rattle.engine.specs.Tree.{column}
-use Rattle.engine.specs.Fit.{fitted, fittedBytes, fits, longestFit}
+use Rattle.engine.specs.Fit.{trees, fitted, fittedBytes, fits, longestFit}
 
 abbrev pub In : {A : Type 0} → A → List A → Type 0
 In x xs = List·Memᴰ x xs
@@ -164,6 +166,23 @@ abbrev pub LeastCost : Type 0
 LeastCost =
     (j : Job) (is : List ℕ) → ruling j ≡ patch is
     → (ks : List ℕ) → In ks (subsets (candidateNets j)) → Carries j ks → cost j is ≤ cost j ks
+
+-- Sound supports (01) are those that carry a table (demand 3).
+abbrev pub SoundExactly : Type 0
+SoundExactly = (j : Job) (is : List ℕ) → (sound j is ≡ true) ↔ Carries j is
+
+-- Card 5: "no other sound least-cost support, with document 01's table for it, has fewer patch gates".
+abbrev pub FewestGates : Type 0
+FewestGates =
+    (j : Job) (is : List ℕ) → ruling j ≡ patch is
+    → (ks : List ℕ) → In ks (subsets (candidateNets j)) → sound j ks ≡ true → cost j ks ≡ cost j is
+    → patchGates j is ≤ patchGates j ks
+
+-- .. "wins; then the old two tie rules follow": the support given comes, by the four steps, before every other sound one.
+abbrev pub WinsTies : Type 0
+WinsTies =
+    (j : Job) (is : List ℕ) → ruling j ≡ patch is
+    → (ks : List ℕ) → In ks (subsets (candidateNets j)) → sound j ks ≡ true → (ks ≡ is) ⊎ (better j is ks ≡ true)
 
 -- "An unfixable input is given exactly when there is one, and it is the smallest."
 abbrev pub UnfixableExactly : Type 0
@@ -365,15 +384,19 @@ pub record NoteIn (j : Job) (is : List ℕ) (r n : ℕ) : Type 0 where
 
 -- Demand 3: "The table given is then such a one, the cost given is its nets' prices added up, and no set of priced nets that
 -- carries such a table costs less." The table given is the one in the reply buffer. Document 01: it "holds an entry below 2^m for
--- each of the 2^k readings".
+-- each of the 2^k readings", the smallest vectors that do. Card 5: no other sound support that costs as much, "with document 01's table for it,
+-- has fewer patch gates"; those of the patch given are the trees that fit puts in for its support and table.
 pub record PatchIn (j : Job) (c : ℕ) (p : Patch) : Type 0 where
   pub nets : In (p .support) (subsets (candidateNets j))
   pub entries : length (p .table) ≡ 2 ^ length (p .support)
   pub below : (r : ℕ) → r < length (p .table) → getD (p .table) r 0 < 2 ^ j .targets
   pub equal : (x : ℕ) → x < 2 ^ j .inputs → oldOutputs j x (drivenBy j (p .support) (p .table) x) ≡ goldenOutputs j x
+  pub smallest : p .table ≡ tableOf j (p .support)
   pub given : p .cost ≡ c
   pub sum : c ≡ cost j (p .support)
   pub least : (ks : List ℕ) → In ks (subsets (candidateNets j)) → Carries j ks → c ≤ cost j ks
+  pub fewest : (ks : List ℕ) → In ks (subsets (candidateNets j)) → Carries j ks → cost j ks ≡ c
+      → length (trees j (p .support) (p .table) .gates) ≤ length (trees j ks (tableOf j ks) .gates)
   pub rows : length (p .notes) ≡ length (p .table)
   pub notes : (r : ℕ) → r < length (p .notes) → NoteIn j (p .support) r (getD (p .notes) r 0)
 

@@ -1,4 +1,4 @@
--- Supports, readings, tables and notes (document 01, "Verdicts"; card 1 of document 02). A support is an ascending list of candidate nets. Assumes nothing.
+-- Supports, readings, tables and notes (document 01, "Verdicts"; cards 1 and 5 of document 02). A support is an ascending list of candidate nets. Assumes nothing.
 --
 --   reading j is x        the reading that input x gives of the nets is: their values in the old circuit, the first in bit 0.
 --                         No target leads to them, so the vector has no say; it is 0 here
@@ -17,9 +17,10 @@
 --   candidateNets j       the nets of all candidates
 --   subsets is            all sets of nets of the list is, each ascending as is
 --   cost j is             the sum of the weights of the nets is
+--   patchGates j is       how many gates the trees of all targets have over the table of the nets is: those that fit puts in
 --   earlier is ks         is comes before ks at the first place where the lists differ
---   better j is ks        the support is is chosen before ks: lower cost, then fewer nets, then the smaller net number at the
---                         first place where the lists differ
+--   better j is ks        the support is is chosen before ks: lower cost, then fewer patch gates, then fewer nets, then the smaller
+--                         net number at the first place where the lists differ
 --   bestOf j is kss       of is and the lists kss, the one that is chosen before the others
 --   chosen j              the chosen support: the best sound one. It starts from all candidates together, which are sound
 --                         where any set of them is
@@ -36,6 +37,7 @@ use Rattle.records.specs.Sheet.{costOf}
 use mathlib.Core.Option.{Option}
 use Rattle.engine.specs.Choice.{keep, first, found, orZero}
 use Rattle.engine.specs.Eval.{numberOf, allInputs, allVectors, oldValues}
+use Rattle.engine.specs.Fit.{trees}
 use Rattle.engine.specs.Rectify.{rectifies}
 
 unfoldable pub reading : Job → List ℕ → ℕ → ℕ
@@ -92,6 +94,9 @@ subsets (i ∷ is) = map (λ (ks : List ℕ). i ∷ ks) (subsets is) ++ subsets 
 unfoldable pub cost : Job → List ℕ → ℕ
 cost j is = costOf (j .candidates) is
 
+unfoldable pub patchGates : Job → List ℕ → ℕ
+patchGates j is = length (trees j is (tableOf j is) .gates)
+
 unfoldable pub earlier : List ℕ → List ℕ → Bool
 earlier [] ks = false
 earlier (i ∷ is) [] = false
@@ -100,7 +105,10 @@ earlier (i ∷ is) (k ∷ ks) = ltb i k || (eqb i k && earlier is ks)
 unfoldable pub better : Job → List ℕ → List ℕ → Bool
 better j is ks =
     ltb (cost j is) (cost j ks)
-    || (eqb (cost j is) (cost j ks) && (ltb (length is) (length ks) || (eqb (length is) (length ks) && earlier is ks)))
+    || (eqb (cost j is) (cost j ks)
+    && (ltb (patchGates j is) (patchGates j ks)
+    || (eqb (patchGates j is) (patchGates j ks)
+    && (ltb (length is) (length ks) || (eqb (length is) (length ks) && earlier is ks)))))
 
 unfoldable pub bestOf : Job → List ℕ → List (List ℕ) → List ℕ
 bestOf j is [] = is

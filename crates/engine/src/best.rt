@@ -2,22 +2,34 @@
 // input giving reading r of its nets.
 ghost use mathlib.Core.Path.{_≡_};
 ghost use mathlib.Core.Bool.{true};
-ghost use Prim.Native.Nat.{_-_, _^_, _≤_, _<_};
+ghost use Prim.Native.Nat.{ℕ, _-_, _≤_, _<_};
+ghost use mathlib.Core.List.{List};
 ghost use lib.ListN.{length, take};
 ghost use Rattle.records.specs.Job.{Job};
-ghost use Rattle.engine.specs.Support.{sound, candidateNets};
+ghost use Rattle.engine.specs.Support.{sound, candidateNets, patchGates};
 ghost use Rattle.records.specs.Claims.{Below};
 ghost use Rattle.engine.specs.Inner.Plan.{NetsRead};
-ghost use Rattle.engine.specs.Inner.Best.{picked, total, lowFirst, before, PickedNets, FirstEmpty, SetsOf, LeftOut, OpenPick, WeightsOf, PickOf, OpenOf, BestFrom, HeldSupport, Choosable, ChosenOf};
+ghost use Rattle.engine.specs.Inner.Best.{picked, total, lowFirst, before, PickedNets, FirstEmpty, SetsOf, LeftOut, OpenPick, PricedRoom, PricedOf, PickOf, CountedOf, OpenOf, BestFrom, HeldSupport, Choosable, ChosenOf};
 use super::limits::READINGS;
+use super::table::fill_table;
+use super::table::reading_count;
+use super::tree::trees_size;
 use records::CANDIDATES;
 use records::Support;
 
-// A set of candidates, bit i for candidate i, its cost, and how many nets it has.
+// The priced nets that a support is chosen from, with their weights, and how many targets there are.
+pub struct Priced {
+    pub count: usize,
+    pub weights: [u16; CANDIDATES],
+    pub targets: usize,
+}
+
+// A set of candidates, bit i for candidate i, its cost, how many nets it has, and how many gates its patch, 0 until they are counted.
 pub struct Pick {
     pub set: usize,
     pub cost: u32,
     pub len: usize,
+    pub gates: usize,
 }
 
 // The sets of a support with one net fewer, and whether none is empty; the places from the first empty one on are not filled.
@@ -31,14 +43,6 @@ pub struct Chosen {
     pub support: Support,
     pub cost: u32,
     pub sets: [u16; READINGS],
-}
-
-// How many readings k nets have.
-pub(super) fn reading_count(k: usize) -> usize
-    requires { ⌜ k ≤ 10 ⌝ }
-    ensures { λ r. ⌜ r ≡ 2 ^ k ⌝ }
-{
-    1usize << k
 }
 
 // The smallest place below count whose set is empty, else count: the blind reading, or that all candidates are sound.
@@ -152,8 +156,8 @@ fn low_first(a: usize, b: usize) -> bool
     false
 }
 
-// Whether a is chosen before b: lower cost, then fewer nets, then the smaller net at the first place where they differ. Candidates
-// ascend, so that is the lowest one in which the sets differ.
+// Whether a is chosen before b: lower cost, then fewer gates, then fewer nets, then the smaller net at the first place where they
+// differ. Candidates ascend, so that is the lowest one in which the sets differ.
 fn precedes(a: Pick, b: Pick) -> bool
     ensures { λ r. ⌜ r ≡ before a b ⌝ }
 {
@@ -161,6 +165,12 @@ fn precedes(a: Pick, b: Pick) -> bool
         return true;
     }
     if b.cost < a.cost {
+        return false;
+    }
+    if a.gates < b.gates {
+        return true;
+    }
+    if b.gates < a.gates {
         return false;
     }
     if a.len < b.len {
@@ -172,29 +182,86 @@ fn precedes(a: Pick, b: Pick) -> bool
     low_first(a.set, b.set)
 }
 
+// How many gates the patch of a support of len nets has whose sets these are: the trees of all targets over its table. At most
+// targets * (len + 1) * 2 ^ len entries are read, five times each.
+fn patch_gates(sets: [u16; READINGS], len: usize, targets: usize) -> usize
+    requires { ⌜ (len ≤ 10) × (targets ≤ 4) ⌝ }
+    ensures { λ r. ⌜ ((j : Job) (is : List ℕ) → SetsOf j is sets → length is ≡ len → j .targets ≡ targets → r ≡ patchGates j is) ⌝ }
+{
+    let table = fill_table(sets, len);
+    trees_size(&table, len, targets)
+}
+
+// The pick, with its gates counted. All are the sets of all priced nets.
+fn counted(priced: Priced, all: &[u16; READINGS], pick: Pick) -> Pick
+    requires { ⌜ PricedRoom priced × (pick .len ≤ 10) ⌝ }
+    ensures { λ r. ⌜ (r .set ≡ pick .set) × (r .len ≡ pick .len) ⌝ }
+    ensures { λ r. ⌜ ((j : Job) → PricedOf j priced (now (all .entry)) → PickOf j pick → CountedOf j r) ⌝ }
+{
+    if 0 < pick.gates {
+        return pick;
+    }
+    let sets = sets_of(*all, priced.count, pick.set);
+    Pick {
+        set: pick.set,
+        cost: pick.cost,
+        len: pick.len,
+        gates: patch_gates(sets, pick.len, priced.targets),
+    }
+}
+
+// The one that is chosen of best and a support that has these sets. It costs no more here, and gates are counted only where both cost
+// the same. All are the sets of all priced nets.
+fn better_of(
+    priced: Priced,
+    all: &[u16; READINGS],
+    sets: [u16; READINGS],
+    best: Pick,
+    from: Pick,
+) -> Pick
+    requires { ⌜ PricedRoom priced × OpenPick 0 from × (best .len ≤ 10) ⌝ }
+    ensures { λ r. ⌜ r .len ≤ 10 ⌝ }
+    ensures { λ r. ⌜ ((j : Job) → PricedOf j priced (now (all .entry)) → PickOf j best → OpenOf j 0 from sets
+        → BestFrom j 0 (from .set) best r) ⌝ }
+{
+    if from.cost < best.cost {
+        return from;
+    }
+    let was = counted(priced, all, best);
+    let now = Pick {
+        set: from.set,
+        cost: from.cost,
+        len: from.len,
+        gates: patch_gates(sets, from.len, priced.targets),
+    };
+    if precedes(now, was) {
+        return now;
+    }
+    was
+}
+
 // The one that is chosen of best and all sound sets of candidates which have, from place i on, those in from.set, at from.cost. The
 // support of these and all i candidates before them has from.len nets; it is sound, and sets are its sets. A support that costs
 // more than best is not looked into, nor one that is not sound, since no part of it is. With the calls that it makes it takes at
-// most 3 ^ i * 2 ^ (from.len - i) steps.
+// most 3 ^ i * 2 ^ (from.len - i) steps, and counts gates where costs are equal.
 fn best_from(
-    weights: [u16; CANDIDATES],
+    priced: Priced,
+    all: &[u16; READINGS],
     sets: [u16; READINGS],
     best: Pick,
     from: Pick,
     i: usize,
 ) -> Pick
-    requires { ⌜ OpenPick i from ⌝ }
-    ensures { λ r. ⌜ ((j : Job) → WeightsOf j weights → PickOf j best → OpenOf j i from sets
+    requires { ⌜ PricedRoom priced × OpenPick i from × (best .len ≤ 10) ⌝ }
+    ensures { λ r. ⌜ r .len ≤ 10 ⌝ }
+    ensures { λ r. ⌜ ((j : Job) → PricedOf j priced (now (all .entry)) → PickOf j best → OpenOf j i from sets
         → BestFrom j i (from .set) best r) ⌝ }
 {
     if best.cost < from.cost {
         return best;
     }
     if i == 0 {
-        if precedes(from, best) {
-            return from;
-        }
-        return best;
+        return better_of(priced, all, sets, best, from);
     }
     let place = i - 1;
     let mut found = best;
@@ -204,44 +271,46 @@ fn best_from(
             set: 2 * from.set,
             cost: from.cost,
             len: from.len - 1,
+            gates: 0,
         };
         let next = left.sets;
-        found = best_from(weights, next, best, fewer, place);
+        found = best_from(priced, all, next, best, fewer, place);
     }
     let kept = Pick {
         set: 2 * from.set + 1,
-        cost: from.cost + weights[place] as u32,
+        cost: from.cost + priced.weights[place] as u32,
         len: from.len,
+        gates: 0,
     };
-    best_from(weights, sets, found, kept, place)
+    best_from(priced, all, sets, found, kept, place)
 }
 
-// The chosen support of the candidates that stand in places: the best sound one. For k candidates it takes at most 3 ^ k steps, and
-// evaluates no gate.
-pub(super) fn best_support(
-    nets: [u16; CANDIDATES],
-    weights: [u16; CANDIDATES],
-    candidates: usize,
-    sets: [u16; READINGS],
-) -> Chosen
-    requires { ⌜ candidates ≤ 10 ⌝ }
+// The chosen support of the priced nets that stand in places: the best sound one. For k of them it takes at most 3 ^ k steps, and
+// evaluates no gate; where supports cost the same, as many more as the entries of their tables that the count of their gates reads.
+pub(super) fn best_support(nets: [u16; CANDIDATES], priced: Priced, sets: [u16; READINGS]) -> Chosen
+    requires { ⌜ PricedRoom priced ⌝ }
     ensures { λ r. ⌜ HeldSupport (r .support) × (Below 1024 nets → NetsRead (r .support .nets) (r .support .len)) ⌝ }
-    ensures { λ r. ⌜ ((j : Job) → Choosable j candidates nets weights sets → ChosenOf j r) ⌝ }
+    ensures { λ r. ⌜ ((j : Job) → Choosable j nets priced sets → ChosenOf j r) ⌝ }
 {
+    let count = priced.count;
+    let weights = priced.weights;
+    let start = sets;
     let all = Pick {
-        set: reading_count(candidates) - 1,
-        cost: sum_weights(weights, candidates),
-        len: candidates,
+        set: reading_count(count) - 1,
+        cost: sum_weights(weights, count),
+        len: count,
+        gates: 0,
     };
     let none = Pick {
         set: 0,
         cost: 0,
-        len: candidates,
+        len: count,
+        gates: 0,
     };
-    let best = best_from(weights, sets, all, none, candidates);
-    let found = sets_of(sets, candidates, best.set);
+    let best = best_from(priced, &sets, start, all, none, count);
+    let found = sets_of(sets, count, best.set);
     Chosen {
-        support: pick_support(nets, candidates, best.set),
+        support: pick_support(nets, count, best.set),
         cost: best.cost,
         sets: found,
     }

@@ -14,9 +14,9 @@ ghost use Rattle.engine.specs.Inner.Best.{HeldSupport, ChosenOf};
 ghost use Rattle.engine.specs.Inner.Given.{Unseen};
 ghost use Rattle.engine.specs.Inner.Choosing.{ChosenJob};
 use super::best::Chosen;
+use super::best::Priced;
 use super::best::best_support;
 use super::best::first_empty;
-use super::best::reading_count;
 use super::given::unseen_readings;
 use super::limits::LISTED;
 use super::limits::LONGEST_CHOOSE;
@@ -28,6 +28,7 @@ use super::sheet::put_blind;
 use super::sheet::put_patch;
 use super::table::fill_notes;
 use super::table::fill_table;
+use super::table::reading_count;
 use records::Check;
 use records::JobParts;
 use records::load;
@@ -116,7 +117,12 @@ fn choose_job(job: JobParts, reply: &mut [u8]) -> ChooseReply
     if reading < count {
         return rule_blind(reading, reply);
     }
-    let best = best_support(nets, weights, candidates, sets);
+    let priced = Priced {
+        count: candidates,
+        weights,
+        targets: miter.targets,
+    };
+    let best = best_support(nets, priced, sets);
     let support = best.support;
     let left = best.sets;
     let unseen = unseen_readings(miter, support, left);
@@ -129,7 +135,8 @@ fn choose_job(job: JobParts, reply: &mut [u8]) -> ChooseReply
 // target with the fewest leads to, for every fourth vector and each gate that another leads to, and so on; an evaluation takes 16
 // words. Noting a block's inputs takes some 1,000 steps. Partial evaluation is tried on each 2 ^ 15 inputs: one gate evaluation a gate
 // on 0, 1 and not yet known, which may spare all their blocks. The choice among the sets of k candidates leaves out one net after the
-// other and stops at unsound and at too dear sets: at most 3 ^ k steps, whatever the gates are. The notes cost, for each block until
+// other and stops at unsound and at too dear sets: at most 3 ^ k steps, whatever the gates are, and as many more where supports cost
+// the same and the gates of their patches are counted. The notes cost, for each block until
 // all readings of the support are seen, one gate evaluation a gate that leads to it, and nothing where each of these readings leaves a
 // vector out.
 pub fn choose(job: &[u8], reply: &mut [u8]) -> ChooseReply

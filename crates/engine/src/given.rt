@@ -13,7 +13,6 @@ ghost use Rattle.engine.specs.Inner.Plan.{NetsRead, PlanHeld};
 ghost use Rattle.engine.specs.Inner.Search.{BlockRange};
 ghost use Rattle.engine.specs.Inner.Best.{SetsOf};
 ghost use Rattle.engine.specs.Inner.Given.{MaybeUnseen, NextUnseen, BlockSeen, Unseen, AllSeen};
-use super::best::reading_count;
 use super::leaves::block_inputs;
 use super::leaves::read_rows;
 use super::limits::LISTED;
@@ -26,6 +25,7 @@ use super::plan::Plan;
 use super::plan::reads_of;
 use super::search::all_vectors;
 use super::search::eval_block;
+use super::table::reading_count;
 use records::Support;
 
 // A 1 for each reading of len nets whose set has all vectors: the only ones that no input may give, since an input leaves a vector out

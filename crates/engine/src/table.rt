@@ -1,10 +1,17 @@
 // The table of a support and its notes, from the sets of vectors of its readings.
 ghost use mathlib.Core.Path.{_≡_};
-ghost use Prim.Native.Nat.{_≤_};
+ghost use Prim.Native.Nat.{_^_, _≤_};
 ghost use Rattle.engine.specs.Inner.Table.{TableFilled, noteFrom, NotesFilled};
-use super::best::reading_count;
 use super::limits::READINGS;
 use super::list::lowest_of;
+
+// How many readings k nets have.
+pub(super) fn reading_count(k: usize) -> usize
+    requires { ⌜ k ≤ 10 ⌝ }
+    ensures { λ r. ⌜ r ≡ 2 ^ k ⌝ }
+{
+    1usize << k
+}
 
 // The table of a support of len nets that has these sets: at each reading the smallest vector that rectifies every input giving it,
 // 0 where there is none. It takes 2 ^ len turns, and evaluates no gate.

@@ -11,8 +11,8 @@ ghost use Rattle.records.specs.Gate.{gateOf};
 ghost use Rattle.engine.specs.Tree.{column, joinOf, buildsLow, buildsHigh, joinGates, tree, treeSize};
 ghost use Rattle.engine.specs.Inner.Tree.{Nets, GateRoom, GatesPut, columnPart, TablePart, treeStart, joinSize, JoinRoom, treesSize, TreesPut};
 ghost use Rattle.engine.specs.declared.tree.Join.the-variants.{Both};
-use super::best::reading_count;
 use super::packed::pack;
+use super::table::reading_count;
 use records::CANDIDATES;
 use records::GATES;
 

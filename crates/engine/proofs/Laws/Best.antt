@@ -1,6 +1,6 @@
 -- Laws of the choice in specs/Support. better is a strict order in which of two lists that differ one is better, so bestOf gives
--- one of its lists than which none is better; hence the chosen support is a sound one, no sound one costs less, and it is the only
--- one than which no sound one is better. Assumes nothing.
+-- one of its lists than which none is better; hence the chosen support is a sound one, no sound one costs less, none that costs as
+-- much has fewer gates, and it is the only one than which no sound one is better. Assumes nothing.
 use Prim.Native.Nat.{ℕ, _≤_, _<_}
 use mathlib.Core.Path.{_≡_, refl, sym, _∙_}
 use mathlib.Core.Logic.{_⊎_, inl, inr, ⊎-elim}
@@ -13,7 +13,7 @@ use borrow.Author.Tests.{ltb-true, ltb-false, eqb-true, lt-ltb, eq-eqb}
 use Rattle.records.specs.Job.{Job}
 use Rattle.records.proofs.Laws.Bytes.{and-left, and-right, and-both, false-of}
 use Rattle.engine.specs.Choice.{keep}
-use Rattle.engine.specs.Support.{sound, candidateNets, subsets, cost, earlier, better, bestOf, chosen}
+use Rattle.engine.specs.Support.{sound, candidateNets, subsets, cost, patchGates, earlier, better, bestOf, chosen}
 use Rattle.engine.proofs.Laws.Choice.{not-both, true-or-false, or-right, or-cases, mem-keep}
 use Rattle.engine.proofs.Laws.Support.{subsets-self}
 
@@ -60,13 +60,16 @@ not-below : (a b : ℕ) (t : Bool) → then a b t ≡ false → b ≤ a
 not-below a b t p =
     ⊎-elim (λ l. absurd (not-both (then-lt a b t (ltb-true a b l)) p)) (ltb-false a b) (true-or-false (ltb a b))
 
+then-rest : (a b : ℕ) (t : Bool) → then a b t ≡ false → a ≡ b → t ≡ false
+then-rest a b t p e = false-of t (λ h. not-both (then-eq a b t e h) p)
+
 -- the numbers are equal where neither comes first
 then-neither : (a b : ℕ) (t u : Bool) → then a b t ≡ false → then b a u ≡ false → (a ≡ b) × (t ≡ false) × (u ≡ false)
 then-neither a b t u p q =
     let l = not-below a b t p in
     let m = not-below b a u q in
     let e : a ≡ b = omega arith in
-    (e, false-of t (λ h. not-both (then-eq a b t e h) p), false-of u (λ h. not-both (then-eq b a u (sym e) h) q))
+    (e, then-rest a b t p e, then-rest b a u q (sym e))
 
 -- ---- the order
 
@@ -111,26 +114,49 @@ smaller-neither is ks p q =
     earlier-neither is ks (n .0) (n .1) (n .2)
 
 module _ (j : Job) where
+  -- fewer patch gates, then fewer nets, then the smaller net number
+  abbrev lighter : List ℕ → List ℕ → Bool
+  lighter is ks = then (patchGates j is) (patchGates j ks) (smaller is ks)
+
+  lighter-irrefl : (is : List ℕ) → lighter is is ≡ false
+  lighter-irrefl is = then-irrefl (patchGates j is) (smaller is is) (smaller-irrefl is)
+
+  lighter-trans : (is ks ls : List ℕ) → lighter is ks ≡ true → lighter ks ls ≡ true → lighter is ls ≡ true
+  lighter-trans is ks ls =
+      then-trans (patchGates j is) (patchGates j ks) (patchGates j ls) (smaller is ks) (smaller ks ls) (smaller is ls)
+      (smaller-trans is ks ls)
+
+  lighter-neither : (is ks : List ℕ) → lighter is ks ≡ false → lighter ks is ≡ false → is ≡ ks
+  lighter-neither is ks p q =
+      let n = then-neither (patchGates j is) (patchGates j ks) (smaller is ks) (smaller ks is) p q in
+      smaller-neither is ks (n .1) (n .2)
+
   pub better-irrefl : (is : List ℕ) → better j is is ≡ false
   unfolding better
-  better-irrefl is = then-irrefl (cost j is) (smaller is is) (smaller-irrefl is)
+  better-irrefl is = then-irrefl (cost j is) (lighter is is) (lighter-irrefl is)
 
   pub better-trans : (is ks ls : List ℕ) → better j is ks ≡ true → better j ks ls ≡ true → better j is ls ≡ true
   unfolding better
   better-trans is ks ls =
-      then-trans (cost j is) (cost j ks) (cost j ls) (smaller is ks) (smaller ks ls) (smaller is ls) (smaller-trans is ks ls)
+      then-trans (cost j is) (cost j ks) (cost j ls) (lighter is ks) (lighter ks ls) (lighter is ls) (lighter-trans is ks ls)
 
   -- of two lists that differ, one is better
   pub better-neither : (is ks : List ℕ) → better j is ks ≡ false → better j ks is ≡ false → is ≡ ks
   unfolding better
   better-neither is ks p q =
-      let n = then-neither (cost j is) (cost j ks) (smaller is ks) (smaller ks is) p q in
-      smaller-neither is ks (n .1) (n .2)
+      let n = then-neither (cost j is) (cost j ks) (lighter is ks) (lighter ks is) p q in
+      lighter-neither is ks (n .1) (n .2)
 
   -- what is not better costs no less
   pub cost-of-not-better : (is ks : List ℕ) → better j is ks ≡ false → cost j ks ≤ cost j is
   unfolding better
-  cost-of-not-better is ks = not-below (cost j is) (cost j ks) (smaller is ks)
+  cost-of-not-better is ks = not-below (cost j is) (cost j ks) (lighter is ks)
+
+  -- .. and where it costs the same, it has no fewer gates
+  gates-of-not-better : (is ks : List ℕ) → better j is ks ≡ false → cost j is ≡ cost j ks → patchGates j ks ≤ patchGates j is
+  unfolding better
+  gates-of-not-better is ks p e =
+      not-below (patchGates j is) (patchGates j ks) (smaller is ks) (then-rest (cost j is) (cost j ks) (lighter is ks) p e)
 
   -- ---- the best of a list
 
@@ -216,6 +242,11 @@ module _ (j : Job) where
       let kss = keep (sound j) (subsets is) in
       let n : Mem ks (is ∷ kss) = there (mem-keep (sound j) (subsets is) ks .1 (m, h)) in
       (bestOf-cost j is kss ks n, bestOf-least j is kss ks n)
+
+  -- .. and none that costs as much has fewer gates
+  pub chosen-fewest : (ks : List ℕ) → Mem ks (subsets (candidateNets j)) → sound j ks ≡ true → cost j ks ≡ cost j (chosen j)
+      → patchGates j (chosen j) ≤ patchGates j ks
+  chosen-fewest ks m h e = gates-of-not-better j ks (chosen j) (chosen-least ks m h .1) e
 
   -- .. so it is the only one than which none is better
   pub chosen-unique : sound j (candidateNets j) ≡ true

@@ -9,7 +9,7 @@ use native.Mathlib.Nat.{add-zero, zero-add}
 use native.Mathlib.Omega.{arith}
 use borrow.Author.Tests.{eq-eqb, ne-eqb, ltb-true, ltb-false, lt-ltb, le-ltb}
 use lib.Dec.{eqb, ltb}
-use lib.ListN.{length, getD, take, drop, length-append, length-map, List·getD-append}
+use lib.ListN.{length, getD, take, drop, length-append, List·getD-append}
 use lib.Seq.{length-take-le, getD-take, getD-drop, getD-append-add}
 use Rattle.records.specs.Bytes.{upFrom, placed}
 use Rattle.records.specs.Gate.{Gate, operands}
@@ -33,7 +33,7 @@ use Rattle.engine.proofs.Laws.FitNets.{NetCase, input, target, gate, ne
 use Rattle.engine.proofs.Laws.FitNets.{number-input, number-target, number-free, number-led, number-support}
 use Rattle.engine.proofs.Laws.FitTree.{length-nets, trees-below}
 use Rattle.engine.proofs.Laws.Run.{keep-ext, keep-all}
-use Rattle.engine.proofs.Laws.Tree.{gates-put-append, gates-put-same, length-trees}
+use Rattle.engine.proofs.Laws.Tree.{gates-put-append, gates-put-same, length-patch}
 
 -- ---- keep
 
@@ -302,10 +302,7 @@ module _ {o : OldSide} {s : Support} {table : List ℕ} (h : Fittable o s table)
       rw (getD-take (s .len) (s .nets) i 0 l) at (let p : getD support i 0 < 1024 = omega (arith, m .0, net-most) in p)
 
   pub trees-count : length (trees job support entries .gates) ≡ treesSize (o .targets) 0 (s .len) table
-  unfolding trees
-  trees-count =
-      length-trees (o .targets) 0 (s .len) _ (map (newFreeNet job) support) table
-      (length-map support (newFreeNet job) ∙ length-take-le (s .len) (s .nets) (h .long))
+  trees-count = length-patch job support table (length-take-le (s .len) (s .nets) (h .long))
 
   pub free-room : {cs : List ℕ} → length cs ≡ 400 → GateRoom (o .inputs) (0 + length (withMark o 0)) cs
   free-room l =

@@ -17,11 +17,12 @@ use Rattle.records.specs.Job.{Job, Candidate}
 use Rattle.records.specs.Refusal.{ascending}
 use Rattle.records.proofs.Laws.Bytes.{false-of}
 use Rattle.records.specs.declared.sheet.Support.{Support}
-use Rattle.engine.specs.Support.{sound, candidateNets, cost, earlier, better, chosen}
-use Rattle.engine.specs.Inner.Best.{picked, total, lowFirst, before, openAt, candidateWeights, SetsOf, LeftOut, OpenPick, WeightsOf, PickOf, OpenOf, BestFrom, PickedNets, HeldSupport, Choosable, ChosenOf}
+use Rattle.engine.specs.Support.{sound, candidateNets, cost, patchGates, earlier, better, chosen}
+use Rattle.engine.specs.Inner.Best.{picked, total, lowFirst, before, openAt, candidateWeights, SetsOf, LeftOut, OpenPick, PricedRoom, PricedOf, PickOf, CountedOf, OpenOf, BestFrom, PickedNets, HeldSupport, Choosable, ChosenOf}
 use Rattle.engine.specs.declared.best.Chosen.{Chosen}
 use Rattle.engine.specs.declared.best.Left.{Left}
 use Rattle.engine.specs.declared.best.Pick.{Pick}
+use Rattle.engine.specs.declared.best.Priced.{Priced}
 use Rattle.engine.proofs.Laws.Best.{better-irrefl, better-trans, better-neither, chosen-unique}
 use Rattle.engine.proofs.Laws.Choice.{not-both, true-or-false}
 use Rattle.engine.proofs.Laws.Picked.{length-picked-le, picked-all, picked-subset, subset-picked, total-from-le, open-none, open-all, open-among, open-suc, open-in, open-out, total-in, total-out, above-first, low-earlier, cost-picked, nets-from, weights-from, in-or-out}
@@ -47,7 +48,7 @@ module _ {i : ℕ} {p : Pick} (h : OpenPick i p) where
         let l : 10 - q ≡ suc (10 - i) = omega (arith, h .places, h .few) in
         rw l (pow-suc 2 (10 - i))
 
-    pub fewer-open : OpenPick q (record { set = 2 * p .set; cost = p .cost; len = p .len - 1 })
+    pub fewer-open : OpenPick q (record { set = 2 * p .set; cost = p .cost; len = p .len - 1; gates = 0 })
     fewer-open =
         record {
           places = omega (arith, h .places);
@@ -56,7 +57,7 @@ module _ {i : ℕ} {p : Pick} (h : OpenPick i p) where
           cost = omega (arith, h .cost, h .places, h .few);
         }
 
-    pub kept-room : (w : ℕ) → w < 65536 → OpenPick q (record { set = 2 * p .set + 1; cost = p .cost + w; len = p .len })
+    pub kept-room : (w : ℕ) → w < 65536 → OpenPick q (record { set = 2 * p .set + 1; cost = p .cost + w; len = p .len; gates = 0 })
     kept-room w l =
         record {
           places = omega (arith, h .places);
@@ -106,20 +107,39 @@ module _ (j : Job) where
   sound-open : (i s : ℕ) → sound j (at s) ≡ true → sound j (openAt (candidateNets j) i (s / 2 ^ i)) ≡ true
   sound-open i s e = sound-mono j (at s) (openAt (candidateNets j) i (s / 2 ^ i)) (open-among (candidateNets j) i s) e
 
+  -- ---- where gates are counted
+
+  -- a pick with gates has had them counted
+  pub counted-before : {p : Pick} → PickOf j p → 0 < p .gates → CountedOf j p
+  counted-before h l =
+      record { pick = h; gates = ⊎-elim (λ z. let f : ⊥ = omega arith in absurd f) (λ e. e) (h .gates) }
+
+  pub counted-now : {p : Pick} {n : ℕ} → PickOf j p → n ≡ patchGates j (at (p .set))
+      → CountedOf j (record { set = p .set; cost = p .cost; len = p .len; gates = n })
+  counted-now h e =
+      record { pick = record { set = h .set; len = h .len; cost = h .cost; sound = h .sound; gates = inr e }; gates = e }
+
   -- ---- where the search ends
 
-  module _ {ws : List ℕ} (w : WeightsOf j ws) where
-    -- a pick is chosen before another where its support is
-    before-better : {a b : Pick} → PickOf j a → PickOf j b → before a b ≡ better j (at (a .set)) (at (b .set))
+  pub closed-sets : {p : Pick} {ss : List ℕ} → OpenOf j 0 p ss → SetsOf j (at (p .set)) ss
+  closed-sets {p} h = rw (← open-none (candidateNets j) (p .set)) (h .sets)
+
+  module _ {v : Priced} {all : List ℕ} (w : PricedOf j v all) where
+    -- a counted pick is chosen before another where its support is
+    before-better : {a b : Pick} → CountedOf j a → CountedOf j b → before a b ≡ better j (at (a .set)) (at (b .set))
     unfolding before better
     before-better {a} {b} p q =
         let x = at (a .set) in
         let y = at (b .set) in
-        rw (p .cost, q .cost, p .len, q .len)
-        (ap (λ (t : Bool). ltb (cost j x) (cost j y) || (eqb (cost j x) (cost j y) && (ltb (length x) (length y) || t)))
+        rw (p .pick .cost, q .pick .cost, p .gates, q .gates, p .pick .len, q .pick .len)
+        (ap
+        (λ (t : Bool).
+        ltb (cost j x) (cost j y)
+        || (eqb (cost j x) (cost j y)
+        && (ltb (patchGates j x) (patchGates j y) || (eqb (patchGates j x) (patchGates j y) && (ltb (length x) (length y) || t)))))
         (and-same (eqb (length x) (length y)) (lowFirst 10 (a .set) (b .set)) (earlier x y)
         (λ e.
-        low-earlier 10 (candidateNets j) (a .set) (b .set) (w .few) (w .ascends) (p .set) (q .set)
+        low-earlier 10 (candidateNets j) (a .set) (b .set) (w .few) (w .ascends) (p .pick .set) (q .pick .set)
         (eqb-true (length x) (length y) e))))
 
     -- what is open costs more than the best so far
@@ -137,7 +157,7 @@ module _ (j : Job) where
         }
 
     -- nothing is open
-    closed-pick : {p : Pick} {ss : List ℕ} → OpenOf j 0 p ss → PickOf j p
+    pub closed-pick : {p : Pick} {ss : List ℕ} → OpenOf j 0 p ss → PickOf j p
     closed-pick {p} h =
         let e = open-none (candidateNets j) (p .set) in
         let z : k - 0 ≡ k = omega arith in
@@ -146,24 +166,35 @@ module _ (j : Job) where
           len = h .len ∙ ap length e;
           cost = h .cost ∙ sym (cost-at (w .ascends) (p .set));
           sound = rw (← e) (h .sound);
+          gates = inl (h .gates);
         }
 
-    module _ {p b : Pick} {ss : List ℕ} (g : PickOf j b) (h : OpenOf j 0 p ss) where
-      pub best-before : before p b ≡ true → BestFrom j 0 (p .set) b p
+    -- .. and it costs less than the best so far
+    pub best-cheaper : {p b : Pick} {ss : List ℕ} → PickOf j b → OpenOf j 0 p ss → p .cost < b .cost → BestFrom j 0 (p .set) b p
+    best-cheaper {p} {b} g h l =
+        let c = closed-pick h in
+        record {
+          pick = c;
+          kept = not-better-dearer j (at (b .set)) (at (p .set)) (omega (arith, c .cost, g .cost));
+          least = λ t e s. rw (sym (div-one t) ∙ e) (better-irrefl j (at (p .set)));
+        }
+
+    -- .. or the gates of both are counted, those of the best so far in c
+    module _ {p b c : Pick} (f : CountedOf j p) (g : CountedOf j c) (same : c .set ≡ b .set) where
+      pub best-before : before p c ≡ true → BestFrom j 0 (p .set) b p
       best-before o =
-          let c = closed-pick h in
           record {
-            pick = c;
-            kept = better-asym j (at (p .set)) (at (b .set)) (sym (before-better c g) ∙ o);
+            pick = f .pick;
+            kept = rw (← same) (better-asym j (at (p .set)) (at (c .set)) (sym (before-better f g) ∙ o));
             least = λ t e s. rw (sym (div-one t) ∙ e) (better-irrefl j (at (p .set)));
           }
 
-      pub best-not-before : before p b ≡ false → BestFrom j 0 (p .set) b b
+      pub best-not-before : before p c ≡ false → BestFrom j 0 (p .set) b c
       best-not-before o =
           record {
-            pick = g;
-            kept = better-irrefl j (at (b .set));
-            least = λ t e s. rw (sym (div-one t) ∙ e) (sym (before-better (closed-pick h) g) ∙ o);
+            pick = g .pick;
+            kept = rw (← same) (better-irrefl j (at (c .set)));
+            least = λ t e s. rw (sym (div-one t) ∙ e) (sym (before-better f g) ∙ o);
           }
 
   -- ---- the net below the place
@@ -233,7 +264,7 @@ module _ (j : Job) where
     half = omega arith
 
     module _ {l : Left} (f : LeftOut ss (p .len - 1) q l) where
-      pub left-open : l .sound ≡ true → OpenOf j q (record { set = 2 * p .set; cost = p .cost; len = p .len - 1 }) (l .sets)
+      pub left-open : l .sound ≡ true → OpenOf j q (record { set = 2 * p .set; cost = p .cost; len = p .len - 1; gates = 0 }) (l .sets)
       left-open e =
           record {
             places = omega (arith, h .places);
@@ -242,14 +273,15 @@ module _ (j : Job) where
             cost = h .cost ∙ sym (total-out (candidateWeights j) q few-weights (2 * p .set) even ∙ rw half);
             sets = out-sets q (2 * p .set) (p .set) (p .len) (h .places) half (h .len) (h .sets) even f e;
             sound = out-sound q (2 * p .set) (p .set) (p .len) (h .places) half (h .len) (h .sets) even f e;
+            gates = refl;
           }
 
       pub left-not : l .sound ≡ false → sound j (openAt (candidateNets j) q (2 * p .set)) ≡ false
       left-not e = out-unsound q (2 * p .set) (p .set) (p .len) (h .places) half (h .len) (h .sets) even f e
 
-    pub kept-open : {ws : List ℕ} → WeightsOf j ws
-        → OpenOf j q (record { set = 2 * p .set + 1; cost = p .cost + getD ws q 0; len = p .len }) ss
-    kept-open {ws} w =
+    pub kept-open : {v : Priced} {all : List ℕ} → PricedOf j v all
+        → OpenOf j q (record { set = 2 * p .set + 1; cost = p .cost + getD (v .weights) q 0; len = p .len; gates = 0 }) ss
+    kept-open w =
         let z : (2 * p .set + 1) / 2 ≡ p .set = omega arith in
         let o : (2 * p .set + 1) % 2 ≡ 1 = omega arith in
         let e = kept-nets q (2 * p .set + 1) (p .set) (p .len) (h .places) z (h .len) (h .sets) o in
@@ -263,6 +295,7 @@ module _ (j : Job) where
           cost = omega (arith, h .cost, c, w .weights q (h .places));
           sets = rw e (h .sets);
           sound = rw e (h .sound);
+          gates = refl;
         }
 
   -- ---- both halves
@@ -294,9 +327,9 @@ module _ (j : Job) where
       }
 
   -- .. as the search joins them: f is the best of those without the net, where they are looked into
-  module _ {q : ℕ} {p b f : Pick} {ss ws : List ℕ} {l : Left} (w : WeightsOf j ws) (g : PickOf j b) (h : OpenOf j (suc q) p ss)
-      (o : LeftOut ss (p .len - 1) q l)
-      (a : ((l .sound ≡ true) × (OpenOf j q (record { set = 2 * p .set; cost = p .cost; len = p .len - 1 }) (l .sets)
+  module _ {q : ℕ} {p b f : Pick} {ss : List ℕ} {l : Left} {v : Priced} {all : List ℕ} (w : PricedOf j v all) (g : PickOf j b)
+      (h : OpenOf j (suc q) p ss) (o : LeftOut ss (p .len - 1) q l)
+      (a : ((l .sound ≡ true) × (OpenOf j q (record { set = 2 * p .set; cost = p .cost; len = p .len - 1; gates = 0 }) (l .sets)
       → BestFrom j q (2 * p .set) b f)) ⊎ ((l .sound ≡ false) × (f ≡ b))) where
     half-best : BestFrom j q (2 * p .set) b f ⊎ ((sound j (openAt (candidateNets j) q (2 * p .set)) ≡ false) × (f ≡ b))
     half-best = ⊎-elim (λ u. inl (u .1 (left-open h o (u .0)))) (λ u. inr (left-not h o (u .0), u .1)) a
@@ -304,7 +337,8 @@ module _ (j : Job) where
     half-pick : PickOf j f
     half-pick = ⊎-elim (λ u. u .pick) (λ u. rw (u .1) g) half-best
 
-    pub best-joined : {r : Pick} → (PickOf j f → OpenOf j q (record { set = 2 * p .set + 1; cost = p .cost + getD ws q 0; len = p .len }) ss
+    pub best-joined : {r : Pick} → (PickOf j f
+        → OpenOf j q (record { set = 2 * p .set + 1; cost = p .cost + getD (v .weights) q 0; len = p .len; gates = 0 }) ss
         → BestFrom j q (2 * p .set + 1) f r)
         → BestFrom j (suc q) (p .set) b r
     best-joined n = best-split (n half-pick (kept-open h w)) half-best
@@ -358,32 +392,39 @@ picked-held n is {s} {r} few p =
       held = omega (arith, p .len, ap length (p .nets), length-take (r .len) (r .nets));
     }
 
-module _ {j : Job} {n : ℕ} {is ws ss : List ℕ} (few : n ≤ 10) (ni : length is ≡ 10) (nw : length ws ≡ 10)
-    (h : Choosable j n is ws ss) where
+module _ {j : Job} {is ss : List ℕ} {v : Priced} (room : PricedRoom v) (ni : length is ≡ 10) (nw : length (v .weights) ≡ 10)
+    (h : Choosable j is v ss) where
+  abbrev n : ℕ
+  n = v .count
+
   pub nets-are : candidateNets j ≡ take n is
   unfolding candidateNets
-  nets-are = ap (map (λ (c : Candidate). c .net)) (h .candidates) ∙ nets-from n is ws (omega arith)
+  nets-are = ap (map (λ (c : Candidate). c .net)) (h .candidates) ∙ nets-from n is (v .weights) (omega (arith, room .few))
 
   pub nets-many : length (candidateNets j) ≡ n
-  nets-many = ap length nets-are ∙ length-take-le n is (omega arith)
+  nets-many = ap length nets-are ∙ length-take-le n is (omega (arith, room .few))
 
-  weights-are : candidateWeights j ≡ take n ws
+  weights-are : candidateWeights j ≡ take n (v .weights)
   unfolding candidateWeights
-  weights-are = ap (map (λ (c : Candidate). c .weight)) (h .candidates) ∙ weights-from n is ws (omega arith)
+  weights-are = ap (map (λ (c : Candidate). c .weight)) (h .candidates) ∙ weights-from n is (v .weights) (omega (arith, room .few))
 
   pub all-sets : SetsOf j (candidateNets j) ss
-  all-sets = record { targets = h .targets; sets = h .sets .sets }
+  all-sets = record { targets = omega (arith, h .targets, room .targets); sets = h .sets .sets }
 
-  pub all-weights : WeightsOf j ws
-  all-weights =
+  pub all-priced : PricedOf j v ss
+  all-priced =
       record {
-        few = omega (arith, nets-many);
+        count = sym nets-many;
+        few = omega (arith, nets-many, room .few);
         ascends = h .ascends;
-        weights = λ i l. rw weights-are (getD-take n ws i 0 (omega (arith, nets-many)));
+        weights = λ i l. rw weights-are (getD-take n (v .weights) i 0 (omega (arith, nets-many)));
+        targets = sym (h .targets);
+        sets = all-sets;
       }
 
   -- all candidates together are a sound support
-  pub all-pick : {m c : ℕ} → m ≡ 2 ^ n → c ≡ total (take n ws) → PickOf j (record { set = m - 1; cost = c; len = n })
+  pub all-pick : {m c : ℕ} → m ≡ 2 ^ n → c ≡ total (take n (v .weights))
+      → PickOf j (record { set = m - 1; cost = c; len = n; gates = 0 })
   all-pick e o =
       let a : picked (candidateNets j) (2 ^ n - 1) ≡ candidateNets j = rw nets-many at (picked-all (candidateNets j)) in
       let b : picked (candidateWeights j) (2 ^ n - 1) ≡ candidateWeights j =
@@ -394,10 +435,11 @@ module _ {j : Job} {n : ℕ} {is ws ss : List ℕ} (few : n ≤ 10) (ni : length
         len = sym (ap length a ∙ nets-many);
         cost = sym (cost-at j (h .ascends) (2 ^ n - 1) ∙ ap total (b ∙ weights-are));
         sound = rw a (h .sound);
+        gates = inl refl;
       }
 
   -- .. and all are open at first
-  pub all-open : OpenOf j n (record { set = 0; cost = 0; len = n }) ss
+  pub all-open : OpenOf j n (record { set = 0; cost = 0; len = n; gates = 0 }) ss
   unfolding total picked
   all-open =
       let a : openAt (candidateNets j) n 0 ≡ candidateNets j = rw nets-many at (open-all (candidateNets j) 0) in
@@ -409,6 +451,7 @@ module _ {j : Job} {n : ℕ} {is ws ss : List ℕ} (few : n ≤ 10) (ni : length
         cost = rw d;
         sets = rw a all-sets;
         sound = rw a (h .sound);
+        gates = refl;
       }
 
   module _ {b r : Pick} (g : BestFrom j n 0 b r) where

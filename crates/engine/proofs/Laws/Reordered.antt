@@ -19,8 +19,9 @@ use Rattle.records.specs.Claims.{PartsGood}
 use Rattle.records.proofs.Laws.Bytes.{all-below}
 use Rattle.engine.specs.Choice.{any, keep, first, found, orZero}
 use Rattle.engine.specs.Eval.{bits, allInputs, allVectors, oldValues, oldOutputs, goldenOutputs}
+use Rattle.engine.specs.Fit.{led, gateIndices, newFreeGate, newFreeNet, trees}
 use Rattle.engine.specs.Rectify.{rectifies, unrectified, Listed, rounds, vectorLoop}
-use Rattle.engine.specs.Support.{reading, giving, shared, sound, tableOf, sharing, noteOf, notesOf, candidateNets, subsets, cost, better, bestOf, chosen}
+use Rattle.engine.specs.Support.{reading, giving, shared, sound, tableOf, sharing, noteOf, notesOf, candidateNets, subsets, cost, patchGates, better, bestOf, chosen}
 use Rattle.engine.specs.Verdict.{blindReading, judgeSheet, patchSheet, chooseSheet}
 use Rattle.engine.specs.Reply.{judgementOf, choiceOf}
 use Rattle.engine.specs.declared.choosing.Choice.the-variants as Choice
@@ -207,10 +208,18 @@ module _ (ps : List ℕ) (j : Job) (g : PartsGood j) (w : Rearranges (length (j 
 
   -- ---- the choice
 
+  gates-same : (is : List ℕ) → patchGates k is ≡ patchGates j is
+  unfolding patchGates trees gateIndices led newFreeNet newFreeGate reordered
+  gates-same is = rw (table-same is)
+
+  better-same : (is ks : List ℕ) → better k is ks ≡ better j is ks
+  unfolding better cost reordered
+  better-same is ks = rw (gates-same is, gates-same ks)
+
   best-same : (is : List ℕ) (kss : List (List ℕ)) → bestOf k is kss ≡ bestOf j is kss
-  unfolding bestOf better cost reordered
+  unfolding bestOf
   best-same is [] = refl
-  best-same is (ks ∷ kss) = best-same (cond (better j ks is) ks is) kss
+  best-same is (ks ∷ kss) = rw (better-same ks is) (best-same (cond (better j ks is) ks is) kss)
 
   chosen-same : chosen k ≡ chosen j
   unfolding chosen candidateNets reordered

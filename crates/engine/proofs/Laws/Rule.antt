@@ -204,15 +204,16 @@ module _ {j : Job} {p : JobParts} (r : PartsOf j p) where
         false-of (sound j is) (λ t. let z = sound-iff-full j ss all-sets q empty .1 t ∙ many in let b : ⊥ = omega arith in b) in
         (u, blind-of-empty j ss all-sets q empty u)
 
-    pub rule-sound : n ≤ q → Choosable j (p .counts .candidates) (p .nets) (p .weights) ss
+    pub rule-sound : {m : ℕ} → m ≡ j .targets → n ≤ q
+        → Choosable j (p .nets) (record { count = p .counts .candidates; weights = p .weights; targets = m }) ss
     unfolding countsOf candidateNets candidatesGood
-    rule-sound l =
+    rule-sound t l =
         let m = f .most in
         let o : q ≡ n = omega arith in
         record {
           candidates = sym (r .candidates) ∙ ap (λ (c : Counts). candidatesFrom (c .candidates) (p .nets) (p .weights)) (sym (r .counts));
           ascends = and-left (ascending is) (all (λ (c : Candidate). candidateGood j (c .net)) (j .candidates)) (r .good .candidates);
-          targets = few .targets;
+          targets = sym t;
           sets = sets;
           sound = sound-iff-full j ss all-sets q empty .0 (o ∙ sym many);
         }

@@ -16,13 +16,14 @@ use lib.Seq.{getD-take, getD-drop, ext-getD}
 use lib.Pow.{pow-pos, pow-mono}
 use Rattle.records.specs.Bytes.{all, placed}
 use Rattle.records.specs.Gate.{Gate}
+use Rattle.records.specs.Job.{Job}
 use Rattle.records.specs.Claims.{Below}
 use Rattle.records.proofs.Laws.Bytes.{and-both}
 use Rattle.engine.specs.Choice.{same}
 use Rattle.engine.specs.Eval.{bit}
 use Rattle.engine.specs.Tree.{constant, column, joinOf, buildsLow, buildsHigh, joinGates, tree, treeSize}
 use Rattle.engine.specs.Inner.Packed.{packed, packedFrom}
-use Rattle.engine.specs.Fit.{Trees, treesFrom}
+use Rattle.engine.specs.Fit.{Trees, treesFrom, trees, newFreeNet}
 use Rattle.engine.specs.Inner.Tree.{GateRoom, GatesPut, TablePart, columnPart, startBy, treeStart, joinSize, JoinRoom, treesSize, supportTrees, TreesPut}
 use Rattle.engine.specs.declared.tree.Join.{Join}
 use Rattle.engine.specs.declared.tree.Join.the-variants.{Both}
@@ -587,7 +588,7 @@ tree-take (suc k) n next is col h =
     rw (tree-branch k next (take n is) col, p, q, getD-take n is k 0 h, tree-branch k next is col)
 
 -- how many gates all trees have
-pub length-trees : (m j k next : ℕ) (is tb : List ℕ) → length is ≡ k
+length-trees : (m j k next : ℕ) (is tb : List ℕ) → length is ≡ k
     → length (treesFrom m j next is (take (2 ^ k) tb) .gates) ≡ treesSize m j k tb
 unfolding treesFrom treesSize
 length-trees zero j k next is tb e = refl
@@ -596,6 +597,13 @@ length-trees (suc m) j k next is tb e =
     let n = length-tree (length is) next is (columnPart tb 0 k j) ∙ ap (λ (i : ℕ). treeSize i (columnPart tb 0 k j)) e in
     length-append gs (treesFrom m (suc j) (next + length gs) is (take (2 ^ k) tb) .gates)
     ∙ omega (arith, length-trees m (suc j) k (next + length gs) is tb e)
+
+-- .. of a job and k nets, whose table stands at the start of tb
+pub length-patch : (j : Job) (is tb : List ℕ) {k : ℕ} → length is ≡ k
+    → length (trees j is (take (2 ^ k) tb) .gates) ≡ treesSize (j .targets) 0 k tb
+unfolding trees
+length-patch j is tb {k} e =
+    length-trees (j .targets) 0 k _ (map (newFreeNet j) is) tb (length-map is (newFreeNet j) ∙ e)
 
 pub treesSize-le : (m j k : ℕ) (tb : List ℕ) → k ≤ 10 → treesSize m j k tb ≤ 5120 * m
 unfolding treesSize

@@ -13,12 +13,14 @@
 --   PickedNets is s r      the support r has the nets of is whose places are in s
 --   total xs               the sum of xs
 --   lowFirst n a b         of the sets a and b of n candidates, a has the lowest in which they differ
---   before p q             pick p is chosen before pick q: lower cost, then fewer nets, then the smaller net
+--   before p q             pick p is chosen before pick q: lower cost, then fewer gates, then fewer nets, then the smaller net
 --   openAt is i s          the nets is up to place i, and of those from there on the ones that are in the set s
 --   candidateWeights j     the weights of all candidates
 --   OpenPick i p           pick p has room for i candidates more
---   WeightsOf j ws         the weights of the candidates of job j, whose nets ascend, stand in places
---   PickOf j p             pick p is a sound support of job j
+--   PricedRoom p           bounds of the struct p
+--   PricedOf j p ss        the struct p has the priced nets of job j, which ascend, and ss are the sets of all of them
+--   PickOf j p             pick p is a sound support of job j; its gates are counted, or 0
+--   CountedOf j p          .. are counted
 --   OpenOf j i p ss        pick p says which candidates from place i on are in a support; with all those before it is sound
 --   BestFrom j i s b r     of pick b and the sound sets that are s from place i on, r is the one that is chosen
 --   HeldSupport r          the nets of the support r stand in its ten places
@@ -26,7 +28,7 @@
 --   ChosenOf j c           the chosen support of job j, its cost, and its sets
 use Prim.Native.Nat.{ℕ, zero, suc, _+_, _-_, _*_, _/_, _%_, _^_, _≤_, _<_}
 use mathlib.Core.Path.{_≡_}
-use mathlib.Core.Logic.{_↔_}
+use mathlib.Core.Logic.{_↔_, _⊎_}
 use mathlib.Core.List.{List, [], _∷_, _++_, map}
 use mathlib.Core.Bool.{Bool, true, false, cond, _&&_, _||_}
 use lib.Bits.{bitAnd}
@@ -38,12 +40,13 @@ use Rattle.records.specs.Service.{candidatesFrom}
 use Rattle.records.specs.declared.sheet.Support.{Support}
 use Rattle.engine.specs.Eval.{bit}
 use Rattle.engine.specs.Rectify.{rectifies}
-use Rattle.engine.specs.Support.{reading, sound, candidateNets, cost, better, chosen}
+use Rattle.engine.specs.Support.{reading, sound, candidateNets, cost, patchGates, better, chosen}
 use Rattle.engine.specs.Inner.List.{maxVectors}
 use Rattle.engine.specs.Inner.Note.{maxReadings}
 use Rattle.engine.specs.declared.best.Chosen.{Chosen}
 use Rattle.engine.specs.declared.best.Left.{Left}
 use Rattle.engine.specs.declared.best.Pick.{Pick}
+use Rattle.engine.specs.declared.best.Priced.{Priced}
 
 unfoldable pub picked : {A : Type 0} → List A → ℕ → List A
 picked [] s = []
@@ -103,7 +106,9 @@ unfoldable pub before : Pick → Pick → Bool
 before p q =
     ltb (p .cost) (q .cost)
     || (eqb (p .cost) (q .cost)
-    && (ltb (p .len) (q .len) || (eqb (p .len) (q .len) && lowFirst maxCandidates (p .set) (q .set))))
+    && (ltb (p .gates) (q .gates)
+    || (eqb (p .gates) (q .gates)
+    && (ltb (p .len) (q .len) || (eqb (p .len) (q .len) && lowFirst maxCandidates (p .set) (q .set))))))
 
 unfoldable pub openAt : List ℕ → ℕ → ℕ → List ℕ
 openAt is i s = take i is ++ picked (drop i is) s
@@ -117,16 +122,28 @@ pub record OpenPick (i : ℕ) (p : Pick) : Type 0 where
   pub set : p .set < 2 ^ (maxCandidates - i)
   pub cost : p .cost ≤ 65535 * (maxCandidates - i)
 
-pub record WeightsOf (j : Job) (ws : List ℕ) : Type 0 where
+pub record PricedRoom (p : Priced) : Type 0 where
+  pub few : p .count ≤ maxCandidates
+  pub targets : p .targets ≤ maxTargets
+
+pub record PricedOf (j : Job) (p : Priced) (ss : List ℕ) : Type 0 where
+  pub count : p .count ≡ length (candidateNets j)
   pub few : length (candidateNets j) ≤ maxCandidates
   pub ascends : ascending (candidateNets j) ≡ true
-  pub weights : (i : ℕ) → i < length (candidateNets j) → getD (candidateWeights j) i 0 ≡ getD ws i 0
+  pub weights : (i : ℕ) → i < length (candidateNets j) → getD (candidateWeights j) i 0 ≡ getD (p .weights) i 0
+  pub targets : p .targets ≡ j .targets
+  pub sets : SetsOf j (candidateNets j) ss
 
 pub record PickOf (j : Job) (p : Pick) : Type 0 where
   pub set : p .set < 2 ^ length (candidateNets j)
   pub len : p .len ≡ length (picked (candidateNets j) (p .set))
   pub cost : p .cost ≡ cost j (picked (candidateNets j) (p .set))
   pub sound : sound j (picked (candidateNets j) (p .set)) ≡ true
+  pub gates : (p .gates ≡ 0) ⊎ (p .gates ≡ patchGates j (picked (candidateNets j) (p .set)))
+
+pub record CountedOf (j : Job) (p : Pick) : Type 0 where
+  pub pick : PickOf j p
+  pub gates : p .gates ≡ patchGates j (picked (candidateNets j) (p .set))
 
 pub record OpenOf (j : Job) (i : ℕ) (p : Pick) (ss : List ℕ) : Type 0 where
   pub places : i ≤ length (candidateNets j)
@@ -135,6 +152,7 @@ pub record OpenOf (j : Job) (i : ℕ) (p : Pick) (ss : List ℕ) : Type 0 where
   pub cost : p .cost ≡ total (picked (drop i (candidateWeights j)) (p .set))
   pub sets : SetsOf j (openAt (candidateNets j) i (p .set)) ss
   pub sound : sound j (openAt (candidateNets j) i (p .set)) ≡ true
+  pub gates : p .gates ≡ 0
 
 -- ---- the choice
 
@@ -148,10 +166,10 @@ pub record HeldSupport (r : Support) : Type 0 where
   pub few : r .len ≤ maxCandidates
   pub held : r .len ≤ length (r .nets)
 
-pub record Choosable (j : Job) (k : ℕ) (is ws ss : List ℕ) : Type 0 where
-  pub candidates : j .candidates ≡ candidatesFrom k is ws
+pub record Choosable (j : Job) (is : List ℕ) (p : Priced) (ss : List ℕ) : Type 0 where
+  pub candidates : j .candidates ≡ candidatesFrom (p .count) is (p .weights)
   pub ascends : ascending (candidateNets j) ≡ true
-  pub targets : j .targets ≤ maxTargets
+  pub targets : j .targets ≡ p .targets
   pub sets : ReadingSets j ss
   pub sound : sound j (candidateNets j) ≡ true
 

@@ -26,7 +26,6 @@ use Rattle.engine.specs.Inner.Packed.{packedFrom}
 use Rattle.engine.specs.declared.tree.Join.{Join}
 use Rattle.engine.specs.declared.tree.TreeStart.{TreeStart}
 use Rattle.engine.specs.declared.tree.TreeStart.the-variants as TreeStart
-use Rattle.engine.specs.Inner.Best.{before}
 
 abbrev pub columnPart : List ℕ → ℕ → ℕ → ℕ → List ℕ
 columnPart tb at k t = column (take (2 ^ k) (drop at tb)) t

@@ -67,7 +67,9 @@ abbrev sets : tie.After-best-support → tie.After-sets-of-inputs
 sets b = b .before .before .before .before
 
 best-support-requires : tie.Need-best-support-requires
-best-support-requires c κs = parts-few (start (c .before .before .before) .pre .0 .parts)
+best-support-requires c κs =
+    let u = c .before .before .before in
+    record { few = parts-few (start u .pre .0 .parts); targets = mitered u .miter-of .ensures .0 .targets }
 
 unseen-readings-requires : tie.Need-unseen-readings-requires
 unseen-readings-requires c κs =
@@ -90,10 +92,11 @@ returns-2 c =
     let e = t .before in
     let n = e .before in
     let u = sets b in
-    let q = rule-sound p (met u j p) (n .reading-count .ensures) (e .first-empty .ensures) (t .if1 .left) in
+    let m = mitered u .miter-of .ensures .1 j p in
+    let q = rule-sound p (met u j p) (n .reading-count .ensures) (e .first-empty .ensures) (m .targets) (t .if1 .left) in
     let best = b .best-support .ensures .1 j q in
     w .rule-patch .ensures j (q .sound) best
-    (x .unseen-readings .ensures j (chosen j) (mitered u .miter-of .ensures .1 j p) (best .support)
+    (x .unseen-readings .ensures j (chosen j) m (best .support)
     (chosen-below (p .good) (q .sound)) (best .sets))
 
 pub choose-job-spec : {M : Type 1} → statement M

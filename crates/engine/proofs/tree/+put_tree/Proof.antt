@@ -18,7 +18,7 @@ use borrow.Fn.PlainCycle.{Measures, is, falls, and}
 use Rattle.engine.proofs.tree.put_tree.Reads as put-tree
 use Rattle.engine.proofs.tree.put_tree.Kinds as put-tree-kinds
 use Rattle.engine.proofs.tree.+put_tree.Lts-put_tree as put-tree-lts
-use Rattle.engine.proofs.best.reading_count.Reads as reading-count-reads
+use Rattle.engine.proofs.table.reading_count.Reads as reading-count-reads
 use Rattle.engine.proofs.tree.add_gate.Reads as add-gate-reads
 use Rattle.engine.proofs.tree.builds_high.Reads as builds-high-reads
 use Rattle.engine.proofs.tree.builds_low.Reads as builds-low-reads

@@ -17,7 +17,7 @@ use borrow.Fn.PlainCycle.{Measures, is, falls, and}
 use Rattle.engine.proofs.tree.tree_size.Reads as tree-size
 use Rattle.engine.proofs.tree.tree_size.Kinds as tree-size-kinds
 use Rattle.engine.proofs.tree.+tree_size.Lts-tree_size as tree-size-lts
-use Rattle.engine.proofs.best.reading_count.Reads as reading-count-reads
+use Rattle.engine.proofs.table.reading_count.Reads as reading-count-reads
 use Rattle.engine.proofs.tree.builds_high.Reads as builds-high-reads
 use Rattle.engine.proofs.tree.builds_low.Reads as builds-low-reads
 use Rattle.engine.proofs.tree.join_size.Reads as join-size-reads
