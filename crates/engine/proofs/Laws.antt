@@ -5,7 +5,6 @@ pub mod Block
 pub mod Choice
 pub mod Compare
 pub mod Reply
-pub mod Drive
 pub mod Eval
 pub mod EvalWords
 pub mod Fill
@@ -24,6 +23,7 @@ pub mod Kernel
 pub mod Leaves
 pub mod Loop
 pub mod Marks
+pub mod Merge
 pub mod Miter
 pub mod Needed
 pub mod Note
@@ -51,6 +51,7 @@ pub mod Sets
 pub mod Sheet
 pub mod SheetRead
 pub mod Shift
+pub mod Sole
 pub mod Stream
 pub mod Support
 pub mod TableRows

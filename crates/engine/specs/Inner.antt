@@ -22,3 +22,4 @@ pub mod Tree
 pub mod Renumber
 pub mod Netlist
 pub mod Fitting
+pub mod Merge

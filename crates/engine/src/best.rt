@@ -1,15 +1,15 @@
 // The choice of the support. It works on sets of vectors alone: place r of a support's sets holds the vectors that rectify every
-// input giving reading r of its nets.
+// input giving reading r of its nets. Bit 16 of a set is 1 where no input that was looked at gives the reading; it is joined like a vector.
 ghost use mathlib.Core.Path.{_≡_};
 ghost use mathlib.Core.Bool.{true};
 ghost use Prim.Native.Nat.{ℕ, _-_, _≤_, _<_};
 ghost use mathlib.Core.List.{List};
 ghost use lib.ListN.{length, take};
 ghost use Rattle.records.specs.Job.{Job};
-ghost use Rattle.engine.specs.Support.{sound, candidateNets, patchGates};
+ghost use Rattle.engine.specs.Support.{sound, candidateNets, patchGates, chosen};
 ghost use Rattle.records.specs.Claims.{Below};
 ghost use Rattle.engine.specs.Inner.Plan.{NetsRead};
-ghost use Rattle.engine.specs.Inner.Best.{picked, total, lowFirst, before, PickedNets, FirstEmpty, SetsOf, LeftOut, OpenPick, PricedRoom, PricedOf, PickOf, CountedOf, OpenOf, BestFrom, HeldSupport, Choosable, ChosenOf};
+ghost use Rattle.engine.specs.Inner.Best.{picked, total, lowFirst, before, PickedNets, FirstEmpty, SetsOf, GivenBits, LeftOut, OpenPick, PricedRoom, PricedOf, PickOf, CountedOf, OpenOf, BestFrom, HeldSupport, Choosable, ChosenOf};
 use super::limits::READINGS;
 use super::table::fill_table;
 use super::table::reading_count;
@@ -34,7 +34,7 @@ pub struct Pick {
 
 // The sets of a support with one net fewer, and whether none is empty; the places from the first empty one on are not filled.
 pub struct Left {
-    pub sets: [u16; READINGS],
+    pub sets: [u32; READINGS],
     pub sound: bool,
 }
 
@@ -42,17 +42,17 @@ pub struct Left {
 pub struct Chosen {
     pub support: Support,
     pub cost: u32,
-    pub sets: [u16; READINGS],
+    pub sets: [u32; READINGS],
 }
 
 // The smallest place below count whose set is empty, else count: the blind reading, or that all candidates are sound.
-pub(super) fn first_empty(sets: [u16; READINGS], count: usize) -> usize
+pub(super) fn first_empty(sets: &[u32; READINGS], count: usize) -> usize
     requires { ⌜ count ≤ 1024 ⌝ }
-    ensures { λ r. ⌜ FirstEmpty sets count r ⌝ }
+    ensures { λ r. ⌜ FirstEmpty (now (sets .entry)) count r ⌝ }
 {
     let mut r = 0usize;
     while r < count {
-        if sets[r] == 0 {
+        if sets[r] % 65536 == 0 {
             return r;
         }
         r += 1;
@@ -62,18 +62,18 @@ pub(super) fn first_empty(sets: [u16; READINGS], count: usize) -> usize
 
 // The sets of len nets without the one at place: a reading of the others leaves what both readings share that it comes from. It
 // ends at the first set that is empty, since the support is not sound then, and takes at most 2 ^ (len - 1) steps.
-fn leave_out(sets: [u16; READINGS], len: usize, place: usize) -> Left
+fn leave_out(sets: &[u32; READINGS], len: usize, place: usize) -> Left
     requires { ⌜ (place < len) × (len ≤ 10) ⌝ }
-    ensures { λ r. ⌜ LeftOut sets (len - 1) place r ⌝ }
+    ensures { λ r. ⌜ LeftOut (now (sets .entry)) (len - 1) place r ⌝ }
 {
     let count = reading_count(len - 1);
     let other = reading_count(place);
-    let mut out = [0u16; READINGS];
+    let mut out = [0u32; READINGS];
     let mut q = 0usize;
     while q < count {
         let r = q + ((q >> place) << place);
         let both = sets[r] & sets[r + other];
-        if both == 0 {
+        if both % 65536 == 0 {
             return Left {
                 sets: out,
                 sound: false,
@@ -89,18 +89,19 @@ fn leave_out(sets: [u16; READINGS], len: usize, place: usize) -> Left
 }
 
 // The sets of the candidates that are in a sound set, from those of all.
-fn sets_of(sets: [u16; READINGS], candidates: usize, set: usize) -> [u16; READINGS]
+fn sets_of(sets: &[u32; READINGS], candidates: usize, set: usize) -> [u32; READINGS]
     requires { ⌜ candidates ≤ 10 ⌝ }
-    ensures { λ r. ⌜ ((j : Job) → length (candidateNets j) ≡ candidates → SetsOf j (candidateNets j) sets
-        → sound j (picked (candidateNets j) set) ≡ true → SetsOf j (picked (candidateNets j) set) r) ⌝ }
+    ensures { λ r. ⌜ ((j : Job) → length (candidateNets j) ≡ candidates → SetsOf j (candidateNets j) (now (sets .entry))
+        → sound j (picked (candidateNets j) set) ≡ true → SetsOf j (picked (candidateNets j) set) r
+        × ((k : ℕ) → GivenBits j (candidateNets j) (now (sets .entry)) k → GivenBits j (picked (candidateNets j) set) r k)) ⌝ }
 {
-    let mut found = sets;
+    let mut found = *sets;
     let mut len = candidates;
     let mut i = candidates;
     while 0 < i {
         i -= 1;
         if (set >> i) % 2 == 0 {
-            let left = leave_out(found, len, i);
+            let left = leave_out(&found, len, i);
             let next = left.sets;
             found = next;
             len -= 1;
@@ -184,16 +185,16 @@ fn precedes(a: Pick, b: Pick) -> bool
 
 // How many gates the patch of a support of len nets has whose sets these are: the trees of all targets over its table. At most
 // targets * (len + 1) * 2 ^ len entries are read, five times each.
-fn patch_gates(sets: [u16; READINGS], len: usize, targets: usize) -> usize
+fn patch_gates(sets: &[u32; READINGS], len: usize, targets: usize) -> usize
     requires { ⌜ (len ≤ 10) × (targets ≤ 4) ⌝ }
-    ensures { λ r. ⌜ ((j : Job) (is : List ℕ) → SetsOf j is sets → length is ≡ len → j .targets ≡ targets → r ≡ patchGates j is) ⌝ }
+    ensures { λ r. ⌜ ((j : Job) (is : List ℕ) → SetsOf j is (now (sets .entry)) → length is ≡ len → j .targets ≡ targets → r ≡ patchGates j is) ⌝ }
 {
     let table = fill_table(sets, len);
     trees_size(&table, len, targets)
 }
 
 // The pick, with its gates counted. All are the sets of all priced nets.
-fn counted(priced: Priced, all: &[u16; READINGS], pick: Pick) -> Pick
+fn counted(priced: Priced, all: &[u32; READINGS], pick: Pick) -> Pick
     requires { ⌜ PricedRoom priced × (pick .len ≤ 10) ⌝ }
     ensures { λ r. ⌜ (r .set ≡ pick .set) × (r .len ≡ pick .len) ⌝ }
     ensures { λ r. ⌜ ((j : Job) → PricedOf j priced (now (all .entry)) → PickOf j pick → CountedOf j r) ⌝ }
@@ -201,12 +202,12 @@ fn counted(priced: Priced, all: &[u16; READINGS], pick: Pick) -> Pick
     if 0 < pick.gates {
         return pick;
     }
-    let sets = sets_of(*all, priced.count, pick.set);
+    let sets = sets_of(all, priced.count, pick.set);
     Pick {
         set: pick.set,
         cost: pick.cost,
         len: pick.len,
-        gates: patch_gates(sets, pick.len, priced.targets),
+        gates: patch_gates(&sets, pick.len, priced.targets),
     }
 }
 
@@ -214,14 +215,14 @@ fn counted(priced: Priced, all: &[u16; READINGS], pick: Pick) -> Pick
 // the same. All are the sets of all priced nets.
 fn better_of(
     priced: Priced,
-    all: &[u16; READINGS],
-    sets: [u16; READINGS],
+    all: &[u32; READINGS],
+    sets: &[u32; READINGS],
     best: Pick,
     from: Pick,
 ) -> Pick
     requires { ⌜ PricedRoom priced × OpenPick 0 from × (best .len ≤ 10) ⌝ }
     ensures { λ r. ⌜ r .len ≤ 10 ⌝ }
-    ensures { λ r. ⌜ ((j : Job) → PricedOf j priced (now (all .entry)) → PickOf j best → OpenOf j 0 from sets
+    ensures { λ r. ⌜ ((j : Job) → PricedOf j priced (now (all .entry)) → PickOf j best → OpenOf j 0 from (now (sets .entry))
         → BestFrom j 0 (from .set) best r) ⌝ }
 {
     if from.cost < best.cost {
@@ -246,15 +247,15 @@ fn better_of(
 // most 3 ^ i * 2 ^ (from.len - i) steps, and counts gates where costs are equal.
 fn best_from(
     priced: Priced,
-    all: &[u16; READINGS],
-    sets: [u16; READINGS],
+    all: &[u32; READINGS],
+    sets: &[u32; READINGS],
     best: Pick,
     from: Pick,
     i: usize,
 ) -> Pick
     requires { ⌜ PricedRoom priced × OpenPick i from × (best .len ≤ 10) ⌝ }
     ensures { λ r. ⌜ r .len ≤ 10 ⌝ }
-    ensures { λ r. ⌜ ((j : Job) → PricedOf j priced (now (all .entry)) → PickOf j best → OpenOf j i from sets
+    ensures { λ r. ⌜ ((j : Job) → PricedOf j priced (now (all .entry)) → PickOf j best → OpenOf j i from (now (sets .entry))
         → BestFrom j i (from .set) best r) ⌝ }
 {
     if best.cost < from.cost {
@@ -273,8 +274,7 @@ fn best_from(
             len: from.len - 1,
             gates: 0,
         };
-        let next = left.sets;
-        found = best_from(priced, all, next, best, fewer, place);
+        found = best_from(priced, all, &left.sets, best, fewer, place);
     }
     let kept = Pick {
         set: 2 * from.set + 1,
@@ -287,14 +287,18 @@ fn best_from(
 
 // The chosen support of the priced nets that stand in places: the best sound one. For k of them it takes at most 3 ^ k steps, and
 // evaluates no gate; where supports cost the same, as many more as the entries of their tables that the count of their gates reads.
-pub(super) fn best_support(nets: [u16; CANDIDATES], priced: Priced, sets: [u16; READINGS]) -> Chosen
+pub(super) fn best_support(
+    nets: [u16; CANDIDATES],
+    priced: Priced,
+    sets: &[u32; READINGS],
+) -> Chosen
     requires { ⌜ PricedRoom priced ⌝ }
     ensures { λ r. ⌜ HeldSupport (r .support) × (Below 1024 nets → NetsRead (r .support .nets) (r .support .len)) ⌝ }
-    ensures { λ r. ⌜ ((j : Job) → Choosable j nets priced sets → ChosenOf j r) ⌝ }
+    ensures { λ r. ⌜ ((j : Job) → Choosable j nets priced (now (sets .entry)) → ChosenOf j r
+        × ((k : ℕ) → GivenBits j (candidateNets j) (now (sets .entry)) k → GivenBits j (chosen j) (r .sets) k)) ⌝ }
 {
     let count = priced.count;
     let weights = priced.weights;
-    let start = sets;
     let all = Pick {
         set: reading_count(count) - 1,
         cost: sum_weights(weights, count),
@@ -307,7 +311,7 @@ pub(super) fn best_support(nets: [u16; CANDIDATES], priced: Priced, sets: [u16; 
         len: count,
         gates: 0,
     };
-    let best = best_from(priced, &sets, start, all, none, count);
+    let best = best_from(priced, sets, sets, all, none, count);
     let found = sets_of(sets, count, best.set);
     Chosen {
         support: pick_support(nets, count, best.set),

@@ -21,7 +21,7 @@ use super::given::unseen_readings;
 use super::limits::LISTED;
 use super::limits::LONGEST_CHOOSE;
 use super::limits::READINGS;
-use super::miter::miter_of;
+use super::merge::merged_miter;
 use super::plan::plan_of;
 use super::search::sets_of_inputs;
 use super::sheet::put_blind;
@@ -83,15 +83,14 @@ fn rule_blind(reading: usize, reply: &mut [u8]) -> ChooseReply
 
 // The choice where all candidates together are sound: the chosen support with its table and notes, and its sheet; unseen is not 0 at its
 // readings that no input gives.
-fn rule_patch(best: Chosen, unseen: [u16; READINGS], reply: &mut [u8]) -> ChooseReply
+fn rule_patch(best: Chosen, unseen: [u32; READINGS], reply: &mut [u8]) -> ChooseReply
     requires { ⌜ HeldSupport (best .support) × (2084 ≤ length (now reply)) ⌝ }
     ensures { λ r. ⌜ ((j : Job) → sound j (candidateNets j) ≡ true → ChosenOf j best → Unseen j (chosen j) unseen
         → ChosenJob j (now (reply .entry)) r (now (reply .exit))) ⌝ }
 {
     let support = best.support;
-    let sets = best.sets;
-    let table = fill_table(sets, support.len);
-    let notes = fill_notes(sets, unseen, support.len);
+    let table = fill_table(&best.sets, support.len);
+    let notes = fill_notes(&best.sets, &unseen, support.len);
     let len = put_patch(reply, support, &table, best.cost, &notes);
     ChooseReply {
         number: 0,
@@ -108,12 +107,12 @@ fn choose_job(job: JobParts, reply: &mut [u8]) -> ChooseReply
     let candidates = job.counts.candidates;
     let nets = job.nets;
     let weights = job.weights;
-    let miter = miter_of(job);
+    let miter = merged_miter(job);
     let mut gates = [0u64; LISTED];
     let plan = plan_of(miter, nets, candidates, &mut gates);
-    let sets = sets_of_inputs(&gates, plan);
+    let met = sets_of_inputs(&gates, plan);
     let count = reading_count(candidates);
-    let reading = first_empty(sets, count);
+    let reading = first_empty(&met.sets, count);
     if reading < count {
         return rule_blind(reading, reply);
     }
@@ -122,23 +121,22 @@ fn choose_job(job: JobParts, reply: &mut [u8]) -> ChooseReply
         weights,
         targets: miter.targets,
     };
-    let best = best_support(nets, priced, sets);
+    let best = best_support(nets, priced, &met.sets);
     let support = best.support;
-    let left = best.sets;
-    let unseen = unseen_readings(miter, support, left);
+    let unseen = unseen_readings(miter, support, &best.sets, met.skipped);
     rule_patch(best, unseen, reply)
 }
 
 // The service choose: the cheapest patch of a job, or the blind reading, and its sheet at the start of the reply buffer. Refused are a
 // buffer below 2,084 bytes (1) and what is no whole job (2 to 6). It walks all inputs, also those that no vector rectifies. It costs, for
-// each block of 1,024 inputs, one gate evaluation a gate of both netlists, and one for every second vector and each gate that the
-// target with the fewest leads to, for every fourth vector and each gate that another leads to, and so on; an evaluation takes 16
-// words. Noting a block's inputs takes some 1,000 steps. Partial evaluation is tried on each 2 ^ 15 inputs: one gate evaluation a gate
+// each block of 1,024 inputs, one gate evaluation a gate of both netlists; and, unless each reading that the block gives has one vector
+// left, or none, which rectifies its inputs (see sole.rt, from 17 inputs on), one for every second vector and each gate that the target
+// with the fewest leads to, for every fourth vector and each gate that another leads to, and so on, and some 1,000 steps to note the inputs.
+// An evaluation takes 16 words. Golden gates that do what others do are left out from 12 inputs on (see merge.rt). Partial evaluation is tried on each 2 ^ 15 inputs: one gate evaluation a gate
 // on 0, 1 and not yet known, which may spare all their blocks. The choice among the sets of k candidates leaves out one net after the
 // other and stops at unsound and at too dear sets: at most 3 ^ k steps, whatever the gates are, and as many more where supports cost
-// the same and the gates of their patches are counted. The notes cost, for each block until
-// all readings of the support are seen, one gate evaluation a gate that leads to it, and nothing where each of these readings leaves a
-// vector out.
+// the same and the gates of their patches are counted. The notes cost, for each block that was spared until all readings of the support are
+// seen, one gate evaluation a gate that leads to it, and nothing where none was.
 pub fn choose(job: &[u8], reply: &mut [u8]) -> ChooseReply
     ensures reply { λ r. ⌜ r ≡ chooseReply (now (reply .entry)) (now (job .entry)) ⌝ }
     ensures lent { λ _. ⌜ now (reply .exit) ≡ chosenBytes (now (reply .entry)) (now (job .entry)) ⌝ }

@@ -9,23 +9,19 @@ ghost use Rattle.engine.specs.Compare.{difference};
 ghost use Rattle.engine.specs.Reply.{comparisonOf, compareReply};
 ghost use Rattle.engine.specs.Inner.Miter.{SomeParts};
 ghost use Rattle.engine.specs.Inner.Plan.{PlanHeld};
-ghost use Rattle.engine.specs.Inner.Comparing.{PlanReads, DrivenRow, TableCopied, sheetComparison};
-use super::drive::set_targets;
+ghost use Rattle.engine.specs.Inner.Comparing.{PlanReads, TableCopied, sheetComparison};
+use super::drive::driven_row;
 use super::drive::table_rows;
-use super::kernel::run;
 use super::leaves::block_inputs;
-use super::leaves::equal_row;
-use super::leaves::read_rows;
 use super::limits::LISTED;
 use super::limits::READINGS;
-use super::limits::ROW;
 use super::limits::WORDS;
-use super::miter::miter_of;
+use super::merge::merged_miter;
 use super::plan::Plan;
 use super::plan::plan_of;
-use super::search::eval_block;
+use super::search::read_block;
 use super::table::reading_count;
-use super::word::first_unequal;
+use super::word::first_zero;
 use records::Check;
 use records::JobParts;
 use records::load;
@@ -47,36 +43,10 @@ pub struct CompareReply {
     pub result: Comparison,
 }
 
-// Where the old outputs driven by the table are the golden ones in block b: bit y of the row is 1 exactly when they are at input
-// 1,024 * b + y. It costs one gate evaluation a gate of both netlists, and one more for each gate that a target leads to, for 1,024
-// inputs.
-pub(super) fn driven_row(
-    gates: &[u64],
-    plan: Plan,
-    table: &[u8],
-    b: usize,
-    words: &mut [u64; WORDS],
-) -> [u64; ROW]
-    requires { ⌜ PlanHeld plan (now gates) × (1024 ≤ length (now table)) × (b < 65536) × (length (now words) ≡ 16384) ⌝ }
-    ensures { λ r. ⌜ DrivenRow plan (now (gates .entry)) (now (table .entry)) b r × (length (now (words .exit)) ≡ 16384) ⌝ }
-{
-    eval_block(gates, plan, b, words);
-    let nets = plan.nets;
-    let readings = read_rows(nets, plan.reads, words);
-    let vectors = table_rows(readings, table);
-    set_targets(plan.inputs, plan.targets, vectors, words);
-    let ends = plan.ends;
-    run(gates, ends[4], ends[5], words);
-    let outputs = plan.outputs;
-    let goldens = plan.goldens;
-    equal_row(outputs, goldens, plan.outs, words)
-}
-
 // The smallest input at which the old outputs driven by the table differ from the golden ones. It costs, for each block of 1,024
-// inputs up to the one with the difference, one gate evaluation a gate of both netlists and one more for each gate that a target
-// leads to.
-fn first_difference(gates: &[u64], plan: Plan, table: &[u8]) -> Comparison
-    requires { ⌜ PlanHeld plan (now gates) × (1024 ≤ length (now table)) ⌝ }
+// inputs up to the one with the difference, one gate evaluation a gate of both netlists.
+fn first_difference(gates: &[u64], plan: Plan, table: &[u16; READINGS]) -> Comparison
+    requires { ⌜ PlanHeld plan (now gates) ⌝ }
     ensures { λ r. ⌜ ((j : Job) (is : List ℕ) → PlanReads j is plan (now (gates .entry))
         → r ≡ comparisonOf (difference j is (now (table .entry)))) ⌝ }
 {
@@ -84,9 +54,11 @@ fn first_difference(gates: &[u64], plan: Plan, table: &[u8]) -> Comparison
     let mut words = [0u64; WORDS];
     let mut b = 0usize;
     while 1024 * b < size {
-        let row = driven_row(gates, plan, table, b, &mut words);
+        let readings = read_block(gates, plan, b, &mut words);
+        let vectors = table_rows(readings, table);
+        let row = driven_row(gates, plan, vectors, &mut words);
         let count = block_inputs(size - 1024 * b);
-        let y = first_unequal(row);
+        let y = first_zero(row);
         if y < count {
             return Comparison::Differs(DifferingInput {
                 input: (1024 * b + y) as u32,
@@ -98,14 +70,14 @@ fn first_difference(gates: &[u64], plan: Plan, table: &[u8]) -> Comparison
 }
 
 // The count entries of a table that stands from start on among a sheet's bytes, 0 behind them.
-fn table_of(sheet: &[u8], start: usize, count: usize) -> [u8; READINGS]
+fn table_of(sheet: &[u8], start: usize, count: usize) -> [u16; READINGS]
     requires { ⌜ (count ≤ 1024) × (start + count ≤ length (now sheet)) ⌝ }
     ensures { λ r. ⌜ TableCopied (now (sheet .entry)) start count r ⌝ }
 {
-    let mut table = [0u8; READINGS];
+    let mut table = [0u16; READINGS];
     let mut k = 0usize;
     while k < count {
-        table[k] = sheet[start + k];
+        table[k] = sheet[start + k] as u16;
         k += 1;
     }
     table
@@ -130,7 +102,7 @@ fn compare_sheet(job: JobParts, sheet: &[u8]) -> CompareReply
     let table = table_of(sheet, answer.table, reading_count(support.len));
     let picks = support.nets;
     let mut gates = [0u64; LISTED];
-    let plan = plan_of(miter_of(job), picks, support.len, &mut gates);
+    let plan = plan_of(merged_miter(job), picks, support.len, &mut gates);
     CompareReply {
         number: 0,
         result: first_difference(&gates, plan, &table),
@@ -139,8 +111,7 @@ fn compare_sheet(job: JobParts, sheet: &[u8]) -> CompareReply
 
 // The service compare: whether the old circuit driven by the sheet's table has the golden outputs, or the smallest input at
 // which it has not. Refused are what read refuses of the job and read_sheet of the sheet. It costs, for each block of 1,024 inputs
-// up to the one with the difference, one gate evaluation a gate of both netlists and one more for each gate that a target leads
-// to.
+// up to the one with the difference, one gate evaluation a gate of both netlists.
 pub fn compare(job: &[u8], sheet: &[u8]) -> CompareReply
     ensures { λ r. ⌜ r ≡ compareReply (now (job .entry)) (now (sheet .entry)) ⌝ }
 {

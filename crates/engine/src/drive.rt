@@ -1,28 +1,39 @@
 // The targets of a block driven by a table: each scenario's reading gives the vector to which its targets are set. Transposed, a word
 // of the readings' rows has four readings, and the entries at them are the word of four vectors.
 ghost use mathlib.Core.Path.{_≡_};
-ghost use Prim.Native.Nat.{ℕ, _+_, _%_, _≤_, _<_};
+ghost use Prim.Native.Nat.{ℕ, _+_, _/_, _%_, _^_, _≤_, _<_};
 ghost use lib.ListN.{length, getD};
 ghost use Rattle.engine.specs.Inner.Kernel.{rowValue, valueIn, NetsSet};
 ghost use Rattle.engine.specs.Inner.Note.{gathered};
+ghost use Rattle.engine.specs.Inner.Plan.{PlanHeld};
+ghost use Rattle.engine.specs.Inner.Search.{DrivenRow};
 ghost use Rattle.engine.specs.Inner.Turn.{Looked};
+use super::kernel::run;
+use super::leaves::equal_row;
 use super::leaves::set_row;
+use super::limits::READINGS;
 use super::limits::ROW;
 use super::limits::ROWS;
 use super::limits::WORDS;
+use super::plan::Plan;
 use super::turn::transpose;
 
-// The table's entry at a reading.
-fn look(reading: u64, table: &[u8]) -> u64
-    requires { ⌜ 1024 ≤ length (now table) ⌝ }
-    ensures { λ r. ⌜ (r ≡ getD (now (table .entry)) (reading % 1024) 0) × (r < 256) ⌝ }
+// An entry as a word. (Of an element behind a reference to an array it is not known that it fits; of an argument it is.)
+fn wide(entry: u16) -> u64
+    ensures { λ r. ⌜ (r ≡ entry) × (r < 65536) ⌝ }
 {
-    table[(reading % 1024) as usize] as u64
+    entry as u64
+}
+
+// The table's entry at a reading.
+fn look(reading: u64, table: &[u16; READINGS]) -> u64
+    ensures { λ r. ⌜ (r ≡ getD (now (table .entry)) (reading % 1024) 0) × (r < 65536) ⌝ }
+{
+    wide(table[(reading % 1024) as usize])
 }
 
 // .. at the four readings that a word holds
-fn look_four(readings: u64, table: &[u8]) -> u64
-    requires { ⌜ 1024 ≤ length (now table) ⌝ }
+fn look_four(readings: u64, table: &[u16; READINGS]) -> u64
     ensures { λ r. ⌜ Looked (now (table .entry)) readings r ⌝ }
 {
     let a = look(readings, table);
@@ -33,8 +44,8 @@ fn look_four(readings: u64, table: &[u8]) -> u64
 }
 
 // The rows of the vectors that a table gives for the readings of a block's inputs.
-pub(super) fn table_rows(readings: [u64; ROWS], table: &[u8]) -> [u64; ROWS]
-    requires { ⌜ (length readings ≡ 256) × (1024 ≤ length (now table)) ⌝ }
+pub(super) fn table_rows(readings: [u64; ROWS], table: &[u16; READINGS]) -> [u64; ROWS]
+    requires { ⌜ length readings ≡ 256 ⌝ }
     ensures { λ r. ⌜ (length r ≡ 256)
         × ((y : ℕ) → y < 1024 → gathered r y ≡ getD (now (table .entry)) (gathered readings y % 1024) 0) ⌝ }
 {
@@ -49,7 +60,7 @@ pub(super) fn table_rows(readings: [u64; ROWS], table: &[u8]) -> [u64; ROWS]
 }
 
 // Row i of 16 rows.
-fn row_at(rows: [u64; ROWS], i: usize) -> [u64; ROW]
+pub(super) fn row_at(rows: [u64; ROWS], i: usize) -> [u64; ROW]
     requires { ⌜ i < 16 ⌝ }
     ensures { λ r. ⌜ ((y : ℕ) → y < 1024 → rowValue r y ≡ valueIn rows y i) ⌝ }
 {
@@ -62,8 +73,22 @@ fn row_at(rows: [u64; ROWS], i: usize) -> [u64; ROW]
     r
 }
 
+// The four rows from row at on, 0 behind them.
+pub(super) fn four_rows(rows: [u64; ROWS], at: usize) -> [u64; ROWS]
+    requires { ⌜ (at ≤ 12) × (length rows ≡ 256) ⌝ }
+    ensures { λ r. ⌜ (length r ≡ 256) × ((y : ℕ) → y < 1024 → gathered r y ≡ gathered rows y / 2 ^ at % 16) ⌝ }
+{
+    let mut r = [0u64; ROWS];
+    let mut i = 0usize;
+    while i < 64 {
+        r[i] = rows[16 * at + i];
+        i += 1;
+    }
+    r
+}
+
 // The first rows become those of the targets, from net at on.
-pub(super) fn set_targets(at: usize, targets: usize, rows: [u64; ROWS], words: &mut [u64; WORDS])
+fn set_targets(at: usize, targets: usize, rows: [u64; ROWS], words: &mut [u64; WORDS])
     requires { ⌜ (at + targets ≤ 1024) × (targets ≤ 16) × (length (now words) ≡ 16384) ⌝ }
     ensures { λ _. ⌜ NetsSet at targets (valueIn rows) (now (words .entry)) (now (words .exit)) ⌝ }
 {
@@ -72,4 +97,24 @@ pub(super) fn set_targets(at: usize, targets: usize, rows: [u64; ROWS], words: &
         set_row(at + i, row_at(rows, i), words);
         i += 1;
     }
+}
+
+// The targets of a block set to the vectors of the rows, and what they lead to evaluated: bit y of the row is 1 exactly when vector y rectifies
+// the block's input y. Nets that no target leads to have their values already, and keep them. It costs one gate evaluation a gate that a
+// target leads to.
+pub(super) fn driven_row(
+    gates: &[u64],
+    plan: Plan,
+    vectors: [u64; ROWS],
+    words: &mut [u64; WORDS],
+) -> [u64; ROW]
+    requires { ⌜ PlanHeld plan (now gates) × (length vectors ≡ 256) × (length (now words) ≡ 16384) ⌝ }
+    ensures { λ r. ⌜ DrivenRow plan (now (gates .entry)) vectors (now (words .entry)) r (now (words .exit)) ⌝ }
+{
+    set_targets(plan.inputs, plan.targets, vectors, words);
+    let ends = plan.ends;
+    run(gates, ends[0], ends[1], words);
+    let outputs = plan.outputs;
+    let goldens = plan.goldens;
+    equal_row(outputs, goldens, plan.outs, words)
 }

@@ -3,18 +3,16 @@ ghost use mathlib.Core.Path.{_≡_};
 ghost use mathlib.Core.Bool.{true};
 ghost use mathlib.Core.List.{List};
 ghost use Prim.Native.Nat.{ℕ, _≤_};
-ghost use lib.Dec.{ltb};
 ghost use lib.ListN.{length, take};
 ghost use Rattle.records.specs.Bytes.{all as all′};
 ghost use Rattle.records.specs.Job.{Job};
-ghost use Rattle.records.specs.Refusal.{oldNets};
-ghost use Rattle.engine.specs.Inner.Miter.{MiterRoom, MiterOf};
+ghost use Rattle.records.specs.Refusal.{candidateGood};
+ghost use Rattle.engine.specs.Inner.Miter.{MiterRoom, MergedOf};
 ghost use Rattle.engine.specs.Inner.Plan.{NetsRead, PlanHeld};
 ghost use Rattle.engine.specs.Inner.Search.{BlockRange};
-ghost use Rattle.engine.specs.Inner.Best.{SetsOf};
-ghost use Rattle.engine.specs.Inner.Given.{MaybeUnseen, NextUnseen, BlockSeen, Unseen, AllSeen};
+ghost use Rattle.engine.specs.Inner.Best.{GivenBits};
+ghost use Rattle.engine.specs.Inner.Given.{UnmetOf, NextUnseen, BlockSeen, Unseen, AllSeen};
 use super::leaves::block_inputs;
-use super::leaves::read_rows;
 use super::limits::LISTED;
 use super::limits::READINGS;
 use super::limits::ROWS;
@@ -23,31 +21,27 @@ use super::miter::Miter;
 use super::note::meet_block;
 use super::plan::Plan;
 use super::plan::reads_of;
-use super::search::all_vectors;
-use super::search::eval_block;
+use super::search::read_block;
 use super::table::reading_count;
 use records::Support;
 
-// A 1 for each reading of len nets whose set has all vectors: the only ones that no input may give, since an input leaves a vector out
-// or is one that every vector rectifies.
-fn maybe_unseen(sets: [u16; READINGS], all: u16, len: usize) -> [u16; READINGS]
+// A 1 for each reading of len nets that no input gave which was looked at: bit 16 of its set.
+fn unmet_of(sets: &[u32; READINGS], len: usize) -> [u32; READINGS]
     requires { ⌜ len ≤ 10 ⌝ }
-    ensures { λ r. ⌜ MaybeUnseen sets all len r ⌝ }
+    ensures { λ r. ⌜ UnmetOf (now (sets .entry)) len r ⌝ }
 {
     let count = reading_count(len);
-    let mut unseen = [0u16; READINGS];
+    let mut unseen = [0u32; READINGS];
     let mut r = 0usize;
     while r < count {
-        if sets[r] == all {
-            unseen[r] = 1;
-        }
+        unseen[r] = sets[r] / 65536 % 2;
         r += 1;
     }
     unseen
 }
 
 // The first unseen reading from at on, below count; count where there is none.
-fn next_unseen(unseen: &[u16; READINGS], at: usize, count: usize) -> usize
+fn next_unseen(unseen: &[u32; READINGS], at: usize, count: usize) -> usize
     requires { ⌜ (at ≤ count) × (count ≤ 1024) ⌝ }
     ensures { λ r. ⌜ NextUnseen (now (unseen .entry)) at count r ⌝ }
 {
@@ -69,23 +63,21 @@ fn see_block(
     b: usize,
     count: usize,
     words: &mut [u64; WORDS],
-    unseen: &mut [u16; READINGS],
+    unseen: &mut [u32; READINGS],
 )
     requires { ⌜ PlanHeld plan (now gates) × BlockRange (plan .inputs) b count ⌝ }
     requires { ⌜ (length (now words) ≡ 16384) × (length (now unseen) ≡ 1024) ⌝ }
     ensures { λ _. ⌜ BlockSeen plan (now (gates .entry)) b count (now (unseen .entry)) (now (unseen .exit)) ⌝ }
     ensures { λ _. ⌜ length (now (words .exit)) ≡ 16384 ⌝ }
 {
-    eval_block(gates, plan, b, words);
-    let nets = plan.nets;
-    let readings = read_rows(nets, plan.reads, words);
+    let readings = read_block(gates, plan, b, words);
     meet_block([0u64; ROWS], readings, (count + 63) / 64, unseen);
 }
 
-// What stays unseen after all inputs. It ends at the block after which no reading is.
-fn see_inputs(gates: &[u64], plan: Plan, unseen: [u16; READINGS]) -> [u16; READINGS]
+// What stays unseen after the inputs of the ranges that were skipped. It ends at the block after which no reading is.
+fn see_inputs(gates: &[u64], plan: Plan, skipped: usize, unseen: [u32; READINGS]) -> [u32; READINGS]
     requires { ⌜ PlanHeld plan (now gates) × (length unseen ≡ 1024) ⌝ }
-    ensures { λ r. ⌜ AllSeen plan (now (gates .entry)) unseen r ⌝ }
+    ensures { λ r. ⌜ AllSeen plan (now (gates .entry)) skipped unseen r ⌝ }
 {
     let count = reading_count(plan.reads);
     let size = 1usize << plan.inputs;
@@ -97,33 +89,39 @@ fn see_inputs(gates: &[u64], plan: Plan, unseen: [u16; READINGS]) -> [u16; READI
         if next == count {
             return unseen;
         }
-        see_block(
-            gates,
-            plan,
-            b,
-            block_inputs(size - 1024 * b),
-            &mut words,
-            &mut unseen,
-        );
-        next = next_unseen(&unseen, next, count);
+        if (skipped >> (b / 32)) % 2 == 1 {
+            see_block(
+                gates,
+                plan,
+                b,
+                block_inputs(size - 1024 * b),
+                &mut words,
+                &mut unseen,
+            );
+            next = next_unseen(&unseen, next, count);
+        }
         b += 1;
     }
     unseen
 }
 
-// The readings of a support with these sets that no input gives: their places are not 0. Where each set leaves a vector out, none is
-// evaluated; else it costs, for each block of 1,024 inputs until all readings are seen, one gate evaluation a gate that leads to
-// the support.
+// The readings of a support with these sets that no input gives: their places are not 0. Where no range was skipped, the sets tell, and none is
+// evaluated; else it costs, for each block of 1,024 inputs of these ranges until all readings are seen, one gate evaluation a gate that
+// leads to the support.
 pub(super) fn unseen_readings(
     miter: Miter,
     support: Support,
-    sets: [u16; READINGS],
-) -> [u16; READINGS]
+    sets: &[u32; READINGS],
+    skipped: usize,
+) -> [u32; READINGS]
     requires { ⌜ MiterRoom miter × NetsRead (support .nets) (support .len) ⌝ }
-    ensures { λ r. ⌜ ((j : Job) (is : List ℕ) → MiterOf j miter → take (support .len) (support .nets) ≡ is
-        → all′ (λ i. ltb i (oldNets j)) is ≡ true → SetsOf j is sets → Unseen j is r) ⌝ }
+    ensures { λ r. ⌜ ((j : Job) (is : List ℕ) → MergedOf j miter → take (support .len) (support .nets) ≡ is
+        → all′ (candidateGood j) is ≡ true → GivenBits j is (now (sets .entry)) skipped → Unseen j is r) ⌝ }
 {
-    let unseen = maybe_unseen(sets, all_vectors(miter.targets), support.len);
+    let unseen = unmet_of(sets, support.len);
+    if skipped == 0 {
+        return unseen;
+    }
     let count = reading_count(support.len);
     if next_unseen(&unseen, 0, count) == count {
         return unseen;
@@ -131,5 +129,5 @@ pub(super) fn unseen_readings(
     let mut gates = [0u64; LISTED];
     let nets = support.nets;
     let plan = reads_of(miter, nets, support.len, &mut gates);
-    see_inputs(&gates, plan, unseen)
+    see_inputs(&gates, plan, skipped, unseen)
 }

@@ -1,47 +1,47 @@
 // The walk over all inputs of a job that gives its vector list. Most blocks leave the list as it is, as a listed vector rectifies each of
-// their inputs. That is shown at the cost of one vector: a table of listed vectors, at each reading of the candidates one that rectified
-// all inputs looked at which give it, drives the old circuit. Where it does not equal the golden one on the whole block, all vectors are
-// evaluated there, and the table learns.
+// their inputs. That is shown at the cost of one or two vectors: two tables of listed vectors drive the old circuit, one after the other. At
+// each reading of the candidates the first has one that rectified the inputs looked at which give it, up to one for which there was none, and
+// the second one that rectified those from there on which the first did not. Where neither equals the golden circuit, all vectors are
+// evaluated, and the tables learn.
 ghost use mathlib.Core.Path.{_≡_};
 ghost use mathlib.Core.Bool.{true, false};
-ghost use mathlib.Core.List.{List};
-ghost use Prim.Native.Nat.{ℕ, _+_, _*_, _^_, _≤_, _<_};
+ghost use Prim.Native.Nat.{ℕ, _*_, _^_, _≤_, _<_};
 ghost use lib.Dec.{eqb};
 ghost use lib.ListN.{length, getD, take};
 ghost use Rattle.records.specs.Job.{Job};
 ghost use Rattle.engine.specs.Choice.{any};
 ghost use Rattle.engine.specs.Eval.{bit};
 ghost use Rattle.engine.specs.Support.{candidateNets};
-ghost use Rattle.engine.specs.Inner.List.{Held};
-ghost use Rattle.engine.specs.Inner.Search.{BlockRange};
+ghost use Rattle.engine.specs.Inner.List.{Held, listedOf, startList};
+ghost use Rattle.engine.specs.Inner.Search.{FreeKept};
 ghost use Rattle.engine.specs.Inner.Plan.{PlanHeld, PlannedOf};
-ghost use Rattle.engine.specs.Inner.Guess.{ListTo, OfListed, GuessHeld, BlockGuessed, BlockListed};
-use super::comparing::driven_row;
+ghost use Rattle.engine.specs.Inner.Guess.{ListTo, OfListed, BlockGuessed, BlockListed};
+use super::drive::driven_row;
+use super::drive::four_rows;
+use super::drive::table_rows;
 use super::leaves::block_inputs;
-use super::leaves::read_rows;
 use super::limits::READINGS;
-use super::limits::TRUST;
+use super::limits::ROWS;
 use super::limits::VECTORS;
 use super::limits::WORDS;
 use super::list::Vectors;
 use super::list::lowest_of;
 use super::masks::masks_of;
 use super::note::list_block;
-use super::note::meet_block;
+use super::note::sort_block;
 use super::plan::Plan;
-use super::search::all_vectors;
-use super::search::eval_block;
+use super::search::read_block;
 use super::search::settled_from;
-use super::word::first_unequal;
+use super::search::zero_block;
+use super::trust::first_trust;
+use super::trust::next_trust;
+use super::word::first_zero;
+use super::word::join_rows;
 
-// The vector list so far; for each reading the vectors that rectify all inputs giving it in the blocks where all vectors were evaluated,
-// a listed one of these, 0 where there is none; and how far the table is trusted: a block on which it fails takes one, one on
-// which it does not gives one back.
-pub struct Guess {
+// The vector list after a block, and whether the tables showed that it stays.
+pub struct Listing {
     pub list: Vectors,
-    pub sets: [u16; READINGS],
-    pub table: [u8; READINGS],
-    pub trust: usize,
+    pub kept: bool,
 }
 
 // The first len vectors of a list, as a set.
@@ -58,117 +58,82 @@ fn listed_set(list: [u8; VECTORS], len: usize) -> u16
     set
 }
 
-// At each reading the smallest listed vector of its set, 0 where there is none.
-fn listed_table(sets: [u16; READINGS], list: Vectors) -> [u8; READINGS]
+// The two tables: at each reading the smallest listed vector of its first set and, 16 times, that of its second, 0 where there is none.
+fn listed_table(sets: [u32; READINGS], list: Vectors) -> [u16; READINGS]
     requires { ⌜ Held list ⌝ }
     ensures { λ r. ⌜ OfListed list r ⌝ }
 {
     let vectors = list.list;
-    let listed = listed_set(vectors, list.len);
-    let mut table = [0u8; READINGS];
+    let listed = listed_set(vectors, list.len) as usize;
+    let mut table = [0u16; READINGS];
     let mut r = 0usize;
     while r < READINGS {
-        table[r] = lowest_of((sets[r] & listed) as usize) as u8;
+        let both = sets[r] as usize;
+        let first = lowest_of(both & listed);
+        let second = lowest_of((both >> 16) & listed);
+        table[r] = (first + 16 * second) as u16;
         r += 1;
     }
     table
 }
 
-// Whether the table's vectors rectify the first count inputs of block b. It costs one gate evaluation a gate of both netlists, one more for
-// each gate that a target leads to, and some 1,000 steps.
+// Whether each of the first count inputs of a block is rectified by one of the two tables' vectors. It costs one gate evaluation a gate that a
+// target leads to, for each table that is tried, and some 1,000 steps.
 fn guess_block(
     gates: &[u64],
     plan: Plan,
-    table: &[u8],
-    b: usize,
+    readings: [u64; ROWS],
+    table: &[u16; READINGS],
     count: usize,
     words: &mut [u64; WORDS],
 ) -> bool
-    requires { ⌜ PlanHeld plan (now gates) × (1024 ≤ length (now table)) × (b < 65536) × (length (now words) ≡ 16384) ⌝ }
-    ensures { λ r. ⌜ (r ≡ true → BlockGuessed plan (now (gates .entry)) (now (table .entry)) b count) × (length (now (words .exit)) ≡ 16384) ⌝ }
+    requires { ⌜ PlanHeld plan (now gates) × (length readings ≡ 256) × (length (now words) ≡ 16384) ⌝ }
+    ensures { λ _. ⌜ FreeKept plan (now (gates .entry)) (now (words .entry)) (now (words .exit)) × (length (now (words .exit)) ≡ 16384) ⌝ }
+    ensures { λ r. ⌜ (r ≡ true → BlockGuessed plan (now (gates .entry)) (now (words .entry)) readings (now (table .entry)) count) ⌝ }
 {
-    let row = driven_row(gates, plan, table, b, words);
-    count <= first_unequal(row)
-}
-
-// One less, down to 0.
-fn less(x: usize) -> usize
-    ensures { λ r. ⌜ r ≤ x ⌝ }
-{
-    if x == 0 { 0 } else { x - 1 }
-}
-
-// The same guess, trusted more, up to the start's trust.
-fn trusted(guess: Guess) -> Guess
-    requires { ⌜ GuessHeld guess ⌝ }
-    ensures { λ r. ⌜ GuessHeld r × (r .list ≡ guess .list) ⌝ }
-{
-    let list = guess.list;
-    let sets = guess.sets;
-    let table = guess.table;
-    let trust = if guess.trust < TRUST {
-        guess.trust + 1
-    } else {
-        TRUST
-    };
-    Guess {
-        list,
-        sets,
-        table,
-        trust,
+    let vectors = table_rows(readings, table);
+    let one = driven_row(gates, plan, four_rows(vectors, 0), words);
+    if count <= first_zero(one) {
+        return true;
     }
+    let two = driven_row(gates, plan, four_rows(vectors, 4), words);
+    count <= first_zero(join_rows(one, two))
 }
 
-// The list after the first count inputs of block b, by all vectors, and what the table learns there. It costs one gate evaluation a gate of
-// both netlists, those of the masks, and some 2,000 steps.
-fn learn_block(
-    gates: &[u64],
-    plan: Plan,
-    b: usize,
-    count: usize,
-    guess: Guess,
-    words: &mut [u64; WORDS],
-) -> Guess
-    requires { ⌜ PlanHeld plan (now gates) × BlockRange (plan .inputs) b count × GuessHeld guess × (length (now words) ≡ 16384) ⌝ }
-    ensures { λ r. ⌜ BlockListed plan (now (gates .entry)) b count guess r ⌝ }
-    ensures { λ _. ⌜ length (now (words .exit)) ≡ 16384 ⌝ }
-{
-    eval_block(gates, plan, b, words);
-    let nets = plan.nets;
-    let readings = read_rows(nets, plan.reads, words);
-    let masks = masks_of(gates, plan, words);
-    let list = list_block(masks, 1024 * b, count, guess.list);
-    let mut sets = guess.sets;
-    meet_block(masks, readings, (count + 63) / 64, &mut sets);
-    let table = listed_table(sets, list);
-    Guess {
-        list,
-        sets,
-        table,
-        trust: less(guess.trust),
-    }
-}
-
-// The list after the first count inputs of block b. The table is not tried on the first block, nor once it is not trusted.
+// The list after the inputs of block b, and what the sets of the tables become where all vectors are evaluated. The tables are not tried on the
+// first block, nor once they are not trusted. Where they do, it costs one gate evaluation a gate of both netlists, and perhaps one more for each
+// gate that a target leads to; else that, those of the masks, and some 2,000 steps.
 fn list_inputs(
     gates: &[u64],
     plan: Plan,
     b: usize,
-    count: usize,
-    guess: Guess,
+    list: Vectors,
+    trust: usize,
+    table: &[u16; READINGS],
+    sets: &mut [u32; READINGS],
     words: &mut [u64; WORDS],
-) -> Guess
-    requires { ⌜ PlanHeld plan (now gates) × BlockRange (plan .inputs) b count × GuessHeld guess × (length (now words) ≡ 16384) ⌝ }
-    ensures { λ r. ⌜ BlockListed plan (now (gates .entry)) b count guess r ⌝ }
-    ensures { λ _. ⌜ length (now (words .exit)) ≡ 16384 ⌝ }
+) -> Listing
+    requires { ⌜ PlanHeld plan (now gates) × (1024 * b < 2 ^ plan .inputs) × Held list × (list .stuck ≡ false) ⌝ }
+    requires { ⌜ (0 < trust → OfListed list (now table)) × (length (now sets) ≡ 1024) × (length (now words) ≡ 16384) ⌝ }
+    ensures { λ r. ⌜ BlockListed plan (now (gates .entry)) b list r × (r .kept ≡ true → 0 < trust) ⌝ }
+    ensures { λ _. ⌜ (length (now (sets .exit)) ≡ 1024) × (length (now (words .exit)) ≡ 16384) ⌝ }
 {
-    if (0 < b) & (0 < guess.trust) {
-        let table = guess.table;
-        if guess_block(gates, plan, &table, b, count, words) {
-            return trusted(guess);
+    let count = block_inputs((1usize << plan.inputs) - 1024 * b);
+    let readings = read_block(gates, plan, b, words);
+    if (0 < b) & (0 < trust) {
+        if guess_block(gates, plan, readings, table, count, words) {
+            return Listing { list, kept: true };
         }
     }
-    learn_block(gates, plan, b, count, guess, words)
+    zero_block(gates, plan, words);
+    let masks = masks_of(gates, plan, words);
+    if 0 < trust {
+        sort_block(masks, readings, (count + 63) / 64, sets);
+    }
+    Listing {
+        list: list_block(masks, 1024 * b, count, list),
+        kept: false,
+    }
 }
 
 // The vector list over all inputs. It ends at the first block with an input that no vector rectifies.
@@ -179,36 +144,39 @@ pub(super) fn list_of_inputs(gates: &[u64], plan: Plan) -> Vectors
 {
     let size = 1usize << plan.inputs;
     let mut words = [0u64; WORDS];
-    let mut guess = Guess {
-        list: Vectors {
-            list: [0u8; VECTORS],
-            len: 1,
-            stuck: false,
-            input: 0,
-        },
-        sets: [all_vectors(plan.targets); READINGS],
-        table: [0u8; READINGS],
-        trust: TRUST,
-    };
+    let mut sets = [!0u32; READINGS];
+    let mut table = [0u16; READINGS];
+    let mut list = first_list();
+    let mut trust = first_trust(plan.inputs, 14);
     let mut b = 0usize;
     while 1024 * b < size {
         let skip = settled_from(gates, plan, b);
         if skip == 0 {
-            guess = list_inputs(
-                gates,
-                plan,
-                b,
-                block_inputs(size - 1024 * b),
-                guess,
-                &mut words,
-            );
-            if guess.list.stuck {
-                return guess.list;
+            let next = list_inputs(gates, plan, b, list, trust, &table, &mut sets, &mut words);
+            list = next.list;
+            if list.stuck {
+                return list;
+            }
+            trust = next_trust(trust, b, next.kept);
+            if !next.kept & (0 < trust) {
+                table = listed_table(sets, list);
             }
             b += 1;
         } else {
             b += skip;
         }
     }
-    guess.list
+    list
+}
+
+// Vector 0 alone, with which the loop begins.
+fn first_list() -> Vectors
+    ensures { λ r. ⌜ Held r × (listedOf r ≡ startList) × (r .stuck ≡ false) ⌝ }
+{
+    Vectors {
+        list: [0u8; VECTORS],
+        len: 1,
+        stuck: false,
+        input: 0,
+    }
 }

@@ -16,7 +16,7 @@ use super::guess::list_of_inputs;
 use super::limits::LISTED;
 use super::limits::LONGEST_JUDGE;
 use super::list::Vectors;
-use super::miter::miter_of;
+use super::merge::merged_miter;
 use super::plan::plan_of;
 use super::sheet::put_unfixable;
 use super::sheet::put_vectors;
@@ -84,7 +84,7 @@ fn judge_job(job: JobParts, reply: &mut [u8]) -> JudgeReply
     let candidates = job.counts.candidates;
     let nets = job.nets;
     let mut gates = [0u64; LISTED];
-    let plan = plan_of(miter_of(job), nets, candidates, &mut gates);
+    let plan = plan_of(merged_miter(job), nets, candidates, &mut gates);
     let list = list_of_inputs(&gates, plan);
     rule_list(list, reply)
 }
@@ -92,10 +92,10 @@ fn judge_job(job: JobParts, reply: &mut [u8]) -> JudgeReply
 // The service judge: whether every input of a job is fixable, or the smallest that is not, and its sheet at the start of the reply buffer:
 // the unfixable input, if any, and the vector list. Refused are a buffer below 26 bytes (1) and what is no whole job (2 to 6). It ends at
 // the first block of 1,024 inputs that has an unfixable one. For each block before, it costs one gate evaluation a gate of both
-// netlists, and one more for each gate that a target leads to, where a table of listed vectors does (see guess.rt), and else that and
-// what choose costs. The table is given up where it fails too often: then it costs what choose does. An evaluation takes 16 words.
-// Partial evaluation is tried on each 2 ^ 15 inputs: one gate evaluation a gate on 0, 1 and not yet known, which may spare all
-// their blocks.
+// netlists where a table of listed vectors does, one more for each gate that a target leads to where a second table does too (see
+// guess.rt), and else that and those of all vectors, as choose. The tables are given up where they fail too often. An evaluation takes 16
+// words. Golden gates that do what others do are left out from 12 inputs on (see merge.rt). Partial evaluation is tried on each 2 ^ 15
+// inputs: one gate evaluation a gate on 0, 1 and not yet known, which may spare all their blocks.
 pub fn judge(job: &[u8], reply: &mut [u8]) -> JudgeReply
     ensures reply { λ r. ⌜ r ≡ judgeReply (now (reply .entry)) (now (job .entry)) ⌝ }
     ensures lent { λ _. ⌜ now (reply .exit) ≡ judgedBytes (now (reply .entry)) (now (job .entry)) ⌝ }

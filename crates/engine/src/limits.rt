@@ -11,14 +11,14 @@ pub const WORDS: usize = ROW * NETS;
 pub const VECTORS: usize = 16;
 
 pub const ROWS: usize = ROW * VECTORS;
-// How many blocks more a table of guesses may fail on than it does (src/guess.rt).
+// How many blocks more a test that may save a block's work may fail on than it does not (src/trust.rt).
 pub const TRUST: usize = 64;
 // The readings of ten candidates.
 pub const READINGS: usize = 1024;
-// The gates of both netlists, and those with a list for each target and one for all.
+// The gates of both netlists, and those with a list for each target.
 pub const MITER_GATES: usize = GATES + GATES;
 
-pub const LISTED: usize = MITER_GATES + 5 * GATES;
+pub const LISTED: usize = MITER_GATES + 4 * GATES;
 
 pub const LONGEST_JUDGE: usize = 26;
 

@@ -45,13 +45,13 @@ fn vector_at(u: usize, step: usize) -> usize
 
 // A target whose list of gates is the shortest; 0 where there is no target.
 fn shortest_list(ends: [usize; 6], targets: usize) -> usize
-    requires { ⌜ (targets ≤ 4) × (length ends ≡ 6) × ((t : ℕ) → getD ends t 0 ≤ 2800) ⌝ }
+    requires { ⌜ (targets ≤ 4) × (length ends ≡ 6) × ((t : ℕ) → getD ends t 0 ≤ 2400) ⌝ }
     ensures { λ r. ⌜ (r < 4) × Among targets r ⌝ }
 {
     let mut best = 0usize;
     let mut t = 1usize;
     while t < targets {
-        if ends[t + 1] + ends[best] < ends[best + 1] + ends[t] {
+        if ends[t + 2] + ends[best + 1] < ends[best + 2] + ends[t + 1] {
             best = t;
         }
         t += 1;
@@ -66,7 +66,7 @@ fn turn_target(gates: &[u64], plan: Plan, t: usize, x: usize, words: &mut [u64; 
 {
     set_net(plan.inputs + t, x, words);
     let ends = plan.ends;
-    run(gates, ends[t], ends[t + 1], words);
+    run(gates, ends[t + 1], ends[t + 2], words);
 }
 
 // The rows of all vectors in the block whose words, at vector 0, are given: bit y of row v is 1 where vector v rectifies the block's

@@ -14,22 +14,22 @@ use super::limits::VECTORS;
 use super::list::Vectors;
 use super::list::list_step;
 use super::turn::transpose;
-use super::word::first_unequal;
+use super::word::first_zero;
 
 // The sets with the one of a reading cut down to its part in a set of vectors.
-fn meet(reading: u64, set: u64, sets: &mut [u16; READINGS])
+fn meet(reading: u64, set: u64, sets: &mut [u32; READINGS])
     ensures { λ r. ⌜ now (sets .exit) ≡ narrowed (now (sets .entry)) (reading % 1024) (set % 65536) ⌝ }
 {
     let at = (reading % 1024) as usize;
     let was = sets[at];
-    let now = was & ((set % 65536) as u16);
+    let now = was & ((set % 65536) as u32);
     if now != was {
         sets[at] = now;
     }
 }
 
 // .. for the four readings and sets that two words hold
-fn meet_four(readings: u64, masks: u64, sets: &mut [u16; READINGS])
+fn meet_four(readings: u64, masks: u64, sets: &mut [u32; READINGS])
     ensures { λ r. ⌜ now (sets .exit) ≡ narrowed (narrowed (narrowed (narrowed (now (sets .entry))
         (readings % 1024) (masks % 65536)) (readings / 2 ^ 16 % 1024) (masks / 2 ^ 16 % 65536))
         (readings / 2 ^ 32 % 1024) (masks / 2 ^ 32 % 65536)) (readings / 2 ^ 48 % 1024) (masks / 2 ^ 48 % 65536) ⌝ }
@@ -41,7 +41,7 @@ fn meet_four(readings: u64, masks: u64, sets: &mut [u16; READINGS])
 }
 
 // The sets after the 64 scenarios of column w. Transposed, a word has the sets, or the readings, of four of them.
-fn meet_column(masks: &[u64; ROWS], readings: &[u64; ROWS], w: usize, sets: &mut [u16; READINGS])
+fn meet_column(masks: &[u64; ROWS], readings: &[u64; ROWS], w: usize, sets: &mut [u32; READINGS])
     requires { ⌜ w < 16 ⌝ }
     ensures { λ r. ⌜ ColumnMet (now (masks .entry)) (now (readings .entry)) w (now (sets .entry)) (now (sets .exit)) ⌝ }
 {
@@ -57,7 +57,7 @@ pub(super) fn meet_block(
     masks: [u64; ROWS],
     readings: [u64; ROWS],
     columns: usize,
-    sets: &mut [u16; READINGS],
+    sets: &mut [u32; READINGS],
 )
     requires { ⌜ (length masks ≡ 256) × (length readings ≡ 256) × (columns ≤ 16) ⌝ }
     ensures { λ r. ⌜ now (sets .exit)
@@ -68,6 +68,53 @@ pub(super) fn meet_block(
     let mut w = 0usize;
     while w < columns {
         meet_column(&turned, &read, w, sets);
+        w += 1;
+    }
+}
+
+// An input narrows the first set of its reading, in the low half of its place, where it leaves it a vector, else the second.
+fn sort(reading: u64, set: u64, sets: &mut [u32; READINGS])
+    ensures { λ _. ⌜ length (now (sets .exit)) ≡ length (now (sets .entry)) ⌝ }
+{
+    let at = (reading % 1024) as usize;
+    let mask = (set % 65536) as u32;
+    let both = sets[at];
+    sets[at] = if both & mask != 0 {
+        both & (mask | 0xffff_0000)
+    } else {
+        both & ((mask << 16) | 0xffff)
+    };
+}
+
+// .. for the 64 scenarios of column w of turned rows
+fn sort_column(masks: &[u64; ROWS], readings: &[u64; ROWS], w: usize, sets: &mut [u32; READINGS])
+    requires { ⌜ w < 16 ⌝ }
+    ensures { λ _. ⌜ length (now (sets .exit)) ≡ length (now (sets .entry)) ⌝ }
+{
+    let mut i = 0usize;
+    while i < 64 {
+        let at = 16 * (i / 4) + w;
+        let by = 16 * (i % 4);
+        sort(readings[at] >> by, masks[at] >> by, sets);
+        i += 1;
+    }
+}
+
+// .. for the scenarios of a block's first columns
+pub(super) fn sort_block(
+    masks: [u64; ROWS],
+    readings: [u64; ROWS],
+    columns: usize,
+    sets: &mut [u32; READINGS],
+)
+    requires { ⌜ (length masks ≡ 256) × (length readings ≡ 256) × (columns ≤ 16) ⌝ }
+    ensures { λ _. ⌜ length (now (sets .exit)) ≡ length (now (sets .entry)) ⌝ }
+{
+    let turned = transpose(masks, columns);
+    let read = transpose(readings, columns);
+    let mut w = 0usize;
+    while w < columns {
+        sort_column(&turned, &read, w, sets);
         w += 1;
     }
 }
@@ -123,7 +170,7 @@ fn next_uncovered(masks: &[u64; ROWS], list: Vectors, y: usize) -> usize
     ensures { λ r. ⌜ CoveredTo (now (masks .entry)) list y r ⌝ }
 {
     let vectors = list.list;
-    let next = first_unequal(listed_row(masks, vectors, list.len));
+    let next = first_zero(listed_row(masks, vectors, list.len));
     if next < y {
         return y;
     }

@@ -3,16 +3,15 @@ ghost use mathlib.Core.Path.{_≡_};
 ghost use mathlib.Core.Bool.{true};
 ghost use mathlib.Core.List.{List};
 ghost use Prim.Native.Nat.{ℕ, _+_, _≤_, _<_, max};
-ghost use lib.Dec.{ltb};
 ghost use lib.ListN.{length, take};
 ghost use Rattle.records.specs.Bytes.{all};
 ghost use Rattle.records.specs.Job.{Job};
-ghost use Rattle.records.specs.Refusal.{oldNets};
+ghost use Rattle.records.specs.Refusal.{candidateGood};
 ghost use Rattle.records.specs.Claims.{Below};
 ghost use Rattle.engine.specs.Inner.Packed.{operandsOf};
-ghost use Rattle.engine.specs.Inner.Miter.{MiterRoom, MiterOf};
+ghost use Rattle.engine.specs.Inner.Miter.{MiterRoom, MergedOf};
 ghost use Rattle.engine.specs.Inner.Plan.{codeMark, markedAll, liveFrom, liveMarks, leavesFrom, marksFrom, picked};
-ghost use Rattle.engine.specs.Inner.Plan.{startOf, spanOf, ListPut, ListsUpTo, NetsRead, PlanHeld, ReadsOf, PlannedOf};
+ghost use Rattle.engine.specs.Inner.Plan.{ListPut, ListsUpTo, NetsRead, PlanHeld, ReadsOf, PlannedOf};
 use super::limits::LISTED;
 use super::limits::NETS;
 use super::miter::Miter;
@@ -20,8 +19,8 @@ use records::CANDIDATES;
 use records::OUTPUTS;
 
 // What the search needs: counts, the nets of the outputs in both circuits, the nets that are read, and where the lists of gates end.
-// List t, for target t, is gates[ends[t]..ends[t + 1]]; before ends[0] stand all live gates, from ends[4] to ends[5] those that any
-// target leads to.
+// Before ends[0] stand the live gates that no target leads to, from there to ends[1] the others; those that target t leads to are
+// gates[ends[t + 1]..ends[t + 2]].
 pub struct Plan {
     pub inputs: usize,
     pub targets: usize,
@@ -127,17 +126,19 @@ fn mark_live(gates: &[u64], count: usize, mut marks: [u8; NETS]) -> [u8; NETS]
     marks
 }
 
-// The gates that have a mark in both, put from place at on; the end is behind them. Where there is no room, the rest is left out.
+// The gates that have a mark in live, and one in marks, where led, or none there, put from place at on; the end is behind them. Where there
+// is no room, the rest is left out.
 fn pick(
     gates: &[u64],
     count: usize,
     live: &[u8; NETS],
     marks: &[u8; NETS],
+    led: bool,
     at: usize,
     out: &mut [u64; LISTED],
 ) -> usize
-    requires { ⌜ (count ≤ length (now gates)) × (at ≤ 2800) × (length (now out) ≡ 2800) ⌝ }
-    ensures { λ r. ⌜ ListPut (picked (now (live .entry)) (now (marks .entry)) (take count (now (gates .entry)))) at
+    requires { ⌜ (count ≤ length (now gates)) × (at ≤ 2400) × (length (now out) ≡ 2400) ⌝ }
+    ensures { λ r. ⌜ ListPut (picked (now (live .entry)) (now (marks .entry)) led (take count (now (gates .entry)))) at
         (now (out .entry)) r (now (out .exit)) ⌝ }
 {
     let mut end = at;
@@ -146,7 +147,7 @@ fn pick(
         let c = gates[i];
         let net = (c / 128 % 1024) as usize;
         if live[net] != 0 {
-            if marks[net] != 0 {
+            if (marks[net] != 0) == led {
                 if end < LISTED {
                     out[end] = c;
                     end += 1;
@@ -158,25 +159,8 @@ fn pick(
     end
 }
 
-// The first leaf from which list s + 1 goes.
-fn start_of(inputs: usize, s: usize) -> usize
-    requires { ⌜ (inputs ≤ 20) × (s < 5) ⌝ }
-    ensures { λ r. ⌜ r ≡ startOf inputs s ⌝ }
-{
-    if s == 4 { inputs } else { inputs + s }
-}
-
-// How many leaves these are.
-fn span_of(targets: usize, s: usize) -> usize
-    ensures { λ r. ⌜ r ≡ spanOf targets s ⌝ }
-{
-    if s == 4 {
-        return targets;
-    }
-    if s < targets { 1 } else { 0 }
-}
-
-// All live gates; those that each of four targets leads to; those that any leads to: one behind the other, and the end of each.
+// The live gates that no target leads to, the others, and those that each target leads to: one list behind the other, and the end of
+// each.
 fn lists_of(
     gates: &[u64],
     count: usize,
@@ -185,18 +169,18 @@ fn lists_of(
     targets: usize,
     out: &mut [u64; LISTED],
 ) -> [usize; 6]
-    requires { ⌜ (count ≤ length (now gates)) × (inputs ≤ 20) × (targets ≤ 4) × (length (now out) ≡ 2800) ⌝ }
-    ensures { λ r. ⌜ ListsUpTo 6 inputs targets live (take count (now (gates .entry))) r (now (out .exit)) ⌝ }
+    requires { ⌜ (count ≤ length (now gates)) × (inputs ≤ 20) × (targets ≤ 4) × (length (now out) ≡ 2400) ⌝ }
+    ensures { λ r. ⌜ ListsUpTo (targets + 2) inputs targets live (take count (now (gates .entry))) r (now (out .exit)) ⌝ }
 {
+    let fan = mark_from(gates, count, inputs, targets);
     let mut ends = [0usize; 6];
-    ends[0] = pick(gates, count, &live, &live, 0, out);
-    let mut s = 0usize;
-    while s < 5 {
-        let from = start_of(inputs, s);
-        let k = span_of(targets, s);
-        let marks = mark_from(gates, count, from, k);
-        ends[s + 1] = pick(gates, count, &live, &marks, ends[s], out);
-        s += 1;
+    ends[0] = pick(gates, count, &live, &fan, false, 0, out);
+    ends[1] = pick(gates, count, &live, &fan, true, ends[0], out);
+    let mut t = 0usize;
+    while t < targets {
+        let marks = mark_from(gates, count, inputs + t, 1);
+        ends[t + 2] = pick(gates, count, &live, &marks, true, ends[t + 1], out);
+        t += 1;
     }
     ends
 }
@@ -228,10 +212,10 @@ pub(super) fn plan_of(
     reads: usize,
     gates: &mut [u64; LISTED],
 ) -> Plan
-    requires { ⌜ MiterRoom miter × NetsRead nets reads × (length (now gates) ≡ 2800) ⌝ }
+    requires { ⌜ MiterRoom miter × NetsRead nets reads × (length (now gates) ≡ 2400) ⌝ }
     ensures { λ r. ⌜ PlanHeld r (now (gates .exit)) ⌝ }
-    ensures { λ r. ⌜ ((j : Job) (is : List ℕ) → MiterOf j miter → take reads nets ≡ is
-        → all (λ i. ltb i (oldNets j)) is ≡ true → PlannedOf j is r (now (gates .exit))) ⌝ }
+    ensures { λ r. ⌜ ((j : Job) (is : List ℕ) → MergedOf j miter → take reads nets ≡ is
+        → all (candidateGood j) is ≡ true → PlannedOf j is r (now (gates .exit))) ⌝ }
 {
     let outputs = miter.outputs;
     let goldens = miter.goldens;
@@ -265,22 +249,23 @@ pub(super) fn plan_of(
 }
 
 // The plan of a walk over a miter's inputs that reads the first reads nets and compares no outputs, and its gates: those that lead to
-// these nets.
+// these nets, and that no target leads to.
 pub(super) fn reads_of(
     miter: Miter,
     nets: [u16; CANDIDATES],
     reads: usize,
     gates: &mut [u64; LISTED],
 ) -> Plan
-    requires { ⌜ MiterRoom miter × NetsRead nets reads × (length (now gates) ≡ 2800) ⌝ }
+    requires { ⌜ MiterRoom miter × NetsRead nets reads × (length (now gates) ≡ 2400) ⌝ }
     ensures { λ r. ⌜ PlanHeld r (now (gates .exit)) ⌝ }
-    ensures { λ r. ⌜ ((j : Job) (is : List ℕ) → MiterOf j miter → take reads nets ≡ is
-        → all (λ i. ltb i (oldNets j)) is ≡ true → ReadsOf j is r (now (gates .exit))) ⌝ }
+    ensures { λ r. ⌜ ((j : Job) (is : List ℕ) → MergedOf j miter → take reads nets ≡ is
+        → all (candidateGood j) is ≡ true → ReadsOf j is r (now (gates .exit))) ⌝ }
 {
     let outputs = miter.outputs;
     let goldens = miter.goldens;
     let live = live_marks(&miter.gates, miter.count, outputs, goldens, 0, nets, reads);
-    let end = pick(&miter.gates, miter.count, &live, &live, 0, gates);
+    let fan = mark_from(&miter.gates, miter.count, miter.inputs, miter.targets);
+    let end = pick(&miter.gates, miter.count, &live, &fan, false, 0, gates);
     Plan {
         inputs: miter.inputs,
         targets: miter.targets,

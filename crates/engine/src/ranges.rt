@@ -136,6 +136,6 @@ pub(super) fn settled(gates: &[u64], plan: Plan, low: usize, prefix: usize) -> b
     let goldens = plan.goldens;
     load_partial(plan.inputs, low, prefix, &mut known);
     load_unknown(plan.inputs, plan.targets, &mut known);
-    eval_partial(gates, ends[0], &mut known);
+    eval_partial(gates, ends[1], &mut known);
     known_equal(&known, outputs, goldens, plan.outs)
 }

@@ -77,7 +77,7 @@ fn moved_slots(c: u64, numbers: &[u16; NETS]) -> [u16; SLOTS]
 }
 
 // The gate in the number c at its new numbers, driving net own, in one number.
-fn moved_code(c: u64, own: usize, numbers: &[u16; NETS]) -> u64
+pub(super) fn moved_code(c: u64, own: usize, numbers: &[u16; NETS]) -> u64
     requires { ⌜ (own < 1024) × Nets 1024 (now numbers) ⌝ }
     ensures { λ r. ⌜ r ≡ packed own (moved (now (numbers .entry)) (gateIn c)) ⌝ }
 {

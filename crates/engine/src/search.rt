@@ -1,11 +1,12 @@
-// The walk over all inputs of a job that gives the set of vectors of each reading: block by block, 1,024 inputs each, from the lowest on.
+// The walk over all inputs of a job that gives the set of vectors of each reading: block by block, 1,024 inputs each, from the lowest on. Most
+// blocks leave the sets as they are; where each set has one vector, or none, that is shown at the cost of one vector (src/sole.rt).
 ghost use mathlib.Core.Path.{_≡_};
-ghost use mathlib.Core.List.{List};
-ghost use Prim.Native.Nat.{ℕ, _+_, _-_, _*_, _^_, _≤_, _<_};
+ghost use mathlib.Core.Bool.{true};
+ghost use Prim.Native.Nat.{_-_, _*_, _^_, _≤_, _<_};
 ghost use lib.ListN.{length};
 ghost use Rattle.records.specs.Job.{Job};
 ghost use Rattle.engine.specs.Support.{candidateNets};
-ghost use Rattle.engine.specs.Inner.Search.{SetsTo, BlockRange, BlockEvaluated, BlockMet, SettledFrom};
+ghost use Rattle.engine.specs.Inner.Search.{SetsTo, BlockRange, BlockRead, BlockZero, BlockMet, SoleTable, SettledFrom};
 ghost use Rattle.engine.specs.Inner.Plan.{PlanHeld, PlannedOf};
 use super::kernel::run;
 use super::leaves::block_inputs;
@@ -13,21 +14,43 @@ use super::leaves::clear_targets;
 use super::leaves::load_inputs;
 use super::leaves::read_rows;
 use super::limits::READINGS;
+use super::limits::ROWS;
 use super::limits::WORDS;
 use super::masks::masks_of;
 use super::note::meet_block;
 use super::plan::Plan;
 use super::ranges::settled;
+use super::sole::keep_block;
+use super::sole::sole_table;
+use super::trust::first_trust;
+use super::trust::next_trust;
 
-// The words of all nets in block b at vector 0. It costs one gate evaluation a gate of both netlists, for 1,024 inputs.
-pub(super) fn eval_block(gates: &[u64], plan: Plan, b: usize, words: &mut [u64; WORDS])
+// The words of block b on the nets that no target leads to, and the rows of the nets read. It costs one gate evaluation a gate of these, for
+// 1,024 inputs.
+pub(super) fn read_block(
+    gates: &[u64],
+    plan: Plan,
+    b: usize,
+    words: &mut [u64; WORDS],
+) -> [u64; ROWS]
     requires { ⌜ PlanHeld plan (now gates) × (b < 65536) × (length (now words) ≡ 16384) ⌝ }
-    ensures { λ _. ⌜ BlockEvaluated plan (now (gates .entry)) b (now (words .exit)) ⌝ }
+    ensures { λ r. ⌜ BlockRead plan (now (gates .entry)) b (now (words .exit)) r ⌝ }
 {
     load_inputs(plan.inputs, b, words);
-    clear_targets(plan.inputs, plan.targets, words);
     let ends = plan.ends;
     run(gates, 0, ends[0], words);
+    let nets = plan.nets;
+    read_rows(nets, plan.reads, words)
+}
+
+// The words of a block at vector 0, from those on the nets that no target leads to. It costs one gate evaluation a gate that one leads to.
+pub(super) fn zero_block(gates: &[u64], plan: Plan, words: &mut [u64; WORDS])
+    requires { ⌜ PlanHeld plan (now gates) × (length (now words) ≡ 16384) ⌝ }
+    ensures { λ _. ⌜ BlockZero plan (now (gates .entry)) (now (words .entry)) (now (words .exit)) ⌝ }
+{
+    clear_targets(plan.inputs, plan.targets, words);
+    let ends = plan.ends;
+    run(gates, ends[0], ends[1], words);
 }
 
 // How many blocks from b on need no look: 32 where partial evaluation shows that their 2 ^ 15 inputs are rectified by every vector, else 0.
@@ -48,26 +71,40 @@ pub(super) fn settled_from(gates: &[u64], plan: Plan, b: usize) -> usize
     0
 }
 
-// The sets after the first count inputs of block b. It costs one gate evaluation a gate of both netlists, those of the masks, and some
-// 1,000 steps.
+// The sets of all readings, and which ranges of 2 ^ 15 inputs were skipped, bit i for range i. Bit 16 of a set is 1 until an input that is looked at
+// gives the reading.
+pub struct Met {
+    pub sets: [u32; READINGS],
+    pub skipped: usize,
+}
+
+// The sets after the first count inputs of block b. Where the table of readings' only vectors is trusted and shows that they stay as they are,
+// which is told, it costs one gate evaluation a gate of both netlists; else that, those of the masks, and some 1,000 steps.
 fn meet_inputs(
     gates: &[u64],
     plan: Plan,
     b: usize,
     count: usize,
+    trusted: bool,
+    table: &[u16; READINGS],
+    sets: &mut [u32; READINGS],
     words: &mut [u64; WORDS],
-    sets: &mut [u16; READINGS],
-)
-    requires { ⌜ PlanHeld plan (now gates) × BlockRange (plan .inputs) b count ⌝ }
-    requires { ⌜ (length (now words) ≡ 16384) × (length (now sets) ≡ 1024) ⌝ }
-    ensures { λ _. ⌜ BlockMet plan (now (gates .entry)) b count (now (sets .entry)) (now (sets .exit)) ⌝ }
-    ensures { λ _. ⌜ length (now (words .exit)) ≡ 16384 ⌝ }
+) -> bool
+    requires { ⌜ PlanHeld plan (now gates) × BlockRange (plan .inputs) b count × (trusted ≡ true → SoleTable (now sets) (now table)) ⌝ }
+    requires { ⌜ (length (now sets) ≡ 1024) × (length (now words) ≡ 16384) ⌝ }
+    ensures { λ _. ⌜ BlockMet plan (now (gates .entry)) b count (now (sets .entry)) (now (sets .exit)) × (length (now (words .exit)) ≡ 16384) ⌝ }
+    ensures { λ r. ⌜ (r ≡ true → (trusted ≡ true) × (now (sets .exit) ≡ now (sets .entry))) ⌝ }
 {
-    eval_block(gates, plan, b, words);
-    let nets = plan.nets;
-    let readings = read_rows(nets, plan.reads, words);
+    let readings = read_block(gates, plan, b, words);
+    if trusted {
+        if keep_block(gates, plan, readings, table, words) {
+            return true;
+        }
+    }
+    zero_block(gates, plan, words);
     let masks = masks_of(gates, plan, words);
     meet_block(masks, readings, (count + 63) / 64, sets);
+    false
 }
 
 // The set of all vectors of so many targets.
@@ -84,32 +121,42 @@ pub(super) fn all_vectors(targets: usize) -> u16
     }
 }
 
-// The sets of all readings. It costs, for each block of 1,024 inputs, one gate evaluation a gate of both netlists and those of the masks,
-// less what partial evaluation skips.
-pub(super) fn sets_of_inputs(gates: &[u64], plan: Plan) -> [u16; READINGS]
+// The sets of all readings. It costs, for each block of 1,024 inputs, one gate evaluation a gate of both netlists and, where the table does not
+// do, those of the masks, less what partial evaluation skips.
+pub(super) fn sets_of_inputs(gates: &[u64], plan: Plan) -> Met
     requires { ⌜ PlanHeld plan (now gates) ⌝ }
-    ensures { λ r. ⌜ length r ≡ 1024 ⌝ }
-    ensures { λ r. ⌜ ((j : Job) → PlannedOf j (candidateNets j) plan (now (gates .entry)) → SetsTo j (2 ^ j .inputs) r) ⌝ }
+    ensures { λ r. ⌜ ((j : Job) → PlannedOf j (candidateNets j) plan (now (gates .entry)) → SetsTo j (2 ^ j .inputs) (r .skipped) (r .sets)) ⌝ }
 {
     let size = 1usize << plan.inputs;
     let mut words = [0u64; WORDS];
-    let mut sets = [all_vectors(plan.targets); READINGS];
+    let mut sets = [65536 + all_vectors(plan.targets) as u32; READINGS];
+    let mut trust = first_trust(plan.inputs, 17);
+    let mut table = [32u16; READINGS];
+    let mut skipped = 0usize;
     let mut b = 0usize;
     while 1024 * b < size {
         let skip = settled_from(gates, plan, b);
         if skip == 0 {
-            meet_inputs(
+            let count = block_inputs(size - 1024 * b);
+            let kept = meet_inputs(
                 gates,
                 plan,
                 b,
-                block_inputs(size - 1024 * b),
-                &mut words,
+                count,
+                0 < trust,
+                &table,
                 &mut sets,
+                &mut words,
             );
+            trust = next_trust(trust, b, kept);
+            if !kept & (0 < trust) {
+                table = sole_table(sets);
+            }
             b += 1;
         } else {
+            skipped = skipped | (1usize << (b / 32));
             b += skip;
         }
     }
-    sets
+    Met { sets, skipped }
 }

@@ -1,6 +1,8 @@
 // The table of a support and its notes, from the sets of vectors of its readings.
 ghost use mathlib.Core.Path.{_≡_};
 ghost use Prim.Native.Nat.{_^_, _≤_};
+ghost use Rattle.engine.specs.Choice.{orZero};
+ghost use Rattle.engine.specs.Inner.List.{lowest};
 ghost use Rattle.engine.specs.Inner.Table.{TableFilled, noteFrom, NotesFilled};
 use super::limits::READINGS;
 use super::list::lowest_of;
@@ -13,30 +15,38 @@ pub(super) fn reading_count(k: usize) -> usize
     1usize << k
 }
 
+// The smallest vector of a set, 0 where there is none. (Of an element behind a reference to an array it is not known that it fits; of an
+// argument it is.)
+fn lowest_vector(set: u32) -> u8
+    ensures { λ r. ⌜ r ≡ orZero (lowest set) ⌝ }
+{
+    lowest_of(set as usize) as u8
+}
+
 // The table of a support of len nets that has these sets: at each reading the smallest vector that rectifies every input giving it,
 // 0 where there is none. It takes 2 ^ len turns, and evaluates no gate.
-pub(super) fn fill_table(sets: [u16; READINGS], len: usize) -> [u8; READINGS]
+pub(super) fn fill_table(sets: &[u32; READINGS], len: usize) -> [u8; READINGS]
     requires { ⌜ len ≤ 10 ⌝ }
-    ensures { λ r. ⌜ TableFilled sets len r ⌝ }
+    ensures { λ r. ⌜ TableFilled (now (sets .entry)) len r ⌝ }
 {
     let count = reading_count(len);
     let mut table = [0u8; READINGS];
     let mut r = 0usize;
     while r < count {
-        table[r] = lowest_of(sets[r] as usize) as u8;
+        table[r] = lowest_vector(sets[r]);
         r += 1;
     }
     table
 }
 
 // The note of a reading that these vectors share; unseen is not 0 where no input gives it.
-fn note_of(set: u16, unseen: u16) -> u8
+fn note_of(set: u32, unseen: u32) -> u8
     ensures { λ r. ⌜ r ≡ noteFrom set unseen ⌝ }
 {
     if unseen != 0 {
         return 0;
     }
-    if set as usize == 1 << lowest_of(set as usize) {
+    if (set % 65536) as usize == 1 << lowest_of(set as usize) {
         return 1;
     }
     2
@@ -45,12 +55,12 @@ fn note_of(set: u16, unseen: u16) -> u8
 // The notes of a support of len nets that has these sets: at each reading 0 where unseen is not 0, 1 where its set has one vector,
 // else 2. It takes 2 ^ len turns, and evaluates no gate.
 pub(super) fn fill_notes(
-    sets: [u16; READINGS],
-    unseen: [u16; READINGS],
+    sets: &[u32; READINGS],
+    unseen: &[u32; READINGS],
     len: usize,
 ) -> [u8; READINGS]
     requires { ⌜ len ≤ 10 ⌝ }
-    ensures { λ r. ⌜ NotesFilled sets unseen len r ⌝ }
+    ensures { λ r. ⌜ NotesFilled (now (sets .entry)) (now (unseen .entry)) len r ⌝ }
 {
     let count = reading_count(len);
     let mut notes = [0u8; READINGS];

@@ -1,8 +1,9 @@
 // Words: a bit a scenario. Scenario j of word b is input 64 * b + j. A row has the 16 words of 1,024 scenarios.
 ghost use mathlib.Core.Path.{_≡_};
-ghost use Prim.Native.Nat.{ℕ, _+_, _*_, _≤_, _<_};
+ghost use Prim.Native.Nat.{ℕ, _+_, _*_, _≤_, _<_, max};
+ghost use mathlib.Core.Bool.{true};
 ghost use Rattle.engine.specs.Eval.{bit};
-ghost use Rattle.engine.specs.Inner.Kernel.{LowestBit, FirstUnequal};
+ghost use Rattle.engine.specs.Inner.Kernel.{rowValue, LowestBit, FirstZero};
 use super::limits::ROW;
 
 // The word of a value that is the same in every scenario: the lowest bit of x.
@@ -49,8 +50,8 @@ fn lowest_bit(word: u64, count: usize) -> usize
 }
 
 // The first scenario of which the row says 0, 1,024 where there is none.
-pub(super) fn first_unequal(row: [u64; ROW]) -> usize
-    ensures { λ r. ⌜ FirstUnequal row r ⌝ }
+pub(super) fn first_zero(row: [u64; ROW]) -> usize
+    ensures { λ r. ⌜ FirstZero row r ⌝ }
 {
     let mut w = 0usize;
     while w < 16 {
@@ -61,4 +62,31 @@ pub(super) fn first_unequal(row: [u64; ROW]) -> usize
         w += 1;
     }
     1024
+}
+
+// Whether the row says 0 of every scenario.
+pub(super) fn zero_row(row: [u64; ROW]) -> bool
+    ensures { λ r. ⌜ (r ≡ true → (y : ℕ) → y < 1024 → rowValue row y ≡ 0) ⌝ }
+{
+    let mut w = 0usize;
+    while w < 16 {
+        if row[w] != 0 {
+            return false;
+        }
+        w += 1;
+    }
+    true
+}
+
+// 1 where one of the rows says 1.
+pub(super) fn join_rows(a: [u64; ROW], b: [u64; ROW]) -> [u64; ROW]
+    ensures { λ r. ⌜ ((y : ℕ) → y < 1024 → rowValue r y ≡ max (rowValue a y) (rowValue b y)) ⌝ }
+{
+    let mut r = [0u64; ROW];
+    let mut w = 0usize;
+    while w < 16 {
+        r[w] = a[w] | b[w];
+        w += 1;
+    }
+    r
 }

@@ -3,33 +3,35 @@
 use Prim.Native.Nat.{ℕ, zero, suc, _+_, _-_, _*_, _%_, _/_, _^_, _≤_, _<_}
 use mathlib.Core.Path.{_≡_, refl, sym, _∙_, ap}
 use mathlib.Core.Logic.{_⊎_, inl, inr, ⊎-elim}
-use mathlib.Core.List.{List, map}
+use mathlib.Core.List.{List, map, List·Memᴰ as Mem}
 use mathlib.Core.Bool.{Bool, true, false, cond, _&&_}
 use native.Mathlib.Nat.{zero-add, suc-add, zero-div, eq-or-lt-of-le}
 use native.Mathlib.Omega.{arith}
 use borrow.Author.Tests.{ltb-true, ltb-false, lt-ltb, le-ltb}
 use lib.Dec.{ltb}
-use lib.ListN.{length, getD, replicate, length-replicate}
+use lib.ListN.{length, getD, take, replicate, length-replicate}
 use lib.Pow.{pow-mono}
 use Rattle.records.specs.Bytes.{upFrom, tabulate, all}
 use Rattle.records.specs.Netlist.{netAt}
 use Rattle.records.specs.Job.{Job}
 use Rattle.records.specs.Claims.{PartsGood}
-use Rattle.records.specs.Refusal.{oldNets}
-use Rattle.records.proofs.Laws.Bytes.{getD-tabulate, tabulate-ext}
+use Rattle.records.specs.Refusal.{oldNets, candidateGood}
+use Rattle.records.proofs.Laws.Bytes.{tabulate-ext}
 use Rattle.engine.specs.Choice.{same}
 use Rattle.engine.specs.Eval.{bit, numberOf, allVectors}
 use Rattle.engine.specs.Rectify.{rectifies}
 use Rattle.engine.specs.Support.{reading}
 use Rattle.engine.specs.Inner.Masks.{rectifiers, ordered, rank, Among, maskAt}
 use Rattle.engine.specs.Inner.Kernel.{valueIn, column, rowValue, NetSet}
-use Rattle.engine.specs.Inner.Miter.{miterNets, miterValues, miterGoldens}
-use Rattle.engine.specs.Inner.Plan.{BlockAt, ReadsOf, PlannedOf}
+use Rattle.engine.specs.Inner.Miter.{miterNets, miterValues}
+use Rattle.engine.specs.Inner.Plan.{Agrees, BlockAt, BlockFree, ReadsOf, PlannedOf}
 use Rattle.engine.specs.Inner.Note.{gathered}
 use Rattle.engine.specs.declared.plan.Plan.{Plan}
-use Rattle.engine.proofs.Laws.Choice.{true-or-false, all-true, all-below-more, map-agree}
+use Rattle.engine.proofs.Laws.Choice.{true-or-false, all-true, all-of-members, all-below-more, map-agree}
 use Rattle.engine.proofs.Laws.Gray.{rank-ordered, ordered-rank, rank-side}
-use Rattle.engine.proofs.Laws.Miter.{miter-nets, oldNets-le, outputs-nets, goldens-nets, rectifies-miter, reading-miter}
+use Rattle.engine.proofs.Laws.Kernel.{netAt-column}
+use Rattle.engine.proofs.Laws.Miter.{miter-nets, oldNets-le, outputs-nets, rectifies-miter, reading-miter}
+use Rattle.engine.proofs.Laws.Plan.{fanMarks, freeOf, zero-free, candidate-free}
 
 -- ---- numbers of bits
 
@@ -52,41 +54,50 @@ numberOf-short h n k z = short-from h 0 n k (λ i l. z i (omega arith))
 
 -- ---- what a block's words say of live nets
 
-module _ (j : Job) (good : PartsGood j) (live : ℕ → Bool) {b : ℕ} {v : ℕ → ℕ} {words : List ℕ} (at : BlockAt j live b v words) (y : ℕ)
-    (h : y < 1024) where
-  live-value : (i : ℕ) → i < miterNets j → live i ≡ true → valueIn words y i ≡ netAt (miterValues j (1024 * b + y) (v y)) i
-  unfolding column netAt
-  live-value i l e =
-      sym (getD-tabulate 1024 (valueIn words y) i 0 (omega (arith, miter-nets j good))) ∙ at .agrees y h i l e
+module _ (j : Job) (good : PartsGood j) (live : ℕ → Bool) (x v y : ℕ) (words : List ℕ) (at : Agrees j live x v (column words y)) where
+  live-value : (i : ℕ) → i < miterNets j → live i ≡ true → valueIn words y i ≡ netAt (miterValues j x v) i
+  live-value i l e = sym (netAt-column words y i (omega (arith, miter-nets j good))) ∙ at i l e
 
   live-values : (os : List ℕ) → all (λ i. ltb i (miterNets j)) os ≡ true → all live os ≡ true
-      → map (valueIn words y) os ≡ map (netAt (miterValues j (1024 * b + y) (v y))) os
+      → map (valueIn words y) os ≡ map (netAt (miterValues j x v)) os
   live-values os l e =
-      map-agree (valueIn words y) (netAt (miterValues j (1024 * b + y) (v y))) os
+      map-agree (valueIn words y) (netAt (miterValues j x v)) os
       (λ i m. live-value i (ltb-true i (miterNets j) (all-true (λ i. ltb i (miterNets j)) os l i m)) (all-true live os e i m))
 
 module _ {j : Job} {is : List ℕ} {plan : Plan} {gates : List ℕ} where
   -- equal outputs say that the vector rectifies the input
   pub equal-rectifies : (p : PlannedOf j is plan gates) {b : ℕ} {v : ℕ → ℕ} {words : List ℕ} → BlockAt j (p .live) b v words
       → (y : ℕ) → y < 1024
-      → same (map (valueIn words y) (j .old .outputs)) (map (valueIn words y) (miterGoldens j)) ≡ rectifies j (1024 * b + y) (v y)
-  equal-rectifies p {b} {v} at y h =
+      → same (map (valueIn words y) (take (plan .outs) (plan .outputs))) (map (valueIn words y) (take (plan .outs) (plan .goldens)))
+      ≡ rectifies j (1024 * b + y) (v y)
+  equal-rectifies p {b} {v} {words} at y h =
       let good = p .good in
+      let x = 1024 * b + y in
+      let values = live-values j good (p .live) x (v y) y words (at .agrees y h) in
       rw (
-        live-values j good (p .live) at y h (j .old .outputs) (outputs-nets j good) (p .live-outputs),
-        live-values j good (p .live) at y h (miterGoldens j) (goldens-nets j good) (p .live-goldens),
+        p .outputs,
+        values (j .old .outputs) (outputs-nets j good) (p .live-outputs),
+        values (take (plan .outs) (plan .goldens)) (p .below) (p .live-goldens),
+        p .goldens x (v y),
       )
-      (sym (rectifies-miter j good (1024 * b + y) (v y)))
+      (sym (rectifies-miter j good x (v y)))
 
-  -- read nets at vector 0 are the reading
-  pub read-values : (p : ReadsOf j is plan gates) {b : ℕ} {words : List ℕ} → BlockAt j (p .live) b (λ y. 0) words
-      → all (λ i. ltb i (oldNets j)) is ≡ true → (y : ℕ) → y < 1024
+  -- read nets that no target leads to are the reading
+  pub read-values : (p : ReadsOf j is plan gates) {b : ℕ} {words : List ℕ} → BlockFree j (p .live) b words
+      → all (candidateGood j) is ≡ true → (y : ℕ) → y < 1024
       → numberOf (map (valueIn words y) is) ≡ reading j is (1024 * b + y)
-  read-values p {b} at l y h =
+  read-values p {b} {words} at f y h =
       let good = p .good in
+      let x = 1024 * b + y in
+      let free : (i : ℕ) → Mem i is → (i < oldNets j) × (netAt (fanMarks j) i ≡ 0) =
+      λ i m. candidate-free j i (all-true (candidateGood j) is f i m) in
+      let old : all (λ i. ltb i (oldNets j)) is ≡ true =
+      all-of-members (λ i. ltb i (oldNets j)) is (λ i m. lt-ltb i (oldNets j) (free i m .0)) in
       ap numberOf
-      (live-values j good (p .live) at y h is (all-below-more (oldNets j) (miterNets j) (oldNets-le j good) is l) (p .live-nets))
-      ∙ sym (reading-miter j is (1024 * b + y) l)
+      (live-values j good (freeOf j (p .live)) x 0 y words (at .agrees y 0 h) is
+      (all-below-more (oldNets j) (miterNets j) (oldNets-le j good) is old)
+      (all-of-members (freeOf j (p .live)) is (λ i m. zero-free j (p .live) i (all-true (p .live) is (p .live-nets) i m) (free i m .1))))
+      ∙ sym (reading-miter j is x old)
 
 -- ---- the rows of the vectors taken so far
 

@@ -4,7 +4,7 @@ use mathlib.Core.Path.{_≡_, refl, sym, _∙_, ap, subst}
 use mathlib.Core.Logic.{inr, ⊎-elim}
 use mathlib.Core.List.{List, [], _∷_, _++_}
 use mathlib.Core.Bool.{Bool, true, false, cond, not}
-use native.Mathlib.Nat.{one-mul}
+use native.Mathlib.Nat.{one-mul, mod-eq-of-lt}
 use native.Mathlib.Omega.{arith}
 use borrow.Author.Tests.{le-leb, ltb-true, ltb-false, eqb-true, eqb-false, eq-eqb, ne-eqb}
 use lib.Dec.{ltb, eqb, lit<}
@@ -30,8 +30,11 @@ use Rattle.engine.specs.Support.{reading, drivenBy}
 use Rattle.engine.specs.Compare.{difference, pairTests}
 use Rattle.engine.specs.Fit.{longestFit}
 use Rattle.engine.specs.Reply.{comparisonOf, compareNumber, compareReply, fitTests, fitNumber}
-use Rattle.engine.specs.Inner.Kernel.{Filled, FirstUnequal}
-use Rattle.engine.specs.Inner.Comparing.{differing, PlanReads, DrivenRow, TableCopied, declinedComparison, sheetComparison}
+use Rattle.engine.specs.Inner.Kernel.{Filled, rowValue, FirstZero}
+use Rattle.engine.specs.Inner.Note.{gathered}
+use Rattle.engine.specs.Inner.Plan.{PlanHeld}
+use Rattle.engine.specs.Inner.Search.{BlockRead, DrivenRow}
+use Rattle.engine.specs.Inner.Comparing.{differing, PlanReads, TableCopied, declinedComparison, sheetComparison}
 use Rattle.engine.specs.declared.comparing.Comparison.{Comparison}
 use Rattle.engine.specs.declared.comparing.Comparison.the-variants as Comparison
 use Rattle.engine.specs.declared.plan.Plan.{Plan}
@@ -40,6 +43,49 @@ use Rattle.engine.proofs.Laws.Fill.{fill-at}
 use Rattle.engine.proofs.Laws.Leaves.{getD-zeros}
 use Rattle.engine.proofs.Laws.ListLoop.{first-of-least, first-of-none}
 use Rattle.engine.proofs.Laws.PartsSheet.{parts-number, parts-sheet}
+use Rattle.engine.proofs.Laws.Plan.{reads-of}
+use Rattle.engine.proofs.Laws.Support.{reading-lt}
+
+-- ---- a block driven by a table
+
+-- the rows vectors have a table's vectors at the readings
+abbrev pub LookedUp : List ℕ → List ℕ → List ℕ → Type 0
+LookedUp readings table vectors = (y : ℕ) → y < 1024 → gathered vectors y ≡ getD table (gathered readings y % 1024) 0
+
+pub one-true : (b : Bool) → _≡_ {A = ℕ} (cond b 1 0) 1 → b ≡ true
+one-true true e = refl
+one-true false e = let f : ⊥ = omega arith in absurd f
+
+zero-differs : (b : Bool) → _≡_ {A = ℕ} (cond b 1 0) 0 → not b ≡ true
+zero-differs true e = let f : ⊥ = omega arith in absurd f
+zero-differs false e = refl
+
+not-of-true : (b : Bool) → b ≡ true → not b ≡ false
+not-of-true b e = rw e
+
+-- the row says of each input of block b whether the table rectifies it
+abbrev pub RowCompared : Plan → List ℕ → List ℕ → ℕ → List ℕ → Type 0
+RowCompared p gates table b row =
+    (j : Job) (is : List ℕ) → PlanReads j is p gates → (y : ℕ) → y < 1024
+    → rowValue row y ≡ cond (rectifies j (1024 * b + y) (drivenBy j is table (1024 * b + y))) 1 0
+
+module _ {p : Plan} {gates : List ℕ} (table : List ℕ) {b : ℕ} {words readings vectors row after : List ℕ} (held : PlanHeld p gates)
+    (read : BlockRead p gates b words readings) (looked : LookedUp readings table vectors) (driven : DrivenRow p gates vectors words row after) where
+  -- the vector of scenario y
+  vector-driven : (j : Job) (is : List ℕ) → PlanReads j is p gates → (y : ℕ) → y < 1024
+      → gathered vectors y ≡ drivenBy j is table (1024 * b + y)
+  unfolding drivenBy
+  vector-driven j is q y h =
+      let n : length is ≤ 10 = omega (arith, ap length (q .planned .nets), length-take (p .reads) (p .nets), held .reads) in
+      let few : 2 ^ length is ≤ 1024 = pow-mono {j = 10} n in
+      let small : reading j is (1024 * b + y) < 1024 = omega (arith, reading-lt j is (1024 * b + y)) in
+      looked y h
+      ∙ ap (λ (k : ℕ). getD table (k % 1024) 0) (read .readings j is (reads-of (q .planned)) (q .free) y h)
+      ∙ ap (λ (k : ℕ). getD table k 0) (mod-eq-of-lt small)
+
+  pub row-compared : RowCompared p gates table b row
+  row-compared j is q y h =
+      rw (← vector-driven j is q y h) (driven .values j is (q .planned) b (read .free j is (reads-of (q .planned))) y h)
 
 -- ---- block after block
 
@@ -64,20 +110,9 @@ scanning-none p gates table h =
       passed = λ j is q y l m. let f : ⊥ = omega arith in absurd f;
     }
 
-one-true : (b : Bool) → _≡_ {A = ℕ} (cond b 1 0) 1 → b ≡ true
-one-true true e = refl
-one-true false e = let f : ⊥ = omega arith in absurd f
-
-zero-differs : (b : Bool) → _≡_ {A = ℕ} (cond b 1 0) 0 → not b ≡ true
-zero-differs true e = let f : ⊥ = omega arith in absurd f
-zero-differs false e = refl
-
-not-of-true : (b : Bool) → b ≡ true → not b ≡ false
-not-of-true b e = rw e
-
 module _ {p : Plan} {gates table row : List ℕ} {size b count r : ℕ} (s : Scanning p gates table size b)
-    (w : DrivenRow p gates table b row) (f : FirstUnequal row r) (h : 1024 * b < size) (e : count ≡ min (size - 1024 * b) 1024) where
-  -- no input before the block's first unequal one differs
+    (w : RowCompared p gates table b row) (f : FirstZero row r) (h : 1024 * b < size) (e : count ≡ min (size - 1024 * b) 1024) where
+  -- no input before the block's first of which the row says 0 differs
   passed-block : (j : Job) (is : List ℕ) → PlanReads j is p gates → (y : ℕ) → y < 1024 * b + r → y < size
       → rectifies j y (drivenBy j is table y) ≡ true
   passed-block j is q y i m =
@@ -90,7 +125,7 @@ module _ {p : Plan} {gates table row : List ℕ} {size b count r : ℕ} (s : Sca
       let o = f .most in
       subst (λ (x : ℕ). rectifies j x (drivenBy j is table x) ≡ true) g
       (one-true (rectifies j (1024 * b + k) (drivenBy j is table (1024 * b + k)))
-      (sym (w .values j is q k (omega arith)) ∙ f .equal k (omega arith))))
+      (sym (w j is q k (omega arith)) ∙ f .ones k (omega arith))))
       (true-or-false (ltb y (1024 * b)))
 
   pub scanning-next : count ≤ r → Scanning p gates table size (b + 1)
@@ -108,7 +143,7 @@ module _ {p : Plan} {gates table row : List ℕ} {size b count r : ℕ} (s : Sca
         below = omega arith;
         holds =
             zero-differs (rectifies j (1024 * b + r) (drivenBy j is table (1024 * b + r)))
-            (sym (w .values j is q r (omega arith)) ∙ f .unequal (omega arith));
+            (sym (w j is q r (omega arith)) ∙ f .zero (omega arith));
         smaller = λ y i. not-of-true (rectifies j y (drivenBy j is table y)) (passed-block j is q y i (omega arith));
       }
 

@@ -1,40 +1,37 @@
--- Laws of which readings inputs give (specs/Inner/Given): the places after some inputs, block by block, and that a reading whose set lacks
--- a vector is one that some input gives. Assumes nothing.
-use Prim.Native.Nat.{ℕ, zero, suc, _+_, _-_, _*_, _%_, _^_, min, _≤_, _<_}
+-- Laws of which readings inputs give (specs/Inner/Given): the places after some inputs, block by block, from those that the bits above the
+-- vectors' tell. Assumes nothing.
+use Prim.Native.Nat.{ℕ, zero, suc, _+_, _-_, _*_, _/_, _%_, _^_, min, _≤_, _<_}
 use mathlib.Core.Path.{_≡_, refl, sym, _∙_, ap, subst}
 use mathlib.Core.Logic.{_↔_, _⊎_, inl, inr, ⊎-elim}
-use mathlib.Core.List.{List, map}
+use mathlib.Core.List.{List}
 use mathlib.Core.Bool.{true, false}
-use native.Mathlib.Nat.{eq-or-lt-of-le, zero-add}
+use native.Mathlib.Nat.{eq-or-lt-of-le, eq-zero-or-pos}
 use native.Mathlib.Omega.{arith}
 use borrow.Author.Tests.{eqb-true, eqb-false, ltb-true, ltb-false}
 use lib.Bits.{bitAnd, and-zero-r}
 use lib.Dec.{eqb, ltb}
-use lib.ListN.{length, getD, take, set, replicate, length-set, length-take}
+use lib.ListN.{length, getD, set, replicate, length-set, length-take}
 use lib.Pow.{pow-pos, pow-mono}
 use lib.Seq.{getD-set-same, getD-set-other}
 use Rattle.records.specs.Bytes.{upFrom, tabulate, all}
 use Rattle.records.specs.Job.{Job}
-use Rattle.records.specs.Refusal.{oldNets}
+use Rattle.records.specs.Refusal.{candidateGood}
 use Rattle.engine.specs.Claims.{SomeGives}
-use Rattle.engine.specs.Eval.{numberOf}
+use Rattle.engine.specs.Eval.{bit, numberOf}
 use Rattle.engine.specs.Support.{reading}
-use Rattle.engine.specs.Inner.Best.{SetsOf}
-use Rattle.engine.specs.Inner.Given.{MaybeUnseen, NextUnseen, BlockSeen, Unseen, AllSeen}
+use Rattle.engine.specs.Inner.Best.{GivenBits}
+use Rattle.engine.specs.Inner.Given.{UnmetOf, NextUnseen, BlockSeen, Unseen, AllSeen}
 use Rattle.engine.specs.Inner.Kernel.{valueIn}
 use Rattle.engine.specs.Inner.Note.{narrowed, setsFrom, gathered, filled}
 use Rattle.engine.specs.Inner.Plan.{ReadsOf}
-use Rattle.engine.specs.Inner.Search.{BlockRange, BlockEvaluated}
+use Rattle.engine.specs.Inner.Search.{BlockRange, BlockRead}
 use Rattle.engine.specs.declared.plan.Plan.{Plan}
 use Rattle.engine.proofs.Laws.BlockRows.{numberOf-short}
 use Rattle.engine.proofs.Laws.Choice.{true-or-false}
+use Rattle.engine.proofs.Laws.Eval.{bit-lt}
 use Rattle.engine.proofs.Laws.Leaves.{valueIn-zero}
-use Rattle.engine.proofs.Laws.List.{setsFrom-append}
-use Rattle.engine.proofs.Laws.Notes.{giving-cases}
-use Rattle.engine.proofs.Laws.Rows.{bit-ext, setsFrom-length}
-use Rattle.engine.proofs.Laws.Search.{noted-sets, block-range}
-use Rattle.engine.proofs.Laws.Searching.{block-readings}
-use Rattle.engine.proofs.Laws.VectorSets.{bit-ones}
+use Rattle.engine.proofs.Laws.Search.{noted-sets, reading-small, met-long, block-range}
+use Rattle.engine.proofs.Laws.Word.{bit-zero}
 
 -- ---- the places after some inputs
 
@@ -94,29 +91,35 @@ unfolding gathered tabulate upFrom numberOf
 gathered-zeros y = numberOf-short (valueIn (replicate 256 0) y) 0 16 (λ i l. valueIn-zero 256 y i)
 
 pub block-seen : {p : Plan} {gates : List ℕ} (b count : ℕ) (readings words before after : List ℕ) → p .reads ≤ 10
-    → BlockRange (p .inputs) b count → BlockEvaluated p gates b words
-    → ((y : ℕ) → y < 1024 → gathered readings y ≡ numberOf (map (valueIn words y) (take (p .reads) (p .nets))))
+    → BlockRange (p .inputs) b count → BlockRead p gates b words readings
     → after ≡ setsFrom (gathered (replicate 256 0)) (λ y. gathered readings y % 1024) before 0 (filled count)
     → BlockSeen p gates b count before after
-block-seen b count readings words before after k r e g n =
+block-seen b count readings words before after k r e n =
     record {
-      long = ap length n ∙ setsFrom-length (gathered (replicate 256 0)) (λ y. gathered readings y % 1024) before 0 (filled count);
+      long = met-long (replicate 256 0) readings before count n;
       seen =
-          λ j is q old.
-          let d = block-readings q b readings words k e g old in
+          λ j is q good.
           n
           ∙ noted-sets j is (λ x. 0) (λ x. refl) b count (replicate 256 0) readings before
           (subst (λ (i : ℕ). BlockRange i b count) (q .inputs) r)
           (λ y l. gathered-zeros y)
-          (d .0)
-          (d .1);
+          (e .readings j is q good)
+          (reading-small k q);
     }
 
 -- ---- block after block
 
+-- an input below x, of a range whose bit of k is 1, gives reading r
+abbrev SkippedTo : Job → List ℕ → ℕ → ℕ → ℕ → Type 0
+SkippedTo j is k x r = (y : ℕ) × (y < x) × (bit (y / 32768) k ≡ 1) × (reading j is y ≡ r)
+
+-- a place is 0 after these inputs exactly when it was before, or one of them gives its reading
+abbrev PlacesTo : Job → List ℕ → ℕ → ℕ → List ℕ → List ℕ → Type 0
+PlacesTo j is k x before after = (r : ℕ) → r < 1024 → (getD after r 0 ≡ 0) ↔ ((getD before r 0 ≡ 0) ⊎ SkippedTo j is k x r)
+
 -- how far the look at a plan's inputs has come, before block b: the places after those passed, from the places before; of the count
 -- readings those before next are 0
-pub record Seeing (p : Plan) (gates before : List ℕ) (count size b next : ℕ) (after : List ℕ) : Type 0 where
+pub record Seeing (p : Plan) (gates : List ℕ) (k : ℕ) (before : List ℕ) (count size b next : ℕ) (after : List ℕ) : Type 0 where
   pub inputs : size ≡ 2 ^ p .inputs
   pub few : size ≤ 1048576
   pub reached : 1024 * b < size + 1024
@@ -124,17 +127,16 @@ pub record Seeing (p : Plan) (gates before : List ℕ) (count size b next : ℕ)
   pub places : count ≤ 1024
   pub most : next ≤ count
   pub long : length after ≡ 1024
-  pub seen : (j : Job) (is : List ℕ) → ReadsOf j is p gates → all (λ i. ltb i (oldNets j)) is ≡ true
-      → (after ≡ setsFrom (λ y. 0) (reading j is) before 0 (min (1024 * b) size)) × ((q : ℕ) → q < next → getD after q 0 ≡ 0)
+  pub seen : (j : Job) (is : List ℕ) → ReadsOf j is p gates → all (candidateGood j) is ≡ true
+      → PlacesTo j is k (min (1024 * b) size) before after × ((q : ℕ) → q < next → getD after q 0 ≡ 0)
 
-pub seeing-none : (p : Plan) (gates : List ℕ) {before : List ℕ} {count next : ℕ} → p .inputs ≤ 20 → p .reads ≤ 10 → length before ≡ 1024
-    → count ≡ 2 ^ p .reads → NextUnseen before 0 count next
-    → Seeing p gates before count (1 * 2 ^ p .inputs % 18446744073709551616) 0 next before
-unfolding setsFrom
-seeing-none p gates {before} {count} {next} a b l c o =
+pub seeing-none : (p : Plan) (gates : List ℕ) (k : ℕ) {before : List ℕ} {count next : ℕ} → p .inputs ≤ 20 → p .reads ≤ 10
+    → length before ≡ 1024 → count ≡ 2 ^ p .reads → NextUnseen before 0 count next
+    → Seeing p gates k before count (1 * 2 ^ p .inputs % 18446744073709551616) 0 next before
+seeing-none p gates k {before} {count} {next} a b l c o =
     let n : 2 ^ p .inputs ≤ 1048576 = pow-mono {j = 20} a in
     let m : 2 ^ p .reads ≤ 1024 = pow-mono {j = 10} b in
-    let z : min (1024 * 0) (1 * 2 ^ p .inputs % 18446744073709551616) ≡ 0 = omega arith in
+    let size = 1 * 2 ^ p .inputs % 18446744073709551616 in
     record {
       inputs = omega arith;
       few = omega arith;
@@ -143,17 +145,53 @@ seeing-none p gates {before} {count} {next} a b l c o =
       places = omega arith;
       most = o .most;
       long = l;
-      seen = λ j is q old. (rw z, λ r h. o .seen r (omega arith) h);
+      seen =
+          λ j is q good. (
+            λ r h. (
+              inl,
+              ⊎-elim (λ z. z) (λ (y : SkippedTo j is k (min (1024 * 0) size) r). let f : ⊥ = omega (arith, y .1) in absurd f),
+            ),
+            λ r h. o .seen r (omega arith) h,
+          );
     }
 
-module _ {p : Plan} {gates before mid : List ℕ} {count size b next n : ℕ} (s : Seeing p gates before count size b next mid)
+-- an input of block b is of range b / 32
+range-of : (b y : ℕ) → 1024 * b ≤ y → y < 1024 * b + 1024 → y / 32768 ≡ b / 32
+range-of b y h l = omega arith
+
+-- block b, with n inputs
+module _ {p : Plan} {gates before mid : List ℕ} {k count size b next n : ℕ} (s : Seeing p gates k before count size b next mid)
     (h : 1024 * b < size) (e : n ≡ min (size - 1024 * b) 1024) where
   pub seeing-range : BlockRange (p .inputs) b n
   seeing-range = rw (e, s .inputs) (block-range (p .inputs) b (omega (arith, s .inputs)))
 
-  pub seeing-next : {after : List ℕ} {later : ℕ} → BlockSeen p gates b n mid after → NextUnseen after next count later
-      → Seeing p gates before count size (b + 1) later after
-  seeing-next {after} {later} t o =
+  -- one of them gives reading r, and their range was skipped
+  abbrev SkippedHere : Job → List ℕ → ℕ → Type 0
+  SkippedHere j is r = (bit (b / 32) k ≡ 1) × SomeOf (reading j is) (1024 * b) n r
+
+  skipped-iff : (j : Job) (is : List ℕ) (r : ℕ)
+      → SkippedTo j is k (min (1024 * (b + 1)) size) r ↔ (SkippedTo j is k (min (1024 * b) size) r ⊎ SkippedHere j is r)
+  skipped-iff j is r = (
+    λ y.
+        let x = y .0 in
+        ⊎-elim
+        (λ a. inl (x, omega (arith, ltb-true x (1024 * b) a), y .2, y .3))
+        (λ a.
+        let m = ltb-false x (1024 * b) a in
+        inr (rw (← range-of b x m (omega (arith, y .1))) (y .2), (x, m, omega (arith, y .1), y .3)))
+        (true-or-false (ltb x (1024 * b))),
+    ⊎-elim
+        (λ (y : SkippedTo j is k (min (1024 * b) size) r). (y .0, omega (arith, y .1), y .2, y .3))
+        (λ (a : SkippedHere j is r).
+        let y = a .1 in
+        (y .0, omega (arith, y .2), rw (range-of b (y .0) (y .1) (omega (arith, y .2))) (a .0), y .3)),
+  )
+
+  seeing-more : {after : List ℕ} {later : ℕ} → length after ≡ length mid → NextUnseen after next count later
+      → ((j : Job) (is : List ℕ) → ReadsOf j is p gates → all (candidateGood j) is ≡ true → (r : ℕ) → r < 1024
+      → (getD after r 0 ≡ 0) ↔ ((getD mid r 0 ≡ 0) ⊎ SkippedHere j is r))
+      → Seeing p gates k before count size (b + 1) later after
+  seeing-more {after} {later} g o t =
       record {
         inputs = s .inputs;
         few = s .few;
@@ -161,81 +199,107 @@ module _ {p : Plan} {gates before mid : List ℕ} {count size b next n : ℕ} (s
         readings = s .readings;
         places = s .places;
         most = o .most;
-        long = t .long ∙ s .long;
+        long = g ∙ s .long;
         seen =
-            λ j is q old.
-            let f : ℕ → ℕ = λ y. 0 in
-            let g = reading j is in
-            let w = s .seen j is q old in
-            let u = t .seen j is q old in
-            let x : min (1024 * b) size ≡ 1024 * b = omega arith in
-            let y : min (1024 * (b + 1)) size ≡ 1024 * b + n = omega arith in (
-              u
-                  ∙ ap (λ (os : List ℕ). setsFrom f g os (1024 * b) n) (w .0 ∙ ap (setsFrom f g before 0) x)
-                  ∙ sym
-                  (ap (setsFrom f g before 0) y
-                  ∙ setsFrom-append f g before 0 (1024 * b) n
-                  ∙ ap (λ (z : ℕ). setsFrom f g (setsFrom f g before 0 (1024 * b)) z n) (zero-add (1024 * b))),
+            λ j is q good.
+            let w = s .seen j is q good in
+            let turn = t j is q good in (
+              λ r l. (
+                λ z.
+                    ⊎-elim
+                    (λ a. ⊎-elim inl (λ y. inr (skipped-iff j is r .1 (inl y))) (w .0 r l .0 a))
+                    (λ y. inr (skipped-iff j is r .1 (inr y)))
+                    (turn r l .0 z),
+                λ z.
+                    turn r l .1
+                    (⊎-elim
+                    (λ a. inl (w .0 r l .1 (inl a)))
+                    (λ y. ⊎-elim (λ a. inl (w .0 r l .1 (inr a))) inr (skipped-iff j is r .0 y))
+                    z),
+              ),
               λ r l.
                   ⊎-elim
-                  (λ (a : ltb r next ≡ true).
-                  let i : r < length mid = omega (arith, ltb-true r next a, s .long, s .most, s .places) in
-                  rw u (seen-iff g mid (1024 * b) n r i .1 (inl (w .1 r (ltb-true r next a)))))
-                  (λ (a : ltb r next ≡ false). o .seen r (ltb-false r next a) l)
+                  (λ a.
+                  let u = ltb-true r next a in
+                  turn r (omega (arith, s .most, s .places)) .1 (inl (w .1 r u)))
+                  (λ a. o .seen r (ltb-false r next a) l)
                   (true-or-false (ltb r next)),
             );
       }
 
+  -- it is looked at
+  pub seeing-next : {after : List ℕ} {later : ℕ} → bit (b / 32) k ≡ 1 → BlockSeen p gates b n mid after
+      → NextUnseen after next count later → Seeing p gates k before count size (b + 1) later after
+  seeing-next i t o =
+      seeing-more (t .long) o
+      (λ j is q good r l.
+      let g = seen-iff (reading j is) mid (1024 * b) n r (omega (arith, s .long)) in
+      rw (t .seen j is q good)
+      (λ z. ⊎-elim inl (λ y. inr (i, y)) (g .0 z), λ z. g .1 (⊎-elim inl (λ y. inr (y .1)) z)))
+
+  -- .. or passed, since its range was not skipped
+  pub seeing-pass : (bit (b / 32) k ≡ 1 → ⊥) → Seeing p gates k before count size (b + 1) next mid
+  seeing-pass i =
+      seeing-more refl
+      record { past = omega arith; most = s .most; seen = λ q u v. let f : ⊥ = omega arith in absurd f }
+      (λ j is q good r l. (inl, ⊎-elim (λ z. z) (λ y. absurd (i (y .0)))))
+
 -- .. after all inputs, or once the places of all readings are 0
-pub seeing-all : {p : Plan} {gates before after : List ℕ} {count size b next : ℕ} → length before ≡ 1024
-    → Seeing p gates before count size b next after → (size ≤ 1024 * b) ⊎ (next ≡ count) → AllSeen p gates before after
-seeing-all {p} {gates} {before} {after} {count} {size} {b} {next} l s d j is q old start r h =
-    let x : ℕ = min (1024 * b) size in
+pub seeing-all : {p : Plan} {gates before after : List ℕ} {k count size b next : ℕ} → Seeing p gates k before count size b next after
+    → (size ≤ 1024 * b) ⊎ (next ≡ count) → AllSeen p gates k before after
+seeing-all {p} {gates} {before} {after} {k} {count} {size} {b} {next} s d j is q good given unmet r h =
     let n : length is ≤ p .reads = omega (arith, ap length (sym (q .nets)), length-take (p .reads) (p .nets)) in
     let m : 2 ^ length is ≤ count = rw (s .readings) (pow-mono n) in
     let i : size ≡ 2 ^ j .inputs = s .inputs ∙ ap (λ (t : ℕ). 2 ^ t) (q .inputs) in
-    let w = s .seen j is q old in
-    let seen = seen-iff (reading j is) before 0 x r (omega (arith, s .places)) in (
+    let w = s .seen j is q good in
+    let seen = w .0 r (omega (arith, s .places)) in (
       λ z.
           ⊎-elim
-          (λ (a : getD before r 0 ≡ 0). start r h a)
-          (λ (a : SomeOf (reading j is) 0 x r). (a .0, omega (arith, a .2), a .3))
-          (seen .0 (sym (ap (λ (os : List ℕ). getD os r 0) (w .0)) ∙ z)),
-      λ a.
+          (λ (a : getD before r 0 ≡ 0). given r h a)
+          (λ (y : SkippedTo j is k (min (1024 * b) size) r). (y .0, omega (arith, y .1), y .3))
+          (seen .0 z),
+      λ y.
           ⊎-elim
-          (λ (f : size ≤ 1024 * b). rw (w .0) (seen .1 (inr (a .0, omega arith, omega (arith, a .1), a .2))))
+          (λ (f : size ≤ 1024 * b).
+          seen .1
+          (⊎-elim
+          inl
+          (λ (a : 0 < getD before r 0).
+          let u : bit (y .0 / 32768) k ≡ 1 =
+          let z : (bit (y .0 / 32768) k ≡ 0 → ⊥) =
+          λ o. unmet r h (λ e. let f : ⊥ = omega arith in f) (y .0) (y .1) o (y .2) in
+          omega (arith, bit-lt (y .0 / 32768) k) in
+          inr (y .0, omega (arith, y .1), u, y .2))
+          (eq-zero-or-pos (getD before r 0))))
           (λ (f : next ≡ count). w .1 r (omega arith))
           d,
     )
 
--- ---- a set that lacks a vector
+-- ---- before the look at the ranges that were skipped
 
--- only the inputs that give a reading leave vectors out of its set
-gives-of-lacking : (j : Job) (is ss : List ℕ) → SetsOf j is ss → (r : ℕ) → r < 2 ^ length is → getD ss r 0 < 65536
-    → (getD ss r 0 ≡ 2 ^ 2 ^ j .targets - 1 → ⊥) → SomeGives j is r
-gives-of-lacking j is ss s r l m n =
-    let t = getD ss r 0 in
-    ⊎-elim
-    (λ c.
-    absurd
-    (n
-    (bit-ext 16 t (2 ^ 2 ^ j .targets - 1) m
-    (omega (arith, pow-mono {j = 16} (pow-mono {j = 4} (s .targets)), pow-pos (2 ^ j .targets)))
-    (λ v o.
-    let h = s .sets r v l o in
-    let b = bit-ones (2 ^ j .targets) v in
-    (λ e. b .1 (h .0 e .0), λ e. h .1 (b .0 e, λ x u g. absurd (c .1 (x, u, g))))))))
-    (λ c. c .1)
-    (giving-cases j is r)
+module _ (j : Job) (is ss os : List ℕ) {k n : ℕ} (few : length is ≤ n) (g : GivenBits j is ss k) (o : UnmetOf ss n os) where
+  bit-at : (r : ℕ) → r < 2 ^ length is → getD os r 0 ≡ bit 16 (getD ss r 0)
+  bit-at r h = o .bits r (omega (arith, pow-mono few))
 
--- a reading that is not open from the start is one that some input gives, where full is the set of all vectors
-pub unseen-gives : (j : Job) (is ss os : List ℕ) {full n : ℕ} → full ≡ 2 ^ 2 ^ j .targets - 1 → length is ≤ n → SetsOf j is ss
-    → ((r : ℕ) → getD ss r 0 < 65536) → MaybeUnseen ss full n os
-    → (r : ℕ) → r < 2 ^ length is → getD os r 0 ≡ 0 → SomeGives j is r
-unseen-gives j is ss os e k s small o r h z =
-    gives-of-lacking j is ss s r h (small r) (λ t. o .full r (omega (arith, pow-mono k)) z (t ∙ sym e))
+  pub unmet-given : (r : ℕ) → r < 2 ^ length is → getD os r 0 ≡ 0 → SomeGives j is r
+  unmet-given r h z = g .given r h (sym (bit-at r h) ∙ z)
 
--- .. and where none is open that holds of all
-pub all-seen : (j : Job) (is : List ℕ) {os : List ℕ} {n count next : ℕ} → length is ≤ n → count ≡ 2 ^ n → NextUnseen os 0 count next
-    → next ≡ count → ((r : ℕ) → r < 2 ^ length is → getD os r 0 ≡ 0 → SomeGives j is r) → Unseen j is os
-all-seen j is k c t d f r h = (f r h, λ a. t .seen r (omega arith) (omega (arith, pow-mono k)))
+  pub unmet-none : (r : ℕ) → r < 2 ^ length is → (getD os r 0 ≡ 0 → ⊥)
+      → (x : ℕ) → x < 2 ^ j .inputs → bit (x / 32768) k ≡ 0 → reading j is x ≡ r → ⊥
+  unmet-none r h z = g .unmet r h (omega (arith, bit-at r h, bit-lt 16 (getD ss r 0)))
+
+  -- where none was, the places are those after all inputs
+  pub none-skipped : k ≡ 0 → Unseen j is os
+  none-skipped e r h = (
+    unmet-given r h,
+    λ y.
+        ⊎-elim
+        (λ z. z)
+        (λ (a : 0 < getD os r 0).
+        absurd (unmet-none r h (λ z. let f : ⊥ = omega arith in f) (y .0) (y .1) (rw e (bit-zero (y .0 / 32768))) (y .2)))
+        (eq-zero-or-pos (getD os r 0)),
+  )
+
+  -- .. and so they are where no place is open
+  pub all-seen : {count next : ℕ} → count ≡ 2 ^ n → NextUnseen os 0 count next → next ≡ count → Unseen j is os
+  all-seen c t d r h = (unmet-given r h, λ a. t .seen r (omega arith) (omega (arith, pow-mono few)))

@@ -1,11 +1,12 @@
--- Laws of the walk that gives the vector list (specs/Inner/Guess): sets and tables of listed vectors, that inputs which such a table
--- rectifies leave the list, and the list block after block. Assumes nothing.
-use Prim.Native.Nat.{ℕ, _+_, _-_, _*_, _%_, _^_, _≤_, _<_}
-use mathlib.Core.Path.{_≡_, refl, sym, _∙_, ap}
+-- Laws of the walk that gives the vector list (specs/Inner/Guess): sets and tables of listed vectors, that inputs which such tables
+-- rectify leave the list, and the list block after block. Assumes nothing.
+use Prim.Native.Nat.{ℕ, _+_, _-_, _*_, _/_, _%_, _^_, min, max, _≤_, _<_}
+use mathlib.Core.Path.{_≡_, refl, sym, _∙_, ap, subst}
 use mathlib.Core.Logic.{_⊎_, inl, inr, ⊎-elim}
 use mathlib.Core.List.{List, List·Memᴰ as Mem}
 use mathlib.Core.Bool.{true, false}
-use mathlib.Core.Option.{none, some}
+use mathlib.Core.Option.{none}
+use native.Mathlib.Nat.{div-one}
 use native.Mathlib.Omega.{arith}
 use borrow.Author.Tests.{eq-eqb, eqb-true}
 use lib.Bits.{bitAnd, bitOr}
@@ -16,27 +17,26 @@ use Rattle.records.specs.Job.{Job}
 use Rattle.engine.specs.Choice.{any, orZero}
 use Rattle.engine.specs.Eval.{bit}
 use Rattle.engine.specs.Rectify.{rectifies, Listed}
-use Rattle.engine.specs.Support.{candidateNets, drivenBy, reading}
-use Rattle.engine.specs.Inner.Comparing.{PlanReads}
-use Rattle.engine.specs.Inner.Guess.{ListTo, OfListed, GuessHeld, BlockGuessed, BlockListed}
-use Rattle.engine.specs.Inner.List.{lowest, listedFrom, listedOf, startList}
+use Rattle.engine.specs.Support.{candidateNets}
+use Rattle.engine.specs.Inner.Guess.{ListTo, OfListed, BlockGuessed, BlockListed}
+use Rattle.engine.specs.Inner.Kernel.{rowValue, FirstZero}
+use Rattle.engine.specs.Inner.List.{Held, lowest, listedFrom, listedOf, startList}
 use Rattle.engine.specs.Inner.Masks.{rectifiers}
-use Rattle.engine.specs.Inner.Note.{ListNoted}
-use Rattle.engine.specs.Inner.Plan.{PlannedOf}
-use Rattle.engine.specs.Inner.Search.{BlockEvaluated, BlockMasks, SettledFrom}
-use Rattle.engine.specs.declared.guess.Guess.{Guess}
+use Rattle.engine.specs.Inner.Note.{gathered, ListNoted}
+use Rattle.engine.specs.Inner.Plan.{BlockFree, PlannedOf}
+use Rattle.engine.specs.Inner.Search.{BlockRead, BlockZero, FreeKept, DrivenRow, BlockMasks, SettledFrom}
 use Rattle.engine.specs.declared.list.Vectors.{Vectors}
 use Rattle.engine.specs.declared.plan.Plan.{Plan}
-use Rattle.engine.proofs.Laws.Choice.{any-true, any-of-member, none-or-some}
+use Rattle.engine.proofs.Laws.Choice.{not-both, any-true, any-of-member, none-or-some}
+use Rattle.engine.proofs.Laws.Compare.{LookedUp, one-true}
 use Rattle.engine.proofs.Laws.Eval.{bit-lt}
 use Rattle.engine.proofs.Laws.Leaves.{getD-zeros}
 use Rattle.engine.proofs.Laws.List.{set-holds, zero-listed, listed-cases, listedFrom-still}
-use Rattle.engine.proofs.Laws.Miter.{candidates-below}
-use Rattle.engine.proofs.Laws.Note.{any-next, either-one}
+use Rattle.engine.proofs.Laws.Note.{any-next, either-one, rowValue-lt}
 use Rattle.engine.proofs.Laws.Plan.{reads-of}
 use Rattle.engine.proofs.Laws.Rows.{bit-pow}
-use Rattle.engine.proofs.Laws.Search.{list-noted, list-stuck, list-skip, start-held}
-use Rattle.engine.proofs.Laws.VectorSets.{inSet, bit-rectifiers, lowest-bit}
+use Rattle.engine.proofs.Laws.Search.{list-noted, list-stuck, list-skip}
+use Rattle.engine.proofs.Laws.VectorSets.{inSet, bit-rectifiers, lowest-lt, lowest-bit}
 use Rattle.engine.proofs.Laws.Word.{bit-or, bit-and, bit-zero}
 
 -- ---- a set of listed vectors
@@ -63,21 +63,36 @@ set-next list i s l h p v k e =
 
 -- ---- a table of listed vectors
 
+-- 0 is always listed
+abbrev ZeroOrListed : Vectors → ℕ → Type 0
+ZeroOrListed v u = (u ≡ 0) ⊎ (any (eqb u) (listedOf v .vectors) ≡ true)
+
 -- 0, or one of the sixteen vectors that is in the set s
 abbrev ZeroOrIn : ℕ → ℕ → Type 0
 ZeroOrIn s v = (v ≡ 0) ⊎ ((v < 16) × (bit v s ≡ 1))
 
+-- the two vectors of an entry
+halves : {a b : ℕ} → a < 16 → b < 16 → ((a + 16 * b) % 16 ≡ a) × ((a + 16 * b) / 16 % 16 ≡ b)
+halves h k = (omega arith, omega arith)
+
 module _ (s : ℕ) where
-  -- a table of these
+  -- two of these
+  abbrev BothIn : ℕ → Type 0
+  BothIn e = ZeroOrIn s (e % 16) × ZeroOrIn s (e / 16 % 16)
+
+  -- a table of such entries
   pub record TableIn (t : List ℕ) : Type 0 where
     pub long : length t ≡ 1024
-    pub entries : (r : ℕ) → ZeroOrIn s (getD t r 0)
+    pub entries : (r : ℕ) → BothIn (getD t r 0)
 
   pub table-none : TableIn (replicate 1024 0)
-  table-none = record { long = length-replicate {A = ℕ} 1024 0; entries = λ r. inl (getD-zeros 1024 r) }
+  table-none = record { long = length-replicate {A = ℕ} 1024 0; entries = λ r. rw (getD-zeros 1024 r) (inl refl, inl refl) }
 
   -- the smallest vector that is in both sets, 0 where there is none
-  lowest-both : (x : ℕ) → ZeroOrIn s (orZero (lowest (bitAnd x s)))
+  abbrev lowestOf : ℕ → ℕ
+  lowestOf x = orZero (lowest (bitAnd x s))
+
+  lowest-both : (x : ℕ) → ZeroOrIn s (lowestOf x)
   unfolding orZero
   lowest-both x =
       ⊎-elim
@@ -88,22 +103,25 @@ module _ (s : ℕ) where
       rw (ap orZero (q .1)) (inr (l .0, omega (arith, l .1, bit-and v x s, bit-lt v s))))
       (none-or-some (lowest (bitAnd x s)))
 
-  pub table-next : (t : List ℕ) (r x : ℕ) → TableIn t → TableIn (set t r (orZero (lowest (bitAnd x s))))
-  table-next t r x h =
-      let v = orZero (lowest (bitAnd x s)) in
-      record { long = length-set t r v ∙ h .long; entries = set-holds (ZeroOrIn s) t r v (h .entries) (lowest-both x) }
+  pub table-next : (t : List ℕ) (r x y : ℕ) → TableIn t → TableIn (set t r (lowestOf x + 16 * lowestOf y))
+  table-next t r x y h =
+      let e = lowestOf x + 16 * lowestOf y in
+      let q = halves (lowest-lt (bitAnd x s)) (lowest-lt (bitAnd y s)) in
+      record {
+        long = length-set t r e ∙ h .long;
+        entries = set-holds BothIn t r e (h .entries) (rw (q .0) (lowest-both x), rw (q .1) (lowest-both y));
+      }
 
   pub table-listed : (v : Vectors) {t : List ℕ} → SetOf (take (v .len) (v .list)) s → TableIn t → OfListed v t
   unfolding listedOf
   table-listed v {t} p h =
-      record {
-        long = h .long;
-        listed = λ r.
-            ⊎-elim
-            (λ (e : getD t r 0 ≡ 0). inl e)
-            (λ (e : (getD t r 0 < 16) × (bit (getD t r 0) s ≡ 1)). inr (p (getD t r 0) (e .0) (e .1)))
-            (h .entries r);
-      }
+      let listed : (u : ℕ) → ZeroOrIn s u → ZeroOrListed v u =
+      λ u. ⊎-elim (λ (e : u ≡ 0). inl e) (λ (e : (u < 16) × (bit u s ≡ 1)). inr (p u (e .0) (e .1))) in
+      record { long = h .long; first = λ r. listed _ (h .entries r .0); second = λ r. listed _ (h .entries r .1) }
+
+-- vector 0 twice at every reading
+pub zeros-listed : (v : Vectors) → OfListed v (replicate 1024 0)
+zeros-listed v = table-listed 0 v (set-none _) (table-none 0)
 
 -- ---- inputs that listed vectors rectify
 
@@ -116,88 +134,119 @@ listed-small j x v m =
     (listed-cases (rectifiers j) x v m)
 
 -- inputs each of which a listed vector rectifies leave the list
-list-rectified : (j : Job) (v : Vectors) (x k : ℕ) (g : ℕ → ℕ)
-    → ((y : ℕ) → (g y ≡ 0) ⊎ (any (eqb (g y)) (listedOf v .vectors) ≡ true))
-    → ((y : ℕ) → y < k → rectifies j (x + y) (g y) ≡ true) → ListTo j x v → ListTo j (x + k) v
-list-rectified j v x k g o r e =
+list-rectified : (j : Job) (v : Vectors) (x k : ℕ)
+    → ((y : ℕ) → y < k → (u : ℕ) × ZeroOrListed v u × (rectifies j (x + y) u ≡ true)) → ListTo j x v → ListTo j (x + k) v
+list-rectified j v x k r e =
     let vs = listedFrom (rectifiers j) startList 0 x .vectors in
     let same : listedOf v .vectors ≡ vs = ap (λ (l : Listed). l .vectors) e in
-    let mem : (y : ℕ) → Mem (g y) vs =
-    λ y.
+    let mem : (u : ℕ) → ZeroOrListed v u → Mem u vs =
+    λ u o.
     ⊎-elim
-    (λ (z : g y ≡ 0). rw z (zero-listed (rectifiers j) x))
-    (λ (a : any (eqb (g y)) (listedOf v .vectors) ≡ true).
-    let q = any-true (eqb (g y)) vs (rw same at a) in
-    rw (eqb-true (g y) (q .0) (q .2)) (q .1))
-    (o y) in
+    (λ (z : u ≡ 0). rw z (zero-listed (rectifiers j) x))
+    (λ (a : any (eqb u) (listedOf v .vectors) ≡ true).
+    let q = any-true (eqb u) vs (rw same at a) in
+    rw (eqb-true u (q .0) (q .2)) (q .1))
+    o in
     e
     ∙ sym
     (listedFrom-still (rectifiers j) x k
     (λ z a b.
     let y : ℕ = z - x in
     let d : x + y ≡ z = omega arith in
-    any-of-member (inSet (rectifiers j z)) vs (g y) (mem y)
-    (eq-eqb (bit (g y) (rectifiers j z)) 1
-    (bit-rectifiers j z (g y) .1 (listed-small j x (g y) (mem y), rw d at (r y (omega arith)))))))
+    let g = r y (omega arith) in
+    let u = g .0 in
+    let m = mem u (g .1) in
+    any-of-member (inSet (rectifiers j z)) vs u m
+    (eq-eqb (bit u (rectifiers j z)) 1 (bit-rectifiers j z u .1 (listed-small j x u m, subst (λ (n : ℕ). rectifies j n u ≡ true) d (g .2))))))
 
--- a block that a table of listed vectors rectifies leaves the list
-pub list-guessed : {p : Plan} {gates table : List ℕ} (b count : ℕ) {j : Job} {is : List ℕ} {v : Vectors} → BlockGuessed p gates table b count
-    → PlanReads j is p gates → OfListed v table → ListTo j (1024 * b) v → ListTo j (1024 * b + count) v
-unfolding drivenBy
-list-guessed {table = table} b count {j} {is} {v} g q o =
-    list-rectified j v (1024 * b) count (λ y. drivenBy j is table (1024 * b + y)) (λ y. o .listed (reading j is (1024 * b + y)))
-    (g j is q)
+-- a block whose inputs are rectified by one of the two vectors of a table's entries leaves the list
+list-guessed : {p : Plan} {gates words : List ℕ} (readings : List ℕ) {table : List ℕ} (b count : ℕ) {j : Job} {is : List ℕ} {v : Vectors}
+    → BlockGuessed p gates words readings table count → (q : PlannedOf j is p gates) → BlockFree j (q .live) b words
+    → OfListed v table → ListTo j (1024 * b) v → ListTo j (1024 * b + count) v
+list-guessed readings {table} b count {j} {is} {v} g q f o =
+    list-rectified j v (1024 * b) count
+    (λ y h.
+    let r = gathered readings y % 1024 in
+    let e = getD table r 0 in
+    ⊎-elim
+    (λ (t : rectifies j (1024 * b + y) (e % 16) ≡ true). (e % 16, o .first r, t))
+    (λ (t : rectifies j (1024 * b + y) (e / 16 % 16) ≡ true). (e / 16 % 16, o .second r, t))
+    (g j is q b f y h))
+
+-- ---- a block driven by a table
+
+-- where the driven row says 1, the vector rectifies the input
+one-rectifies : {p : Plan} {gates vectors words row after : List ℕ} → DrivenRow p gates vectors words row after
+    → {j : Job} {is : List ℕ} (q : PlannedOf j is p gates) {b : ℕ} → BlockFree j (q .live) b words → (y : ℕ) → y < 1024 → rowValue row y ≡ 1
+    → {u : ℕ} → gathered vectors y ≡ u → rectifies j (1024 * b + y) u ≡ true
+one-rectifies d {j} {is} q {b} f y h e {u} l =
+    one-true (rectifies j (1024 * b + y) u) (rw (← l) (sym (d .values j is q b f y h) ∙ e))
+
+-- the rows of one of the vectors in each entry
+abbrev RowsOf : List ℕ → ℕ → List ℕ → Type 0
+RowsOf entries at vectors = (y : ℕ) → y < 1024 → gathered vectors y ≡ gathered entries y / 2 ^ at % 16
+
+module _ {p : Plan} {gates : List ℕ} (readings table entries : List ℕ) (l : LookedUp readings table entries)
+    {vectors words row after : List ℕ} (n : RowsOf entries 0 vectors) (d : DrivenRow p gates vectors words row after) where
+  first-rectifies : {j : Job} {is : List ℕ} (q : PlannedOf j is p gates) {b : ℕ} → BlockFree j (q .live) b words → (y : ℕ) → y < 1024
+      → rowValue row y ≡ 1 → rectifies j (1024 * b + y) (getD table (gathered readings y % 1024) 0 % 16) ≡ true
+  first-rectifies q f y h e = one-rectifies d q f y h e (n y h ∙ ap (λ (k : ℕ). k % 16) (div-one (gathered entries y) ∙ l y h))
+
+  -- the first vectors do
+  pub guessed-first : {count r : ℕ} → FirstZero row r → count ≤ r → BlockGuessed p gates words readings table count
+  guessed-first z h j is q b f y k =
+      let m = z .most in
+      inl (first-rectifies q f y (omega arith) (z .ones y (omega arith)))
+
+  -- .. or the second do where they do not
+  pub guessed-either : {vectors₂ row₂ after₂ both : List ℕ} {count r : ℕ} → RowsOf entries 4 vectors₂ → DrivenRow p gates vectors₂ after row₂ after₂
+      → ((y : ℕ) → y < 1024 → rowValue both y ≡ max (rowValue row y) (rowValue row₂ y)) → FirstZero both r → count ≤ r
+      → BlockGuessed p gates words readings table count
+  guessed-either {row₂ = row₂} n₂ d₂ e z h j is q b f y k =
+      let m = z .most in
+      let u : y < 1024 = omega arith in
+      ⊎-elim
+      (λ (a : rowValue row y ≡ 1). inl (first-rectifies q f y u a))
+      (λ (a : rowValue row₂ y ≡ 1).
+      inr (one-rectifies d₂ q (d .free j is q b f) y u a (n₂ y u ∙ ap (λ (k : ℕ). k / 16 % 16) (l y u))))
+      (either-one (rowValue row y) (rowValue row₂ y) (rowValue-lt row y) (rowValue-lt row₂ y) (sym (e y u) ∙ z .ones y (omega arith)))
 
 -- ---- a block, and block after block
 
-module _ {p : Plan} {gates : List ℕ} (b count : ℕ) where
+module _ {p : Plan} {gates : List ℕ} {b count : ℕ} {words readings : List ℕ} (r : BlockRead p gates b words readings)
+    (e : count ≡ min (2 ^ p .inputs - 1024 * b) 1024) where
   -- a block on which the table does
-  pub block-trusted : {before after : Guess} → GuessHeld before → BlockGuessed p gates (before .table) b count → GuessHeld after
-      → after .list ≡ before .list → BlockListed p gates b count before after
-  block-trusted {before} {after} h g a e =
+  pub block-guessed : {table : List ℕ} {v : Vectors} → Held v → OfListed v table → BlockGuessed p gates words readings table count
+      → BlockListed p gates b v (record { list = v; kept = true })
+  block-guessed h o g =
       record {
-        held = a .held;
-        guess = λ s. a;
-        listed = λ j q l.
-            rw e (list-guessed b count g (record { planned = q; old = candidates-below j (q .good) }) (h .table) l);
+        held = h;
+        same = λ t. refl;
+        listed = λ j q l. rw (← e) (list-guessed readings b count g q (r .free j (candidateNets j) (reads-of q)) o l);
       }
 
   -- a block where all vectors were evaluated
-  pub block-learnt : {masks words : List ℕ} {before after : Guess} → GuessHeld before → count ≤ 1024 → BlockEvaluated p gates b words
-      → BlockMasks p gates words masks → ListNoted masks (1024 * b) count (before .list) (after .list)
-      → length (after .sets) ≡ length (before .sets) → OfListed (after .list) (after .table) → after .trust ≤ before .trust
-      → BlockListed p gates b count before after
-  block-learnt {before = before} {after} h c e m n l t u =
+  pub block-noted : {words₁ words₂ masks : List ℕ} {v w : Vectors} → FreeKept p gates words words₁ → BlockZero p gates words₁ words₂
+      → BlockMasks p gates words₂ masks → ListNoted masks (1024 * b) count v w → BlockListed p gates b v (record { list = w; kept = false })
+  block-noted k z m n =
       record {
         held = n .held;
-        guess = λ s. record { held = n .held; free = s; sets = l ∙ h .sets; table = t; few = omega (arith, h .few) };
-        listed = λ j q. list-noted j b count c (m .sets j (candidateNets j) q b (e .values j (candidateNets j) (reads-of q))) n;
+        same = λ t. absurd (not-both t refl);
+        listed = λ j q.
+            let is = candidateNets j in
+            rw (← e)
+            (list-noted j b count (omega arith) (m .sets j is q b (z .values j is q b (k j is q b (r .free j is (reads-of q))))) n);
       }
 
 -- the list after the inputs below x, of every job with this plan
 abbrev pub ListsTo : Plan → List ℕ → Vectors → ℕ → Type 0
 ListsTo p gates v x = (j : Job) → PlannedOf j (candidateNets j) p gates → ListTo j x v
 
--- the guess at the start: vector 0 at every reading
-pub guess-start : (all : ℕ)
-    → GuessHeld
-    (record {
-      list = record { list = replicate 16 0; len = 1; stuck = false; input = 0 };
-      sets = replicate 1024 all;
-      table = replicate 1024 0;
-      trust = 64;
-    })
-guess-start all =
-    let v : Vectors = record { list = replicate 16 0; len = 1; stuck = false; input = 0 } in
-    record {
-      held = start-held false;
-      free = refl;
-      sets = length-replicate 1024 all;
-      table = table-listed 0 v (set-none (take (v .len) (v .list))) (table-none 0);
-      few = omega arith;
-    }
-
 module _ {p : Plan} {gates : List ℕ} (v : Vectors) where
+  pub lists-start : listedOf v ≡ startList → ListsTo p gates v 0
+  unfolding listedFrom
+  lists-start e j q = e
+
   -- blocks in which every vector rectifies every input leave the list
   pub lists-skip : {b r : ℕ} → SettledFrom p gates b r → ListsTo p gates v (1024 * b) → ListsTo p gates v (1024 * (b + r))
   lists-skip {b} {r} s l j q =

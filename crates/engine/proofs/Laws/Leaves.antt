@@ -1,9 +1,9 @@
 -- Laws of single nets and rows of a block: a row filled word by word, nets set one after the other, rows as numbers, where two rows
--- of outputs are equal, and the first scenario of which a row says 0. Assumes nothing.
+-- of outputs are equal, a row of zeros, and the first scenario of which a row says 0. Assumes nothing.
 use Prim.Native.Nat.{ℕ, zero, suc, _+_, _-_, _*_, _/_, _%_, _^_, min, _≤_, _<_}
 use mathlib.Core.Path.{_≡_, refl, sym, _∙_, ap}
 use mathlib.Core.List.{List, [], _∷_, map}
-use mathlib.Core.Logic.{_⊎_, inl, inr, ⊎-elim}
+use mathlib.Core.Logic.{inl, inr, ⊎-elim}
 use mathlib.Core.Bool.{Bool, true, false, cond, _&&_}
 use native.Mathlib.Nat.{eq-zero-or-pos}
 use native.Mathlib.Omega.{arith}
@@ -14,7 +14,7 @@ use lib.Seq.{getD-set-same, getD-set-other, getD-take, length-take-le}
 use Rattle.records.specs.Bytes.{upFrom, tabulate}
 use Rattle.engine.specs.Choice.{same}
 use Rattle.engine.specs.Eval.{bit, numberOf}
-use Rattle.engine.specs.Inner.Kernel.{Filled, rowValue, valueIn, NetSet, NetsSet, LowestBit, FirstUnequal}
+use Rattle.engine.specs.Inner.Kernel.{Filled, rowValue, valueIn, NetSet, NetsSet, LowestBit, FirstZero}
 use Rattle.engine.specs.Inner.Note.{gathered}
 use Rattle.engine.proofs.Laws.Eval.{bit-lt}
 use Rattle.engine.proofs.Laws.Fill.{fill-at}
@@ -168,6 +168,18 @@ equal-next f os ps k v v′ h l e d =
     rw (map-more f os k h, map-more f ps k l, same-snoc x y (f (getD os k 0)) (f (getD ps k 0)) m)
     (d ∙ ap (λ (u : ℕ). cond (eqb (f (getD os k 0)) (f (getD ps k 0))) u 0) e ∙ both-equal (same x y) (eqb (f (getD os k 0)) (f (getD ps k 0))))
 
+-- ---- a row of zeros
+
+-- one word more that is 0
+pub zeros-more : (row : List ℕ) (w : ℕ) → ((y : ℕ) → y < 64 * w → rowValue row y ≡ 0) → getD row w 0 ≡ 0
+    → (y : ℕ) → y < 64 * (w + 1) → rowValue row y ≡ 0
+unfolding rowValue
+zeros-more row w e z y h =
+    ⊎-elim
+    (λ (l : 64 * w - y ≡ 0). let q : y / 64 ≡ w = omega arith in rw (q, z) (bit-zero (y % 64)))
+    (λ (l : 0 < 64 * w - y). e y (omega arith))
+    (eq-zero-or-pos (64 * w - y))
+
 -- ---- the first scenario of which a row says 0
 
 -- a 0 in a word inverted is a 1
@@ -182,8 +194,8 @@ module _ (row : List ℕ) (w r : ℕ) (e : (y : ℕ) → y < 64 * w → rowValue
   unfolding rowValue
   row-word y q = ap (λ (k : ℕ). bit (y % 64) (getD row k 0)) q
 
-  pub equal-more : (y : ℕ) → y < 64 * w + r → rowValue row y ≡ 1
-  equal-more y h =
+  pub ones-more : (y : ℕ) → y < 64 * w + r → rowValue row y ≡ 1
+  ones-more y h =
       let m = l .most in
       ⊎-elim
       (λ (a : 64 * w - y ≡ 0).
@@ -191,13 +203,13 @@ module _ (row : List ℕ) (w r : ℕ) (e : (y : ℕ) → y < 64 * w → rowValue
       (λ (a : 0 < 64 * w - y). e y (omega arith))
       (eq-zero-or-pos (64 * w - y))
 
-  pub unequal-found : w < 16 → r < 64 → FirstUnequal row (64 * w + r)
-  unequal-found h a =
+  pub zero-found : w < 16 → r < 64 → FirstZero row (64 * w + r)
+  zero-found h a =
       let p : (64 * w + r) % 64 ≡ r = omega arith in
       record {
         most = omega arith;
-        equal = equal-more;
-        unequal =
+        ones = ones-more;
+        zero =
             λ k.
             row-word (64 * w + r) (omega arith)
             ∙ ap (λ (i : ℕ). bit i (getD row w 0)) p

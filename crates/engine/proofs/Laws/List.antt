@@ -1,19 +1,17 @@
 -- Laws of the walk over the inputs (specs/Inner/List): a step of the list, steps one after the other, and steps that change nothing.
 -- Assumes nothing.
-use Prim.Native.Nat.{ℕ, zero, suc, _+_, _-_, _^_, _≤_, _<_}
+use Prim.Native.Nat.{ℕ, zero, suc, _+_, _^_, _≤_, _<_}
 use mathlib.Core.Path.{_≡_, refl, sym, _∙_, ap}
 use mathlib.Core.Logic.{_⊎_, inl, inr, ⊎-elim}
 use mathlib.Core.List.{List, [], _∷_, _++_, List·Memᴰ as Mem, List·Memᴰ·head as here, Memᴰ·append-left as append-left, List·Memᴰ·append-cases as append-cases, List·Memᴰ·eq-of-singleton as eq-of-singleton}
 use mathlib.Core.Bool.{Bool, true, false, cond}
 use mathlib.Core.Option.{Option, none, some}
-use native.Mathlib.Nat.{zero-add, add-zero, suc-add, mod-eq-of-lt, eq-or-lt-of-le}
+use native.Mathlib.Nat.{zero-add, add-zero, suc-add, eq-or-lt-of-le}
 use native.Mathlib.Numerals.{add-one}
 use native.Mathlib.Omega.{arith}
 use borrow.Author.Tests.{eq-eqb, ltb-true, ltb-false, lt-ltb, le-ltb}
 use lib.Dec.{ltb}
-use lib.ListN.{length, getD, set, replicate, length-replicate, getD-replicate, List·getD-eq-default}
-use lib.Seq.{set-getD}
-use lib.Bits.{bitAnd, and-le-l, and-mask}
+use lib.ListN.{length, getD, set}
 use lib.Pow.{pow-pos}
 use Rattle.records.specs.Job.{Job}
 use Rattle.engine.specs.Choice.{any}
@@ -21,9 +19,9 @@ use Rattle.engine.specs.Eval.{bit}
 use Rattle.engine.specs.Rectify.{rectifies, Listed}
 use Rattle.engine.specs.Inner.Masks.{rectifiers}
 use Rattle.engine.specs.Inner.List.{lowest, listStep, listedFrom, startList}
-use Rattle.engine.specs.Inner.Note.{narrowed, setsFrom, startSets}
+use Rattle.engine.specs.Inner.Note.{narrowed, setsFrom}
 use Rattle.engine.proofs.Laws.Choice.{true-or-false, none-or-some, any-of-member}
-use Rattle.engine.proofs.Laws.VectorSets.{inSet, rectifiers-bit, rectifiers-full}
+use Rattle.engine.proofs.Laws.VectorSets.{inSet, rectifiers-bit}
 
 -- ---- k steps from x on
 
@@ -237,58 +235,9 @@ module _ (f : ℕ → ℕ) where
       (λ y a b.
       any-of-member (inSet (f y)) (listedFrom f startList 0 x .vectors) 0 (zero-listed x) (eq-eqb (bit 0 (f y)) 1 (h y a b)))
 
-module _ (f g : ℕ → ℕ) (n : ℕ) where
-  -- no set grows
-  sets-lt : (ss : List ℕ) (x : ℕ) → ((r : ℕ) → getD ss r 0 < n) → (r : ℕ) → getD (setsFrom f g ss 0 x) r 0 < n
-  unfolding narrowed
-  sets-lt ss x h =
-      rw (setsFrom-walked f g ss 0 x)
-      (walked-holds (narrowing f g) (λ y ts. (r : ℕ) → getD ts r 0 < n) ss 0 x h
-      (λ y a b ts t. set-below ts (g y) (bitAnd (getD ts (g y) 0) (f y)) n t
-      (omega (arith, and-le-l (getD ts (g y) 0) (f y), t (g y)))))
-
--- inputs that every vector rectifies narrow no set
-pub setsFrom-skip : (f g : ℕ → ℕ) (n : ℕ) (ss : List ℕ) (x k : ℕ) → ((r : ℕ) → getD ss r 0 < 2 ^ n)
-    → ((y : ℕ) → x ≤ y → y < x + k → f y ≡ 2 ^ n - 1) → setsFrom f g ss 0 (x + k) ≡ setsFrom f g ss 0 x
-unfolding narrowed
-setsFrom-skip f g n ss x k b h =
-    let ts : List ℕ = setsFrom f g ss 0 x in
-    let o : 0 + x ≡ x = zero-add x in
-    setsFrom-append f g ss 0 x k
-    ∙ ap (λ (z : ℕ). setsFrom f g ts z k) o
-    ∙ setsFrom-walked f g ts x k
-    ∙ walked-still (narrowing f g) ts x k
-    (λ y a l.
-    let r : ℕ = g y in
-    let t : ℕ = getD ts r 0 in
-    ap (λ (s : ℕ). set ts r (bitAnd t s)) (h y a l)
-    ∙ ap (λ (s : ℕ). set ts r s) (and-mask t n ∙ mod-eq-of-lt (sets-lt f g (2 ^ n) ss x b r))
-    ∙ set-getD ts r 0)
-
-startSets-lt : (m r : ℕ) → getD (startSets m) r 0 < 2 ^ 2 ^ m
-unfolding startSets
-startSets-lt m r =
-    ⊎-elim
-    (λ (t : ltb r 1024 ≡ true).
-    omega (arith, getD-replicate 1024 r (2 ^ 2 ^ m - 1) 0 (ltb-true r 1024 t), pow-pos (2 ^ m)))
-    (λ (t : ltb r 1024 ≡ false).
-    omega (
-      arith,
-      List·getD-eq-default (replicate 1024 (2 ^ 2 ^ m - 1)) 0 {n = r}
-          (omega (arith, length-replicate 1024 (2 ^ 2 ^ m - 1), ltb-false r 1024 t)),
-      pow-pos (2 ^ m),
-    ))
-    (true-or-false (ltb r 1024))
-
 module _ (j : Job) (x k : ℕ) (h : (y : ℕ) → x ≤ y → y < x + k → (v : ℕ) → v < 2 ^ j .targets → rectifies j y v ≡ true) where
   pub walk-skip-list : listedFrom (rectifiers j) startList 0 (x + k) ≡ listedFrom (rectifiers j) startList 0 x
   walk-skip-list =
       listedFrom-skip (rectifiers j) x k
       (λ y a b.
       rectifiers-bit j y 0 (pow-pos (j .targets)) ∙ ap (λ (c : Bool). cond c 1 0) (h y a b 0 (pow-pos (j .targets))))
-
-  pub walk-skip-sets : (g : ℕ → ℕ)
-      → setsFrom (rectifiers j) g (startSets (j .targets)) 0 (x + k) ≡ setsFrom (rectifiers j) g (startSets (j .targets)) 0 x
-  walk-skip-sets g =
-      setsFrom-skip (rectifiers j) g (2 ^ j .targets) (startSets (j .targets)) x k (startSets-lt (j .targets))
-      (λ y a b. rectifiers-full j y (h y a b))

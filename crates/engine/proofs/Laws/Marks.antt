@@ -1,23 +1,26 @@
--- Laws of marks: those of the leaves, and that a net without a mark has one value whatever the marked leaves have. Assumes nothing.
+-- Laws of marks: those of the leaves, that a net without a mark has one value whatever the marked leaves have, and that gates which
+-- stand for others give the same marks. Assumes nothing.
 use Prim.Native.Nat.{ℕ, suc, _+_, _-_, _≤_, _<_}
 use mathlib.Core.Path.{_≡_, sym, _∙_, ap}
 use mathlib.Core.Logic.{_⊎_, inl, inr, ⊎-elim}
-use mathlib.Core.List.{List, [], _∷_, _++_, map}
-use mathlib.Core.Bool.{true, false, cond, _&&_}
+use mathlib.Core.List.{List, [], _∷_, _++_, map, List·Memᴰ as Mem, List·Memᴰ·not-nil as not-nil, List·Memᴰ·cases-cons as cases-cons}
+use mathlib.Core.Bool.{true, false, cond, not, _&&_}
 use native.Mathlib.Omega.{arith}
-use borrow.Author.Tests.{ltb-true, ltb-false, lt-ltb, le-ltb, le-leb, lt-leb}
-use lib.Dec.{leb, ltb}
+use borrow.Author.Tests.{ltb-true, ltb-false, lt-ltb, le-ltb, le-leb, lt-leb, eqb-true, eq-eqb, not-false}
+use lib.Dec.{leb, ltb, eqb}
 use lib.ListN.{length, getD, replicate, length-append, length-replicate, getD-replicate, List·getD-append}
 use lib.Seq.{ext-getD, getD-append-add}
 use Rattle.records.specs.Bytes.{tabulate}
-use Rattle.records.specs.Gate.{Gate, disj}
+use Rattle.records.specs.Gate.{Gate, operands, disj}
 use Rattle.records.specs.Netlist.{netAt, extended, values, markOf, fanout}
+use Rattle.records.specs.Refusal.{gatesGood}
 use Rattle.records.specs.Inner.{leafMarks}
 use Rattle.records.proofs.Laws.Bytes.{length-tabulate, getD-tabulate, and-both, and-false-left, and-false-right}
-use Rattle.engine.specs.Inner.Plan.{codeMark, marksOf}
+use Rattle.engine.specs.Inner.Miter.{SameGates}
+use Rattle.engine.specs.Inner.Plan.{codeMark, marksOf, marked}
 use Rattle.engine.proofs.Laws.Choice.{true-or-false}
 use Rattle.engine.proofs.Laws.Eval.{Agree, agree-nil, agree-cons, netAt-agree, extended-agree}
-use Rattle.engine.proofs.Laws.FitGates.{markOf-local, netAt-extended}
+use Rattle.engine.proofs.Laws.FitGates.{noGate, markOf-local, netAt-extended, consistent-extended}
 use Rattle.engine.proofs.Laws.Packed.{packed-operands}
 use Rattle.engine.proofs.Laws.Run.{Follows}
 
@@ -102,6 +105,29 @@ fanout-marks n m gs =
 
 -- ---- nets without a mark
 
+module _ (ms : List ℕ) (i : ℕ) where
+  pub unmarked-of : netAt ms i ≡ 0 → marked ms i ≡ false
+  unmarked-of e = ap not (eq-eqb (netAt ms i) 0 e)
+
+  pub unmarked-zero : marked ms i ≡ false → netAt ms i ≡ 0
+  unmarked-zero e = eqb-true (netAt ms i) 0 (not-false (eqb (netAt ms i) 0) e)
+
+disj-zero : (f : ℕ → ℕ) (is : List ℕ) → disj (map f is) ≡ 0 → (i : ℕ) → Mem i is → f i ≡ 0
+unfolding disj
+disj-zero f [] e i m = absurd (not-nil m)
+disj-zero f (k ∷ is) e i m =
+    ⊎-elim (λ (q : i ≡ k). rw q (omega arith)) (λ n. disj-zero f is (omega arith) i n) (cases-cons m)
+
+-- the operands of a gate without a mark have none
+pub unmarked-operands : (base from k : ℕ) (gs : List Gate) → gatesGood base gs ≡ true → (r : ℕ) → r < length gs
+    → netAt (marksOf base from k gs) (base + r) ≡ 0 → (i : ℕ) → Mem i (operands (getD gs r noGate))
+    → netAt (marksOf base from k gs) i ≡ 0
+unfolding marksOf markOf
+unmarked-operands base from k gs good r h e i m =
+    let leaves = tabulate base (leafMark from k) in
+    let found = consistent-extended markOf markOf-local leaves gs base (length-tabulate base (leafMark from k)) good in
+    disj-zero (netAt (extended markOf leaves gs)) (operands (getD gs r noGate)) (sym (found .at r h) ∙ e) i m
+
 agree-of : (ms vs ws : List ℕ) → length vs ≡ length ms → length ws ≡ length ms
     → ((i : ℕ) → i < length ms → getD ms i 0 ≡ 0 → getD vs i 0 ≡ getD ws i 0) → Agree ms vs ws
 agree-of [] [] [] a b h = agree-nil
@@ -130,6 +156,12 @@ marks-agree base from k gs L M h a b i e =
     gs)
     i
     e
+
+-- gates that stand for others give the same marks
+pub same-marks : {base : ℕ} {gs hs : List Gate} → SameGates base gs hs → (from k : ℕ) → marksOf base from k hs ≡ marksOf base from k gs
+unfolding marksOf markOf
+same-marks {base} s from k =
+    s .same (λ n xs. disj xs) (tabulate base (leafMark from k)) (length-tabulate base (leafMark from k))
 
 -- ---- marks of packed gates
 

@@ -1,5 +1,5 @@
--- Laws of the miter (specs/Inner/Miter): its gates are good, its nets have the values of the two netlists' nets, and its outputs say
--- which vectors rectify. Assumes nothing.
+-- Laws of the miter (specs/Inner/Miter): its gates are good, its nets have the values of the two netlists' nets, its outputs say which
+-- vectors rectify, and its gates may stand for themselves. Assumes nothing.
 use Prim.Native.Nat.{ℕ, zero, suc, _+_, _-_, _≤_, _<_}
 use mathlib.Core.Path.{_≡_, refl, sym, _∙_, ap, subst}
 use mathlib.Core.Logic.{⊎-elim}
@@ -24,7 +24,8 @@ use Rattle.engine.specs.Choice.{same}
 use Rattle.engine.specs.Eval.{bits, numberOf, oldValues, oldOutputs, goldenOutputs}
 use Rattle.engine.specs.Rectify.{rectifies}
 use Rattle.engine.specs.Support.{reading, candidateNets}
-use Rattle.engine.specs.Inner.Miter.{shiftedNet, shifted, shiftOf, miterGates, miterGoldens, miterNets, miterValues}
+use Rattle.engine.specs.Inner.Miter.{shiftedNet, shifted, shiftOf, miterGates, miterGoldens, miterNets, miterValues, codes, MiterOf, MergedOf}
+use Rattle.engine.specs.declared.miter.Miter.{Miter}
 use Rattle.engine.proofs.Laws.Choice.{true-or-false, all-true, all-of-members, all-below-more, map-agree}
 use Rattle.engine.proofs.Laws.FitGates.{noGate, good-append, good-at, valueOf-local, Consistent, consistent-right, netAt-extended, consistent-extended}
 use Rattle.engine.proofs.Laws.FitNets.{getD-defaults, all-mapped, renumbered-good, old-good}
@@ -292,21 +293,24 @@ module _ (j : Job) (p : PartsGood j) where
   outputs-below =
       all-below-more (miterNets j) 1024 (omega (arith, miter-nets j p)) (j .old .outputs) outputs-nets
 
-  pub goldens-below : all (λ i. ltb i 1024) (miterGoldens j) ≡ true
-  goldens-below =
-      all-below-more (miterNets j) 1024 (omega (arith, miter-nets j p)) (miterGoldens j) goldens-nets
-
-  -- a candidate is an old net
-  pub candidates-below : all (λ i. ltb i (oldNets j)) (candidateNets j) ≡ true
-  unfolding candidatesGood candidateNets candidateGood
-  candidates-below =
-      let q : ℕ → Bool = λ i. ltb i (oldNets j) in
-      all-of-members q (candidateNets j)
+  -- no target leads to a candidate
+  pub candidates-good : all (candidateGood j) (candidateNets j) ≡ true
+  unfolding candidatesGood candidateNets
+  candidates-good =
+      all-of-members (candidateGood j) (candidateNets j)
       (λ i m.
       let r = mem-of-map (λ (c : Candidate). c .net) (j .candidates) m in
       let g = and-right (ascending (candidateNets j)) (all (λ (c : Candidate). candidateGood j (c .net)) (j .candidates)) (p .candidates) in
-      let t = all-true (λ (c : Candidate). candidateGood j (c .net)) (j .candidates) g (r .0) (r .1) in
-      subst (λ (k : ℕ). q k ≡ true) (r .2) (and-left (q (r .0 .net)) _ t))
+      subst (λ (k : ℕ). candidateGood j k ≡ true) (r .2)
+      (all-true (λ (c : Candidate). candidateGood j (c .net)) (j .candidates) g (r .0) (r .1)))
+
+  -- .. which is an old net
+  pub candidates-below : all (λ i. ltb i (oldNets j)) (candidateNets j) ≡ true
+  unfolding candidateGood
+  candidates-below =
+      let q : ℕ → Bool = λ i. ltb i (oldNets j) in
+      all-of-members q (candidateNets j)
+      (λ i m. and-left (q i) _ (all-true (candidateGood j) (candidateNets j) candidates-good i m))
 
   -- vector v rectifies input x where the miter's outputs, old and golden, are the same
   pub rectifies-miter : (x v : ℕ)

@@ -18,7 +18,7 @@ use Rattle.engine.specs.Eval.{bit, numberOf}
 use Rattle.engine.specs.Rectify.{Listed}
 use Rattle.engine.specs.Inner.List.{listStep, listedFrom, listedOf, Held, Stepped}
 use Rattle.engine.specs.Inner.Note.{narrowed, gathered, Joined, CoveredTo, ListNoted}
-use Rattle.engine.specs.Inner.Kernel.{valueIn, rowValue, FirstUnequal}
+use Rattle.engine.specs.Inner.Kernel.{valueIn, rowValue, FirstZero}
 use Rattle.engine.specs.declared.list.Vectors.{Vectors}
 use Rattle.engine.proofs.Laws.Choice.{any-true, any-of-member}
 use Rattle.engine.proofs.Laws.Eval.{bit-lt}
@@ -103,7 +103,7 @@ joined-row masks words next v j y k =
     ap (bit (y % 64)) (j (y / 64) (omega arith))
     ∙ bit-or (y % 64) (getD words (y / 64) 0) (getD masks (16 * v + y / 64) 0)
 
-rowValue-lt : (r : List ℕ) (y : ℕ) → rowValue r y < 2
+pub rowValue-lt : (r : List ℕ) (y : ℕ) → rowValue r y < 2
 unfolding rowValue
 rowValue-lt r y = bit-lt (y % 64) (getD r (y / 64) 0)
 
@@ -124,12 +124,12 @@ joined-next masks list words next i l h j p y k e =
 pub covered-none : (masks : List ℕ) (v : Vectors) (y : ℕ) → CoveredTo masks v y y
 covered-none masks v y = record { past = omega arith; covered = λ k a b. let f : ⊥ = omega arith in absurd f }
 
-pub covered-next : (masks row : List ℕ) (v : Vectors) (y r : ℕ) → Joined masks (take (v .len) (v .list)) row → FirstUnequal row r
+pub covered-next : (masks row : List ℕ) (v : Vectors) (y r : ℕ) → Joined masks (take (v .len) (v .list)) row → FirstZero row r
     → y ≤ r → CoveredTo masks v y r
 unfolding listedOf
 covered-next masks row v y r p f h =
     let m = f .most in
-    record { past = h; covered = λ k a b. p k (omega arith) (f .equal k b) }
+    record { past = h; covered = λ k a b. p k (omega arith) (f .ones k b) }
 
 -- ---- the list
 

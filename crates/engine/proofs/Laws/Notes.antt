@@ -1,6 +1,6 @@
 -- Laws of the notes beside a table's rows (specs/Support): how many numbers a test keeps, what a reading's set of vectors says of its
 -- note, and what a note says. Assumes nothing.
-use Prim.Native.Nat.{ℕ, zero, suc, _^_, _≤_, _<_}
+use Prim.Native.Nat.{ℕ, zero, suc, _%_, _^_, _≤_, _<_}
 use mathlib.Core.Path.{_≡_, refl, sym, _∙_, ap, subst}
 use mathlib.Core.Logic.{_↔_, _⊎_, inl, inr, ⊎-elim}
 use mathlib.Core.List.{List, [], _∷_, List·Memᴰ as Mem, List·Memᴰ·head as here, List·Memᴰ·tail as there, List·Memᴰ·not-nil as not-nil, List·Memᴰ·eq-of-singleton as eq-of-singleton}
@@ -25,10 +25,10 @@ use Rattle.engine.specs.Inner.Table.{noteFrom}
 use Rattle.engine.proofs.Laws.Choice.{true-or-false, mem-keep, mem-below, mem-upFrom, found-some}
 use Rattle.engine.proofs.Laws.Eval.{bit-lt}
 use Rattle.engine.proofs.Laws.Rows.{bit-ext, bit-pow}
-use Rattle.engine.proofs.Laws.Sets.{lowest-least}
+use Rattle.engine.proofs.Laws.Sets.{found-lowest}
+use Rattle.engine.proofs.Laws.Shift.{bit-mod}
 use Rattle.engine.proofs.Laws.Support.{rectifies-iff-outputs, rectifiesGiving, rectifies-all, all-rectifies, shared-least}
-use Rattle.engine.proofs.Laws.VectorSets.{no-bits, lowest-some, lowest-lt}
-use Rattle.engine.proofs.Laws.Word.{bit-zero}
+use Rattle.engine.proofs.Laws.VectorSets.{no-bits, lowest-lt, lowest-bit}
 
 -- ---- how many numbers a test keeps
 
@@ -91,7 +91,7 @@ module _ (j : Job) (is : List ℕ) (r : ℕ) where
   abbrev passesReading : ℕ → Bool
   passesReading x = eqb (reading j is x) r
 
-  pub giving-cases : ((length (giving j is r) ≡ 0) × (SomeGives j is r → ⊥)) ⊎ ((length (giving j is r) ≡ 0 → ⊥) × SomeGives j is r)
+  giving-cases : ((length (giving j is r) ≡ 0) × (SomeGives j is r → ⊥)) ⊎ ((length (giving j is r) ≡ 0 → ⊥) × SomeGives j is r)
   unfolding giving allInputs
   giving-cases =
       ⊎-elim
@@ -142,50 +142,59 @@ module _ (j : Job) (is : List ℕ) (r : ℕ) where
 -- ---- a note from a set of vectors
 
 -- the set s holds the vectors that are shared at reading r
-module _ (j : Job) (is : List ℕ) (r s : ℕ) (few : j .targets ≤ 4) (small : s < 65536)
+module _ (j : Job) (is : List ℕ) (r s : ℕ) (few : j .targets ≤ 4)
     (h : (v : ℕ) → v < maxVectors → (bit v s ≡ 1) ↔ Shares j is r v) where
   abbrev low : ℕ
   low = orZero (lowest s)
 
-  shares-bit : (v : ℕ) → Shares j is r v → bit v s ≡ 1
-  shares-bit v a = h v (omega (arith, a .0, pow-mono {j = 4} few)) .1 a
+  -- its vectors are its low 16 bits
+  abbrev vectors : ℕ
+  vectors = s % 65536
+
+  vectors-iff : (v : ℕ) → v < maxVectors → (bit v vectors ≡ 1) ↔ Shares j is r v
+  vectors-iff v l = rw (bit-mod 16 v s l) (h v l)
+
+  shares-small : (v : ℕ) → Shares j is r v → v < maxVectors
+  shares-small v a = omega (arith, a .0, pow-mono {j = 4} few)
 
   -- a set that is a power of two has one vector
-  low-only : s ≡ 2 ^ low → (v : ℕ) → Shares j is r v → v ≡ low
-  low-only e v a = bit-pow low v .0 (sym (ap (bit v) e) ∙ shares-bit v a)
+  low-only : vectors ≡ 2 ^ low → (v : ℕ) → Shares j is r v → v ≡ low
+  low-only e v a = bit-pow low v .0 (sym (ap (bit v) e) ∙ vectors-iff v (shares-small v a) .1 a)
 
   -- .. and a set of one vector is one
-  one-power : (v : ℕ) → Shares j is r v → ((u : ℕ) → Shares j is r u → u ≡ v) → s ≡ 2 ^ low
+  one-power : (v : ℕ) → Shares j is r v → ((u : ℕ) → Shares j is r u → u ≡ v) → vectors ≡ 2 ^ low
   one-power v a f =
       let l = lowest-lt s in
-      let b = shares-bit v a in
-      let z : (s ≡ 0 → ⊥) = λ e. let q = sym (ap (bit v) e) ∙ b in let x : ⊥ = omega (arith, bit-zero v) in x in
-      let m = eqb-true (bit low s) 1 (lowest-least s low (lowest-some s small z) .holds) in
-      bit-ext 16 s (2 ^ low) small (pow-lt l)
+      let n = shares-small v a in
+      let m = lowest-bit s low (found-some (lowest s) (found-lowest s (v, n, h v n .1 a))) .1 in
+      let only : low ≡ v = f low (h low l .0 m) in
+      bit-ext 16 vectors (2 ^ low) (omega arith) (pow-lt l)
       (λ u o. (
-        λ e. bit-pow low u .1 (f u (h u o .0 e) ∙ sym (f low (h low l .0 m))),
-        λ e. rw (bit-pow low u .0 e) m,
+        λ e. bit-pow low u .1 (f u (vectors-iff u o .0 e) ∙ sym only),
+        λ e. rw (bit-pow low u .0 e) (vectors-iff low l .1 (h low l .0 m)),
       ))
 
-  one-set : eqb s (2 ^ low) ≡ eqb (length (sharing j is r)) 1
+  one-set : eqb vectors (2 ^ low) ≡ eqb (length (sharing j is r)) 1
   one-set =
       let k = length (sharing j is r) in
       ⊎-elim
       (λ (c : (k ≡ 0) × ((v : ℕ) → Shares j is r v → ⊥)).
-      let z : s ≡ 0 = no-bits 16 s small (λ v l. let x : (bit v s ≡ 1 → ⊥) = λ e. c .1 v (h v l .0 e) in omega (arith, bit-lt v s)) in
-      ne-eqb s (2 ^ low) (λ e. let x : ⊥ = omega (arith, pow-pos low) in x)
+      let z : vectors ≡ 0 =
+      no-bits 16 vectors (omega arith)
+      (λ v l. let x : (bit v vectors ≡ 1 → ⊥) = λ e. c .1 v (vectors-iff v l .0 e) in omega (arith, bit-lt v vectors)) in
+      ne-eqb vectors (2 ^ low) (λ e. let x : ⊥ = omega (arith, pow-pos low) in x)
       ∙ sym (ne-eqb k 1 (λ e. let x : ⊥ = omega (arith, c .0) in x)))
       (⊎-elim
       (λ (c : (k ≡ 1) × ((v : ℕ) × Shares j is r v × ((u : ℕ) → Shares j is r u → u ≡ v))).
-      eq-eqb s (2 ^ low) (one-power (c .1 .0) (c .1 .1) (c .1 .2)) ∙ sym (eq-eqb k 1 (c .0)))
+      eq-eqb vectors (2 ^ low) (one-power (c .1 .0) (c .1 .1) (c .1 .2)) ∙ sym (eq-eqb k 1 (c .0)))
       (λ (c : (k ≡ 1 → ⊥) × ((u : ℕ) × (v : ℕ) × (u < v) × Shares j is r u × Shares j is r v)).
       let d = c .1 in
-      ne-eqb s (2 ^ low)
+      ne-eqb vectors (2 ^ low)
       (λ e. let x : ⊥ = omega (arith, d .2, low-only e (d .0) (d .3), low-only e (d .1) (d .4)) in x)
       ∙ sym (ne-eqb k 1 (c .0))))
       (sharing-cases j is r)
 
-module _ (j : Job) (is ss os : List ℕ) (h : SetsOf j is ss) (g : Unseen j is os) (small : (r : ℕ) → getD ss r 0 < 65536) where
+module _ (j : Job) (is ss os : List ℕ) (h : SetsOf j is ss) (g : Unseen j is os) where
   note-of-set : (r : ℕ) → r < 2 ^ length is → noteFrom (getD ss r 0) (getD os r 0) ≡ noteOf j is r
   unfolding noteFrom noteOf
   note-of-set r l =
@@ -196,7 +205,7 @@ module _ (j : Job) (is ss os : List ℕ) (h : SetsOf j is ss) (g : Unseen j is o
       (λ (c : (n ≡ 0) × (SomeGives j is r → ⊥)). rw (eq-eqb n 0 (c .0), ne-eqb o 0 (λ e. c .1 (g r l .0 e))))
       (λ (c : (n ≡ 0 → ⊥) × SomeGives j is r).
       rw (ne-eqb n 0 (c .0), eq-eqb o 0 (g r l .1 (c .1)))
-      (ap (λ (b : Bool). cond b 1 2) (one-set j is r t (h .targets) (small r) (λ v m. h .sets r v l m))))
+      (ap (λ (b : Bool). cond b 1 2) (one-set j is r t (h .targets) (λ v m. h .sets r v l m))))
       (giving-cases j is r)
 
   -- the places that hold the notes of the sets

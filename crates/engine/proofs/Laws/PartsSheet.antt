@@ -9,7 +9,7 @@ use lib.Dec.{ltb, eqb}
 use lib.ListN.{length, replicate, length-append, length-replicate}
 use Rattle.records.specs.Bytes.{all}
 use Rattle.records.specs.Job.{Candidate, Job}
-use Rattle.records.specs.Refusal.{oldNets, firstFailing}
+use Rattle.records.specs.Refusal.{oldNets, candidateGood, firstFailing}
 use Rattle.records.specs.Sheet.{patchOf, isCandidate, sheetTests}
 use Rattle.records.specs.Service.{countsOf, sheetRoomy, sheetNumber, sheetReply}
 use Rattle.records.specs.Claims.{Below}
@@ -19,12 +19,12 @@ use Rattle.records.specs.declared.job.Counts.{Counts}
 use Rattle.records.specs.declared.loading.JobParts.{JobParts}
 use Rattle.records.specs.declared.sheet.SheetReply.{SheetReply}
 use Rattle.records.proofs.Laws.Accepted.{below-of-all}
-use Rattle.records.proofs.Laws.Bytes.{and-both}
+use Rattle.records.proofs.Laws.Bytes.{and-left, and-both}
 use Rattle.engine.specs.Support.{candidateNets}
 use Rattle.engine.specs.Inner.Plan.{NetsRead}
 use Rattle.engine.proofs.Laws.Choice.{all-true, all-of-members, all-below-more}
 use Rattle.engine.proofs.Laws.Loaded.{below-append, below-zeros}
-use Rattle.engine.proofs.Laws.Miter.{job-within, oldNets-le, miter-nets, candidates-below}
+use Rattle.engine.proofs.Laws.Miter.{job-within, oldNets-le, miter-nets, candidates-good}
 use Rattle.engine.proofs.Laws.SheetRead.{ReadSheet, sheet-number, read-sheet}
 use Rattle.engine.proofs.Laws.Support.{candidate-passes}
 
@@ -68,14 +68,21 @@ module _ {j : Job} {parts : JobParts} (q : PartsOf j parts) (p : List ℕ) {s : 
     unfolding countsOf
     parts-few = omega (arith, parts-sheet .few, few .candidates)
 
-    -- the support's nets are old nets
-    pub parts-old : all (λ i. ltb i (oldNets j)) (patchOf p .support) ≡ true
+    -- the support's nets are candidates: no target leads to them
+    pub parts-good : all (candidateGood j) (patchOf p .support) ≡ true
     unfolding candidateNets
+    parts-good =
+        all-of-members (candidateGood j) (patchOf p .support)
+        (λ i m.
+        candidate-passes (candidateGood j) (j .candidates) (candidates-good j (q .good)) i
+        (all-true (isCandidate (j .candidates)) (patchOf p .support) (parts-sheet .candidates) i m))
+
+    -- .. and they are old nets
+    parts-old : all (λ i. ltb i (oldNets j)) (patchOf p .support) ≡ true
+    unfolding candidateGood
     parts-old =
         all-of-members (λ i. ltb i (oldNets j)) (patchOf p .support)
-        (λ i m.
-        candidate-passes (λ x. ltb x (oldNets j)) (j .candidates) (candidates-below j (q .good)) i
-        (all-true (isCandidate (j .candidates)) (patchOf p .support) (parts-sheet .candidates) i m))
+        (λ i m. and-left (ltb i (oldNets j)) _ (all-true (candidateGood j) (patchOf p .support) parts-good i m))
 
     -- what stands in the support's places
     support-places : s .support ≡ record {

@@ -18,7 +18,7 @@ use Rattle.records.specs.Refusal.{ascending}
 use Rattle.records.proofs.Laws.Bytes.{false-of}
 use Rattle.records.specs.declared.sheet.Support.{Support}
 use Rattle.engine.specs.Support.{sound, candidateNets, cost, patchGates, earlier, better, chosen}
-use Rattle.engine.specs.Inner.Best.{picked, total, lowFirst, before, openAt, candidateWeights, SetsOf, LeftOut, OpenPick, PricedRoom, PricedOf, PickOf, CountedOf, OpenOf, BestFrom, PickedNets, HeldSupport, Choosable, ChosenOf}
+use Rattle.engine.specs.Inner.Best.{picked, total, lowFirst, before, openAt, candidateWeights, SetsOf, GivenBits, LeftOut, OpenPick, PricedRoom, PricedOf, PickOf, CountedOf, OpenOf, BestFrom, PickedNets, HeldSupport, Choosable, ChosenOf}
 use Rattle.engine.specs.declared.best.Chosen.{Chosen}
 use Rattle.engine.specs.declared.best.Left.{Left}
 use Rattle.engine.specs.declared.best.Pick.{Pick}
@@ -26,7 +26,7 @@ use Rattle.engine.specs.declared.best.Priced.{Priced}
 use Rattle.engine.proofs.Laws.Best.{better-irrefl, better-trans, better-neither, chosen-unique}
 use Rattle.engine.proofs.Laws.Choice.{not-both, true-or-false}
 use Rattle.engine.proofs.Laws.Picked.{length-picked-le, picked-all, picked-subset, subset-picked, total-from-le, open-none, open-all, open-among, open-suc, open-in, open-out, total-in, total-out, above-first, low-earlier, cost-picked, nets-from, weights-from, in-or-out}
-use Rattle.engine.proofs.Laws.Sets.{left-sets, left-sound, left-unsound}
+use Rattle.engine.proofs.Laws.Sets.{left-sets, left-given, left-sound, left-unsound}
 use Rattle.engine.proofs.Laws.Support.{sound-mono}
 
 and-same : (b x y : Bool) → (b ≡ true → x ≡ y) → (b && x) ≡ (b && y)
@@ -239,6 +239,12 @@ module _ (j : Job) where
             rw out-nets
             (left-sets j below net above ss with-sets (l .sets) (λ r b. rw length-below (f .filled h r (rw few-nets b) .0)))
 
+        pub out-given : (k : ℕ) → l .sound ≡ true → GivenBits j (openAt (candidateNets j) (suc q) s) ss k
+            → GivenBits j (openAt (candidateNets j) q t) (l .sets) k
+        out-given k h g =
+            rw out-nets
+            (left-given j below net above ss (l .sets) (λ r b. rw length-below (f .filled h r (rw few-nets b) .0)) k (rw (← all-nets) g))
+
         pub out-sound : l .sound ≡ true → sound j (openAt (candidateNets j) q t) ≡ true
         out-sound h =
             rw out-nets (left-sound j below net above ss with-sets (λ r b. rw length-below (f .filled h r (rw few-nets b) .1)))
@@ -345,21 +351,26 @@ module _ (j : Job) where
 
 -- ---- the sets of a sound set of candidates
 
--- those of len nets that are open up to place i, from those of all k
+-- those of len nets that are open up to place i, from those of all n
 abbrev pub SetsTo : List ℕ → ℕ → ℕ → ℕ → ℕ → List ℕ → Type 0
 SetsTo ss n s i len ps =
     (j : Job) → length (candidateNets j) ≡ n → SetsOf j (candidateNets j) ss → sound j (picked (candidateNets j) s) ≡ true
-    → (len ≡ length (openAt (candidateNets j) i (s / 2 ^ i))) × SetsOf j (openAt (candidateNets j) i (s / 2 ^ i)) ps
+    → let is = openAt (candidateNets j) i (s / 2 ^ i) in
+    (len ≡ length is) × SetsOf j is ps × ((k : ℕ) → GivenBits j (candidateNets j) ss k → GivenBits j is ps k)
 
 pub sets-all : (ss : List ℕ) (n s : ℕ) → SetsTo ss n s n n ss
 sets-all ss n s j e h u =
     let a : openAt (candidateNets j) n (s / 2 ^ n) ≡ candidateNets j = rw e at (open-all (candidateNets j) (s / 2 ^ length (candidateNets j))) in
-    (sym (ap length a ∙ e), rw a h)
+    (sym (ap length a ∙ e), rw a h, λ k g. rw a g)
 
 pub sets-none : (ss : List ℕ) (n s len : ℕ) (ps : List ℕ) → SetsTo ss n s 0 len ps → (j : Job) → length (candidateNets j) ≡ n
-    → SetsOf j (candidateNets j) ss → sound j (picked (candidateNets j) s) ≡ true → SetsOf j (picked (candidateNets j) s) ps
+    → SetsOf j (candidateNets j) ss → sound j (picked (candidateNets j) s) ≡ true
+    → SetsOf j (picked (candidateNets j) s) ps
+    × ((k : ℕ) → GivenBits j (candidateNets j) ss k → GivenBits j (picked (candidateNets j) s) ps k)
 sets-none ss n s len ps f j e h u =
-    rw (← open-none (candidateNets j) s) (rw (div-one s) at (f j e h u .1))
+    let a : openAt (candidateNets j) 0 (s / 2 ^ 0) ≡ picked (candidateNets j) s = rw (div-one s) (open-none (candidateNets j) s) in
+    let g = f j e h u in
+    (rw (← a) (g .1), λ k o. rw (← a) (g .2 k o))
 
 module _ (ss : List ℕ) (n s q len : ℕ) (ps : List ℕ) (l : q < n) (f : SetsTo ss n s (suc q) len ps) where
   halved : s / 2 ^ q / 2 ≡ s / 2 ^ suc q
@@ -369,17 +380,20 @@ module _ (ss : List ℕ) (n s q len : ℕ) (ps : List ℕ) (l : q < n) (f : Sets
   sets-kept o j e h u =
       let g = f j e h u in
       let w = kept-nets j q (s / 2 ^ q) (s / 2 ^ suc q) len (omega arith) halved (g .0) (g .1) o in
-      (g .0 ∙ ap length (sym w), rw w (g .1))
+      (g .0 ∙ ap length (sym w), rw w (g .1), λ k i. rw w (g .2 k i))
 
   pub sets-out : {r : Left} → s / 2 ^ q % 2 ≡ 0 → LeftOut ps (len - 1) q r → SetsTo ss n s q (len - 1) (r .sets)
   sets-out {r} o d j e h u =
       let g = f j e h u in
-      let p : q < length (candidateNets j) = omega arith in (
+      let p : q < length (candidateNets j) = omega arith in
+      let t : r .sound ≡ true =
+      ⊎-elim
+      (λ z. z)
+      (λ z. absurd (not-both (sound-open j q s u) (out-unsound j q (s / 2 ^ q) (s / 2 ^ suc q) len p halved (g .0) (g .1) o d z)))
+      (true-or-false (r .sound)) in (
         out-long j q (s / 2 ^ q) (s / 2 ^ suc q) len p halved (g .0) (g .1) o,
-        ⊎-elim
-            (λ z. out-sets j q (s / 2 ^ q) (s / 2 ^ suc q) len p halved (g .0) (g .1) o d z)
-            (λ z. absurd (not-both (sound-open j q s u) (out-unsound j q (s / 2 ^ q) (s / 2 ^ suc q) len p halved (g .0) (g .1) o d z)))
-            (true-or-false (r .sound)),
+        out-sets j q (s / 2 ^ q) (s / 2 ^ suc q) len p halved (g .0) (g .1) o d t,
+        λ k i. out-given j q (s / 2 ^ q) (s / 2 ^ suc q) len p halved (g .0) (g .1) o d k t (g .2 k i),
       )
 
 -- ---- from all candidates to the chosen support

@@ -1,35 +1,36 @@
--- Laws of a plan's lists: which values a block has once a list is run, after its inputs are loaded, after one target is set anew, and
--- after all targets are. Assumes nothing.
+-- Laws of a plan's lists: which values a block has once a list is run, after its inputs are loaded, after all targets are set, and
+-- after one target is set anew. Assumes nothing.
 use Prim.Native.Nat.{ℕ, _+_, _-_, _*_, _≤_, _<_}
 use mathlib.Core.Path.{_≡_, refl, sym, _∙_, ap}
 use mathlib.Core.Logic.{_⊎_, inl, inr, ⊎-elim}
-use mathlib.Core.List.{List, _++_}
-use mathlib.Core.Bool.{Bool, true, false, and-true, _&&_}
+use mathlib.Core.List.{List, _++_, map}
+use mathlib.Core.Bool.{Bool, true, false, not, and-true, _&&_}
 use native.Mathlib.Omega.{arith}
-use borrow.Author.Tests.{ltb-true, ltb-false, eqb-true, not-false}
+use borrow.Author.Tests.{ltb-true, ltb-false, eqb-true, not-true}
 use lib.Dec.{ltb, eqb}
 use lib.ListN.{length, getD, length-append, List·getD-append, List·getD-eq-default}
 use lib.Seq.{slice, getD-append-add}
 use Rattle.records.specs.Bytes.{tabulate}
-use Rattle.records.specs.Netlist.{netAt, valueOf, values}
+use Rattle.records.specs.Gate.{Gate, operands}
+use Rattle.records.specs.Netlist.{netAt, extended, valueOf, values, markOf, fanout}
 use Rattle.records.specs.Job.{Job}
+use Rattle.records.specs.Refusal.{oldNets, candidateGood}
 use Rattle.records.specs.Claims.{PartsGood}
-use Rattle.records.proofs.Laws.Bytes.{length-tabulate, getD-tabulate}
+use Rattle.records.proofs.Laws.Bytes.{and-left, and-right, and-both, length-tabulate, getD-tabulate}
 use Rattle.engine.specs.Eval.{bit, bits}
-use Rattle.engine.specs.Inner.Packed.{own, codeValue, evaluated}
+use Rattle.engine.specs.Inner.Packed.{own, packedFrom, codeValue, evaluated}
 use Rattle.engine.specs.Inner.Kernel.{valueIn, column, Ran, NetSet, NetsSet}
-use Rattle.engine.specs.Inner.Miter.{miterGates, miterNets, miterValues, codes}
-use Rattle.engine.specs.Inner.Plan.{marksOf, marked, Agrees, BlockAt, ReadsOf, PlannedOf}
+use Rattle.engine.specs.Inner.Miter.{shifted, shiftOf, miterGates, miterNets, miterValues, SameGates}
+use Rattle.engine.specs.Inner.Plan.{marksOf, marked, fanned, Closed, Agrees, BlockAt, BlockFree, ReadsOf, PlannedOf}
 use Rattle.engine.specs.declared.plan.Plan.{Plan}
-use Rattle.engine.proofs.Laws.Choice.{true-or-false, not-both}
+use Rattle.engine.proofs.Laws.Choice.{true-or-false, not-both, all-true, all-of-members}
 use Rattle.engine.proofs.Laws.Eval.{bit-lt}
-use Rattle.engine.proofs.Laws.FitGates.{netAt-extended}
+use Rattle.engine.proofs.Laws.FitGates.{noGate, netAt-extended}
 use Rattle.engine.proofs.Laws.Fitted.{length-bits}
 use Rattle.engine.proofs.Laws.Kernel.{netAt-column}
-use Rattle.engine.proofs.Laws.Marks.{leafMark-out, marks-leaf, marks-agree}
-use Rattle.engine.proofs.Laws.Miter.{miter-good, miter-nets}
-use Rattle.engine.proofs.Laws.Run.{Known, partOf, run-part, keep-ext, Binary, values-follow}
-use Rattle.engine.proofs.Laws.Word.{bit-zero}
+use Rattle.engine.proofs.Laws.Marks.{leafMark, leafMark-out, leafMark-zero, marks-leaf, fanout-marks, unmarked-of, unmarked-zero, unmarked-operands, marks-agree, same-marks}
+use Rattle.engine.proofs.Laws.Miter.{extended-append, length-extended, miter-nets}
+use Rattle.engine.proofs.Laws.Run.{Known, partOf, run-part, keep-ext, Binary, values-follow, same-values}
 
 -- ---- columns
 
@@ -81,71 +82,119 @@ module _ (j : Job) (x v : ℕ) where
   unfolding miterValues values netAt
   leaf-value i h = netAt-extended valueOf (leavesOf j x v) (miterGates j) i (omega (arith, length-leaves))
 
--- ---- runs of a list
+-- ---- nets that no target leads to
 
 abbrev base : Job → ℕ
 base j = j .inputs + j .targets
+
+abbrev pub fanMarks : Job → List ℕ
+fanMarks j = marksOf (base j) (j .inputs) (j .targets) (miterGates j)
+
+abbrev pub freeOf : Job → (ℕ → Bool) → ℕ → Bool
+freeOf j live i = live i && not (fanned j i)
+
+module _ (j : Job) (live : ℕ → Bool) (i : ℕ) where
+  free-zero : freeOf j live i ≡ true → netAt (fanMarks j) i ≡ 0
+  free-zero e = unmarked-zero (fanMarks j) i (not-true (fanned j i) (and-right (live i) (not (fanned j i)) e))
+
+  pub zero-free : live i ≡ true → netAt (fanMarks j) i ≡ 0 → freeOf j live i ≡ true
+  zero-free l e = and-both (live i) (not (fanned j i)) l (ap not (unmarked-of (fanMarks j) i e))
+
+-- an input is one of them, and no target is
+free-input : (j : Job) (i : ℕ) → i < base j → netAt (fanMarks j) i ≡ 0 → i < j .inputs
+free-input j i h e =
+    ⊎-elim
+    (λ l. l)
+    (λ (l : base j ≤ i). let f : ⊥ = omega arith in absurd f)
+    (leafMark-zero (j .inputs) (j .targets) i (sym (marks-leaf (j .inputs) (j .targets) (base j) (miterGates j) i h) ∙ e))
+
+-- a candidate is one of them
+pub candidate-free : (j : Job) (i : ℕ) → candidateGood j i ≡ true → (i < oldNets j) × (netAt (fanMarks j) i ≡ 0)
+unfolding candidateGood oldNets marksOf miterGates
+candidate-free j i e =
+    let n = oldNets j in
+    let gs = j .old .gates in
+    let leaves = tabulate (base j) (leafMark (j .inputs) (j .targets)) in
+    let hs = map (shifted (j .inputs) (shiftOf j)) (j .golden .gates) in
+    let ms = fanout (j .inputs) (j .targets) gs in
+    let h = ltb-true i n (and-left (ltb i n) (eqb (netAt ms i) 0) e) in
+    let l = length-tabulate (base j) (leafMark (j .inputs) (j .targets)) in (
+      h,
+      ap (λ (vs : List ℕ). netAt vs i) (extended-append markOf leaves gs hs)
+          ∙ netAt-extended markOf (extended markOf leaves gs) hs i (omega (arith, length-extended markOf leaves gs))
+          ∙ ap (λ (vs : List ℕ). netAt vs i) (sym (fanout-marks (j .inputs) (j .targets) gs))
+          ∙ eqb-true (netAt ms i) 0 (and-right (ltb i n) (eqb (netAt ms i) 0) e),
+    )
+
+module _ (j : Job) {merged : List Gate} (s : SameGates (base j) (miterGates j) merged) where
+  -- with a gate they have its operands
+  pub closed-free : (live : ℕ → Bool) → Closed live (base j) merged → Closed (freeOf j live) (base j) merged
+  closed-free live closed i h e =
+      let is = operands (getD merged i noGate) in
+      let k = base j + i in
+      let m = same-marks s (j .inputs) (j .targets) in
+      let z = free-zero j live k e in
+      let ls = closed i h (and-left (live k) (not (fanned j k)) e) in
+      all-of-members (freeOf j live) is
+      (λ n o.
+      zero-free j live n (all-true live is ls n o)
+      (rw m at (unmarked-operands (base j) (j .inputs) (j .targets) merged (s .good) i h (rw m z) n o)))
+
+-- ---- runs of a list
 
 room : (j : Job) → PartsGood j → base j + length (miterGates j) ≤ 1024
 unfolding miterNets
 room j g = omega (arith, miter-nets j g)
 
-module _ {j : Job} {is : List ℕ} {p : Plan} {gates : List ℕ} (q : ReadsOf j is p gates) where
+module _ {j : Job} {merged : List Gate} (good : PartsGood j) (s : SameGates (base j) (miterGates j) merged) where
   -- the live gates that are changed, run where all other live nets have their values
-  run-agrees : (changed : ℕ → Bool) (cs w w′ : List ℕ) → cs ≡ partOf (q .live) changed (base j) (miterGates j) → Ran cs w w′
-      → (y x v : ℕ) → y < 1024 → Known (q .live) changed (base j) (miterNets j) (column w y) (miterValues j x v)
-      → Agrees j (q .live) x v (column w′ y)
+  run-agrees : (live changed : ℕ → Bool) → Closed live (base j) merged → (cs w w′ : List ℕ)
+      → cs ≡ partOf live changed (base j) merged → Ran cs w w′
+      → (y x v : ℕ) → y < 1024 → Known live changed (base j) (miterNets j) (column w y) (miterValues j x v)
+      → Agrees j live x v (column w′ y)
   unfolding miterValues miterNets values
-  run-agrees changed cs w w′ e r y x v h k i l m =
+  run-agrees live changed closed cs w w′ e r y x v h k i l m =
+      let same = same-values s (leavesOf j x v) (length-leaves j x v) in
       ap (λ (vs : List ℕ). netAt vs i)
       (r .values y h ∙ ap (evaluated codeValue (column w y)) e)
-      ∙ run-part values-follow (q .live) changed (base j) (miterGates j) (leavesOf j x v) (column w y) (miter-good j (q .good)) (q .forms) (room j (q .good))
+      ∙ run-part values-follow live changed (base j) merged (leavesOf j x v) (column w y) (s .good) (s .forms)
+      (omega (arith, room j good, s .long))
       (omega (arith, length-column w y))
       (length-leaves j x v)
-      (q .closed)
+      closed
       (column-binary w y)
-      k
+      (λ n o p q. k n (omega (arith, s .long)) p q ∙ ap (λ (vs : List ℕ). netAt vs n) (sym same))
       i
-      l
+      (omega (arith, s .long))
       m
+      ∙ ap (λ (vs : List ℕ). netAt vs i) same
 
-  -- a block whose leaves are loaded, with no target set
-  pub block-based : (b : ℕ) (w w′ : List ℕ)
+-- a block whose inputs are loaded
+module _ {j : Job} {is : List ℕ} {p : Plan} {gates : List ℕ} (q : ReadsOf j is p gates) where
+  pub block-read : (b : ℕ) (w w′ : List ℕ)
       → ((y k : ℕ) → y < 1024 → k < j .inputs → valueIn w y k ≡ bit k (1024 * b + y))
-      → ((y k : ℕ) → y < 1024 → k < j .targets → valueIn w y (j .inputs + k) ≡ 0)
-      → Ran (slice 0 (getD (p .ends) 0 0) gates) w w′ → BlockAt j (q .live) b (λ y. 0) w′
-  unfolding codes
-  block-based b w w′ hi ht r =
-      let live = q .live in
+      → Ran (slice 0 (getD (p .ends) 0 0) gates) w w′ → BlockFree j (q .live) b w′
+  block-read b w w′ loaded r =
+      let free = freeOf j (q .live) in
       record {
         agrees =
-            λ y h.
-            run-agrees (λ i. true) _ w w′
-            (q .base
-            ∙ keep-ext (λ c. live (own c)) (λ c. live (own c) && true) (codes j) (λ c m. sym (and-true (live (own c)))))
+            λ y v h.
+            run-agrees (q .good) (q .same) free (λ i. true) (closed-free j (q .same) (q .live) (q .closed)) _ w w′
+            (q .free
+            ∙ keep-ext (λ c. free (own c)) (λ c. free (own c) && true) (packedFrom (base j) (q .merged))
+            (λ c m. sym (and-true (free (own c)))))
             r
             y
             (1024 * b + y)
-            0
+            v
             h
             (λ i l m s.
             let t : i < base j = ⊎-elim (λ o. o) (λ z. absurd (not-both refl z)) s in
+            let u = free-input j i t (free-zero j (q .live) i m) in
             netAt-column w y i (omega (arith, room j (q .good)))
-            ∙ leaf-of y i h t
-            ∙ sym (leaf-value j (1024 * b + y) 0 i t));
+            ∙ loaded y i h u
+            ∙ sym (leaf-value j (1024 * b + y) v i t ∙ leaf-input j (1024 * b + y) v i u));
       }
-    where
-      leaf-of : (y i : ℕ) → y < 1024 → i < base j → valueIn w y i ≡ getD (leavesOf j (1024 * b + y) 0) i 0
-      leaf-of y i h l =
-          ⊎-elim
-          (λ t. let u = ltb-true i (j .inputs) t in hi y i h u ∙ sym (leaf-input j (1024 * b + y) 0 i u))
-          (λ t.
-          let u = ltb-false i (j .inputs) t in
-          let k : ℕ = i - j .inputs in
-          let e : j .inputs + k ≡ i = omega arith in
-          let n : k < j .targets = omega arith in
-          rw e at (ht y k h n ∙ sym (bit-zero k) ∙ sym (leaf-target j (1024 * b + y) 0 k n)))
-          (true-or-false (ltb i (j .inputs)))
 
 -- ---- leaves set anew
 
@@ -154,46 +203,38 @@ abbrev pub reads-of : {j : Job} {is : List ℕ} {p : Plan} {gates : List ℕ} �
 reads-of q =
     record {
       good = q .good;
-      forms = q .forms;
       inputs = q .inputs;
       targets = q .targets;
       nets = q .nets;
+      merged = q .merged;
+      same = q .same;
       live = q .live;
       closed = q .closed;
       live-nets = q .live-nets;
-      base = q .lists .base;
+      free = q .lists .free;
     }
 
 module _ {j : Job} {is : List ℕ} {p : Plan} {gates : List ℕ} (q : PlannedOf j is p gates) where
-  -- a block whose k leaves from from on are set anew, from the values at the vectors v to those at the vectors u
-  module _ (from k b : ℕ) (u v : ℕ → ℕ) (w w₁ : List ℕ) (f : from + k ≤ base j) (a : BlockAt j (q .live) b v w)
+  -- k leaves from from on set to their bits of the vectors u, in a block where the nets that they do not lead to have their values
+  module _ (from k b : ℕ) (u : ℕ → ℕ) (w w₁ : List ℕ) (f : from + k ≤ base j)
       (put : (y i : ℕ) → y < 1024 → from ≤ i → i < from + k → valueIn w₁ y i ≡ getD (leavesOf j (1024 * b + y) (u y)) i 0)
       (kept : (y i : ℕ) → y < 1024 → (i < from) ⊎ (from + k ≤ i) → valueIn w₁ y i ≡ valueIn w y i)
-      (same : (y i : ℕ) → y < 1024 → i < base j → (i < from) ⊎ (from + k ≤ i)
-      → getD (leavesOf j (1024 * b + y) (v y)) i 0 ≡ getD (leavesOf j (1024 * b + y) (u y)) i 0) where
+      (stay : (y i : ℕ) → y < 1024 → i < miterNets j → q .live i ≡ true → netAt (marksOf (base j) from k (miterGates j)) i ≡ 0
+      → netAt (column w y) i ≡ netAt (miterValues j (1024 * b + y) (u y)) i) where
     abbrev changed : ℕ → Bool
     changed = marked (marksOf (base j) from k (miterGates j))
 
     -- a net that is none of the leaves set, and whose gate is not run, has its value already
     unmarked : (y i : ℕ) → y < 1024 → i < miterNets j → q .live i ≡ true → (i < base j) ⊎ (changed i ≡ false)
         → (i < from) ⊎ (from + k ≤ i) → valueIn w₁ y i ≡ netAt (miterValues j (1024 * b + y) (u y)) i
-    unfolding miterValues
     unmarked y i h l m s o =
-        let z : netAt (marksOf (base j) from k (miterGates j)) i ≡ 0 =
-        ⊎-elim
-        (λ (t : i < base j). marks-leaf from k (base j) (miterGates j) i t ∙ leafMark-out from k i o)
-        (λ (t : changed i ≡ false).
-        eqb-true (netAt (marksOf (base j) from k (miterGates j)) i) 0 (not-false (eqb (netAt (marksOf (base j) from k (miterGates j)) i) 0) t))
-        s in
         kept y i h o
         ∙ sym (netAt-column w y i (omega (arith, miter-nets j (q .good))))
-        ∙ a .agrees y h i l m
-        ∙ marks-agree (base j) from k (miterGates j) (leavesOf j (1024 * b + y) (v y)) (leavesOf j (1024 * b + y) (u y))
-        (λ n g. same y n h g)
-        (length-leaves j (1024 * b + y) (v y))
-        (length-leaves j (1024 * b + y) (u y))
-        i
-        z
+        ∙ stay y i h l m
+        (⊎-elim
+        (λ (t : i < base j). marks-leaf from k (base j) (miterGates j) i t ∙ leafMark-out from k i o)
+        (λ (t : changed i ≡ false). unmarked-zero (marksOf (base j) from k (miterGates j)) i t)
+        s)
 
     changed-known : (y : ℕ) → y < 1024
         → Known (q .live) changed (base j) (miterNets j) (column w₁ y) (miterValues j (1024 * b + y) (u y))
@@ -210,59 +251,90 @@ module _ {j : Job} {is : List ℕ} {p : Plan} {gates : List ℕ} (q : PlannedOf 
         (true-or-false (ltb i (from + k))))
         (true-or-false (ltb i from))
 
-    block-changed : (cs w₂ : List ℕ) → cs ≡ partOf (q .live) changed (base j) (miterGates j) → Ran cs w₁ w₂ → BlockAt j (q .live) b u w₂
+    block-changed : (cs w₂ : List ℕ) → cs ≡ partOf (q .live) changed (base j) (q .merged) → Ran cs w₁ w₂ → BlockAt j (q .live) b u w₂
     block-changed cs w₂ e r =
-        record { agrees = λ y h. run-agrees (reads-of q) changed cs w₁ w₂ e r y (1024 * b + y) (u y) h (changed-known y h) }
+        record {
+          agrees =
+              λ y h. run-agrees (q .good) (q .same) (q .live) changed (q .closed) cs w₁ w₂ e r y (1024 * b + y) (u y) h (changed-known y h);
+        }
 
-  -- .. where target t has other values
-  pub block-target : (b t : ℕ) (u v : ℕ → ℕ) (w w₁ w₂ : List ℕ) → t < j .targets → BlockAt j (q .live) b v w
-      → NetSet (j .inputs + t) (λ y. bit t (u y)) w w₁
-      → ((y k : ℕ) → y < 1024 → k < j .targets → (k < t) ⊎ (t < k) → bit k (u y) ≡ bit k (v y))
-      → Ran (slice (getD (p .ends) t 0) (getD (p .ends) (t + 1) 0) gates) w₁ w₂ → BlockAt j (q .live) b u w₂
-  unfolding codes
-  block-target b t u v w w₁ w₂ h a s d r =
-      block-changed (j .inputs + t) 1 b u v w w₁ (omega arith) a
-      (λ y i l n o.
-      let e : i ≡ j .inputs + t = omega arith in
-      rw e (s .put y l ∙ sym (leaf-target j (1024 * b + y) (u y) t h)))
-      (λ y i l o. s .kept y i l (⊎-elim inl (λ (g : j .inputs + t + 1 ≤ i). inr (omega arith)) o))
-      (λ y i l n o.
-      ⊎-elim
-      (λ g.
-      let m = ltb-true i (j .inputs) g in
-      leaf-input j (1024 * b + y) (v y) i m ∙ sym (leaf-input j (1024 * b + y) (u y) i m))
-      (λ g.
-      let m = ltb-false i (j .inputs) g in
-      let k : ℕ = i - j .inputs in
-      let e : j .inputs + k ≡ i = omega arith in
-      let c : k < j .targets = omega arith in
-      let x : (k < t) ⊎ (t < k) =
-      ⊎-elim (λ (z : i < j .inputs + t). inl (omega arith)) (λ (z : j .inputs + t + 1 ≤ i). inr (omega arith)) o in
-      rw e at
-      (leaf-target j (1024 * b + y) (v y) k c ∙ sym (d y k l c x) ∙ sym (leaf-target j (1024 * b + y) (u y) k c)))
-      (true-or-false (ltb i (j .inputs))))
-      _
-      w₂
-      (q .lists .lists t h)
-      r
-
-  -- .. where all targets have
-  pub block-driven : (b : ℕ) (u v : ℕ → ℕ) (w w₁ w₂ : List ℕ) → BlockAt j (q .live) b v w
+  -- all targets set
+  pub block-driven : (b : ℕ) (u : ℕ → ℕ) (w w₁ w₂ : List ℕ) → BlockFree j (q .live) b w
       → NetsSet (j .inputs) (j .targets) (λ y k. bit k (u y)) w w₁
-      → Ran (slice (getD (p .ends) 4 0) (getD (p .ends) 5 0) gates) w₁ w₂ → BlockAt j (q .live) b u w₂
-  unfolding codes
-  block-driven b u v w w₁ w₂ a s r =
-      block-changed (j .inputs) (j .targets) b u v w w₁ (omega arith) a
+      → Ran (slice (getD (p .ends) 0 0) (getD (p .ends) 1 0) gates) w₁ w₂ → BlockAt j (q .live) b u w₂
+  block-driven b u w w₁ w₂ a s r =
+      block-changed (j .inputs) (j .targets) b u w w₁ (omega arith)
       (λ y i l n o.
       let k : ℕ = i - j .inputs in
       let e : j .inputs + k ≡ i = omega arith in
       let c : k < j .targets = omega arith in
       rw e at (s .put y k l c ∙ sym (leaf-target j (1024 * b + y) (u y) k c)))
       (λ y i l o. s .kept y i l o)
-      (λ y i l n o.
-      let m : i < j .inputs = ⊎-elim (λ z. z) (λ (z : j .inputs + j .targets ≤ i). let f : ⊥ = omega arith in absurd f) o in
-      leaf-input j (1024 * b + y) (v y) i m ∙ sym (leaf-input j (1024 * b + y) (u y) i m))
+      (λ y i h l m z. a .agrees y (u y) h i l (zero-free j (q .live) i m z))
       _
       w₂
-      (q .lists .fanned)
+      (q .lists .fan)
       r
+
+  -- target t set anew, from the values at the vectors v
+  pub block-target : (b t : ℕ) (u v : ℕ → ℕ) (w w₁ w₂ : List ℕ) → t < j .targets → BlockAt j (q .live) b v w
+      → NetSet (j .inputs + t) (λ y. bit t (u y)) w w₁
+      → ((y k : ℕ) → y < 1024 → k < j .targets → (k < t) ⊎ (t < k) → bit k (u y) ≡ bit k (v y))
+      → Ran (slice (getD (p .ends) (t + 1) 0) (getD (p .ends) (t + 2) 0) gates) w₁ w₂ → BlockAt j (q .live) b u w₂
+  unfolding miterValues
+  block-target b t u v w w₁ w₂ h a s d r =
+      block-changed (j .inputs + t) 1 b u w w₁ (omega arith)
+      (λ y i l n o.
+      let e : i ≡ j .inputs + t = omega arith in
+      rw e (s .put y l ∙ sym (leaf-target j (1024 * b + y) (u y) t h)))
+      (λ y i l o. s .kept y i l (⊎-elim inl (λ (g : j .inputs + t + 1 ≤ i). inr (omega arith)) o))
+      (λ y i l n m z.
+      a .agrees y l i n m
+      ∙ marks-agree (base j) (j .inputs + t) 1 (miterGates j) (leavesOf j (1024 * b + y) (v y)) (leavesOf j (1024 * b + y) (u y))
+      (λ k g o. leaf-same y k l g o)
+      (length-leaves j (1024 * b + y) (v y))
+      (length-leaves j (1024 * b + y) (u y))
+      i
+      z)
+      _
+      w₂
+      (q .lists .lists t h)
+      r
+    where
+      -- a leaf other than the target
+      leaf-same : (y i : ℕ) → y < 1024 → i < base j → (i < j .inputs + t) ⊎ (j .inputs + t + 1 ≤ i)
+          → getD (leavesOf j (1024 * b + y) (v y)) i 0 ≡ getD (leavesOf j (1024 * b + y) (u y)) i 0
+      leaf-same y i l n o =
+          ⊎-elim
+          (λ g.
+          let m = ltb-true i (j .inputs) g in
+          leaf-input j (1024 * b + y) (v y) i m ∙ sym (leaf-input j (1024 * b + y) (u y) i m))
+          (λ g.
+          let m = ltb-false i (j .inputs) g in
+          let k : ℕ = i - j .inputs in
+          let e : j .inputs + k ≡ i = omega arith in
+          let c : k < j .targets = omega arith in
+          let x : (k < t) ⊎ (t < k) =
+          ⊎-elim (λ (z : i < j .inputs + t). inl (omega arith)) (λ (z : j .inputs + t + 1 ≤ i). inr (omega arith)) o in
+          rw e at
+          (leaf-target j (1024 * b + y) (v y) k c ∙ sym (d y k l c x) ∙ sym (leaf-target j (1024 * b + y) (u y) k c)))
+          (true-or-false (ltb i (j .inputs)))
+
+-- the vectors have no say on the nets that no target leads to
+pub block-free : {j : Job} {live : ℕ → Bool} {b : ℕ} {u : ℕ → ℕ} {w : List ℕ} → BlockAt j live b u w → BlockFree j live b w
+unfolding miterValues
+block-free {j} {live} {b} {u} a =
+    record {
+      agrees =
+          λ y v h i l m.
+          let x = 1024 * b + y in
+          a .agrees y h i l (and-left (live i) (not (fanned j i)) m)
+          ∙ marks-agree (base j) (j .inputs) (j .targets) (miterGates j) (leavesOf j x (u y)) (leavesOf j x v)
+          (λ k g o.
+          let n : k < j .inputs = ⊎-elim (λ z. z) (λ (z : base j ≤ k). let f : ⊥ = omega arith in absurd f) o in
+          leaf-input j x (u y) k n ∙ sym (leaf-input j x v k n))
+          (length-leaves j x (u y))
+          (length-leaves j x v)
+          i
+          (free-zero j live i m);
+    }

@@ -3,10 +3,10 @@ use Prim.Native.Nat.{ℕ, zero, suc, _+_, _-_, _/_, _%_, _≤_, _<_, min, max}
 use mathlib.Core.Path.{_≡_, refl, sym, _∙_, ap}
 use mathlib.Core.Logic.{_⊎_, inl, inr, ⊎-elim}
 use mathlib.Core.List.{List, [], _∷_, _++_, map, append-assoc, append-nil}
-use mathlib.Core.Bool.{Bool, true, false, _&&_}
+use mathlib.Core.Bool.{Bool, true, false, cond, not, _&&_, Bool·beq}
 use native.Mathlib.Numerals.{add-one}
 use native.Mathlib.Omega.{arith}
-use borrow.Author.Tests.{ltb-true, ltb-false, eqb-true, eqb-false, eq-eqb, ne-eqb}
+use borrow.Author.Tests.{ltb-true, ltb-false, eqb-true, eqb-false, ne-eqb}
 use lib.Dec.{ltb, eqb}
 use lib.ListN.{length, getD, take, drop, set, replicate, length-set, length-append, length-take, length-replicate, getD-replicate, drop-of-length-le}
 use lib.Seq.{take-suc, drop-cons, take-all, take-append-le, take-take, take-at, take-suc-set, getD-take, getD-set-same, getD-set-other, length-take-le, ext-getD}
@@ -15,10 +15,10 @@ use Rattle.records.specs.Netlist.{netAt}
 use Rattle.records.proofs.Laws.Bytes.{and-both, and-false-left, and-false-right, length-tabulate, getD-tabulate}
 use Rattle.engine.specs.Choice.{keep}
 use Rattle.engine.specs.Inner.Packed.{fields, own, operandsOf, evaluated}
-use Rattle.engine.specs.Inner.Plan.{codeMark, marked, markedAll, liveFrom, leavesFrom, marksFrom, picked, startOf, spanOf, listAt, listsTo, ListPut, ListsUpTo}
+use Rattle.engine.specs.Inner.Plan.{codeMark, marked, markedAll, liveFrom, leavesFrom, marksFrom, picked, listAt, listsTo, ListPut, ListsUpTo}
 use Rattle.engine.proofs.Laws.Choice.{true-or-false}
 use Rattle.engine.proofs.Laws.FitCode.{keep-append, keep-one, keep-none}
-use Rattle.engine.proofs.Laws.Marks.{leafMark, leafMark-in, leafMark-out}
+use Rattle.engine.proofs.Laws.Marks.{leafMark, leafMark-in, leafMark-out, unmarked-of}
 
 -- ---- the operands of a gate, first to last
 
@@ -138,14 +138,9 @@ module _ (F : List ℕ → ℕ → ℕ) (vs cs : List ℕ) (n i : ℕ) (h : n �
 
 -- ---- nets marked
 
-module _ (ms : List ℕ) (i : ℕ) where
-  pub marked-of : (getD ms i 0 ≡ 0 → ⊥) → marked ms i ≡ true
-  unfolding netAt
-  marked-of h = rw (ne-eqb (getD ms i 0) 0 h)
-
-  pub unmarked-of : getD ms i 0 ≡ 0 → marked ms i ≡ false
-  unfolding netAt
-  unmarked-of h = rw (eq-eqb (getD ms i 0) 0 h)
+pub marked-of : (ms : List ℕ) (i : ℕ) → (getD ms i 0 ≡ 0 → ⊥) → marked ms i ≡ true
+unfolding netAt
+marked-of ms i h = rw (ne-eqb (getD ms i 0) 0 h)
 
 pub length-markedAll : (ms is : List ℕ) → length (markedAll ms is) ≡ length ms
 unfolding markedAll
@@ -210,6 +205,7 @@ module _ (ms cs ls : List ℕ) (n k : ℕ) (h : n ≤ length cs) (l : 0 < k) (g 
       ∙ liveFrom-marked ms c (drop k (take n cs)) (rw e at (marked-of ls (own c) m)))
 
   pub live-unmarked : getD ls (own (getD cs (k - 1) 0)) 0 ≡ 0 → ls ≡ liveFrom ms (drop (k - 1) (take n cs))
+  unfolding netAt
   live-unmarked m =
       let c = getD cs (k - 1) 0 in
       e
@@ -219,26 +215,48 @@ module _ (ms cs ls : List ℕ) (n k : ℕ) (h : n ≤ length cs) (l : 0 < k) (g 
 
 -- ---- gates picked
 
-module _ (live ms cs : List ℕ) where
+beq-cond : (b led : Bool) → Bool·beq b led ≡ cond led b (not b)
+beq-cond true true = refl
+beq-cond true false = refl
+beq-cond false true = refl
+beq-cond false false = refl
+
+module _ (live ms : List ℕ) (led : Bool) where
   abbrev pub wanted : ℕ → Bool
-  wanted c = marked live (own c) && marked ms (own c)
+  wanted c = marked live (own c) && cond led (marked ms (own c)) (not (marked ms (own c)))
 
-  take-next : (i : ℕ) → i < length cs → picked live ms (take (i + 1) cs) ≡ picked live ms (take i cs) ++ keep wanted (getD cs i 0 ∷ [])
-  unfolding picked
-  take-next i h =
-      ap (keep wanted) (ap (λ (k : ℕ). take k cs) (add-one i) ∙ take-suc cs i 0 h) ∙ keep-append wanted (take i cs) (getD cs i 0 ∷ [])
+  -- .. as the code tests it
+  module _ (c : ℕ) where
+    abbrev sided : Bool
+    sided = Bool·beq (not (eqb (getD ms (own c) 0) 0)) led
 
-  pub picked-one : (i : ℕ) → i < length cs → wanted (getD cs i 0) ≡ true
-      → picked live ms (take (i + 1) cs) ≡ picked live ms (take i cs) ++ (getD cs i 0 ∷ [])
-  picked-one i h e =
-      take-next i h ∙ ap (λ (l : List ℕ). picked live ms (take i cs) ++ l) (keep-one wanted (getD cs i 0) e)
+    pub wanted-true : (getD live (own c) 0 ≡ 0 → ⊥) → sided ≡ true → wanted c ≡ true
+    unfolding netAt
+    wanted-true a b = and-both (marked live (own c)) _ (marked-of live (own c) a) (sym (beq-cond (marked ms (own c)) led) ∙ b)
 
-  pub picked-none : (i : ℕ) → i < length cs → wanted (getD cs i 0) ≡ false
-      → picked live ms (take (i + 1) cs) ≡ picked live ms (take i cs)
-  picked-none i h e =
-      take-next i h
-      ∙ ap (λ (l : List ℕ). picked live ms (take i cs) ++ l) (keep-none wanted (getD cs i 0) e)
-      ∙ append-nil (picked live ms (take i cs))
+    pub wanted-false : (getD live (own c) 0 ≡ 0) ⊎ (sided ≡ false) → wanted c ≡ false
+    unfolding netAt
+    wanted-false s =
+        ⊎-elim
+        (λ z. and-false-left (marked live (own c)) _ (unmarked-of live (own c) z))
+        (λ z. and-false-right (marked live (own c)) _ (sym (beq-cond (marked ms (own c)) led) ∙ z))
+        s
+
+  module _ (cs : List ℕ) where
+    abbrev pickedTo : ℕ → List ℕ
+    pickedTo i = picked live ms led (take i cs)
+
+    take-next : (i : ℕ) → i < length cs → pickedTo (i + 1) ≡ pickedTo i ++ keep wanted (getD cs i 0 ∷ [])
+    unfolding picked
+    take-next i h =
+        ap (keep wanted) (ap (λ (k : ℕ). take k cs) (add-one i) ∙ take-suc cs i 0 h) ∙ keep-append wanted (take i cs) (getD cs i 0 ∷ [])
+
+    picked-one : (i : ℕ) → i < length cs → wanted (getD cs i 0) ≡ true → pickedTo (i + 1) ≡ pickedTo i ++ (getD cs i 0 ∷ [])
+    picked-one i h e = take-next i h ∙ ap (λ (l : List ℕ). pickedTo i ++ l) (keep-one wanted (getD cs i 0) e)
+
+    picked-none : (i : ℕ) → i < length cs → wanted (getD cs i 0) ≡ false → pickedTo (i + 1) ≡ pickedTo i
+    picked-none i h e =
+        take-next i h ∙ ap (λ (l : List ℕ). pickedTo i ++ l) (keep-none wanted (getD cs i 0) e) ∙ append-nil (pickedTo i)
 
 -- a front of a list of m places that holds the first m of a longer list, and one element more
 module _ (m : ℕ) (xs out : List ℕ) (end : ℕ) (l : length out ≡ m) (h : end ≤ m) (e : take end out ≡ take m xs) where
@@ -257,68 +275,58 @@ module _ (m : ℕ) (xs out : List ℕ) (end : ℕ) (l : length out ≡ m) (h : e
   front-full k c = let n = front-length in e ∙ sym (take-append-le m xs (c ∷ []) (omega arith))
 
 -- the places once those of the first i gates of cs that are wanted are put, from place at on
-abbrev pub Picking : List ℕ → List ℕ → List ℕ → List ℕ → ℕ → List ℕ → ℕ → ℕ → Type 0
-Picking live ms cs before at out end i = ListPut (picked live ms (take i cs)) at before end out
+abbrev pub Picking : List ℕ → List ℕ → Bool → List ℕ → List ℕ → ℕ → List ℕ → ℕ → ℕ → Type 0
+Picking live ms led cs before at out end i = ListPut (picked live ms led (take i cs)) at before end out
 
-pub picking-none : (live ms cs before : List ℕ) (at : ℕ) → at ≤ 2800 → length before ≡ 2800
-    → Picking live ms cs before at before at 0
-unfolding picked keep
-picking-none live ms cs before at h l =
-    record {
-      within = h;
-      long = l;
-      front =
-          sym
-          (ap (take 2800) (append-nil (take at before))
-          ∙ take-all 2800 (take at before) (omega (arith, length-take-le at before (omega arith))));
-    }
+module _ (live ms : List ℕ) (led : Bool) (cs before : List ℕ) (at : ℕ) where
+  pub picking-none : at ≤ 2400 → length before ≡ 2400 → Picking live ms led cs before at before at 0
+  unfolding picked keep
+  picking-none h l =
+      record {
+        within = h;
+        long = l;
+        front =
+            sym
+            (ap (take 2400) (append-nil (take at before))
+            ∙ take-all 2400 (take at before) (omega (arith, length-take-le at before (omega arith))));
+      }
 
-module _ (live ms cs before : List ℕ) (at : ℕ) (out : List ℕ) (end i : ℕ) (p : Picking live ms cs before at out end i)
-    (h : i < length cs) where
-  abbrev front-now : List ℕ
-  front-now = take at before ++ picked live ms (take i cs)
+  module _ (out : List ℕ) (end i : ℕ) (p : Picking live ms led cs before at out end i) (h : i < length cs) where
+    abbrev front-now : List ℕ
+    front-now = take at before ++ pickedTo live ms led cs i
 
-  module _ (a : getD live (own (getD cs i 0)) 0 ≡ 0 → ⊥) (b : getD ms (own (getD cs i 0)) 0 ≡ 0 → ⊥) where
-    front-next : take 2800 (front-now ++ (getD cs i 0 ∷ [])) ≡ take 2800 (take at before ++ picked live ms (take (i + 1) cs))
-    front-next =
-        let c = getD cs i 0 in
-        ap (take 2800)
-        (append-assoc (take at before) (picked live ms (take i cs)) (c ∷ [])
-        ∙ ap (λ (l : List ℕ). take at before ++ l)
-        (sym (picked-one live ms cs i h (and-both (marked live (own c)) (marked ms (own c)) (marked-of live (own c) a) (marked-of ms (own c) b)))))
+    module _ (e : wanted live ms led (getD cs i 0) ≡ true) where
+      front-next : take 2400 (front-now ++ (getD cs i 0 ∷ [])) ≡ take 2400 (take at before ++ pickedTo live ms led cs (i + 1))
+      front-next =
+          ap (take 2400)
+          (append-assoc (take at before) (pickedTo live ms led cs i) (getD cs i 0 ∷ [])
+          ∙ ap (λ (l : List ℕ). take at before ++ l) (sym (picked-one live ms led cs i h e)))
 
-    pub picking-put : end < 2800 → Picking live ms cs before at (set out end (getD cs i 0)) (end + 1) (i + 1)
-    picking-put k =
-        record {
-          within = omega arith;
-          long = length-set out end (getD cs i 0) ∙ p .long;
-          front = front-more 2800 front-now out end (p .long) (p .within) (p .front) k (getD cs i 0) ∙ front-next;
-        }
+      pub picking-put : end < 2400 → Picking live ms led cs before at (set out end (getD cs i 0)) (end + 1) (i + 1)
+      picking-put k =
+          record {
+            within = omega arith;
+            long = length-set out end (getD cs i 0) ∙ p .long;
+            front = front-more 2400 front-now out end (p .long) (p .within) (p .front) k (getD cs i 0) ∙ front-next;
+          }
 
-    pub picking-full : 2800 ≤ end → Picking live ms cs before at out end (i + 1)
-    picking-full k =
+      pub picking-full : 2400 ≤ end → Picking live ms led cs before at out end (i + 1)
+      picking-full k =
+          record {
+            within = p .within;
+            long = p .long;
+            front = front-full 2400 front-now out end (p .long) (p .within) (p .front) k (getD cs i 0) ∙ front-next;
+          }
+
+    pub picking-left : wanted live ms led (getD cs i 0) ≡ false → Picking live ms led cs before at out end (i + 1)
+    picking-left e =
         record {
           within = p .within;
           long = p .long;
-          front = front-full 2800 front-now out end (p .long) (p .within) (p .front) k (getD cs i 0) ∙ front-next;
+          front =
+              p .front
+              ∙ ap (λ (l : List ℕ). take 2400 (take at before ++ l)) (sym (picked-none live ms led cs i h e));
         }
-
-  pub picking-left : (getD live (own (getD cs i 0)) 0 ≡ 0) ⊎ (getD ms (own (getD cs i 0)) 0 ≡ 0)
-      → Picking live ms cs before at out end (i + 1)
-  picking-left s =
-      let c = getD cs i 0 in
-      let f : wanted live ms cs c ≡ false =
-      ⊎-elim
-      (λ z. and-false-left (marked live (own c)) (marked ms (own c)) (unmarked-of live (own c) z))
-      (λ z. and-false-right (marked live (own c)) (marked ms (own c)) (unmarked-of ms (own c) z))
-      s in
-      record {
-        within = p .within;
-        long = p .long;
-        front =
-            p .front
-            ∙ ap (λ (l : List ℕ). take 2800 (take at before ++ l)) (sym (picked-none live ms cs i h f));
-      }
 
 -- ---- the lists, one behind the other
 
@@ -327,34 +335,6 @@ module _ {A : Type 0} where
   take-take-append zero xs ys = refl
   take-take-append (suc m) [] ys = refl
   take-take-append (suc m) (x ∷ xs) ys = ap (λ (l : List A). x ∷ l) (take-take-append m xs ys)
-
-pub startOf-le : (inputs s : ℕ) → startOf inputs s ≤ inputs + s
-unfolding startOf
-startOf-le inputs s =
-    ⊎-elim
-    (λ (e : eqb s 4 ≡ true). rw e (omega arith))
-    (λ (e : eqb s 4 ≡ false). rw e (omega arith))
-    (true-or-false (eqb s 4))
-
-pub startOf-ge : (inputs s : ℕ) → inputs ≤ startOf inputs s
-unfolding startOf
-startOf-ge inputs s =
-    ⊎-elim
-    (λ (e : eqb s 4 ≡ true). rw e (omega arith))
-    (λ (e : eqb s 4 ≡ false). rw e (omega arith))
-    (true-or-false (eqb s 4))
-
-pub spanOf-le : (targets s : ℕ) → spanOf targets s ≤ targets + 1
-unfolding spanOf
-spanOf-le targets s =
-    ⊎-elim
-    (λ (e : eqb s 4 ≡ true). rw e (omega arith))
-    (λ (e : eqb s 4 ≡ false).
-    ⊎-elim
-    (λ (f : ltb s targets ≡ true). rw (e, f) (omega arith))
-    (λ (f : ltb s targets ≡ false). rw (e, f) (omega arith))
-    (true-or-false (ltb s targets)))
-    (true-or-false (eqb s 4))
 
 -- a bound on each entry of a repeated number
 pub replicate-le : (b v n : ℕ) → v ≤ b → (t : ℕ) → getD (replicate n v) t 0 ≤ b
@@ -372,13 +352,13 @@ within-set b (x ∷ xs) (suc i) v h f (suc t) = within-set b xs i v h (λ n. f (
 
 -- a list put behind the first at places, which stay
 module _ (list : List ℕ) (at : ℕ) (before : List ℕ) (end : ℕ) (after : List ℕ) (p : ListPut list at before end after)
-    (h : at ≤ 2800) (g : length before ≡ 2800) where
-  put-end : end ≡ min 2800 (at + length list)
+    (h : at ≤ 2400) (g : length before ≡ 2400) where
+  put-end : end ≡ min 2400 (at + length list)
   put-end =
       sym (length-take-le end after (omega (arith, p .within, p .long)))
       ∙ ap length (p .front)
-      ∙ length-take 2800 (take at before ++ list)
-      ∙ ap (min 2800)
+      ∙ length-take 2400 (take at before ++ list)
+      ∙ ap (min 2400)
       (length-append (take at before) list ∙ ap (λ (n : ℕ). n + length list) (length-take-le at before (omega arith)))
 
   put-kept : take at after ≡ take at before
@@ -386,7 +366,7 @@ module _ (list : List ℕ) (at : ℕ) (before : List ℕ) (end : ℕ) (after : L
       let n = put-end in
       sym (take-take at end after (omega arith))
       ∙ ap (take at) (p .front)
-      ∙ take-take at 2800 (take at before ++ list) h
+      ∙ take-take at 2400 (take at before ++ list) h
       ∙ take-at (take at before) list at (length-take-le at before (omega arith))
 
 module _ (inputs targets : ℕ) (live cs : List ℕ) where
@@ -411,69 +391,77 @@ module _ (inputs targets : ℕ) (live cs : List ℕ) where
       (true-or-false (eqb t (suc s)))
 
   pub ends-length : (n : ℕ) (ends gates : List ℕ) → ListsUpTo n inputs targets live cs ends gates → (t : ℕ) → t < n
-      → getD ends t 0 ≡ min 2800 (length (upTo t))
+      → getD ends t 0 ≡ min 2400 (length (upTo t))
   ends-length n ends gates u t h =
       sym (length-take-le (getD ends t 0) gates (omega (arith, u .within t, u .long)))
       ∙ ap length (u .fronts t h)
-      ∙ length-take 2800 (upTo t)
+      ∙ length-take 2400 (upTo t)
 
-  pub lists-none : (before : List ℕ) (end : ℕ) (after : List ℕ) → ListPut (picked live live cs) 0 before end after
-      → ListsUpTo 1 inputs targets live cs (set (replicate 6 0) 0 end) after
+  -- the first list
+  pub lists-none : (ms before : List ℕ) (end : ℕ) (after : List ℕ) → ms ≡ marksFrom cs inputs targets
+      → ListPut (picked live ms false cs) 0 before end after → ListsUpTo 1 inputs targets live cs (set (replicate 6 0) 0 end) after
   unfolding listsTo listAt
-  lists-none before end after p =
+  lists-none ms before end after e p =
       record {
         long = p .long;
         six = refl;
-        within = within-set 2800 (replicate 6 0) 0 end (p .within) (replicate-le 2800 0 6 (omega arith));
-        fronts = λ t h. let z : t ≡ 0 = omega arith in rw z (p .front);
+        within = within-set 2400 (replicate 6 0) 0 end (p .within) (replicate-le 2400 0 6 (omega arith));
+        fronts = λ t h. let z : t ≡ 0 = omega arith in rw z (rw e at (p .front));
       }
 
-  -- list s + 1 from the marks that the code finds
-  pub list-found : (s from k : ℕ) (ms : List ℕ) → from ≡ startOf inputs s → k ≡ spanOf targets s → ms ≡ marksFrom cs from k
-      → picked live ms cs ≡ list (suc s)
+  -- list 1, and those of the targets, from the marks that the code finds
+  pub list-fan : (ms : List ℕ) → ms ≡ marksFrom cs inputs targets → picked live ms true cs ≡ list 1
   unfolding listAt
-  list-found s from k ms e f g =
-      ap (λ (x : List ℕ). picked live x cs) (g ∙ ap (λ (x : ℕ). marksFrom cs x k) e ∙ ap (marksFrom cs (startOf inputs s)) f)
+  list-fan ms e = ap (λ (x : List ℕ). picked live x true cs) e
 
-  module _ (s : ℕ) (ends before : List ℕ) (end : ℕ) (after : List ℕ) (h : s < 5)
-      (u : ListsUpTo (s + 1) inputs targets live cs ends before)
-      (p : ListPut (list (suc s)) (getD ends s 0) before end after) where
-    earlier : (t : ℕ) → t < s + 1 → take (getD (set ends (s + 1) end) t 0) after ≡ take 2800 (upTo t)
-    earlier t k =
+  pub list-led : (t : ℕ) (ms : List ℕ) → ms ≡ marksFrom cs (inputs + t) 1 → picked live ms true cs ≡ list (t + 2)
+  unfolding listAt
+  list-led t ms e =
+      let n : suc (suc t) ≡ t + 2 = omega arith in
+      ap (λ (x : List ℕ). picked live x true cs) e ∙ ap list n
+
+  -- one list more: k, behind list s
+  module _ (s k : ℕ) (ends before : List ℕ) (end : ℕ) (after : List ℕ) (n : k ≡ s + 1) (h : k < 6)
+      (u : ListsUpTo k inputs targets live cs ends before)
+      (p : ListPut (list k) (getD ends s 0) before end after) where
+    earlier : (t : ℕ) → t < k → take (getD (set ends k end) t 0) after ≡ take 2400 (upTo t)
+    earlier t l =
         let at = getD ends s 0 in
         let e = getD ends t 0 in
-        let a = ends-length (s + 1) ends before u t k in
-        let b = ends-length (s + 1) ends before u s (omega arith) in
+        let a = ends-length k ends before u t l in
+        let b = ends-length k ends before u s (omega arith) in
         let m : e ≤ at = omega (arith, upTo-mono s t (omega arith)) in
-        ap (λ (x : ℕ). take x after) (getD-set-other ends (s + 1) t end 0 (λ q. omega arith))
+        ap (λ (x : ℕ). take x after) (getD-set-other ends k t end 0 (λ q. omega arith))
         ∙ sym (take-take e at after m)
-        ∙ ap (take e) (put-kept (list (suc s)) at before end after p (u .within s) (u .long))
+        ∙ ap (take e) (put-kept (list k) at before end after p (u .within s) (u .long))
         ∙ take-take e at before m
-        ∙ u .fronts t k
+        ∙ u .fronts t l
 
-    last : take (getD (set ends (s + 1) end) (s + 1) 0) after ≡ take 2800 (upTo (s + 1))
+    last : take (getD (set ends k end) k 0) after ≡ take 2400 (upTo k)
     unfolding listsTo
     last =
-        ap (λ (x : ℕ). take x after) (getD-set-same ends (s + 1) end 0 (omega (arith, u .six)))
+        let z : k ≡ suc s = omega arith in
+        ap (λ (x : ℕ). take x after) (getD-set-same ends k end 0 (omega (arith, u .six)))
         ∙ p .front
-        ∙ ap (λ (xs : List ℕ). take 2800 (xs ++ list (suc s))) (u .fronts s (omega arith))
-        ∙ take-take-append 2800 (upTo s) (list (suc s))
-        ∙ ap (λ (k : ℕ). take 2800 (upTo k)) (sym (add-one s))
+        ∙ ap (λ (xs : List ℕ). take 2400 (xs ++ list k)) (u .fronts s (omega arith))
+        ∙ take-take-append 2400 (upTo s) (list k)
+        ∙ ap (λ (x : ℕ). take 2400 (upTo s ++ list x)) z
+        ∙ ap (λ (x : ℕ). take 2400 (upTo x)) (sym z)
 
-    pub lists-next : ListsUpTo (s + 1 + 1) inputs targets live cs (set ends (s + 1) end) after
+    pub lists-next : ListsUpTo (k + 1) inputs targets live cs (set ends k end) after
     lists-next =
         record {
           long = p .long;
-          six = length-set ends (s + 1) end ∙ u .six;
-          within = within-set 2800 ends (s + 1) end (p .within) (u .within);
+          six = length-set ends k end ∙ u .six;
+          within = within-set 2400 ends k end (p .within) (u .within);
           fronts =
-              λ t k.
+              λ t l.
               ⊎-elim
-              (λ (e : eqb t (s + 1) ≡ true).
-              let q : t ≡ s + 1 = eqb-true t (s + 1) e in
+              (λ (e : eqb t k ≡ true).
+              let q : t ≡ k = eqb-true t k e in
               rw q last)
-              (λ (e : eqb t (s + 1) ≡ false).
-              let q : t ≡ s + 1 → ⊥ = eqb-false t (s + 1) e in
+              (λ (e : eqb t k ≡ false).
+              let q : t ≡ k → ⊥ = eqb-false t k e in
               earlier t (omega (arith, q)))
-              (true-or-false (eqb t (s + 1)));
+              (true-or-false (eqb t k));
         }

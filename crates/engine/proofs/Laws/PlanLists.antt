@@ -4,35 +4,36 @@ use Prim.Native.Nat.{ℕ, zero, suc, _+_, _*_, _≤_, _<_}
 use mathlib.Core.Path.{_≡_, refl, sym, _∙_, ap, subst}
 use mathlib.Core.Logic.{_⊎_, inl, inr, ⊎-elim}
 use mathlib.Core.List.{List, [], _∷_, _++_, map, List·Memᴰ as Mem, List·Memᴰ·head as here, List·Memᴰ·tail as there, Memᴰ·of-map as mem-of-map}
-use mathlib.Core.Bool.{Bool, true, false, not, _&&_, and-self, and-true}
-use native.Mathlib.Numerals.{add-one}
+use mathlib.Core.Bool.{Bool, true, false, cond, not, _&&_, and-true}
 use native.Mathlib.Omega.{arith}
-use borrow.Author.Tests.{ltb-true, ltb-false, lt-ltb, eq-eqb, ne-eqb}
+use borrow.Author.Tests.{ltb-true, ltb-false, not-true}
 use lib.Dec.{ltb, eqb}
 use lib.ListN.{length, getD, take, drop, replicate, length-append, List·getD-eq-default}
 use lib.Seq.{slice, take-all, drop-at}
 use Rattle.records.specs.Bytes.{all, tabulate}
 use Rattle.records.specs.Gate.{Gate, operands, disj}
 use Rattle.records.specs.Netlist.{netAt, extended, markOf}
-use Rattle.records.specs.Refusal.{gatesGood, oldNets}
+use Rattle.records.specs.Refusal.{gatesGood, candidateGood}
 use Rattle.records.specs.Job.{Job}
 use Rattle.records.specs.Service.{countsOf, sideCountsOf}
 use Rattle.records.specs.Claims.{PartsGood}
-use Rattle.records.proofs.Laws.Bytes.{and-right, false-of, all-cons, length-tabulate}
+use Rattle.records.proofs.Laws.Bytes.{and-right, and-false-right, false-of, all-cons, length-tabulate}
 use Rattle.engine.specs.Choice.{keep}
 use Rattle.engine.specs.Inner.Packed.{own, packed, packedFrom, formed, evaluated}
-use Rattle.engine.specs.Inner.Miter.{shiftedNet, shifted, shiftOf, miterGates, miterGoldens, miterNets, codes, MiterRoom, MiterOf}
-use Rattle.engine.specs.Inner.Plan.{codeMark, marksOf, marked, Closed, leavesFrom, marksFrom, picked, startOf, spanOf, listAt, listsTo, liveMarks, ListPut, ListsUpTo, NetsRead, PlanHeld, PlanLists, ReadsOf, PlannedOf}
+use Rattle.engine.specs.Inner.Miter.{shiftedNet, shifted, shiftOf, miterGates, miterNets, SameGates, MiterRoom, MergedOf}
+use Rattle.engine.specs.Inner.Plan.{codeMark, marksOf, marked, Closed, leavesFrom, marksFrom, picked, listAt, listsTo, liveMarks, ListPut, ListsUpTo, NetsRead, PlanHeld, PlanLists, ReadsOf, PlannedOf}
 use Rattle.engine.specs.declared.miter.Miter.{Miter}
 use Rattle.engine.specs.declared.plan.Plan.{Plan}
-use Rattle.engine.proofs.Laws.Choice.{true-or-false, not-both, all-true, all-of-members, length-keep-le}
+use Rattle.engine.proofs.Laws.Choice.{true-or-false, not-both, all-true, all-of-members, all-below-more}
 use Rattle.engine.proofs.Laws.FitNets.{operands-renumbered}
-use Rattle.engine.proofs.Laws.Marks.{leafMark, leafMark-out, marks-leaf, marks-follow}
-use Rattle.engine.proofs.Laws.Miter.{extended-append, length-extended, shiftedNet-input, shiftedNet-gate, job-within, miter-good, miter-gates, miter-nets, oldNets-le, outputs-below, goldens-below}
+use Rattle.engine.proofs.Laws.Marks.{leafMark, leafMark-out, marks-leaf, unmarked-of, same-marks, marks-follow}
+use Rattle.engine.proofs.Laws.Miter.{extended-append, length-extended, shiftedNet-input, shiftedNet-gate, job-within, miter-gates, miter-nets, oldNets-le, outputs-below}
 use Rattle.engine.proofs.Laws.Packed.{packed-own}
-use Rattle.engine.proofs.Laws.PlanCode.{length-leavesFrom, getD-leavesFrom, ends-length, startOf-ge}
+use Rattle.engine.proofs.Laws.Plan.{candidate-free}
+use Rattle.engine.proofs.Laws.PlanCode.{length-leavesFrom, getD-leavesFrom, ends-length}
 use Rattle.engine.proofs.Laws.PlanLive.{live-os, live-gs, live-is, liveMarks-closed}
 use Rattle.engine.proofs.Laws.Run.{run-part, keep-ext, keep-all, own-within, good-first, good-rest}
+use Rattle.engine.proofs.Laws.Unpacked.{length-packedFrom}
 
 -- ---- marks found
 
@@ -174,122 +175,144 @@ keep-below p (suc n) d (g ∷ gs) a b h f =
     (λ (e : p (packed d g) ≡ false). rw e (omega arith))
     (true-or-false (p (packed d g)))
 
-length-packedFrom : (d : ℕ) (gs : List Gate) → length (packedFrom d gs) ≡ length gs
-unfolding packedFrom
-length-packedFrom d [] = refl
-length-packedFrom d (g ∷ gs) = ap suc (length-packedFrom (suc d) gs)
+-- at most all are kept, where none is twice
+keep-apart : (p q : ℕ → Bool) (xs : List ℕ) → ((x : ℕ) → p x ≡ true → q x ≡ false) → length (keep p xs) + length (keep q xs) ≤ length xs
+unfolding keep
+keep-apart p q [] h = omega arith
+keep-apart p q (x ∷ xs) h =
+    let r = keep-apart p q xs h in
+    ⊎-elim
+    (λ (e : p x ≡ true). rw (e, h x e) (omega arith))
+    (λ (e : p x ≡ false).
+    ⊎-elim
+    (λ (f : q x ≡ true). rw (e, f) (omega arith))
+    (λ (f : q x ≡ false). rw (e, f) (omega arith))
+    (true-or-false (q x)))
+    (true-or-false (p x))
 
 -- ---- the lists of a good job
 
-module _ (j : Job) (good : PartsGood j) (forms : all formed (miterGates j) ≡ true) (live : List ℕ) where
+module _ (j : Job) (good : PartsGood j) {merged : List Gate} (s : SameGates (j .inputs + j .targets) (miterGates j) merged) (live : List ℕ) where
   abbrev first : ℕ
   first = j .inputs + j .targets
 
-  fits : first + length (miterGates j) ≤ 1024
+  abbrev packs : List ℕ
+  packs = packedFrom first merged
+
+  fits : first + length merged ≤ 1024
   unfolding miterNets
-  fits = omega (arith, miter-nets j good)
+  fits = omega (arith, miter-nets j good, s .long)
 
-  -- the live gates that have a mark from the k leaves from from on
-  abbrev listOf : ℕ → ℕ → List ℕ
-  listOf from k = keep (λ c. marked live (own c) && marked (marksOf first from k (miterGates j)) (own c)) (codes j)
+  -- net i has a mark from the k leaves from from on
+  abbrev leads : ℕ → ℕ → ℕ → Bool
+  leads from k i = marked (marksOf first from k (miterGates j)) i
 
-  code-within : (c : ℕ) → Mem c (codes j) → own c < first + length (miterGates j)
-  unfolding codes
-  code-within c m = own-within first (miterGates j) (miter-good j good) forms fits c m .1
+  -- the live gates that have one, or none
+  abbrev listOf : ℕ → ℕ → Bool → List ℕ
+  listOf from k led = keep (λ c. marked live (own c) && cond led (leads from k (own c)) (not (leads from k (own c)))) packs
 
-  list-marks : (from k : ℕ) → picked live (marksFrom (codes j) from k) (codes j) ≡ listOf from k
-  unfolding picked codes
-  list-marks from k =
-      keep-ext (λ c. marked live (own c) && marked (marksFrom (codes j) from k) (own c))
-      (λ c. marked live (own c) && marked (marksOf first from k (miterGates j)) (own c))
-      (codes j)
+  list-marks : (from k : ℕ) (led : Bool) → picked live (marksFrom packs from k) led packs ≡ listOf from k led
+  unfolding picked
+  list-marks from k led =
+      keep-ext _ _ packs
       (λ c m.
-      ap (λ (x : ℕ). marked live (own c) && not (eqb x 0))
-      (marksFrom-all first (miterGates j) (miter-good j good) forms fits from k (own c) (code-within c m)))
+      ap (λ (x : ℕ). marked live (own c) && cond led (not (eqb x 0)) (not (not (eqb x 0))))
+      (marksFrom-all first merged (s .good) (s .forms) fits from k (own c) (own-within first merged (s .good) (s .forms) fits c m .1)
+      ∙ ap (λ (ms : List ℕ). netAt ms (own c)) (same-marks s from k)))
 
-  list-few : (from k : ℕ) → j .inputs ≤ from → length (listOf from k) ≤ length (j .old .gates)
-  unfolding codes
+  -- no target leads to a golden gate
+  list-few : (from k : ℕ) → j .inputs ≤ from → length (listOf from k true) ≤ 400
+  unfolding countsOf sideCountsOf
   list-few from k h =
       let n = length (j .old .gates) in
       let ms = marksOf first from k (miterGates j) in
-      keep-below (λ c. marked live (own c) && marked ms (own c)) n first (miterGates j) (miter-good j good) forms fits
+      let few = keep-below (λ c. marked live (own c) && marked ms (own c)) n first merged (s .good) (s .forms) fits
       (λ c m z.
       ⊎-elim
       (λ t. ltb-true (own c) (first + n) t)
       (λ t.
       let e = golden-unmarked j from k h (own c) (ltb-false (own c) (first + n) t) in
-      let u : marked ms (own c) ≡ false = ap not (eq-eqb (netAt ms (own c)) 0 e) in
-      absurd (not-both (and-right (marked live (own c)) (marked ms (own c)) z) u))
-      (true-or-false (ltb (own c) (first + n))))
+      absurd (not-both (and-right (marked live (own c)) (marked ms (own c)) z) (unmarked-of ms (own c) e)))
+      (true-or-false (ltb (own c) (first + n)))) in
+      omega (arith, job-within j good .old .gates)
 
   abbrev list : ℕ → List ℕ
-  list = listAt (j .inputs) (j .targets) live (codes j)
+  list = listAt (j .inputs) (j .targets) live packs
 
   abbrev upTo : ℕ → List ℕ
-  upTo = listsTo (j .inputs) (j .targets) live (codes j)
+  upTo = listsTo (j .inputs) (j .targets) live packs
 
-  list-zero : list 0 ≡ keep (λ c. marked live (own c)) (codes j)
-  unfolding listAt picked
-  list-zero =
-      keep-ext (λ c. marked live (own c) && marked live (own c)) (λ c. marked live (own c)) (codes j)
-      (λ c m. and-self (marked live (own c)))
-
-  list-suc : (s : ℕ) → list (suc s) ≡ listOf (startOf (j .inputs) s) (spanOf (j .targets) s)
+  list-zero : list 0 ≡ listOf (j .inputs) (j .targets) false
   unfolding listAt
-  list-suc s = list-marks (startOf (j .inputs) s) (spanOf (j .targets) s)
+  list-zero = list-marks (j .inputs) (j .targets) false
+
+  list-one : list 1 ≡ listOf (j .inputs) (j .targets) true
+  unfolding listAt
+  list-one = list-marks (j .inputs) (j .targets) true
+
+  list-led : (t : ℕ) → list (suc (suc t)) ≡ listOf (j .inputs + t) 1 true
+  unfolding listAt
+  list-led t = list-marks (j .inputs + t) 1 true
 
   -- there is room for all of them
-  old-few : length (j .old .gates) ≤ 400
-  unfolding countsOf sideCountsOf
-  old-few = job-within j good .old .gates
+  two-few : length (list 0) + length (list 1) ≤ 800
+  two-few =
+      let n = j .inputs in
+      let k = j .targets in
+      let l = keep-apart (λ c. marked live (own c) && not (leads n k (own c))) (λ c. marked live (own c) && leads n k (own c)) packs
+      (λ c e.
+      and-false-right (marked live (own c)) (leads n k (own c))
+      (not-true (leads n k (own c)) (and-right (marked live (own c)) (not (leads n k (own c))) e))) in
+      rw (list-zero, list-one) (omega (arith, length-packedFrom first merged, s .long, miter-gates j good))
 
-  zero-few : length (list 0) ≤ 800
-  unfolding codes
-  zero-few =
-      let l = length-keep-le (λ c. marked live (own c)) (codes j) in
-      let n = length-packedFrom first (miterGates j) in
-      rw list-zero (omega (arith, miter-gates j good))
-
-  suc-few : (s : ℕ) → length (list (suc s)) ≤ 400
-  suc-few s =
-      let l = list-few (startOf (j .inputs) s) (spanOf (j .targets) s) (startOf-ge (j .inputs) s) in
-      rw (list-suc s) (omega (arith, old-few))
-
-  upTo-few : (s : ℕ) → length (upTo s) ≤ 800 + 400 * s
+  upTo-few : (t : ℕ) → length (upTo (suc t)) ≤ 800 + 400 * t
   unfolding listsTo
-  upTo-few zero = omega (arith, zero-few)
-  upTo-few (suc s) = omega (arith, upTo-few s, suc-few s, length-append (upTo s) (list (suc s)))
+  upTo-few zero = omega (arith, two-few, length-append (list 0) (list 1))
+  upTo-few (suc t) =
+      let l : length (list (suc (suc t))) ≤ 400 = rw (list-led t) (list-few (j .inputs + t) 1 (omega arith)) in
+      omega (arith, upTo-few t, length-append (upTo (suc t)) (list (suc (suc t))))
+
+  upTo-within : (t : ℕ) → t < j .targets + 2 → length (upTo t) ≤ 2400
+  unfolding listsTo countsOf
+  upTo-within zero h = omega (arith, two-few)
+  upTo-within (suc t) h = omega (arith, upTo-few t, job-within j good .targets)
 
   -- the first list, put from place 0 on
-  list-put : (before : List ℕ) (end : ℕ) (gates : List ℕ) → ListPut (picked live live (codes j)) 0 before end gates
-      → take end gates ≡ keep (λ c. marked live (own c)) (codes j)
+  list-put : (ms before : List ℕ) (end : ℕ) (gates : List ℕ) → ms ≡ marksFrom packs (j .inputs) (j .targets)
+      → ListPut (picked live ms false packs) 0 before end gates → take end gates ≡ listOf (j .inputs) (j .targets) false
   unfolding listAt
-  list-put before end gates p = p .front ∙ take-all 2800 (list 0) (omega (arith, zero-few)) ∙ list-zero
+  list-put ms before end gates e p =
+      p .front
+      ∙ ap (λ (x : List ℕ). take 2400 (picked live x false packs)) e
+      ∙ take-all 2400 (list 0) (omega (arith, two-few))
+      ∙ list-zero
 
-  module _ (ends gates : List ℕ) (u : ListsUpTo 6 (j .inputs) (j .targets) live (codes j) ends gates) where
-    front : (s : ℕ) → s < 6 → take (getD ends s 0) gates ≡ upTo s
-    front s h = u .fronts s h ∙ take-all 2800 (upTo s) (omega (arith, upTo-few s))
+  module _ (ends gates : List ℕ) (u : ListsUpTo (j .targets + 2) (j .inputs) (j .targets) live packs ends gates) where
+    front : (t : ℕ) → t < j .targets + 2 → take (getD ends t 0) gates ≡ upTo t
+    front t h = u .fronts t h ∙ take-all 2400 (upTo t) (upTo-within t h)
 
-    end : (s : ℕ) → s < 6 → getD ends s 0 ≡ length (upTo s)
-    end s h = ends-length (j .inputs) (j .targets) live (codes j) 6 ends gates u s h ∙ omega (arith, upTo-few s)
+    end : (t : ℕ) → t < j .targets + 2 → getD ends t 0 ≡ length (upTo t)
+    end t h =
+        ends-length (j .inputs) (j .targets) live packs (j .targets + 2) ends gates u t h ∙ omega (arith, upTo-within t h)
 
-    part : (s : ℕ) → s < 5 → slice (getD ends s 0) (getD ends (s + 1) 0) gates ≡ list (suc s)
+    part : (t k : ℕ) → k ≡ suc t → k < j .targets + 2 → slice (getD ends t 0) (getD ends k 0) gates ≡ list k
     unfolding listsTo
-    part s h =
-        ap (drop (getD ends s 0)) (front (s + 1) (omega arith) ∙ ap upTo (add-one s))
-        ∙ drop-at (upTo s) (list (suc s)) (getD ends s 0) (sym (end s (omega arith)))
+    part t k e h =
+        ap (drop (getD ends t 0)) (front k h ∙ ap upTo e)
+        ∙ drop-at (upTo t) (list (suc t)) (getD ends t 0) (sym (end t (omega arith)))
+        ∙ ap list (sym e)
 
-    pub plan-lists : PlanLists j (marked live) ends gates
-    unfolding listsTo startOf spanOf countsOf
+    pub plan-lists : PlanLists j merged (marked live) ends gates
+    unfolding listsTo
     plan-lists =
         record {
-          base = front 0 (omega arith) ∙ list-zero;
+          order = omega (arith, end 0 (omega arith), end 1 (omega arith), length-append (list 0) (list 1));
+          free = front 0 (omega arith) ∙ list-zero;
+          fan = part 0 1 refl (omega arith) ∙ list-one;
           lists =
               λ t h.
-              let w = job-within j good .targets in
-              let n : eqb t 4 ≡ false = ne-eqb t 4 (λ e. omega arith) in
-              part t (omega arith) ∙ list-suc t ∙ (rw (n, lt-ltb t (j .targets) h));
-          fanned = part 4 (omega arith) ∙ list-suc 4;
+              let e : t + 2 ≡ suc (suc t) = omega arith in
+              part (t + 1) (t + 2) (omega arith) (omega arith) ∙ ap list e ∙ list-led t;
         }
 
 -- ---- a plan
@@ -309,7 +332,7 @@ planOf m nets reads outs ends =
     }
 
 pub plan-held : (m : Miter) (nets : List ℕ) (reads outs : ℕ) (ends gates : List ℕ) → MiterRoom m → NetsRead nets reads → outs ≤ 32
-    → length ends ≡ 6 → ((t : ℕ) → getD ends t 0 ≤ 2800) → length gates ≡ 2800 → PlanHeld (planOf m nets reads outs ends) gates
+    → length ends ≡ 6 → ((t : ℕ) → getD ends t 0 ≤ 2400) → length gates ≡ 2400 → PlanHeld (planOf m nets reads outs ends) gates
 plan-held m nets reads outs ends gates room read few six within long =
     record {
       long = long;
@@ -328,70 +351,78 @@ plan-held m nets reads outs ends gates room read few six within long =
     }
 
 -- the nets that outputs os and gs and the read nets is need
-module _ (j : Job) (is : List ℕ) (good : PartsGood j) (forms : all formed (miterGates j) ≡ true) (b : all (λ i. ltb i (oldNets j)) is ≡ true)
-    (os gs live : List ℕ) (e : live ≡ liveMarks os gs is (codes j)) where
-  live-members : (xs : List ℕ) → ((i : ℕ) → Mem i xs → marked (liveMarks os gs is (codes j)) i ≡ true) → all (marked live) xs ≡ true
+module _ (j : Job) (is : List ℕ) (good : PartsGood j) {merged : List Gate} (s : SameGates (j .inputs + j .targets) (miterGates j) merged)
+    (c : all (candidateGood j) is ≡ true) (os gs live : List ℕ) (e : live ≡ liveMarks os gs is (packedFrom (j .inputs + j .targets) merged)) where
+  abbrev from : ℕ
+  from = j .inputs + j .targets
+
+  live-members : (xs : List ℕ) → ((i : ℕ) → Mem i xs → marked (liveMarks os gs is (packedFrom from merged)) i ≡ true)
+      → all (marked live) xs ≡ true
   live-members xs h = all-of-members (marked live) xs (λ i n. rw e (h i n))
 
   live-read : all (marked live) is ≡ true
   live-read =
       live-members is
       (λ i n.
-      let h = ltb-true i (oldNets j) (all-true (λ k. ltb k (oldNets j)) is b i n) in
-      live-is os gs is (codes j) i n (omega (arith, miter-nets j good, oldNets-le j good)))
+      let h = candidate-free j i (all-true (candidateGood j) is c i n) .0 in
+      live-is os gs is (packedFrom from merged) i n (omega (arith, miter-nets j good, oldNets-le j good)))
 
-  closed-live : Closed (marked live) (j .inputs + j .targets) (miterGates j)
-  unfolding codes
+  closed-live : Closed (marked live) from merged
   closed-live =
-      subst (λ (x : List ℕ). Closed (marked x) (j .inputs + j .targets) (miterGates j)) (sym e)
-      (liveMarks-closed os gs is (codes j) (j .inputs + j .targets) (miterGates j) refl (miter-good j good) forms (fits j good forms live))
+      subst (λ (x : List ℕ). Closed (marked x) from merged) (sym e)
+      (liveMarks-closed os gs is (packedFrom from merged) from merged refl (s .good) (s .forms) (fits j good s live))
 
-module _ (j : Job) (is : List ℕ) (m : Miter) (o : MiterOf j m) (nets : List ℕ) (reads : ℕ) (e : take reads nets ≡ is)
-    (b : all (λ i. ltb i (oldNets j)) is ≡ true) (live : List ℕ) where
+module _ (j : Job) (is : List ℕ) (m : Miter) (o : MergedOf j m) (nets : List ℕ) (reads : ℕ) (e : take reads nets ≡ is)
+    (c : all (candidateGood j) is ≡ true) (live : List ℕ) where
   pub planned : live
       ≡ liveMarks (take (m .outs) (m .outputs)) (take (m .outs) (m .goldens)) (take reads nets) (take (m .count) (m .gates))
-      → (ends gates : List ℕ) → ListsUpTo 6 (m .inputs) (m .targets) live (take (m .count) (m .gates)) ends gates
+      → (ends gates : List ℕ) → ListsUpTo (m .targets + 2) (m .inputs) (m .targets) live (take (m .count) (m .gates)) ends gates
       → PlannedOf j is (planOf m nets reads (m .outs) ends) gates
   planned le ends gates u =
       let os = j .old .outputs in
-      let gs = miterGoldens j in
-      let l : live ≡ liveMarks os gs is (codes j) = rw (o .gates, o .outputs, o .goldens, e) at le in
-      let members = live-members j is (o .good) (o .forms) b os gs live l in
+      let gs = take (m .outs) (m .goldens) in
+      let cs = packedFrom (j .inputs + j .targets) (o .merged) in
+      let l : live ≡ liveMarks os gs is cs = rw (o .gates, o .outputs, e) at le in
+      let members = live-members j is (o .good) (o .same) c os gs live l in
+      let below = all-below-more (miterNets j) 1024 (omega (arith, miter-nets j (o .good))) gs (o .below) in
       record {
         good = o .good;
-        forms = o .forms;
         inputs = o .inputs;
         targets = o .targets;
         outs = o .outs;
         outputs = o .outputs;
+        below = o .below;
         goldens = o .goldens;
         nets = e;
+        merged = o .merged;
+        same = o .same;
         live = marked live;
-        closed = closed-live j is (o .good) (o .forms) b os gs live l;
+        closed = closed-live j is (o .good) (o .same) c os gs live l;
         live-outputs =
             members os
-            (λ i n. live-os os gs is (codes j) i n (ltb-true i 1024 (all-true (λ k. ltb k 1024) os (outputs-below j (o .good)) i n)));
-        live-goldens =
-            members gs
-            (λ i n. live-gs os gs is (codes j) i n (ltb-true i 1024 (all-true (λ k. ltb k 1024) gs (goldens-below j (o .good)) i n)));
-        live-nets = live-read j is (o .good) (o .forms) b os gs live l;
-        lists = plan-lists j (o .good) (o .forms) live ends gates (rw (o .gates, o .inputs, o .targets) at u);
+            (λ i n. live-os os gs is cs i n (ltb-true i 1024 (all-true (λ k. ltb k 1024) os (outputs-below j (o .good)) i n)));
+        live-goldens = members gs (λ i n. live-gs os gs is cs i n (ltb-true i 1024 (all-true (λ k. ltb k 1024) gs below i n)));
+        live-nets = live-read j is (o .good) (o .same) c os gs live l;
+        lists = plan-lists j (o .good) (o .same) live ends gates (rw (o .gates, o .inputs, o .targets) at u);
       }
 
-  -- .. that reads alone: every end is that of the live gates
-  pub planned-reads : live ≡ liveMarks [] [] (take reads nets) (take (m .count) (m .gates)) → (before : List ℕ) (end : ℕ) (gates : List ℕ)
-      → ListPut (picked live live (take (m .count) (m .gates))) 0 before end gates
+  -- .. that reads alone: every end is that of the live gates that no target leads to
+  pub planned-reads : live ≡ liveMarks [] [] (take reads nets) (take (m .count) (m .gates)) → (ms : List ℕ)
+      → ms ≡ marksFrom (take (m .count) (m .gates)) (m .inputs) (m .targets) → (before : List ℕ) (end : ℕ) (gates : List ℕ)
+      → ListPut (picked live ms false (take (m .count) (m .gates))) 0 before end gates
       → ReadsOf j is (planOf m nets reads 0 (replicate 6 end)) gates
-  planned-reads le before end gates p =
-      let l : live ≡ liveMarks [] [] is (codes j) = rw (o .gates, e) at le in
+  planned-reads le ms me before end gates p =
+      let l : live ≡ liveMarks [] [] is (packedFrom (j .inputs + j .targets) (o .merged)) = rw (o .gates, e) at le in
       record {
         good = o .good;
-        forms = o .forms;
         inputs = o .inputs;
         targets = o .targets;
         nets = e;
+        merged = o .merged;
+        same = o .same;
         live = marked live;
-        closed = closed-live j is (o .good) (o .forms) b [] [] live l;
-        live-nets = live-read j is (o .good) (o .forms) b [] [] live l;
-        base = list-put j (o .good) (o .forms) live before end gates (rw (o .gates) at p);
+        closed = closed-live j is (o .good) (o .same) c [] [] live l;
+        live-nets = live-read j is (o .good) (o .same) c [] [] live l;
+        free =
+            list-put j (o .good) (o .same) live ms before end gates (rw (o .gates, o .inputs, o .targets) at me) (rw (o .gates) at p);
       }

@@ -2,39 +2,40 @@
 -- gates, the values that complete what is known of all nets, and outputs that are known in a range, so that every vector rectifies
 -- every input of it. Assumes nothing.
 use Prim.Native.Nat.{ℕ, zero, suc, _+_, min, _≤_, _<_}
-use mathlib.Core.Path.{_≡_, refl, sym, _∙_, ap}
+use mathlib.Core.Path.{_≡_, sym, _∙_, ap, subst}
 use mathlib.Core.List.{List, [], _∷_, _++_, map, map-map}
 use mathlib.Core.Logic.{⊎-elim}
-use mathlib.Core.Bool.{Bool, true, false, _&&_, true≢false}
+use mathlib.Core.Bool.{Bool, true, false, not, and-true, _&&_, true≢false}
 use native.Mathlib.Nat.{add-zero, eq-or-lt-of-le}
 use native.Mathlib.Numerals.{add-one}
 use native.Mathlib.Omega.{arith}
 use borrow.Author.Tests.{ltb-true}
 use lib.Dec.{ltb}
-use lib.ListN.{length, getD, take, set, length-append, drop-of-length-le, List·getD-append}
-use lib.Seq.{slice, slice-cons, length-take-le, take-all, getD-at, getD-take}
+use lib.ListN.{length, getD, take, set, length-append, take-append-drop, drop-of-length-le, List·getD-append}
+use lib.Seq.{slice, slice-cons, length-take-le, take-all, take-take, getD-at, getD-take}
 use Rattle.records.specs.Bytes.{tabulate, all, placed}
 use Rattle.records.specs.Gate.{Gate, operands}
 use Rattle.records.specs.Netlist.{netAt, extended, valueOf, values}
 use Rattle.records.specs.Job.{Job}
 use Rattle.records.specs.Refusal.{gateGood, gatesGood}
-use Rattle.records.proofs.Laws.Bytes.{all-cons, length-tabulate, length-placed}
+use Rattle.records.proofs.Laws.Bytes.{and-both, all-cons, length-tabulate, length-placed}
 use Rattle.records.proofs.Laws.Gate.{gateGood-count}
 use Rattle.engine.specs.Inner.Packed.{own, packed, packedFrom, formed, evaluated}
-use Rattle.engine.specs.Inner.Miter.{miterGates, miterGoldens, miterNets, miterValues, codes}
-use Rattle.engine.specs.Inner.Plan.{PlanHeld, PlannedOf}
+use Rattle.engine.specs.Inner.Miter.{miterGates, miterGoldens, miterNets, miterValues}
+use Rattle.engine.specs.Inner.Plan.{fanned, PlanHeld, PlannedOf}
 use Rattle.engine.specs.declared.plan.Plan.{Plan}
 use Rattle.engine.specs.Eval.{bits}
 use Rattle.engine.specs.Rectify.{rectifies}
 use Rattle.engine.specs.Ternary.{unknown, ternaryValue, Completes}
 use Rattle.engine.specs.Inner.Ranges.{knownAt, ternaryOf, codeTernary, Completed, InRange, Known}
-use Rattle.engine.proofs.Laws.Choice.{same-refl}
+use Rattle.engine.proofs.Laws.Choice.{mem-keep, same-refl}
 use Rattle.engine.proofs.Laws.Fitted.{length-bits}
-use Rattle.engine.proofs.Laws.Miter.{miter-good, miter-nets, outputs-nets, goldens-nets, rectifies-miter}
+use Rattle.engine.proofs.Laws.Miter.{miter-nets, outputs-nets, rectifies-miter}
 use Rattle.engine.proofs.Laws.Packed.{packed-kind, packed-operands, length-operands}
 use Rattle.engine.proofs.Laws.Partial.{gate-completes, map-take-agree}
 use Rattle.engine.proofs.Laws.FitGates.{netAt-extended}
-use Rattle.engine.proofs.Laws.Run.{keep-ext, good-first, good-rest, Follows, partOf, run-part}
+use Rattle.engine.proofs.Laws.Plan.{freeOf, closed-free}
+use Rattle.engine.proofs.Laws.Run.{evaluated-append, length-evaluated, evaluated-other, keep-ext, good-first, good-rest, own-within, Follows, run-part, same-values}
 
 -- ---- a turn of the loop over gates
 
@@ -127,64 +128,124 @@ all-take-at q (suc k) [] l e i h = let z : ⊥ = omega arith in absurd z
 all-take-at q (suc k) (x ∷ xs) l e zero h = all-cons q x (take k xs) e .0
 all-take-at q (suc k) (x ∷ xs) l e (suc i) h = all-take-at q k xs (omega arith) (all-cons q x (take k xs) e .1) i (omega arith)
 
-and-true : (b : Bool) → (b && true) ≡ b
-and-true true = refl
-and-true false = refl
-
 module _ (j : Job) (is : List ℕ) (p : Plan) (gates : List ℕ) (o : PlannedOf j is p gates) where
-  -- all live gates are a part with every net changed
-  base-part : slice 0 (getD (p .ends) 0 0) gates
-      ≡ partOf (o .live) (λ i. true) (j .inputs + j .targets) (miterGates j)
-  unfolding codes
-  base-part =
-      let live = o .live in
-      o .lists .base
-      ∙ keep-ext (λ c. live (own c)) (λ c. live (own c) && true) (packedFrom (j .inputs + j .targets) (miterGates j))
-      (λ c m. sym (and-true (live (own c))))
+  abbrev leafCount : ℕ
+  leafCount = j .inputs + j .targets
+
+  -- the gates that no target leads to
+  abbrev freeGates : List ℕ
+  freeGates = slice 0 (getD (p .ends) 0 0) gates
+
+  -- .. and the others
+  abbrev liveGates : List ℕ
+  liveGates = slice 0 (getD (p .ends) 1 0) gates
+
+  fits : leafCount + length (o .merged) ≤ 1024
+  unfolding miterNets
+  fits = omega (arith, miter-nets j (o .good), o .same .long)
+
+  both-lists : liveGates ≡ freeGates ++ slice (getD (p .ends) 0 0) (getD (p .ends) 1 0) gates
+  both-lists =
+      let a = getD (p .ends) 0 0 in
+      let b = getD (p .ends) 1 0 in
+      sym (take-append-drop a (take b gates)) ∙ ap (λ (l : List ℕ). l ++ slice a b gates) (take-take a b gates (o .lists .order))
+
+  module _ (nets : List ℕ) (long : length nets ≡ 1024) where
+    -- what is known of each net
+    abbrev known : List ℕ
+    known = extended ternaryOf (take leafCount nets) (o .merged)
+
+    -- .. once the gates that no target leads to are evaluated
+    abbrev freeKnown : List ℕ
+    freeKnown = evaluated codeTernary nets freeGates
+
+    leaves-long : length (take leafCount nets) ≡ leafCount
+    leaves-long = length-take-le leafCount nets (omega (arith, fits))
+
+    leaf-known : (i : ℕ) → i < leafCount → netAt nets i ≡ netAt known i
+    unfolding netAt
+    leaf-known i h =
+        sym (netAt-extended ternaryOf (take leafCount nets) (o .merged) i (omega (arith, leaves-long)) ∙ getD-take leafCount nets i 0 h)
+
+    -- they drive no leaf
+    leaf-kept : (i : ℕ) → i < leafCount → netAt freeKnown i ≡ netAt nets i
+    leaf-kept i h =
+        let free = freeOf j (o .live) in
+        evaluated-other codeTernary nets freeGates i
+        (λ c m e.
+        let n = mem-keep (λ k. free (own k)) (packedFrom leafCount (o .merged)) c .0 (rw (o .lists .free) at m) .0 in
+        let w = own-within leafCount (o .merged) (o .same .good) (o .same .forms) fits c n .0 in
+        omega arith)
+
+    free-known : (i : ℕ) → i < leafCount + length (o .merged) → freeOf j (o .live) i ≡ true → netAt freeKnown i ≡ netAt known i
+    free-known i l m =
+        let free = freeOf j (o .live) in
+        ap (λ (cs : List ℕ). netAt (evaluated codeTernary nets cs) i)
+        (o .lists .free
+        ∙ keep-ext (λ c. free (own c)) (λ c. free (own c) && true) (packedFrom leafCount (o .merged)) (λ c n. sym (and-true (free (own c)))))
+        ∙ run-part ternary-follows free (λ k. true) leafCount (o .merged) (take leafCount nets) nets (o .same .good) (o .same .forms) fits
+        (omega arith)
+        leaves-long
+        (closed-free j (o .same) (o .live) (o .closed))
+        tt
+        (λ k u w s. ⊎-elim (leaf-known k) (λ z. absurd (true≢false z)) s)
+        i
+        l
+        m
+
+    live-known : (i : ℕ) → i < leafCount + length (o .merged) → o .live i ≡ true
+        → netAt (evaluated codeTernary nets liveGates) i ≡ netAt known i
+    live-known i l m =
+        ap (λ (vs : List ℕ). netAt vs i)
+        (ap (evaluated codeTernary nets) both-lists
+        ∙ evaluated-append codeTernary nets freeGates _
+        ∙ ap (evaluated codeTernary freeKnown) (o .lists .fan))
+        ∙ run-part ternary-follows (o .live) (fanned j) leafCount (o .merged) (take leafCount nets) freeKnown (o .same .good) (o .same .forms) fits
+        (omega (arith, length-evaluated codeTernary nets freeGates))
+        leaves-long
+        (o .closed)
+        tt
+        (λ k u w s.
+        ⊎-elim
+        (λ (b : k < leafCount). leaf-kept k b ∙ leaf-known k b)
+        (λ (z : fanned j k ≡ false). free-known k u (and-both (o .live k) (not (fanned j k)) w (ap not z)))
+        s)
+        i
+        l
+        m
 
   -- what is known of a live net is completed by its value, whatever values complete what is known of the leaves
-  live-completed : (leaves nets : List ℕ) → length leaves ≡ j .inputs + j .targets → length nets ≡ 1024
-      → Completed (j .inputs + j .targets) leaves nets
+  live-completed : (leaves nets : List ℕ) → length leaves ≡ leafCount → length nets ≡ 1024
+      → Completed leafCount leaves nets
       → (i : ℕ) → i < miterNets j → o .live i ≡ true
-      → Completes
-      (netAt (values leaves (miterGates j)) i)
-      (netAt (evaluated codeTernary nets (slice 0 (getD (p .ends) 0 0) gates)) i)
+      → Completes (netAt (values leaves (miterGates j)) i) (netAt (evaluated codeTernary nets liveGates) i)
   unfolding miterNets values netAt
   live-completed leaves nets e f c i l h =
-      let d = j .inputs + j .targets in
-      let gs = miterGates j in
-      let n = miter-nets j (o .good) in
-      let g = miter-good j (o .good) in
-      let t : length (take d nets) ≡ d = length-take-le d nets (omega arith) in
-      let r : netAt (evaluated codeTernary nets (partOf (o .live) (λ k. true) d gs)) i
-      ≡ netAt (extended ternaryOf (take d nets) gs) i =
-      run-part ternary-follows (o .live) (λ k. true) d gs (take d nets) nets g (o .forms) (omega arith) (omega arith) t (o .closed) tt
-      (λ k u w s.
-      ⊎-elim
-      (λ (b : k < d). sym (netAt-extended ternaryOf (take d nets) gs k (omega arith) ∙ getD-take d nets k 0 b))
-      (λ z. absurd (true≢false z))
-      s)
+      let t = leaves-long nets f in
+      let n : i < leafCount + length (o .merged) = omega (arith, o .same .long) in
+      subst (λ (v : ℕ). Completes v (netAt (evaluated codeTernary nets liveGates) i))
+      (ap (λ (vs : List ℕ). netAt vs i) (same-values (o .same) leaves e))
+      (subst (λ (w : ℕ). Completes (netAt (values leaves (o .merged)) i) w) (sym (live-known nets f i n h))
+      (extended-completed leafCount (o .merged) leaves (take leafCount nets) (o .same .good) e t
+      (λ k u. rw (getD-take leafCount nets k 0 u) (c k u))
       i
-      l
-      h in
-      rw (base-part, r)
-      (extended-completed d gs leaves (take d nets) g e t (λ k u. rw (getD-take d nets k 0 u) (c k u)) i l)
+      n))
 
   -- outputs that are known, and equal, in the places of all live nets are equal in the values that complete the leaves
-  outputs-settled : (leaves nets : List ℕ) → length leaves ≡ j .inputs + j .targets → length nets ≡ 1024
-      → Completed (j .inputs + j .targets) leaves nets → PlanHeld p gates
-      → let after = evaluated codeTernary nets (slice 0 (getD (p .ends) 0 0) gates) in
+  outputs-settled : (leaves nets : List ℕ) → length leaves ≡ leafCount → length nets ≡ 1024
+      → Completed leafCount leaves nets → PlanHeld p gates
+      → let after = evaluated codeTernary nets liveGates in
       ((i : ℕ) → i < p .outs → Known (getD after (getD (p .outputs) i 0) 0) (getD after (getD (p .goldens) i 0) 0))
       → map (netAt (values leaves (miterGates j))) (j .old .outputs)
-      ≡ map (netAt (values leaves (miterGates j))) (miterGoldens j)
+      ≡ map (netAt (values leaves (miterGates j))) (take (p .outs) (p .goldens))
   unfolding netAt
   outputs-settled leaves nets e f c q k =
       let vs = values leaves (miterGates j) in
-      let after = evaluated codeTernary nets (slice 0 (getD (p .ends) 0 0) gates) in
+      let after = evaluated codeTernary nets liveGates in
       let below : ℕ → Bool = λ i. ltb i (miterNets j) in
       let a : p .outs ≤ length (p .outputs) = omega (arith, q .outs, q .outputs) in
       let b : p .outs ≤ length (p .goldens) = omega (arith, q .outs, q .goldens) in
-      rw (o .outputs, o .goldens) at
+      rw (o .outputs) at
       (map-take-agree (netAt vs) (netAt vs) (p .outs) (p .outputs) (p .goldens) a b
       (λ i l.
       let u = getD (p .outputs) i 0 in
@@ -199,8 +260,8 @@ module _ (j : Job) (is : List ℕ) (p : Plan) (gates : List ℕ) (o : PlannedOf 
       ∙ z .equal
       ∙ sym
       (live-completed leaves nets e f c w
-      (ltb-true w (miterNets j) (all-take-at below (p .outs) (p .goldens) b (rw (o .goldens) (goldens-nets j (o .good))) i l))
-      (all-take-at (o .live) (p .outs) (p .goldens) b (rw (o .goldens) (o .live-goldens)) i l)
+      (ltb-true w (miterNets j) (all-take-at below (p .outs) (p .goldens) b (o .below) i l))
+      (all-take-at (o .live) (p .outs) (p .goldens) b (o .live-goldens) i l)
       .kept
       y)))
 
@@ -209,7 +270,7 @@ module _ (j : Job) (is : List ℕ) (p : Plan) (gates : List ℕ) (o : PlannedOf 
       → ((x v : ℕ) → InRange low prefix x
       → Completed (p .inputs + p .targets) (bits (p .inputs) x ++ bits (p .targets) v) nets)
       → PlanHeld p gates
-      → let after = evaluated codeTernary nets (slice 0 (getD (p .ends) 0 0) gates) in
+      → let after = evaluated codeTernary nets liveGates in
       ((i : ℕ) → i < p .outs → Known (getD after (getD (p .outputs) i 0) 0) (getD after (getD (p .goldens) i 0) 0))
       → (x v : ℕ) → InRange low prefix x → rectifies j x v ≡ true
   unfolding miterValues
@@ -218,5 +279,5 @@ module _ (j : Job) (is : List ℕ) (p : Plan) (gates : List ℕ) (o : PlannedOf 
       let m = j .targets in
       let leaves = bits n x ++ bits m v in
       let l : length leaves ≡ n + m = omega (arith, length-append (bits n x) (bits m v), length-bits n x, length-bits m v) in
-      let s = outputs-settled leaves nets l f (rw (o .inputs, o .targets) at (c x v r)) q k in
+      let s = outputs-settled leaves nets l f (rw (o .inputs, o .targets) at (c x v r)) q k ∙ o .goldens x v in
       rw (rectifies-miter j (o .good) x v, s) (same-refl (map (netAt (values leaves (miterGates j))) (miterGoldens j)))

@@ -3,16 +3,15 @@
 use Prim.Native.Nat.{ℕ, _^_, _≤_, _<_}
 use mathlib.Core.Path.{_≡_, sym, _∙_, ap}
 use mathlib.Core.List.{List, _++_, map}
-use mathlib.Core.Bool.{Bool, true, false}
+use mathlib.Core.Bool.{true, false}
 use native.Mathlib.Nat.{zero-add}
 use native.Mathlib.Omega.{arith}
 use lib.Pow.{pow-mono}
-use lib.Dec.{ltb}
 use lib.ListN.{length, take, length-map}
 use lib.Seq.{length-take-le}
 use Rattle.records.specs.Bytes.{all, bytePair, placed, field}
 use Rattle.records.specs.Job.{Job, Candidate}
-use Rattle.records.specs.Refusal.{oldNets, ascending, candidateGood, candidatesGood}
+use Rattle.records.specs.Refusal.{ascending, candidateGood, candidatesGood}
 use Rattle.records.specs.Claims.{PartsGood}
 use Rattle.records.specs.Service.{candidatesFrom, countsOf}
 use Rattle.records.specs.Inner.{Within}
@@ -28,7 +27,7 @@ use Rattle.engine.specs.Inner.Sheet.{patchBytes, BytesPut}
 use Rattle.engine.specs.Inner.List.{listedOf}
 use Rattle.engine.specs.Inner.Guess.{ListTo}
 use Rattle.engine.specs.Inner.Search.{SetsTo}
-use Rattle.engine.specs.Inner.Best.{ReadingSets, SetsOf, FirstEmpty, Choosable, ChosenOf}
+use Rattle.engine.specs.Inner.Best.{ReadingSets, SetsOf, GivenBits, FirstEmpty, Choosable, ChosenOf}
 use Rattle.engine.specs.Inner.Given.{Unseen}
 use Rattle.engine.specs.Inner.Table.{TableFilled, NotesFilled}
 use Rattle.engine.specs.Inner.Judging.{JudgedJob}
@@ -47,9 +46,8 @@ use Rattle.engine.proofs.Laws.Choice.{all-true, all-of-members}
 use Rattle.engine.proofs.Laws.Support.{subsets-among}
 use Rattle.engine.proofs.Laws.Picked.{nets-from}
 use Rattle.engine.proofs.Laws.Sets.{sound-iff-full, blind-of-empty}
-use Rattle.engine.proofs.Laws.Miter.{job-within, candidates-below}
+use Rattle.engine.proofs.Laws.Miter.{job-within, candidates-good}
 use Rattle.engine.proofs.Laws.ListLoop.{walk-list}
-use Rattle.engine.proofs.Laws.ReadingSets.{walk-reading-sets}
 use Rattle.engine.proofs.Laws.Search.{listed-stuck, listed-free}
 use Rattle.engine.proofs.Laws.Sheet.{patchBytes-sheet}
 use Rattle.engine.proofs.Laws.Verdict.{judged-unfixable, judged-fixable, chosen-patch, chosen-blind}
@@ -146,13 +144,12 @@ module _ {j : Job} {p : JobParts} (r : PartsOf j p) where
       ∙ sym (nets-from k (p .nets) (p .weights) (omega (arith, r .nets-long, job-within j (r .good) .candidates)))
       ∙ ap (map (λ (c : Candidate). c .net)) (r .candidates)
 
--- the chosen nets are old nets, as all candidates are
-pub chosen-below : {j : Job} → PartsGood j → sound j (candidateNets j) ≡ true → all (λ i. ltb i (oldNets j)) (chosen j) ≡ true
-chosen-below {j} g s =
-    let old : ℕ → Bool = λ i. ltb i (oldNets j) in
-    all-of-members old (chosen j)
-    (λ i m.
-    all-true old (candidateNets j) (candidates-below j g) i (subsets-among (candidateNets j) (chosen j) (chosen-sound j s .1) i m))
+-- no target leads to the chosen nets, as to no candidate
+pub chosen-good : {j : Job} → PartsGood j → sound j (candidateNets j) ≡ true → all (candidateGood j) (chosen j) ≡ true
+chosen-good {j} g s =
+    let is = candidateNets j in
+    all-of-members (candidateGood j) (chosen j)
+    (λ i m. all-true (candidateGood j) is (candidates-good j g) i (subsets-among is (chosen j) (chosen-sound j s .1) i m))
 
 -- ---- after the walk over all inputs
 
@@ -175,7 +172,7 @@ module _ {j : Job} {p : JobParts} (r : PartsOf j p) where
         omega arith
 
   -- a reading of all candidates with an empty set is blind
-  module _ {ss : List ℕ} (g : SetsTo j (2 ^ j .inputs) ss) {n q : ℕ} (e : n ≡ 2 ^ p .counts .candidates) (f : FirstEmpty ss n q) where
+  module _ {ss : List ℕ} {k : ℕ} (g : SetsTo j (2 ^ j .inputs) k ss) {n q : ℕ} (e : n ≡ 2 ^ p .counts .candidates) (f : FirstEmpty ss n q) where
     abbrev is : List ℕ
     is = candidateNets j
 
@@ -186,10 +183,18 @@ module _ {j : Job} {p : JobParts} (r : PartsOf j p) where
         ∙ ap (λ (l : ℕ). 2 ^ l) (length-take-le k (p .nets) (omega (arith, r .nets-long, parts-few r)))
         ∙ sym e
 
-    sets : ReadingSets j ss
+    -- readings of at most ten nets stand among the 1,024 places
+    small : (i : ℕ) → i < 2 ^ length is → i < 1024
     unfolding countsOf candidateNets
-    sets =
-        rw (g .sets) (walk-reading-sets j (omega (arith, length-map (j .candidates) (λ (c : Candidate). c .net), few .candidates)))
+    small i l =
+        let c : length is ≤ 10 = omega (arith, length-map (j .candidates) (λ (c : Candidate). c .net), few .candidates) in
+        omega (arith, pow-mono {j = 10} c)
+
+    sets : ReadingSets j ss
+    sets = record { long = g .long; sets = λ i v l. g .sets i v (small i l) }
+
+    pub rule-given : GivenBits j is ss k
+    rule-given = record { given = λ i l. g .given i (small i l); unmet = λ i l. g .unmet i (small i l) }
 
     all-sets : SetsOf j is ss
     unfolding countsOf

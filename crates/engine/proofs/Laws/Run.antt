@@ -1,5 +1,6 @@
 -- Laws of a run over a part of a netlist's gates: where the nets of the gates left out have what they should already, the part gives
--- all live nets what they should have. One law over any function of a gate that looks at its operands alone. Assumes nothing.
+-- all live nets what they should have. One law over any function of a gate that looks at its operands alone. Gates that stand for
+-- others have their values. Assumes nothing.
 use Prim.Native.Nat.{ℕ, zero, suc, _+_, _≤_, _<_}
 use mathlib.Core.Path.{_≡_, refl, sym, _∙_, ap, subst}
 use mathlib.Core.Logic.{_⊎_, inl, inr, ⊎-elim}
@@ -12,13 +13,14 @@ use lib.Dec.{ltb, eqb}
 use lib.ListN.{length, getD, set, length-set, length-append}
 use lib.Seq.{getD-set-same, getD-set-other, getD-at}
 use Rattle.records.specs.Bytes.{all}
-use Rattle.records.specs.Gate.{Gate, operands}
-use Rattle.records.specs.Netlist.{netAt, extended, valueOf}
+use Rattle.records.specs.Gate.{Gate, operands, gateValue}
+use Rattle.records.specs.Netlist.{netAt, extended, valueOf, values}
 use Rattle.records.specs.Refusal.{gateGood, gatesGood}
 use Rattle.records.proofs.Laws.Bytes.{and-left, and-right, all-cons}
 use Rattle.records.proofs.Laws.Gate.{gateGood-parts}
 use Rattle.engine.specs.Choice.{keep}
 use Rattle.engine.specs.Inner.Packed.{own, packed, packedFrom, formed, codeValue, evaluated}
+use Rattle.engine.specs.Inner.Miter.{SameGates}
 use Rattle.engine.specs.Inner.Plan.{Closed}
 use Rattle.engine.proofs.Laws.Choice.{true-or-false, and-cases, not-both, all-true, map-agree}
 use Rattle.engine.proofs.Laws.FitGates.{Local, valueOf-local, netAt-extended}
@@ -33,6 +35,27 @@ unfolding extended netAt
 netAt-extended-first f known g gs d e =
     netAt-extended f (known ++ (f known g ∷ [])) gs d (omega (arith, length-append known (f known g ∷ [])))
     ∙ getD-at known (f known g) [] 0 d e
+
+-- ---- gates run
+
+module _ (F : List ℕ → ℕ → ℕ) where
+  pub evaluated-append : (vs cs ds : List ℕ) → evaluated F vs (cs ++ ds) ≡ evaluated F (evaluated F vs cs) ds
+  unfolding evaluated
+  evaluated-append vs [] ds = refl
+  evaluated-append vs (c ∷ cs) ds = evaluated-append (set vs (own c) (F vs c)) cs ds
+
+  pub length-evaluated : (vs cs : List ℕ) → length (evaluated F vs cs) ≡ length vs
+  unfolding evaluated
+  length-evaluated vs [] = refl
+  length-evaluated vs (c ∷ cs) = length-evaluated (set vs (own c) (F vs c)) cs ∙ length-set vs (own c) (F vs c)
+
+  -- a net that none of them drives stays as it is
+  pub evaluated-other : (vs cs : List ℕ) (i : ℕ) → ((c : ℕ) → Mem c cs → own c ≡ i → ⊥) → netAt (evaluated F vs cs) i ≡ netAt vs i
+  unfolding evaluated netAt
+  evaluated-other vs [] i h = refl
+  evaluated-other vs (c ∷ cs) i h =
+      evaluated-other (set vs (own c) (F vs c)) cs i (λ d m. h d (there m))
+      ∙ getD-set-other vs (own c) i (F vs c) 0 (λ e. h c (here refl) (sym e))
 
 -- ---- gates kept
 
@@ -211,3 +234,9 @@ values-follow =
       keeps = λ vs c b. set-binary vs (own c) (codeValue vs c) (codeValue-lt vs c) b;
       packs = λ vs d g b e o h. packed-value d g e o h vs b;
     }
+
+-- gates that stand for others have their values
+pub same-values : {d : ℕ} {gs hs : List Gate} → SameGates d gs hs → (leaves : List ℕ) → length leaves ≡ d
+    → values leaves hs ≡ values leaves gs
+unfolding values valueOf
+same-values s leaves e = s .same gateValue leaves e

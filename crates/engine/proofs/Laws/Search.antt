@@ -7,10 +7,10 @@ use mathlib.Core.Bool.{Bool, true, false, cond}
 use mathlib.Core.Option.{none, some}
 use native.Mathlib.Omega.{arith}
 use mathlib.Core.Logic.{inl, inr, ⊎-elim}
-use native.Mathlib.Nat.{zero-add}
+use native.Mathlib.Nat.{zero-add, mod-eq-of-lt}
 use borrow.Author.Tests.{ltb-true, ltb-false}
 use lib.Dec.{ltb}
-use lib.ListN.{length, getD, replicate, length-replicate}
+use lib.ListN.{length, getD, length-take}
 use lib.Pow.{pow-add, pow-pos, pow-mono}
 use Rattle.records.specs.Job.{Job}
 use Rattle.records.proofs.Laws.Bytes.{tabulate-ext}
@@ -19,14 +19,20 @@ use Rattle.engine.specs.Rectify.{rectifies, Listed}
 use Rattle.engine.specs.Support.{reading, candidateNets}
 use Rattle.engine.specs.Inner.Guess.{ListTo}
 use Rattle.engine.specs.Inner.Masks.{rectifiers}
-use Rattle.engine.specs.Inner.List.{listedOf, listedFrom, startList, Held}
-use Rattle.engine.specs.Inner.Note.{setsFrom, startSets, gathered, filled, ListNoted}
-use Rattle.engine.specs.Inner.Search.{SetsTo, BlockRange}
+use Rattle.engine.specs.Inner.List.{listedOf, listedFrom, startList}
+use Rattle.engine.specs.Inner.Note.{setsFrom, gathered, filled, ListNoted}
+use Rattle.engine.specs.Inner.Plan.{PlanHeld, ReadsOf}
+use Rattle.engine.specs.Inner.Search.{BlockRange, BlockRead, BlockZero, FreeKept, BlockKept, BlockMasks, BlockMet}
 use Rattle.engine.proofs.Laws.Choice.{true-or-false}
+use Rattle.engine.proofs.Laws.Miter.{candidates-good}
+use Rattle.engine.proofs.Laws.Plan.{reads-of}
+use Rattle.engine.proofs.Laws.ReadingSets.{sets-more, sets-stay}
 use Rattle.engine.proofs.Laws.Shift.{bit-mod}
 use Rattle.engine.proofs.Laws.Rows.{setsFrom-agree, setsFrom-repeats, block-sets, setsFrom-length}
-use Rattle.engine.proofs.Laws.List.{listedFrom-append, setsFrom-append, stuck-stays, walk-skip-list, walk-skip-sets}
+use Rattle.engine.proofs.Laws.List.{listedFrom-append, stuck-stays, walk-skip-list}
+use Rattle.engine.proofs.Laws.Support.{reading-lt}
 use Rattle.engine.specs.declared.list.Vectors.{Vectors}
+use Rattle.engine.specs.declared.plan.Plan.{Plan}
 
 -- ---- the inputs of a block
 
@@ -115,55 +121,57 @@ module _ (j : Job) where
         list-at (x + (y - x)) y v (upTo h)
         (p ∙ sym (walk-skip-list j x (y - x) (λ z l b u c. r z u l (omega (arith, upTo h)))))
 
-zeros-below : (n i : ℕ) → getD {A = ℕ} (replicate n 0) i 0 < 16
-zeros-below zero i = omega arith
-zeros-below (suc n) zero = omega arith
-zeros-below (suc n) (suc i) = zeros-below n i
-
-pub start-held : (b : Bool) → Held (record { list = replicate 16 0; len = 1; stuck = b; input = 0 })
-start-held b = record { long = omega arith; below = zeros-below 16 }
-
-pub list-start : (j : Job) → ListTo j 0 (record { list = replicate 16 0; len = 1; stuck = false; input = 0 })
-unfolding listedOf listedFrom
-list-start j = refl
-
 -- ---- the sets
 
-module _ {j : Job} where
-  -- after a block
-  pub sets-noted : (b count : ℕ) (masks readings : List ℕ) {ss ts : List ℕ} → BlockRange (j .inputs) b count
-      → ((y : ℕ) → y < 1024 → gathered masks y ≡ rectifiers j (1024 * b + y))
-      → ((y : ℕ) → y < 1024 → gathered readings y ≡ reading j (candidateNets j) (1024 * b + y))
-      → ((x : ℕ) → reading j (candidateNets j) x < 1024)
-      → ts ≡ setsFrom (gathered masks) (λ y. gathered readings y % 1024) ss 0 (filled count)
-      → SetsTo j (1024 * b) ss → SetsTo j (1024 * b + count) ts
-  sets-noted b count masks readings {ss} {ts} r m w l n p =
-      let f = rectifiers j in
-      let g = reading j (candidateNets j) in
+-- readings of at most ten nets
+pub reading-small : {j : Job} {is : List ℕ} {p : Plan} {gates : List ℕ} → p .reads ≤ 10 → ReadsOf j is p gates
+    → (x : ℕ) → reading j is x < 1024
+reading-small {j} {is} {p} h q x =
+    let few : length is ≤ 10 = omega (arith, ap length (sym (q .nets)), length-take (p .reads) (p .nets)) in
+    omega (arith, reading-lt j is x, pow-mono {j = 10} few)
+
+-- ---- the sets after a block
+
+pub met-long : (masks readings ss : List ℕ) (count : ℕ) {ts : List ℕ}
+    → ts ≡ setsFrom (gathered masks) (λ y. gathered readings y % 1024) ss 0 (filled count) → length ts ≡ length ss
+met-long masks readings ss count e = ap length e ∙ setsFrom-length (gathered masks) (λ y. gathered readings y % 1024) ss 0 (filled count)
+
+module _ {p : Plan} {gates : List ℕ} (h : PlanHeld p gates) (b count : ℕ) {words readings : List ℕ} (e : BlockRead p gates b words readings) where
+  -- from the masks of its inputs
+  pub block-met : {w₁ w₂ masks ss ts : List ℕ} → BlockRange (p .inputs) b count → FreeKept p gates words w₁ → BlockZero p gates w₁ w₂
+      → BlockMasks p gates w₂ masks → ts ≡ setsFrom (gathered masks) (λ y. gathered readings y % 1024) ss 0 (filled count)
+      → BlockMet p gates b count ss ts
+  block-met {masks = masks} {ss = ss} r k z m n =
       record {
-        long = ap length n ∙ setsFrom-length (gathered masks) (λ y. gathered readings y % 1024) ss 0 (filled count) ∙ p .long;
-        sets =
-            n
-            ∙ noted-sets j (candidateNets j) f (rectifiers-low j) b count masks readings ss r m w l
-            ∙ ap (λ (k : List ℕ). setsFrom f g k (1024 * b) count) (p .sets)
-            ∙ sym
-            (setsFrom-append f g (startSets (j .targets)) 0 (1024 * b) count
-            ∙ ap (λ (z : ℕ). setsFrom f g (setsFrom f g (startSets (j .targets)) 0 (1024 * b)) z count) (zero-add (1024 * b)));
+        long = met-long masks readings ss count n;
+        sets = λ j s q.
+            let is = candidateNets j in
+            sets-more j (omega (arith, h .targets, q .targets)) (1024 * b) count
+            (n
+            ∙ noted-sets j is (rectifiers j) (rectifiers-low j) b count masks readings ss
+            (subst (λ (i : ℕ). BlockRange i b count) (q .inputs) r)
+            (m .sets j is q b (z .values j is q b (k j is q b (e .free j is (reads-of q)))))
+            (e .readings j is (reads-of q) (candidates-good j (q .good)))
+            (reading-small (h .reads) (reads-of q)));
       }
 
-  -- inputs that every vector rectifies leave them
-  pub sets-skip : {x y : ℕ} {ss : List ℕ} → x ≤ y → ((z u : ℕ) → x ≤ z → z < y → rectifies j z u ≡ true) → SetsTo j x ss → SetsTo j y ss
-  sets-skip {x} {y} {ss} h r p =
-      let g = reading j (candidateNets j) in
-      subst (λ (z : ℕ). SetsTo j z ss) (upTo h)
-      (record {
-        long = p .long;
-        sets = p .sets ∙ sym (walk-skip-sets j x (y - x) (λ z l b u c. r z u l (omega (arith, upTo h))) g);
-      })
-
-pub sets-start : (j : Job) {all : ℕ} → all ≡ 2 ^ 2 ^ j .targets - 1 → SetsTo j 0 (replicate 1024 all)
-unfolding setsFrom startSets
-sets-start j {all} e = record { long = length-replicate 1024 all; sets = ap (replicate 1024) e }
+  -- where it leaves them
+  pub block-kept : {ss : List ℕ} → count ≤ 1024 → BlockKept p gates readings words ss → BlockMet p gates b count ss ss
+  block-kept {ss} few k =
+      record {
+        long = refl;
+        sets = λ j s q.
+            let is = candidateNets j in
+            sets-stay (omega arith) (λ i z. z)
+            (λ z l u.
+            let y : ℕ = z - 1024 * b in
+            let i : 1024 * b + y ≡ z = omega arith in
+            let g : gathered readings y % 1024 ≡ reading j is z =
+            ap (λ (r : ℕ). r % 1024) (e .readings j is (reads-of q) (candidates-good j (q .good)) y (omega arith) ∙ ap (reading j is) i)
+            ∙ mod-eq-of-lt (reading-small (h .reads) (reads-of q) z) in
+            let t = rw (g, i) at (k j is q b (e .free j is (reads-of q)) y (omega arith)) in
+            (λ c. t .0, t .1));
+      }
 
 -- ---- how far the walk has come
 

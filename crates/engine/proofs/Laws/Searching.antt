@@ -1,56 +1,100 @@
 -- Laws of the steps of the walk over a job's inputs (specs/Inner/Search). Assumes nothing.
 use Prim.Native.Nat.{ℕ, _+_, _-_, _*_, _/_, _%_, _^_, _≤_, _<_}
-use mathlib.Core.Path.{_≡_, sym, _∙_, ap, subst}
-use mathlib.Core.Logic.{inl, ⊎-elim}
+use mathlib.Core.Path.{_≡_, refl, sym, _∙_, ap, subst}
+use mathlib.Core.Logic.{⊎-elim}
 use mathlib.Core.List.{List, map}
 use mathlib.Core.Bool.{Bool, true, cond}
 use native.Mathlib.Nat.{zero-add, div-one}
 use native.Mathlib.Omega.{arith}
-use lib.Dec.{ltb}
-use lib.ListN.{length, getD, take, replicate, length-take}
+use lib.ListN.{length, getD, take, replicate}
 use lib.Pow.{pow-add, pow-mono}
 use lib.Seq.{slice}
-use Rattle.records.specs.Bytes.{all}
 use Rattle.records.specs.Job.{Job}
-use Rattle.records.specs.Refusal.{oldNets}
 use Rattle.engine.specs.Eval.{bit, numberOf}
 use Rattle.engine.specs.Choice.{same}
 use Rattle.engine.specs.Rectify.{rectifies}
 use Rattle.engine.specs.Inner.Kernel.{Ran, NetSet, NetsSet, valueIn, rowValue}
 use Rattle.engine.specs.Inner.Masks.{ordered, turns, Among}
-use Rattle.engine.specs.Inner.Plan.{BlockAt, ReadsOf, PlannedOf}
-use Rattle.engine.specs.Inner.Search.{BlockEvaluated, TargetTurned, BlockMasks, BlockRange, BlockMet, SettledFrom}
-use Rattle.engine.specs.Inner.Note.{gathered, filled, setsFrom}
+use Rattle.engine.specs.Inner.Plan.{BlockAt, BlockFree, ReadsOf, PlannedOf}
+use Rattle.engine.specs.Inner.Search.{BlockRead, BlockZero, DrivenRow, TargetTurned, BlockMasks, BlockRange, SettledFrom}
+use Rattle.engine.specs.Inner.Note.{gathered}
 use Rattle.engine.specs.Inner.Ranges.{InRange}
-use Rattle.engine.specs.Support.{candidateNets, reading}
 use Rattle.engine.specs.declared.plan.Plan.{Plan}
 use Rattle.engine.proofs.Laws.BlockRows.{equal-rectifies, read-values, MasksTo, masks-none, masks-next, masks-gathered}
 use Rattle.engine.proofs.Laws.Gray.{ordered-none, turns-among, ordered-kept}
-use Rattle.engine.proofs.Laws.Miter.{candidates-below}
-use Rattle.engine.proofs.Laws.Plan.{block-based, block-target, reads-of}
-use Rattle.engine.proofs.Laws.Rows.{setsFrom-length}
-use Rattle.engine.proofs.Laws.Search.{sets-noted}
-use Rattle.engine.proofs.Laws.Support.{reading-lt}
+use Rattle.engine.proofs.Laws.Plan.{block-read, block-driven, block-target, block-free}
+use Rattle.engine.proofs.Laws.Rows.{bit-gathered}
+use Rattle.engine.proofs.Laws.Word.{bit-zero}
+
+-- ---- the words of a block
+
+nets-alike : {at n : ℕ} {f g : ℕ → ℕ → ℕ} {before after : List ℕ} → NetsSet at n f before after
+    → ((y k : ℕ) → y < 1024 → k < n → f y k ≡ g y k) → NetsSet at n g before after
+nets-alike s e = record { long = s .long; put = λ y k h l. s .put y k h l ∙ e y k h l; kept = s .kept }
+
+-- a row says where the outputs of both circuits have the same values
+abbrev pub RowEqual : Plan → List ℕ → List ℕ → Type 0
+RowEqual p words r =
+    (y : ℕ) → y < 1024
+    → rowValue r y
+    ≡ cond (same (map (valueIn words y) (take (p .outs) (p .outputs))) (map (valueIn words y) (take (p .outs) (p .goldens)))) 1 0
 
 module _ (p : Plan) (gates : List ℕ) where
-  -- leaves loaded and all gates run
-  pub block-evaluated : (b : ℕ) {w₀ w₁ w₂ w₃ : List ℕ} → length w₀ ≡ 16384 → NetsSet 0 (p .inputs) (λ y k. bit k (1024 * b + y)) w₀ w₁
-      → NetsSet (p .inputs) (p .targets) (λ y k. 0) w₁ w₂ → Ran (slice 0 (getD (p .ends) 0 0) gates) w₂ w₃
-      → BlockEvaluated p gates b w₃
-  block-evaluated b {w₀} {w₁} {w₂} {w₃} l s t r =
+  -- .. which is where the vectors rectify the inputs
+  row-rectifies : {j : Job} {is : List ℕ} (q : PlannedOf j is p gates) (b : ℕ) (u : ℕ → ℕ) {w : List ℕ} (r : List ℕ)
+      → BlockAt j (q .live) b u w → RowEqual p w r
+      → (y : ℕ) → y < 1024 → rowValue r y ≡ cond (rectifies j (1024 * b + y) (u y)) 1 0
+  row-rectifies q b u r a e y h = e y h ∙ ap (λ (t : Bool). cond t 1 0) (equal-rectifies q a y h)
+
+  -- inputs loaded, the gates run that no target leads to, and the nets read
+  pub block-loaded : (b : ℕ) {w₀ w₁ w₂ rows : List ℕ} → length w₀ ≡ 16384 → NetsSet 0 (p .inputs) (λ y k. bit k (1024 * b + y)) w₀ w₁
+      → Ran (slice 0 (getD (p .ends) 0 0) gates) w₁ w₂ → length rows ≡ 256
+      → ((y : ℕ) → y < 1024 → gathered rows y ≡ numberOf (map (valueIn w₂ y) (take (p .reads) (p .nets))))
+      → BlockRead p gates b w₂ rows
+  block-loaded b {w₀} {w₁} {w₂} l s r many g =
+      let read : (j : Job) (is : List ℕ) (q : ReadsOf j is p gates) → BlockFree j (q .live) b w₂ =
+      λ j is q. block-read q b w₁ w₂ (λ y k h e. rw zero-add at (s .put y k h (omega (arith, q .inputs)))) r in
       record {
-        long = r .long ∙ t .long ∙ s .long ∙ l;
-        values = λ j is q.
-            block-based q b w₂ w₃
-            (λ y k h e.
-            t .kept y k h (inl (omega (arith, q .inputs))) ∙ (rw zero-add at (s .put y k h (omega (arith, q .inputs)))))
-            (λ y k h e. subst (λ (n : ℕ). valueIn w₂ y (n + k) ≡ 0) (q .inputs) (t .put y k h (omega (arith, q .targets))))
-            r;
+        long = r .long ∙ s .long ∙ l;
+        many = many;
+        free = read;
+        readings = λ j is q f y h.
+            g y h ∙ ap (λ (os : List ℕ). numberOf (map (valueIn w₂ y) os)) (q .nets) ∙ read-values q (read j is q) f y h;
+      }
+
+  -- all targets set, and the gates run that one leads to
+  module _ {w w₁ w₂ : List ℕ} {f : ℕ → ℕ → ℕ} (s : NetsSet (p .inputs) (p .targets) f w w₁)
+      (r : Ran (slice (getD (p .ends) 0 0) (getD (p .ends) 1 0) gates) w₁ w₂) (u : ℕ → ℕ)
+      (e : (y k : ℕ) → y < 1024 → k < p .targets → f y k ≡ bit k (u y)) where
+    block-set : {j : Job} {is : List ℕ} (q : PlannedOf j is p gates) (b : ℕ) → BlockFree j (q .live) b w → BlockAt j (q .live) b u w₂
+    block-set q b a =
+        block-driven q b u w w₁ w₂ a (rw (q .inputs, q .targets) at (nets-alike {g = λ y k. bit k (u y)} s e)) r
+
+  -- .. to 0
+  pub block-zeroed : {w w₁ w₂ : List ℕ} → NetsSet (p .inputs) (p .targets) (λ y k. 0) w w₁
+      → Ran (slice (getD (p .ends) 0 0) (getD (p .ends) 1 0) gates) w₁ w₂ → BlockZero p gates w w₂
+  block-zeroed s r =
+      record {
+        long = r .long ∙ s .long;
+        values = λ j is q b a. block-set s r (λ y. 0) (λ y k h l. sym (bit-zero k)) q b a;
+      }
+
+  -- .. to the vectors of the rows
+  pub row-driven : {w w₁ w₂ : List ℕ} (vectors row : List ℕ) → p .targets ≤ 4 → NetsSet (p .inputs) (p .targets) (valueIn vectors) w w₁
+      → Ran (slice (getD (p .ends) 0 0) (getD (p .ends) 1 0) gates) w₁ w₂ → RowEqual p w₂ row → DrivenRow p gates vectors w row w₂
+  row-driven {w} {w₁} {w₂} vectors row few s r e =
+      let at : (j : Job) (is : List ℕ) (q : PlannedOf j is p gates) (b : ℕ) → BlockFree j (q .live) b w
+      → BlockAt j (q .live) b (gathered vectors) w₂ =
+      λ j is q b a. block-set s r (gathered vectors) (λ y k h l. sym (bit-gathered vectors y k (omega arith))) q b a in
+      record {
+        long = r .long ∙ s .long;
+        free = λ j is q b a. block-free (at j is q b a);
+        values = λ j is q b a. row-rectifies q b (gathered vectors) row (at j is q b a) e;
       }
 
   -- one target set, and the gates that it leads to run
   pub target-turned : (t x : ℕ) {w w₁ w₂ : List ℕ} → NetSet (p .inputs + t) (λ y. bit 0 x) w w₁
-      → Ran (slice (getD (p .ends) t 0) (getD (p .ends) (t + 1) 0) gates) w₁ w₂ → TargetTurned p gates t x w w₂
+      → Ran (slice (getD (p .ends) (t + 1) 0) (getD (p .ends) (t + 2) 0) gates) w₁ w₂ → TargetTurned p gates t x w w₂
   target-turned t x {w} {w₁} {w₂} s r =
       record {
         long = r .long ∙ s .long;
@@ -63,13 +107,6 @@ module _ (p : Plan) (gates : List ℕ) where
 
 -- ---- the rows of the vectors, one after the other
 
--- a row says where the outputs of both circuits have the same values
-abbrev pub RowEqual : Plan → List ℕ → List ℕ → Type 0
-RowEqual p words r =
-    (y : ℕ) → y < 1024
-    → rowValue r y
-    ≡ cond (same (map (valueIn words y) (take (p .outs) (p .outputs))) (map (valueIn words y) (take (p .outs) (p .goldens)))) 1 0
-
 -- from the words w₀ at vector 0: the words w at the vector of the step before s, and the rows ms of the steps below s
 abbrev pub MasksDone : Plan → List ℕ → ℕ → List ℕ → ℕ → List ℕ → List ℕ → Type 0
 MasksDone p gates u w₀ s w ms =
@@ -80,98 +117,51 @@ bit-shifted : (t v : ℕ) → bit t v ≡ bit 0 (v / 2 ^ t)
 unfolding bit
 bit-shifted t v = ap (λ (x : ℕ). x % 2) (sym (div-one (v / 2 ^ t)))
 
-module _ (p : Plan) (gates : List ℕ) where
-  mask-row : {j : Job} {is : List ℕ} (q : PlannedOf j is p gates) (b v : ℕ) {w : List ℕ} (r : List ℕ) → BlockAt j (q .live) b (λ y. v) w
-      → RowEqual p w r → (y : ℕ) → y < 1024 → rowValue r y ≡ cond (rectifies j (1024 * b + y) v) 1 0
-  mask-row {j} {is} q b v {w} r a e y h =
-      e y h
-      ∙ ap (λ (os : List ℕ). cond (same (map (valueIn w y) os) (map (valueIn w y) (take (p .outs) (p .goldens)))) 1 0) (q .outputs)
-      ∙ ap (λ (os : List ℕ). cond (same (map (valueIn w y) (j .old .outputs)) (map (valueIn w y) os)) 1 0) (q .goldens)
-      ∙ ap (λ (t : Bool). cond t 1 0) (equal-rectifies q a y h)
+module _ (p : Plan) (gates : List ℕ) (u : ℕ) (o : u < 4) where
+  pub masks-first : (w r : List ℕ) {ms : List ℕ} → RowEqual p w r → NetSet 0 (rowValue r) (replicate 256 0) ms
+      → MasksDone p gates u w 1 w ms
+  masks-first w r {ms} e n j is q b a =
+      let z : 0 ≡ ordered u 0 = sym (ordered-none u o) in
+      let d : BlockAt j (q .live) b (λ y. ordered u 0) w = subst (λ (v : ℕ). BlockAt j (q .live) b (λ y. v) w) z a in
+      (d, masks-next j b u o 0 r (masks-none j b u o 0) (omega arith) (subst (λ (v : ℕ). NetSet v (rowValue r) (replicate 256 0) ms) z n) (row-rectifies p gates q b (λ y. ordered u 0) r d e))
 
-  module _ (u : ℕ) (o : u < 4) where
-    pub masks-first : (w r : List ℕ) {ms : List ℕ} → RowEqual p w r → NetSet 0 (rowValue r) (replicate 256 0) ms
-        → MasksDone p gates u w 1 w ms
-    masks-first w r {ms} e n j is q b a =
-        let z : 0 ≡ ordered u 0 = sym (ordered-none u o) in
-        let d : BlockAt j (q .live) b (λ y. ordered u 0) w = subst (λ (v : ℕ). BlockAt j (q .live) b (λ y. v) w) z a in
-        (d, masks-next j b u o 0 r (masks-none j b u o 0) (omega arith) (subst (λ (v : ℕ). NetSet v (rowValue r) (replicate 256 0) ms) z n) (mask-row q b (ordered u 0) r d e))
-
-    pub masks-turned : (s : ℕ) {w₀ w w′ ms ms′ : List ℕ} (r : List ℕ) → p .targets ≤ 4 → Among (p .targets) u → 0 < s → s < 2 ^ p .targets
-        → MasksDone p gates u w₀ s w ms → TargetTurned p gates (turns u s) (ordered u s / 2 ^ turns u s) w w′ → RowEqual p w′ r
-        → NetSet (ordered u s) (rowValue r) ms ms′ → MasksDone p gates u w₀ (s + 1) w′ ms′
-    masks-turned s {w₀} {w} {w′} {ms} {ms′} r m f z l d t e n j is q b a =
-        let few : 2 ^ p .targets ≤ 16 = pow-mono {j = 4} m in
-        let k : s < 16 = omega arith in
-        let g = d j is q b a in
-        let back : s - 1 + 1 ≡ s = omega arith in
-        let here : s + 1 - 1 ≡ s = omega arith in
-        let turned : BlockAt j (q .live) b (λ y. ordered u s) w′ =
-        t .turned j is q b (ordered u (s - 1)) (ordered u s)
-        (omega (arith, turns-among u o (p .targets) (omega arith) f s z l k, q .targets))
-        (bit-shifted (turns u s) (ordered u s))
-        (λ i h c.
-        subst (λ (x : ℕ). bit i (ordered u x) ≡ bit i (ordered u (s - 1))) back
-        (ordered-kept u o (s - 1) i (omega arith) (omega (arith, q .targets))
-        (λ y.
-        let y′ : i ≡ turns u s = y ∙ ap (turns u) back in
-        ⊎-elim (λ (v : i < turns u s). let x : ⊥ = omega arith in x) (λ (v : turns u s < i). let x : ⊥ = omega arith in x) c)))
-        (g .0) in (
-          subst (λ (x : ℕ). BlockAt j (q .live) b (λ y. ordered u x) w′) (sym here) turned,
-          masks-next j b u o s r (g .1) k n (mask-row q b (ordered u s) r turned e),
-        )
-
-    pub masks-all : {w₀ w ms : List ℕ} → p .targets ≤ 4 → Among (p .targets) u → length ms ≡ 256
-        → MasksDone p gates u w₀ (2 ^ p .targets) w ms → BlockMasks p gates w₀ ms
-    masks-all {w₀} {w} {ms} m f l d =
-        record {
-          long = l;
-          sets = λ j is q b a y h.
-              masks-gathered j b u ms (omega (arith, q .targets)) o (subst (λ (k : ℕ). Among k u) (q .targets) f)
-              (subst (λ (k : ℕ). MasksTo j b u (2 ^ k) ms) (q .targets) (d j is q b a .1))
-              y
-              h;
-        }
-
--- ---- a block
-
-module _ {p : Plan} {gates : List ℕ} where
-  -- what the rows say that are read of a block's words are its readings
-  pub block-readings : {j : Job} {is : List ℕ} (q : ReadsOf j is p gates) (b : ℕ) (readings words : List ℕ) → p .reads ≤ 10
-      → BlockEvaluated p gates b words
-      → ((y : ℕ) → y < 1024 → gathered readings y ≡ numberOf (map (valueIn words y) (take (p .reads) (p .nets))))
-      → all (λ i. ltb i (oldNets j)) is ≡ true
-      → ((y : ℕ) → y < 1024 → gathered readings y ≡ reading j is (1024 * b + y)) × ((x : ℕ) → reading j is x < 1024)
-  block-readings {j} {is} q b readings words k e g below =
-      let few : length is ≤ 10 = omega (arith, ap length (sym (q .nets)), length-take (p .reads) (p .nets)) in (
-        λ y l.
-            g y l
-            ∙ ap (λ (os : List ℕ). numberOf (map (valueIn words y) os)) (q .nets)
-            ∙ read-values q (e .values j is q) below y l,
-        λ x. omega (arith, reading-lt j is x, pow-mono {j = 10} few),
+  pub masks-turned : (s : ℕ) {w₀ w w′ ms ms′ : List ℕ} (r : List ℕ) → p .targets ≤ 4 → Among (p .targets) u → 0 < s → s < 2 ^ p .targets
+      → MasksDone p gates u w₀ s w ms → TargetTurned p gates (turns u s) (ordered u s / 2 ^ turns u s) w w′ → RowEqual p w′ r
+      → NetSet (ordered u s) (rowValue r) ms ms′ → MasksDone p gates u w₀ (s + 1) w′ ms′
+  masks-turned s {w₀} {w} {w′} {ms} {ms′} r m f z l d t e n j is q b a =
+      let few : 2 ^ p .targets ≤ 16 = pow-mono {j = 4} m in
+      let k : s < 16 = omega arith in
+      let g = d j is q b a in
+      let back : s - 1 + 1 ≡ s = omega arith in
+      let here : s + 1 - 1 ≡ s = omega arith in
+      let turned : BlockAt j (q .live) b (λ y. ordered u s) w′ =
+      t .turned j is q b (ordered u (s - 1)) (ordered u s)
+      (omega (arith, turns-among u o (p .targets) (omega arith) f s z l k, q .targets))
+      (bit-shifted (turns u s) (ordered u s))
+      (λ i h c.
+      subst (λ (x : ℕ). bit i (ordered u x) ≡ bit i (ordered u (s - 1))) back
+      (ordered-kept u o (s - 1) i (omega arith) (omega (arith, q .targets))
+      (λ y.
+      let y′ : i ≡ turns u s = y ∙ ap (turns u) back in
+      ⊎-elim (λ (v : i < turns u s). let x : ⊥ = omega arith in x) (λ (v : turns u s < i). let x : ⊥ = omega arith in x) c)))
+      (g .0) in (
+        subst (λ (x : ℕ). BlockAt j (q .live) b (λ y. ordered u x) w′) (sym here) turned,
+        masks-next j b u o s r (g .1) k n (row-rectifies p gates q b (λ y. ordered u s) r turned e),
       )
 
-  -- the sets after it
-  pub block-met : (b count : ℕ) (masks readings words : List ℕ) {ss ts : List ℕ} → p .reads ≤ 10 → BlockRange (p .inputs) b count
-      → BlockEvaluated p gates b words
-      → ((y : ℕ) → y < 1024 → gathered readings y ≡ numberOf (map (valueIn words y) (take (p .reads) (p .nets))))
-      → BlockMasks p gates words masks
-      → ts ≡ setsFrom (gathered masks) (λ y. gathered readings y % 1024) ss 0 (filled count)
-      → BlockMet p gates b count ss ts
-  block-met b count masks readings words {ss} {ts} k r e g m n =
+  pub masks-all : {w₀ w ms : List ℕ} → p .targets ≤ 4 → Among (p .targets) u → length ms ≡ 256
+      → MasksDone p gates u w₀ (2 ^ p .targets) w ms → BlockMasks p gates w₀ ms
+  masks-all {w₀} {w} {ms} m f l d =
       record {
-        long = ap length n ∙ setsFrom-length (gathered masks) (λ y. gathered readings y % 1024) ss 0 (filled count);
-        sets = λ j q h.
-            let is = candidateNets j in
-            let d = block-readings (reads-of q) b readings words k e g (candidates-below j (q .good)) in
-            sets-noted b count masks readings
-            (subst (λ (i : ℕ). BlockRange i b count) (q .inputs) r)
-            (m .sets j is q b (e .values j is (reads-of q)))
-            (d .0)
-            (d .1)
-            n
+        long = l;
+        sets = λ j is q b a y h.
+            masks-gathered j b u ms (omega (arith, q .targets)) o (subst (λ (k : ℕ). Among k u) (q .targets) f)
+            (subst (λ (k : ℕ). MasksTo j b u (2 ^ k) ms) (q .targets) (d j is q b a .1))
+            y
             h;
       }
+
+-- ---- numbers
 
 -- a block's number is small
 pub block-small : {n b count : ℕ} → BlockRange n b count → n ≤ 20 → b < 65536
@@ -197,7 +187,13 @@ blocks-within n b l e h =
 
 module _ {p : Plan} {gates : List ℕ} {b : ℕ} (h : 1024 * b < 2 ^ p .inputs) where
   pub settled-none : SettledFrom p gates b 0
-  settled-none = record { within = omega arith; few = omega arith; settled = λ j is q x v l u. let f : ⊥ = omega arith in absurd f }
+  settled-none =
+      record {
+        within = omega arith;
+        few = omega arith;
+        range = λ l. let f : ⊥ = omega arith in absurd f;
+        settled = λ j is q x v l u. let f : ⊥ = omega arith in absurd f;
+      }
 
   pub settled-blocks : 15 ≤ p .inputs → b % 32 ≡ 0
       → ((j : Job) (is : List ℕ) → PlannedOf j is p gates → (x v : ℕ) → InRange 15 (b / 32) x → rectifies j x v ≡ true)
@@ -206,5 +202,6 @@ module _ {p : Plan} {gates : List ℕ} {b : ℕ} (h : 1024 * b < 2 ^ p .inputs) 
       record {
         within = blocks-within (p .inputs) b l e h;
         few = omega arith;
+        range = λ z. (refl, e);
         settled = λ j is q x v a u. r j is q x v (blocks-range b x e a u);
       }

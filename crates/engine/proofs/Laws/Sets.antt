@@ -2,14 +2,13 @@
 -- support is sound where no set is empty. Leaving out a net joins two sets each. Assumes nothing.
 use Prim.Native.Nat.{ℕ, zero, suc, _+_, _*_, _/_, _%_, _^_, min, _≤_, _<_}
 use mathlib.Core.Path.{_≡_, refl, sym, _∙_, ap}
-use mathlib.Core.Logic.{_↔_, _⊎_, ⊎-elim}
+use mathlib.Core.Logic.{_↔_, _⊎_, inl, inr, ⊎-elim}
 use mathlib.Core.List.{List, [], _∷_, _++_, map}
 use mathlib.Core.Bool.{true, false}
 use mathlib.Core.Option.{Option, none, some}
-use native.Mathlib.Nat.{mul-assoc, mul-comm, mod-eq-of-lt, pow-suc, div-one, eq-or-lt-of-le}
+use native.Mathlib.Nat.{mul-assoc, mul-comm, mod-eq-of-lt, pow-suc, div-one, eq-or-lt-of-le, eq-zero-or-pos}
 use native.Mathlib.Omega.{arith}
 use borrow.Author.Tests.{eqb-true, eq-eqb}
-use lib.Bits.{and-le-l}
 use lib.Dec.{eqb}
 use lib.Pow.{pow-mono, shr-shr}
 use lib.ListN.{length, getD, take, set, length-append}
@@ -22,18 +21,19 @@ use Rattle.engine.specs.Eval.{bit, numberOf, oldValues}
 use Rattle.engine.specs.Support.{reading, shared, sound, tableOf, candidateNets}
 use Rattle.engine.specs.Verdict.{blindReading}
 use Rattle.engine.specs.Inner.List.{maxVectors, lowest}
-use Rattle.engine.specs.Inner.Best.{RectifiesAll, SetsOf, NotEmpty, FirstEmpty, spread, joinedAt}
-use Rattle.engine.proofs.Laws.Choice.{Least, first-least, first-none-below, found-first, not-both}
+use Rattle.engine.specs.Inner.Best.{RectifiesAll, SetsOf, NotEmpty, GivenBits, FirstEmpty, spread, joinedAt}
+use Rattle.engine.proofs.Laws.Choice.{Least, none-or-some, first-least, first-none-below, found-first, not-both}
 use Rattle.engine.proofs.Laws.Eval.{bit-lt, netAt-lt, oldValues-bits}
+use Rattle.engine.proofs.Laws.Shift.{bit-mod}
 use Rattle.engine.proofs.Laws.Support.{shared-least, shared-none, sound-iff-found, length-tableOf, getD-tableOf}
-use Rattle.engine.proofs.Laws.VectorSets.{lowest-zero, lowest-some}
+use Rattle.engine.proofs.Laws.VectorSets.{lowest-some, lowest-bit}
 use Rattle.engine.proofs.Laws.Verdict.{LeastBlind, blind-least, blind-unique, unsound-of-blind}
-use Rattle.engine.proofs.Laws.Word.{bit-and}
+use Rattle.engine.proofs.Laws.Word.{bit-and, bit-zero}
 
 -- ---- the lowest vector of a set
 
 module _ (t : ℕ) where
-  pub lowest-least : (v : ℕ) → lowest t ≡ some v → Least (λ u. eqb (bit u t) 1) maxVectors v
+  lowest-least : (v : ℕ) → lowest t ≡ some v → Least (λ u. eqb (bit u t) 1) maxVectors v
   unfolding lowest
   lowest-least v e = first-least (λ u. eqb (bit u t) 1) maxVectors v e
 
@@ -42,16 +42,29 @@ module _ (t : ℕ) where
   lowest-none e v h q =
       not-both (eq-eqb (bit v t) 1 q) (first-none-below (λ u. eqb (bit u t) 1) maxVectors e v h)
 
-  found-lowest : NotEmpty t → found (lowest t) ≡ true
+  pub found-lowest : NotEmpty t → found (lowest t) ≡ true
   unfolding lowest
   found-lowest h = found-first (λ u. eqb (bit u t) 1) maxVectors (h .0) (h .1) (eq-eqb (bit (h .0) t) 1 (h .2))
 
--- a set that is not 0 has a vector
-pub holds-some : (t : ℕ) → t < 2 ^ maxVectors → (t ≡ 0 → ⊥) → NotEmpty t
-holds-some t h z =
-    let v = orZero (lowest t) in
-    let l = lowest-least t v (lowest-some t h z) in
-    (v, l .below, eqb-true (bit v t) 1 (l .holds))
+-- a set whose low 16 bits are not 0 has a vector
+pub holds-some : (t : ℕ) → (t % 65536 ≡ 0 → ⊥) → NotEmpty t
+holds-some t z =
+    let u = t % 65536 in
+    let v = orZero (lowest u) in
+    let l = lowest-least u v (lowest-some u (omega arith) z) in
+    (v, l .below, sym (bit-mod 16 v t (l .below)) ∙ eqb-true (bit v u) 1 (l .holds))
+
+-- .. and one where they are 0 has none
+lowest-empty : (t : ℕ) → t % 65536 ≡ 0 → lowest t ≡ none
+lowest-empty t z =
+    ⊎-elim
+    (λ (e : lowest t ≡ none). e)
+    (λ r.
+    let v = r .0 in
+    let b = lowest-bit t v (r .1) in
+    let f : ⊥ = omega (arith, b .1, bit-mod 16 v t (b .0), ap (bit v) z, bit-zero v) in
+    absurd f)
+    (none-or-some (lowest t))
 
 -- ---- the shared vector at a reading
 
@@ -102,10 +115,10 @@ module _ (j : Job) (is : List ℕ) (t : ℕ → ℕ) (few : j .targets ≤ 4)
   sound-at : ((r : ℕ) → r < 2 ^ length is → NotEmpty (t r)) → sound j is ≡ true
   sound-at f = sound-iff-found j is .1 (λ r l. rw (shared-at r l) (found-lowest (t r) (f r l)))
 
-  unsound-at : (r : ℕ) → r < 2 ^ length is → t r ≡ 0 → sound j is ≡ false
+  unsound-at : (r : ℕ) → r < 2 ^ length is → t r % 65536 ≡ 0 → sound j is ≡ false
   unfolding found
   unsound-at r l z =
-      let e : shared j is r ≡ none = shared-at r l ∙ rw z lowest-zero in
+      let e : shared j is r ≡ none = shared-at r l ∙ lowest-empty (t r) z in
       false-of (sound j is) (λ s. not-both (sound-iff-found j is .0 s r l) (ap found e))
 
 module _ (j : Job) (is ss : List ℕ) (h : SetsOf j is ss) where
@@ -201,73 +214,112 @@ reading-with j (z ∷ xs) x ks y =
 abbrev pub JoinedTo : List ℕ → ℕ → List ℕ → ℕ → Type 0
 JoinedTo ss i ps n = (q : ℕ) → q < n → (getD ps q 0 ≡ joinedAt ss i q) × NotEmpty (joinedAt ss i q)
 
-pub joined-small : (ss : List ℕ) (i q : ℕ) → getD ss (spread i q) 0 < 2 ^ maxVectors → joinedAt ss i q < 2 ^ maxVectors
-unfolding joinedAt
-joined-small ss i q h = omega (arith, and-le-l (getD ss (spread i q) 0) (getD ss (spread i q + 2 ^ i) 0))
-
-pub joined-next : (ss : List ℕ) (i : ℕ) (ps : List ℕ) (n v : ℕ) → n < length ps → v ≡ joinedAt ss i n → v < 2 ^ maxVectors
-    → (v ≡ 0 → ⊥) → JoinedTo ss i ps n → JoinedTo ss i (set ps n v) (n + 1)
-joined-next ss i ps n v l e b z f q h =
+pub joined-next : (ss : List ℕ) (i : ℕ) (ps : List ℕ) (n v : ℕ) → n < length ps → v ≡ joinedAt ss i n
+    → (v % 65536 ≡ 0 → ⊥) → JoinedTo ss i ps n → JoinedTo ss i (set ps n v) (n + 1)
+joined-next ss i ps n v l e z f q h =
     ⊎-elim
-    (λ (u : q ≡ n). rw u (getD-set-same ps n v 0 l ∙ e, rw (← e) (holds-some v b z)))
+    (λ (u : q ≡ n). rw u (getD-set-same ps n v 0 l ∙ e, rw (← e) (holds-some v z)))
     (λ (u : q < n).
     let g = f q u in
     (getD-set-other ps n q v 0 (λ w. let y : ⊥ = omega arith in y) ∙ g .0, g .1))
     (eq-or-lt-of-le (omega arith))
 
-module _ (j : Job) (xs : List ℕ) (x : ℕ) (ks ss : List ℕ) (h : SetsOf j (xs ++ (x ∷ ks)) ss) where
+module _ (j : Job) (xs : List ℕ) (x : ℕ) (ks ss : List ℕ) where
   abbrev others : List ℕ
   others = xs ++ ks
 
-  one-more : length (xs ++ (x ∷ ks)) ≡ suc (length others)
-  one-more = omega (arith, length-append xs (x ∷ ks), length-append xs ks)
+  -- the readings with the net that come from reading q of the others, and their sets
+  abbrev low : ℕ → ℕ
+  low q = spread (length xs) q
 
-  -- the readings that come from reading q of the others
-  from-others : (y q c : ℕ) → c < 2 → reading j (xs ++ (x ∷ ks)) y ≡ spread (length xs) q + c * 2 ^ length xs
-      → reading j others y ≡ q
-  from-others y q c l e =
-      spread-same (length xs) (reading j others y) q (netAt (oldValues j y 0) x) c (netAt-lt (oldValues-bits j y 0) x) l
-      (sym (reading-with j xs x ks y) ∙ e)
+  abbrev high : ℕ → ℕ
+  high q = low q + 2 ^ length xs
 
-  joined-iff : (q v : ℕ) → q < 2 ^ length others → v < maxVectors
-      → (bit v (joinedAt ss (length xs) q) ≡ 1) ↔ ((v < 2 ^ j .targets) × RectifiesAll j others q v)
+  both-lt : (q : ℕ) → q < 2 ^ length others → (low q < 2 ^ length (xs ++ (x ∷ ks))) × (high q < 2 ^ length (xs ++ (x ∷ ks)))
+  both-lt q l =
+      let n : length (xs ++ (x ∷ ks)) ≡ suc (length others) = omega (arith, length-append xs (x ∷ ks), length-append xs ks) in
+      let w = spread-lt (length xs) (length others) q (omega (arith, length-append xs ks)) l in
+      rw n (omega arith, w)
+
+  bit-joined : (v q : ℕ) → bit v (joinedAt ss (length xs) q) ≡ min (bit v (getD ss (low q) 0)) (bit v (getD ss (high q) 0))
   unfolding joinedAt
-  joined-iff q v l m =
-      let i = length xs in
-      let a = spread i q in
-      let w = spread-lt i (length others) q (omega (arith, length-append xs ks)) l in
-      let s = h .sets a v (rw one-more (omega arith)) m in
-      let t = h .sets (a + 2 ^ i) v (rw one-more w) m in
-      let both = both-one (bit v (getD ss a 0)) (bit v (getD ss (a + 2 ^ i) 0)) (bit-lt v (getD ss a 0)) (bit-lt v (getD ss (a + 2 ^ i) 0)) in
-      let g = bit-and v (getD ss a 0) (getD ss (a + 2 ^ i) 0) in (
-        λ e.
-            let u = both .0 (sym g ∙ e) in (
-              s .0 (u .0) .0,
-              λ y b d.
-                  let n = netAt-lt (oldValues-bits j y 0) x in
-                  let r : reading j (xs ++ (x ∷ ks)) y ≡ a + netAt (oldValues j y 0) x * 2 ^ i = reading-with j xs x ks y ∙ rw d in
-                  ⊎-elim
-                  (λ (z : netAt (oldValues j y 0) x ≡ 1). t .0 (u .1) .1 y b (rw z at r ∙ omega arith))
-                  (λ (z : netAt (oldValues j y 0) x < 1).
-                  let o : netAt (oldValues j y 0) x ≡ 0 = omega arith in
-                  s .0 (u .0) .1 y b (rw o at r ∙ omega arith))
-                  (eq-or-lt-of-le (omega arith)),
-            ),
-        λ e.
-            g ∙ both .1 (
-              s .1 (e .0, λ y b d. e .1 y b (from-others y q 0 (omega arith) (d ∙ omega arith))),
-              t .1 (e .0, λ y b d. e .1 y b (from-others y q 1 (omega arith) (d ∙ omega arith))),
-            ),
-      )
+  bit-joined v q = bit-and v (getD ss (low q) 0) (getD ss (high q) 0)
 
-  pub left-sets : (ps : List ℕ) → ((q : ℕ) → q < 2 ^ length others → getD ps q 0 ≡ joinedAt ss (length xs) q) → SetsOf j others ps
-  left-sets ps f = record { targets = h .targets; sets = λ q v l m. rw (f q l) (joined-iff q v l m) }
+  joined-one : (v q : ℕ) → (bit v (joinedAt ss (length xs) q) ≡ 1) ↔ ((bit v (getD ss (low q) 0) ≡ 1) × (bit v (getD ss (high q) 0) ≡ 1))
+  joined-one v q =
+      let a = getD ss (low q) 0 in
+      let b = getD ss (high q) 0 in
+      rw (bit-joined v q) (both-one (bit v a) (bit v b) (bit-lt v a) (bit-lt v b))
 
-  pub left-sound : ((q : ℕ) → q < 2 ^ length others → NotEmpty (joinedAt ss (length xs) q)) → sound j others ≡ true
-  left-sound = sound-at j others (joinedAt ss (length xs)) (h .targets) joined-iff
+  -- an input gives reading q of the others exactly when it gives one of both
+  module _ (y q : ℕ) where
+    from-others : (c : ℕ) → c < 2 → reading j (xs ++ (x ∷ ks)) y ≡ low q + c * 2 ^ length xs → reading j others y ≡ q
+    from-others c l e =
+        spread-same (length xs) (reading j others y) q (netAt (oldValues j y 0) x) c (netAt-lt (oldValues-bits j y 0) x) l
+        (sym (reading-with j xs x ks y) ∙ e)
 
-  pub left-unsound : (q : ℕ) → q < 2 ^ length others → joinedAt ss (length xs) q ≡ 0 → sound j others ≡ false
-  left-unsound = unsound-at j others (joinedAt ss (length xs)) (h .targets) joined-iff
+    from-low : reading j (xs ++ (x ∷ ks)) y ≡ low q → reading j others y ≡ q
+    from-low e = from-others 0 (omega arith) (e ∙ omega arith)
+
+    from-high : reading j (xs ++ (x ∷ ks)) y ≡ high q → reading j others y ≡ q
+    from-high e = from-others 1 (omega arith) (e ∙ omega arith)
+
+    with-net : reading j others y ≡ q → (reading j (xs ++ (x ∷ ks)) y ≡ low q) ⊎ (reading j (xs ++ (x ∷ ks)) y ≡ high q)
+    with-net e =
+        let v = netAt (oldValues j y 0) x in
+        let r : reading j (xs ++ (x ∷ ks)) y ≡ low q + v * 2 ^ length xs = reading-with j xs x ks y ∙ rw e in
+        ⊎-elim
+        (λ (z : v ≡ 1). inr (rw z at r ∙ omega arith))
+        (λ (z : v < 1). let o : v ≡ 0 = omega arith in inl (rw o at r ∙ omega arith))
+        (eq-or-lt-of-le (omega (arith, netAt-lt (oldValues-bits j y 0) x)))
+
+  module _ (h : SetsOf j (xs ++ (x ∷ ks)) ss) where
+    joined-iff : (q v : ℕ) → q < 2 ^ length others → v < maxVectors
+        → (bit v (joinedAt ss (length xs) q) ≡ 1) ↔ ((v < 2 ^ j .targets) × RectifiesAll j others q v)
+    joined-iff q v l m =
+        let s = h .sets (low q) v (both-lt q l .0) m in
+        let t = h .sets (high q) v (both-lt q l .1) m in
+        let both = joined-one v q in (
+          λ e.
+              let u = both .0 e in
+              (s .0 (u .0) .0, λ y b d. ⊎-elim (s .0 (u .0) .1 y b) (t .0 (u .1) .1 y b) (with-net y q d)),
+          λ e.
+              both .1 (
+                s .1 (e .0, λ y b d. e .1 y b (from-low y q d)),
+                t .1 (e .0, λ y b d. e .1 y b (from-high y q d)),
+              ),
+        )
+
+    pub left-sets : (ps : List ℕ) → ((q : ℕ) → q < 2 ^ length others → getD ps q 0 ≡ joinedAt ss (length xs) q) → SetsOf j others ps
+    left-sets ps f = record { targets = h .targets; sets = λ q v l m. rw (f q l) (joined-iff q v l m) }
+
+    pub left-sound : ((q : ℕ) → q < 2 ^ length others → NotEmpty (joinedAt ss (length xs) q)) → sound j others ≡ true
+    left-sound = sound-at j others (joinedAt ss (length xs)) (h .targets) joined-iff
+
+    pub left-unsound : (q : ℕ) → q < 2 ^ length others → joinedAt ss (length xs) q % 65536 ≡ 0 → sound j others ≡ false
+    left-unsound = unsound-at j others (joinedAt ss (length xs)) (h .targets) joined-iff
+
+  -- the bits above the vectors are joined too: some input gives reading q of the others where one gives one of both
+  pub left-given : (ps : List ℕ) → ((q : ℕ) → q < 2 ^ length others → getD ps q 0 ≡ joinedAt ss (length xs) q)
+      → (k : ℕ) → GivenBits j (xs ++ (x ∷ ks)) ss k → GivenBits j others ps k
+  left-given ps f k h =
+      record {
+        given =
+            λ q l e.
+            let m = bit-joined maxVectors q in
+            let z : bit maxVectors (joinedAt ss (length xs) q) ≡ 0 = rw (f q l) at e in
+            ⊎-elim
+            (λ i. let g = h .given (low q) (both-lt q l .0) i in (g .0, g .1, from-low (g .0) q (g .2)))
+            (λ i. let g = h .given (high q) (both-lt q l .1) (omega arith) in (g .0, g .1, from-high (g .0) q (g .2)))
+            (eq-zero-or-pos (bit maxVectors (getD ss (low q) 0)));
+        unmet =
+            λ q l e y b n d.
+            let u = joined-one maxVectors q .0 (rw (f q l) at e) in
+            ⊎-elim
+            (h .unmet (low q) (both-lt q l .0) (u .0) y b n)
+            (h .unmet (high q) (both-lt q l .1) (u .1) y b n)
+            (with-net y q d);
+      }
 
 -- ---- the first empty set of all
 
@@ -283,7 +335,7 @@ module _ (j : Job) (ss : List ℕ) (h : SetsOf j (candidateNets j) ss) (r : ℕ)
   least-blind l =
       record {
         below = l;
-        none-shared = shared-sets j (candidateNets j) ss h r l ∙ rw (f .empty l) lowest-zero;
+        none-shared = shared-sets j (candidateNets j) ss h r l ∙ lowest-empty (getD ss r 0) (f .empty l);
         smaller = λ q i e. not-both (found-before q i) (ap found e);
       }
 

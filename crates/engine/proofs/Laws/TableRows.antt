@@ -11,7 +11,7 @@ use Rattle.engine.proofs.Laws.Rows.{turned-back, gathered-quarter, mod-
 
 -- ---- four numbers in a word
 
-module _ (a b c d : ℕ) (h : a < 256) (i : b < 256) (j : c < 256) (k : d < 256) where
+module _ (a b c d : ℕ) (h : a < 65536) (i : b < 65536) (j : c < 65536) (k : d < 65536) where
   abbrev four : ℕ
   four = a + b * 65536 + c * 4294967296 + d * 281474976710656
 
@@ -31,7 +31,7 @@ module _ (a b c d : ℕ) (h : a < 256) (i : b < 256) (j : c < 256) (k : d < 256)
   pub four-word : a + b * 2 ^ 16 % 2 ^ 64 + c * 2 ^ 32 % 2 ^ 64 + d * 2 ^ 48 % 2 ^ 64 ≡ four
   four-word = omega arith
 
-pub looked-four : (t : List ℕ) (x a b c d : ℕ) → a < 256 → b < 256 → c < 256 → d < 256 → a ≡ getD t (x % 1024) 0
+pub looked-four : (t : List ℕ) (x a b c d : ℕ) → a < 65536 → b < 65536 → c < 65536 → d < 65536 → a ≡ getD t (x % 1024) 0
     → b ≡ getD t (x / 2 ^ 16 % 1024) 0 → c ≡ getD t (x / 2 ^ 32 % 1024) 0 → d ≡ getD t (x / 2 ^ 48 % 1024) 0
     → Looked t x (a + b * 2 ^ 16 % 2 ^ 64 + c * 2 ^ 32 % 2 ^ 64 + d * 2 ^ 48 % 2 ^ 64)
 looked-four t x a b c d h i j k p q r s zero l =

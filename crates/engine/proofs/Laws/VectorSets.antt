@@ -4,18 +4,18 @@ use Prim.Native.Nat.{ℕ, zero, suc, _+_, _-_, _*_, _/_, _%_, _^_, _≤_, _<_}
 use mathlib.Core.Path.{_≡_, refl, sym, _∙_, ap}
 use mathlib.Core.Logic.{_↔_, ⊎-elim}
 use mathlib.Core.List.{List, map}
-use mathlib.Core.Bool.{Bool, true, false, cond, not}
+use mathlib.Core.Bool.{Bool, true, false, cond}
 use mathlib.Core.Option.{none, some}
 use native.Mathlib.Nat.{mod-lt, zero-mul, zero-add, suc-add, zero-div, div-one, pow-suc}
 use native.Mathlib.Numerals.{one-add}
 use native.Mathlib.Omega.{arith}
 use borrow.Author.Tests.{eq-eqb, eqb-true, eqb-false, ltb-true, ltb-false}
 use lib.Dec.{eqb, ltb}
-use lib.ListN.{getD, set, List·getD-eq-default}
+use lib.ListN.{getD, List·getD-eq-default}
 use lib.Pow.{pow-pos, pow-mono, shr-lt, shr-shr, split}
 use Rattle.records.specs.Bytes.{upFrom, tabulate}
 use Rattle.records.specs.Job.{Job}
-use Rattle.records.proofs.Laws.Bytes.{length-tabulate, getD-tabulate, tabulate-ext}
+use Rattle.records.proofs.Laws.Bytes.{length-tabulate, getD-tabulate}
 use Rattle.engine.specs.Choice.{first, orZero}
 use Rattle.engine.specs.Eval.{bit, numberOf, allVectors}
 use Rattle.engine.specs.Rectify.{rectifies}
@@ -137,7 +137,7 @@ unfolding numberOf upFrom
 ones-from a zero = refl
 ones-from a (suc n) = omega (arith, ones-from (suc a) n, pow-suc 2 n, pow-pos n)
 
-pub numberOf-ones : (n : ℕ) → numberOf (tabulate n (λ i. 1)) ≡ 2 ^ n - 1
+numberOf-ones : (n : ℕ) → numberOf (tabulate n (λ i. 1)) ≡ 2 ^ n - 1
 unfolding tabulate
 numberOf-ones n = ones-from 0 n
 
@@ -166,14 +166,6 @@ module _ (j : Job) (x : ℕ) where
   pub rectifiers-beyond : (v : ℕ) → 2 ^ j .targets ≤ v → bit v (rectifiers j x) ≡ 0
   rectifiers-beyond v l =
       ap (bit v) rectifiers-tabulate ∙ bit-beyond (2 ^ j .targets) member (λ i. cond-lt (rectifies j x i)) v l
-
-  -- where every vector rectifies the input, the set is full
-  pub rectifiers-full : ((v : ℕ) → v < 2 ^ j .targets → rectifies j x v ≡ true) → rectifiers j x ≡ 2 ^ 2 ^ j .targets - 1
-  rectifiers-full h =
-      rectifiers-tabulate
-      ∙ ap numberOf
-      (tabulate-ext (2 ^ j .targets) member (λ i. 1) (λ v l. ap (λ (b : Bool). cond b 1 0) (h v l)))
-      ∙ numberOf-ones (2 ^ j .targets)
 
   pub inSet-rectifiers : (v : ℕ) → v < 2 ^ j .targets → inSet (rectifiers j x) v ≡ rectifies j x v
   inSet-rectifiers v l = ap (λ (b : ℕ). eqb b 1) (rectifiers-bit v l) ∙ eqb-cond (rectifies j x v)

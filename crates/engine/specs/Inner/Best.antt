@@ -6,6 +6,8 @@
 --   ReadingSets j ss       the set of reading r of all candidates holds the vectors that rectify every input giving r
 --   SetsOf j is ss         .. of reading r of the nets is, for a job whose vectors all fit a set
 --   NotEmpty t             the set of vectors t has one
+--   GivenBits j is ss k    bit 16 of a set of the nets is is 0 only where some input gives the reading; where it is 1, none does but in ranges of
+--                          2 ^ 15 inputs that were skipped, bit i of k for range i
 --   FirstEmpty ss n r      r is the least place below n whose set is empty, or n
 --   spread i q             the reading q with a bit 0 put in at place i: of one net more, at place i, whose value is 0
 --   joinedAt ss i q        the vectors in the sets of both readings that are q without net i
@@ -39,6 +41,7 @@ use Rattle.records.specs.Refusal.{maxTargets, maxCandidates, ascending}
 use Rattle.records.specs.Service.{candidatesFrom}
 use Rattle.records.specs.declared.sheet.Support.{Support}
 use Rattle.engine.specs.Eval.{bit}
+use Rattle.engine.specs.Claims.{SomeGives}
 use Rattle.engine.specs.Rectify.{rectifies}
 use Rattle.engine.specs.Support.{reading, sound, candidateNets, cost, patchGates, better, chosen}
 use Rattle.engine.specs.Inner.List.{maxVectors}
@@ -70,9 +73,14 @@ pub record SetsOf (j : Job) (is ss : List ℕ) : Type 0 where
 abbrev pub NotEmpty : ℕ → Type 0
 NotEmpty t = (v : ℕ) × (v < maxVectors) × (bit v t ≡ 1)
 
+pub record GivenBits (j : Job) (is ss : List ℕ) (k : ℕ) : Type 0 where
+  pub given : (r : ℕ) → r < 2 ^ length is → bit maxVectors (getD ss r 0) ≡ 0 → SomeGives j is r
+  pub unmet : (r : ℕ) → r < 2 ^ length is → bit maxVectors (getD ss r 0) ≡ 1
+      → (x : ℕ) → x < 2 ^ j .inputs → bit (x / 32768) k ≡ 0 → reading j is x ≡ r → ⊥
+
 pub record FirstEmpty (ss : List ℕ) (count r : ℕ) : Type 0 where
   pub most : r ≤ count
-  pub empty : r < count → getD ss r 0 ≡ 0
+  pub empty : r < count → getD ss r 0 % 65536 ≡ 0
   pub filled : (q : ℕ) → q < r → NotEmpty (getD ss q 0)
 
 -- ---- a net left out
@@ -86,7 +94,7 @@ joinedAt ss i q = bitAnd (getD ss (spread i q) 0) (getD ss (spread i q + 2 ^ i) 
 
 pub record LeftOut (ss : List ℕ) (n i : ℕ) (r : Left) : Type 0 where
   pub filled : r .sound ≡ true → (q : ℕ) → q < 2 ^ n → (getD (r .sets) q 0 ≡ joinedAt ss i q) × NotEmpty (joinedAt ss i q)
-  pub empty : r .sound ≡ false → (q : ℕ) × (q < 2 ^ n) × (joinedAt ss i q ≡ 0)
+  pub empty : r .sound ≡ false → (q : ℕ) × (q < 2 ^ n) × (joinedAt ss i q % 65536 ≡ 0)
 
 -- ---- picks
 

@@ -8,7 +8,7 @@
 --   Ran cs before after    in every scenario the values after are those that the gates cs give
 --   rowValue r y           bit y % 64 of word y / 64 of the 16 words r: what a row says of scenario y
 --   LowestBit w k r        r is the lowest place below k whose bit in w is 1; k where there is none
---   FirstUnequal row r     r is the first scenario of which the row says 0; 1,024 where there is none
+--   FirstZero row r        r is the first scenario of which the row says 0; 1,024 where there is none
 use Prim.Native.Nat.{ℕ, _+_, _*_, _/_, _%_, _≤_, _<_}
 use mathlib.Core.Path.{_≡_}
 use mathlib.Core.List.{List}
@@ -59,7 +59,7 @@ pub record LowestBit (word count r : ℕ) : Type 0 where
   pub clear : (i : ℕ) → i < r → bit i word ≡ 0
   pub set : r < count → bit r word ≡ 1
 
-pub record FirstUnequal (row : List ℕ) (r : ℕ) : Type 0 where
+pub record FirstZero (row : List ℕ) (r : ℕ) : Type 0 where
   pub most : r ≤ 1024
-  pub equal : (y : ℕ) → y < r → rowValue row y ≡ 1
-  pub unequal : r < 1024 → rowValue row r ≡ 0
+  pub ones : (y : ℕ) → y < r → rowValue row y ≡ 1
+  pub zero : r < 1024 → rowValue row r ≡ 0

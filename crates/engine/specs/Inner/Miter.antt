@@ -8,6 +8,9 @@
 --   miterNets j          how many nets
 --   miterValues j x v    the value of each net at input x and vector v
 --   codes j              the gates packed
+--   onOperands F vs g    F of gate g's kind and of what vs has at its operands
+--   SameGates d gs hs    the gates hs may stand for the gates gs, over d leaves: whatever depends on a gate's kind and on what its operands
+--                        have comes out the same at every net
 --   GateFits g s         gate g, its used operands shifted by s, fits into one number
 --   GatesFit ..          so do the first k gates, and there are places for them
 --   CodesPut ..          .. which stand there, from place at on, and drive the nets from base on
@@ -15,6 +18,7 @@
 --   SomeParts p          p are the parts of some good job
 --   MiterRoom m          lengths and bounds of the struct m
 --   MiterOf j m          the struct m has the miter of the good job j
+--   MergedOf j m         .. gates that may stand for the miter's, and nets that have the values of its golden outputs
 use Prim.Native.Nat.{ℕ, _+_, _≤_, _<_}
 use mathlib.Core.Path.{_≡_}
 use mathlib.Core.List.{List, _++_, map}
@@ -23,7 +27,8 @@ use lib.Dec.{ltb}
 use lib.ListN.{length, getD, take}
 use Rattle.records.specs.Bytes.{all}
 use Rattle.records.specs.Gate.{Gate, operands, unused}
-use Rattle.records.specs.Netlist.{values}
+use Rattle.records.specs.Netlist.{netAt, extended, values}
+use Rattle.records.specs.Refusal.{gatesGood}
 use Rattle.records.specs.Job.{Job}
 use Rattle.records.specs.Service.{structSlots, gatesIn, noGate}
 use Rattle.records.specs.Claims.{Below, PartsGood}
@@ -57,6 +62,18 @@ miterValues j x v = values (bits (j .inputs) x ++ bits (j .targets) v) (miterGat
 
 unfoldable pub codes : Job → List ℕ
 codes j = packedFrom (j .inputs + j .targets) (miterGates j)
+
+-- ---- gates that stand for others
+
+abbrev pub onOperands : (ℕ → List ℕ → ℕ) → List ℕ → Gate → ℕ
+onOperands F vs g = F (g .kind) (map (netAt vs) (operands g))
+
+pub record SameGates (d : ℕ) (gs hs : List Gate) : Type 0 where
+  pub long : length hs ≡ length gs
+  pub good : gatesGood d hs ≡ true
+  pub forms : all formed hs ≡ true
+  pub same : (F : ℕ → List ℕ → ℕ) (leaves : List ℕ) → length leaves ≡ d
+      → extended (onOperands F) leaves hs ≡ extended (onOperands F) leaves gs
 
 -- ---- the struct
 
@@ -111,3 +128,16 @@ pub record MiterOf (j : Job) (m : Miter) : Type 0 where
   pub outs : m .outs ≡ length (j .old .outputs)
   pub outputs : take (m .outs) (m .outputs) ≡ j .old .outputs
   pub goldens : take (m .outs) (m .goldens) ≡ miterGoldens j
+
+pub record MergedOf (j : Job) (m : Miter) : Type 0 where
+  pub good : PartsGood j
+  pub inputs : m .inputs ≡ j .inputs
+  pub targets : m .targets ≡ j .targets
+  pub count : m .count ≡ length (miterGates j)
+  pub merged : List Gate
+  pub same : SameGates (j .inputs + j .targets) (miterGates j) merged
+  pub gates : take (m .count) (m .gates) ≡ packedFrom (j .inputs + j .targets) merged
+  pub outs : m .outs ≡ length (j .old .outputs)
+  pub outputs : take (m .outs) (m .outputs) ≡ j .old .outputs
+  pub below : all (λ i. ltb i (miterNets j)) (take (m .outs) (m .goldens)) ≡ true
+  pub goldens : (x v : ℕ) → map (netAt (miterValues j x v)) (take (m .outs) (m .goldens)) ≡ map (netAt (miterValues j x v)) (miterGoldens j)

@@ -10,17 +10,16 @@
 --   Joined ..        .. of each of which a row says 1
 --   CoveredTo ..     .. of each from one on to another
 --   ListNoted ..     the list after a block's inputs
-use Prim.Native.Nat.{ℕ, zero, suc, _+_, _-_, _*_, _/_, _%_, _^_, _≤_, _<_}
+use Prim.Native.Nat.{ℕ, zero, suc, _+_, _*_, _/_, _%_, _≤_, _<_}
 use mathlib.Core.Path.{_≡_}
 use mathlib.Core.List.{List}
 use mathlib.Core.Bool.{true}
 use lib.Bits.{bitAnd}
 use lib.Dec.{eqb}
-use lib.ListN.{getD, set, replicate}
+use lib.ListN.{getD, set}
 use Rattle.records.specs.Bytes.{tabulate}
 use Rattle.engine.specs.Choice.{any, first}
 use Rattle.engine.specs.Eval.{bit, numberOf}
-use Rattle.engine.specs.Support.{reading}
 use Rattle.engine.specs.declared.list.Vectors.{Vectors}
 use Rattle.engine.specs.Inner.List.{listedOf, listedFrom, Held}
 use Rattle.engine.specs.Inner.Kernel.{rowValue, valueIn}
@@ -37,9 +36,6 @@ narrowed ss r s = set ss r (bitAnd (getD ss r 0) s)
 unfoldable pub setsFrom : (ℕ → ℕ) → (ℕ → ℕ) → List ℕ → ℕ → ℕ → List ℕ
 setsFrom f g ss x zero = ss
 setsFrom f g ss x (suc k) = setsFrom f g (narrowed ss (g x) (f x)) (suc x) k
-
-unfoldable pub startSets : ℕ → List ℕ
-startSets m = replicate maxReadings (2 ^ 2 ^ m - 1)
 
 unfoldable pub gathered : List ℕ → ℕ → ℕ
 gathered x y = numberOf (tabulate 16 (valueIn x y))

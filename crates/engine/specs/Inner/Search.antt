@@ -1,35 +1,89 @@
 -- What the walk over a job's inputs keeps, block by block (src/masks.rt, src/search.rt). No public contract cites this file.
 -- Assumes nothing.
 --
---   SetsTo j x ss       the sets of all readings after the inputs below x
---   BlockEvaluated ..   the words of a block at vector 0
+--   SetsTo j x k ss     the sets of all readings after the inputs below x. Bit 16 of a set is 0 only where one of them gives the reading; where
+--                       it is 1, none does but in ranges of 2 ^ 15 inputs that were skipped, bit i of k for range i
+--   BlockRead ..        the words of a block on the nets that no target leads to, and the rows of the nets read
+--   BlockZero ..        the words of a block at vector 0, from those
+--   DrivenRow ..        where the vectors of a block's rows rectify its inputs
+--   soleOf s            the only vector of the set s
+--   SoleTable ss t      the table t of the readings' only vectors
+--   BlockKept ..        the sets stay as they are in a block
 --   TargetTurned ..     the words of a block at one vector have become those at another, which differs in target t alone
 --   BlockMasks ..       the rows of a block's masks: the set of the vectors that rectify each of its inputs
 --   BlockRange n b count     the first count inputs of block b: all 1,024, or all inputs of a job with fewer
 --   SettledFrom ..      some blocks from b on in which every vector rectifies every input
 --   BlockMet ..         the sets after a block, from those before
-use Prim.Native.Nat.{ℕ, _+_, _*_, _^_, _≤_, _<_, _-_}
+use Prim.Native.Nat.{ℕ, _+_, _*_, _/_, _%_, _^_, _≤_, _<_}
 use mathlib.Core.Path.{_≡_}
-use mathlib.Core.Logic.{_⊎_}
+use mathlib.Core.Logic.{_↔_, _⊎_}
 use mathlib.Core.List.{List}
-use lib.ListN.{length, set}
+use lib.Dec.{eqb}
+use lib.ListN.{length, getD}
+use Rattle.records.specs.Bytes.{all}
 use Rattle.records.specs.Job.{Job}
+use Rattle.records.specs.Refusal.{candidateGood}
+use Rattle.engine.specs.Choice.{orZero}
 use Rattle.engine.specs.Eval.{bit}
 use Rattle.engine.specs.Support.{candidateNets, reading}
 use Rattle.engine.specs.Inner.Masks.{rectifiers}
 use Rattle.engine.specs.Rectify.{rectifies}
-use Rattle.engine.specs.Inner.Plan.{BlockAt, ReadsOf, PlannedOf}
-use Rattle.engine.specs.Inner.Note.{gathered, maxReadings, setsFrom, startSets}
+use Rattle.engine.specs.Inner.Kernel.{rowValue}
+use Rattle.engine.specs.Inner.List.{maxVectors, lowest}
+use Rattle.engine.specs.Inner.Plan.{BlockAt, BlockFree, ReadsOf, PlannedOf}
+use Rattle.engine.specs.Inner.Note.{gathered, maxReadings}
 use Rattle.engine.specs.declared.plan.Plan.{Plan}
-use mathlib.Core.Bool.{true}
+use mathlib.Core.Bool.{true, cond}
 
-pub record SetsTo (j : Job) (x : ℕ) (ss : List ℕ) : Type 0 where
+pub record SetsTo (j : Job) (x k : ℕ) (ss : List ℕ) : Type 0 where
   pub long : length ss ≡ maxReadings
-  pub sets : ss ≡ setsFrom (rectifiers j) (reading j (candidateNets j)) (startSets (j .targets)) 0 x
+  pub sets : (r v : ℕ) → r < maxReadings → v < maxVectors
+      → (bit v (getD ss r 0) ≡ 1)
+      ↔ ((v < 2 ^ j .targets) × ((y : ℕ) → y < x → reading j (candidateNets j) y ≡ r → rectifies j y v ≡ true))
+  pub given : (r : ℕ) → r < maxReadings → bit maxVectors (getD ss r 0) ≡ 0
+      → (y : ℕ) × (y < x) × (reading j (candidateNets j) y ≡ r)
+  pub unmet : (r : ℕ) → r < maxReadings → bit maxVectors (getD ss r 0) ≡ 1
+      → (y : ℕ) → y < x → bit (y / 32768) k ≡ 0 → reading j (candidateNets j) y ≡ r → ⊥
 
-pub record BlockEvaluated (p : Plan) (gates : List ℕ) (b : ℕ) (words : List ℕ) : Type 0 where
+-- the nets read are priced ones, or might be: no target leads to them
+pub record BlockRead (p : Plan) (gates : List ℕ) (b : ℕ) (words rows : List ℕ) : Type 0 where
   pub long : length words ≡ 16384
-  pub values : (j : Job) (is : List ℕ) (q : ReadsOf j is p gates) → BlockAt j (q .live) b (λ y. 0) words
+  pub many : length rows ≡ 256
+  pub free : (j : Job) (is : List ℕ) (q : ReadsOf j is p gates) → BlockFree j (q .live) b words
+  pub readings : (j : Job) (is : List ℕ) → ReadsOf j is p gates → all (candidateGood j) is ≡ true
+      → (y : ℕ) → y < 1024 → gathered rows y ≡ reading j is (1024 * b + y)
+
+pub record BlockZero (p : Plan) (gates before after : List ℕ) : Type 0 where
+  pub long : length after ≡ length before
+  pub values : (j : Job) (is : List ℕ) (q : PlannedOf j is p gates) (b : ℕ) → BlockFree j (q .live) b before
+      → BlockAt j (q .live) b (λ y. 0) after
+
+-- what the words before say of the nets that no target leads to, those after say
+abbrev pub FreeKept : Plan → List ℕ → List ℕ → List ℕ → Type 0
+FreeKept p gates before after =
+    (j : Job) (is : List ℕ) (q : PlannedOf j is p gates) (b : ℕ) → BlockFree j (q .live) b before → BlockFree j (q .live) b after
+
+-- bit y of the row is 1 exactly when vector y of the rows rectifies input y of the block
+pub record DrivenRow (p : Plan) (gates vectors before row after : List ℕ) : Type 0 where
+  pub long : length after ≡ length before
+  pub free : FreeKept p gates before after
+  pub values : (j : Job) (is : List ℕ) (q : PlannedOf j is p gates) (b : ℕ) → BlockFree j (q .live) b before
+      → (y : ℕ) → y < 1024 → rowValue row y ≡ cond (rectifies j (1024 * b + y) (gathered vectors y)) 1 0
+
+-- 16 where the set is 0, 32 where it has two or more vectors, or no input gave the reading
+unfoldable pub soleOf : ℕ → ℕ
+soleOf s = cond (eqb s 0) 16 (cond (eqb s (2 ^ orZero (lowest s))) (orZero (lowest s)) 32)
+
+abbrev pub SoleTable : List ℕ → List ℕ → Type 0
+SoleTable ss table = (r : ℕ) → r < maxReadings → getD table r 0 ≡ soleOf (getD ss r 0)
+
+-- an input gave the reading of each input before, and each vector in its set rectifies the input
+abbrev pub BlockKept : Plan → List ℕ → List ℕ → List ℕ → List ℕ → Type 0
+BlockKept p gates readings before ss =
+    (j : Job) (is : List ℕ) (q : PlannedOf j is p gates) (b : ℕ) → BlockFree j (q .live) b before
+    → (y : ℕ) → y < 1024
+    → let s = getD ss (gathered readings y % 1024) 0 in
+    (bit maxVectors s ≡ 0) × ((v : ℕ) → v < maxVectors → bit v s ≡ 1 → rectifies j (1024 * b + y) v ≡ true)
 
 -- the lowest bit of x is the new bit of target t
 pub record TargetTurned (p : Plan) (gates : List ℕ) (t x : ℕ) (before after : List ℕ) : Type 0 where
@@ -52,9 +106,11 @@ pub record BlockRange (n b count : ℕ) : Type 0 where
 pub record SettledFrom (p : Plan) (gates : List ℕ) (b r : ℕ) : Type 0 where
   pub within : 1024 * (b + r) ≤ 2 ^ p .inputs
   pub few : r ≤ 32
+  pub range : 0 < r → (r ≡ 32) × (b % 32 ≡ 0)
   pub settled : (j : Job) (is : List ℕ) → PlannedOf j is p gates
       → (x v : ℕ) → 1024 * b ≤ x → x < 1024 * (b + r) → rectifies j x v ≡ true
 
 pub record BlockMet (p : Plan) (gates : List ℕ) (b count : ℕ) (before after : List ℕ) : Type 0 where
   pub long : length after ≡ length before
-  pub sets : (j : Job) → PlannedOf j (candidateNets j) p gates → SetsTo j (1024 * b) before → SetsTo j (1024 * b + count) after
+  pub sets : (j : Job) (k : ℕ) → PlannedOf j (candidateNets j) p gates → SetsTo j (1024 * b) k before
+      → SetsTo j (1024 * b + count) k after

@@ -3,7 +3,7 @@
 --   TableFilled ss n t     the first 2 ^ n places of t are the table of n nets that have the sets ss
 --   noteFrom s o           the note of a reading with the set s, where o is not 0 if no input gives it
 --   NotesFilled ss os n t  .. are its notes, where os says so of each reading
-use Prim.Native.Nat.{ℕ, _-_, _/_, _^_}
+use Prim.Native.Nat.{ℕ, _%_, _^_}
 use mathlib.Core.Path.{_≡_}
 use mathlib.Core.List.{List}
 use mathlib.Core.Bool.{cond}
@@ -23,7 +23,7 @@ pub record TableFilled (ss : List ℕ) (n : ℕ) (t : List ℕ) : Type 0 where
 
 -- exactly one vector is in a set that is the power of two of its smallest
 unfoldable pub noteFrom : ℕ → ℕ → ℕ
-noteFrom s o = cond (eqb o 0) (cond (eqb s (2 ^ orZero (lowest s))) 1 2) 0
+noteFrom s o = cond (eqb o 0) (cond (eqb (s % 65536) (2 ^ orZero (lowest s))) 1 2) 0
 
 pub record NotesFilled (ss os : List ℕ) (n : ℕ) (t : List ℕ) : Type 0 where
   pub long : length t ≡ maxReadings

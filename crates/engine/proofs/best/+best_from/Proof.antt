@@ -19,14 +19,14 @@ use Rattle.engine.proofs.best.leave_out.Reads as leave-out-reads
 use Rattle.engine.proofs.best.+best_from.{statement}
 use Rattle.engine.proofs.best.+best_from.Tie.{close}
 
-abbrev μ-best-from : Measures 1 best-from-kinds.ps ℕ
+abbrev μ-best-from : Measures 2 best-from-kinds.ps ℕ
 μ-best-from κs a = a .1 .1 .1 .1 .1 .0
 
-abbrev best-from-at : ℕ → In 1 best-from-kinds.ps
-best-from-at t = and 1 best-from-kinds.ps (is 1 best-from-kinds.ps μ-best-from t) best-from.Pre
+abbrev best-from-at : ℕ → In 2 best-from-kinds.ps
+best-from-at t = and 2 best-from-kinds.ps (is 2 best-from-kinds.ps μ-best-from t) best-from.Pre
 
-abbrev best-from-below : ℕ → In 1 best-from-kinds.ps
-best-from-below t = and 1 best-from-kinds.ps (falls 1 best-from-kinds.ps _<_ μ-best-from t) best-from.Pre
+abbrev best-from-below : ℕ → In 2 best-from-kinds.ps
+best-from-below t = and 2 best-from-kinds.ps (falls 2 best-from-kinds.ps _<_ μ-best-from t) best-from.Pre
 
 -- what the calls ask and give
 abbrev calls : ℕ → best-from-lts.Claims
@@ -73,29 +73,29 @@ best-from-sub-t17 t c = let p = c .before .before .before .before .before .befor
 
 best-from-best-from-requires : (t : ℕ) → best-from-lts.Need-best-from-requires (calls t) (best-from-at t) best-from.Post
 best-from-best-from-requires t c κs =
-    let s = c .before .before .before .before .before .before .before .before .before in
+    let s = c .before .before .before .before .before .before .before .before .before .before in
     let p = s .pre .1 in
     (omega (arith, s .pre .0), (p .0, fewer-open (p .1) (omega arith), p .2))
 
-best-from-mul-t19 : (t : ℕ) → best-from-lts.Need-mul-t19 (calls t) (best-from-at t) best-from.Post
-best-from-mul-t19 t c = omega (arith, open-small (c .before .before .before .before .before .before .before .pre .1 .1))
+best-from-mul-t20 : (t : ℕ) → best-from-lts.Need-mul-t20 (calls t) (best-from-at t) best-from.Post
+best-from-mul-t20 t c = omega (arith, open-small (c .before .before .before .before .before .before .before .pre .1 .1))
 
-best-from-add-t20 : (t : ℕ) → best-from-lts.Need-add-t20 (calls t) (best-from-at t) best-from.Post
-best-from-add-t20 t c = omega (arith, open-small (c .before .before .before .before .before .before .before .pre .1 .1))
+best-from-add-t21 : (t : ℕ) → best-from-lts.Need-add-t21 (calls t) (best-from-at t) best-from.Post
+best-from-add-t21 t c = omega (arith, open-small (c .before .before .before .before .before .before .before .pre .1 .1))
 
-best-from-mul-t21 : (t : ℕ) → best-from-lts.Need-mul-t21 (calls t) (best-from-at t) best-from.Post
-best-from-mul-t21 t c = let p = c .before .before .before .before .before .before .before .pre .1 .1 in omega (arith, p .places, p .few)
+best-from-mul-t22 : (t : ℕ) → best-from-lts.Need-mul-t22 (calls t) (best-from-at t) best-from.Post
+best-from-mul-t22 t c = let p = c .before .before .before .before .before .before .before .pre .1 .1 in omega (arith, p .places, p .few)
 
-best-from-element-copy-out-t24 : (t : ℕ) → best-from-lts.Need-element-copy-out-t24 (calls t) (best-from-at t) best-from.Post
-best-from-element-copy-out-t24 t c = let p = c .before .before .before .before .before .before .before .pre .1 .1 in omega (arith, p .places, p .few)
+best-from-element-copy-out-t25 : (t : ℕ) → best-from-lts.Need-element-copy-out-t25 (calls t) (best-from-at t) best-from.Post
+best-from-element-copy-out-t25 t c = let p = c .before .before .before .before .before .before .before .pre .1 .1 in omega (arith, p .places, p .few)
 
-best-from-cast-t25 : (t : ℕ) → best-from-lts.Need-cast-t25 (calls t) (best-from-at t) best-from.Post
-best-from-cast-t25 t c =
+best-from-cast-t26 : (t : ℕ) → best-from-lts.Need-cast-t26 (calls t) (best-from-at t) best-from.Post
+best-from-cast-t26 t c =
     let s = c .before .before .before .before .before .before .before .before in
     omega (arith, weight t s (s .args .i - 1) .fits)
 
-best-from-add-t26 : (t : ℕ) → best-from-lts.Need-add-t26 (calls t) (best-from-at t) best-from.Post
-best-from-add-t26 t c =
+best-from-add-t27 : (t : ℕ) → best-from-lts.Need-add-t27 (calls t) (best-from-at t) best-from.Post
+best-from-add-t27 t c =
     let s = c .before .before .before .before .before .before .before .before .before in
     omega (arith, s .pre .1 .1 .cost, weight t s (s .args .i - 1) .fits)
 
@@ -103,7 +103,7 @@ best-from-add-t26 t c =
 found-few : (t : ℕ) (c : best-from-lts.Joined3 (calls t) (best-from-at t) best-from.Post) → c .if3 .found .len ≤ 10
 found-few t c =
     ⊎-elim
-    (λ u. rw (u .5) (u .4 .ensures .0))
+    (λ u. rw (u .6) (u .5 .ensures .0))
     (λ u. rw (u .1) (c .before .before .before .before .before .before .pre .1 .2))
     (c .if3 .came)
 
@@ -125,7 +125,7 @@ best-from-returns-3 t c =
           rw e at
           (best-joined j {p = a .from} w g (rw e h) (u .before .leave-out .ensures)
           (⊎-elim
-          (λ v. inl (v .0 .taken, λ o. rw (v .5) (v .4 .ensures .1 j w g o)))
+          (λ v. inl (v .0 .taken, λ o. rw (v .6) (v .5 .ensures .1 j w g o)))
           (λ v. inr (v .0 .left, v .1))
           (u .if3 .came))
           (λ v o. r .1 j w v o)),
@@ -143,11 +143,11 @@ pub +best-from-spec : {M : Type 1} → statement M
     (best-from-mul-t16 t)
     (best-from-sub-t17 t)
     (best-from-best-from-requires t)
-    (best-from-mul-t19 t)
-    (best-from-add-t20 t)
-    (best-from-mul-t21 t)
-    (best-from-element-copy-out-t24 t)
-    (best-from-cast-t25 t)
-    (best-from-add-t26 t)
+    (best-from-mul-t20 t)
+    (best-from-add-t21 t)
+    (best-from-mul-t22 t)
+    (best-from-element-copy-out-t25 t)
+    (best-from-cast-t26 t)
+    (best-from-add-t27 t)
     (best-from-best-from-requires-2 t)
     (best-from-returns-3 t)

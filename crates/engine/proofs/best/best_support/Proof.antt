@@ -5,22 +5,22 @@ use native.Mathlib.Omega.{arith}
 use lib.Pow.{pow-pos}
 use lib.ListN.{length}
 use borrow.Author.Needs.{needs}
-use Rattle.engine.proofs.Laws.Pick.{picked-held, nets-many, all-sets, all-priced, all-pick, all-open, chosen-of}
+use Rattle.engine.proofs.Laws.Pick.{picked-held, nets-many, all-sets, all-priced, all-pick, all-open, best-chosen, chosen-of}
 use Rattle.engine.proofs.best.best_support.Statement.{statement}
 use Rattle.engine.proofs.best.best_support.Tie as tie
 
 reading-count-requires : tie.Need-reading-count-requires
 reading-count-requires c κs = c .before .pre .few
 
-sub-t13 : tie.Need-sub-t13
-sub-t13 c = omega (arith, c .reading-count .ensures, pow-pos (c .before .before .args .priced .count))
+sub-t11 : tie.Need-sub-t11
+sub-t11 c = omega (arith, c .reading-count .ensures, pow-pos (c .before .before .args .priced .count))
 
 sum-weights-requires : tie.Need-sum-weights-requires
 sum-weights-requires c κs = c .before .before .pre .few
 
 best-from-requires : tie.Need-best-from-requires
 best-from-requires c κs =
-    let s = c .before .before .before .before in
+    let s = c .before .before .before in
     let few = s .pre .few in (
       s .pre,
       record { places = omega arith; few = few; set = pow-pos (10 - s .args .priced .count); cost = omega arith },
@@ -28,10 +28,10 @@ best-from-requires c κs =
     )
 
 sets-of-requires : tie.Need-sets-of-requires
-sets-of-requires c κs = c .before .before .before .before .before .pre .few
+sets-of-requires c κs = c .before .before .before .before .pre .few
 
 pick-support-requires : tie.Need-pick-support-requires
-pick-support-requires c κs = c .before .before .before .before .before .before .pre .few
+pick-support-requires c κs = c .before .before .before .before .before .pre .few
 
 -- ten weights stand in the struct
 long : (s : tie.Start) → length (s .args .priced .weights) ≡ 10
@@ -40,7 +40,7 @@ long s = search needs
 returns : tie.Need-returns
 returns c =
     let b = c .before .before in
-    let m = b .before .before in
+    let m = b .before in
     let s = m .before .before .before in
     let ni = s .good .0 .1 .0 .1 in
     let nw = long s in
@@ -49,8 +49,8 @@ returns c =
       λ j q.
           let all = all-pick (s .pre) ni nw q (m .before .reading-count .ensures) (m .sum-weights .ensures) in
           let g = b .best-from .ensures .1 j (all-priced (s .pre) ni nw q) all (all-open (s .pre) ni nw q) in
-          chosen-of (s .pre) ni nw q g (p .0) refl
-          (c .before .sets-of .ensures j (nets-many (s .pre) ni nw q) (all-sets (s .pre) ni nw q) (g .pick .sound)),
+          let f = c .before .sets-of .ensures j (nets-many (s .pre) ni nw q) (all-sets (s .pre) ni nw q) (g .pick .sound) in
+          (chosen-of (s .pre) ni nw q g (p .0) refl (f .0), λ k b. rw (← best-chosen (s .pre) ni nw q g) (f .1 k b)),
     )
 
 pub best-support-spec : {M : Type 1} → statement M
@@ -58,7 +58,7 @@ best-support-spec =
     tie.close
     (tie.spec
     reading-count-requires
-    sub-t13
+    sub-t11
     sum-weights-requires
     best-from-requires
     sets-of-requires

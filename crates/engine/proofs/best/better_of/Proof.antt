@@ -14,7 +14,7 @@ returns c = (c .before .before .before .pre .1 .few, λ j w g h. best-cheaper j 
 
 -- the gates of the new support are counted
 fresh : (c : tie.After-patch-gates) (j : Job) → let a = c .before .before .before .before .before .args in
-    PricedOf j (a .priced) (now (a .all)) → OpenOf j 0 (a .from) (a .sets)
+    PricedOf j (a .priced) (now (a .all)) → OpenOf j 0 (a .from) (now (a .sets))
     → CountedOf j (record { set = a .from .set; cost = a .from .cost; len = a .from .len; gates = c .patch-gates .result })
 fresh c j w h =
     let p = closed-pick j w h in

@@ -14,7 +14,7 @@ returns-2 c = (
   (refl, refl),
   λ j w h.
       counted-now j h
-      (c .patch-gates .ensures j _ (c .before .sets-of .ensures j (sym (w .count)) (w .sets) (h .sound)) (sym (h .len)) (sym (w .targets))),
+      (c .patch-gates .ensures j _ (c .before .before .sets-of .ensures j (sym (w .count)) (w .sets) (h .sound) .0) (sym (h .len)) (sym (w .targets))),
 )
 
 pub counted-spec : {M : Type 1} → statement M

@@ -1,9 +1,7 @@
 -- `engine::best::first_empty` meets its contract. The invariant: every set before r has a vector. Assumes nothing.
 use Prim.Native.Nat.{ℕ, _-_, _≤_, _<_}
 use borrow.Author.Count.{below-more}
-use borrow.Author.Needs.{elem-fits}
 use native.Mathlib.Omega.{arith}
-use mir.Syntax.{w16}
 use lib.ListN.{getD}
 use Rattle.engine.specs.Inner.Best.{NotEmpty}
 use Rattle.engine.proofs.Laws.Sets.{holds-some}
@@ -11,25 +9,23 @@ use Rattle.engine.proofs.best.first_empty.Statement.{statement}
 use Rattle.engine.proofs.best.first_empty.Tie as tie
 
 abbrev Inv-loop : tie.InvT-loop
-Inv-loop count sets r₀ r = (r ≤ count) × ((q : ℕ) → q < r → NotEmpty (getD sets q 0))
+Inv-loop sets count r₀ r = (r ≤ count) × ((q : ℕ) → q < r → NotEmpty (getD sets q 0))
 
 abbrev μ-loop : tie.MeasureT-loop
-μ-loop count sets r₀ r = count - r
+μ-loop sets count r₀ r = count - r
 
 loop-holds : tie.Need-loop-holds Inv-loop μ-loop
 loop-holds c = (omega arith, λ q h. let f : ⊥ = omega arith in absurd f)
 
 returns : tie.Need-returns Inv-loop μ-loop
 returns c =
-    let l = c .before .before .loop in
+    let l = c .before .before .before .loop in
     record { most = l .inv .0; empty = λ h. c .if1 .taken; filled = l .inv .1 }
 
 loop-again : tie.Need-loop-again Inv-loop μ-loop
 loop-again c =
-    let l = c .before .before .loop in
-    let s = c .before .before .before in
-    let b = elem-fits w16 w16 (s .args .t1) (s .good .0 .0) (l .r) (s .good .0 .1 .1) tt in
-    (omega arith, below-more _ _ (l .inv .1) (holds-some (getD (s .args .t1) (l .r) 0) (b .fits) (c .if1 .left)))
+    let l = c .before .before .before .loop in
+    (omega arith, below-more _ _ (l .inv .1) (holds-some _ (c .if1 .left)))
 
 returns-2 : tie.Need-returns-2 Inv-loop μ-loop
 returns-2 c =

@@ -8,8 +8,8 @@ use Rattle.records.specs.Job.{Job}
 use Rattle.records.specs.Parts.{PartsOf}
 use Rattle.engine.specs.Support.{candidateNets, chosen}
 use Rattle.engine.specs.Inner.Search.{SetsTo}
-use Rattle.engine.proofs.Laws.Miter.{candidates-below}
-use Rattle.engine.proofs.Laws.Rule.{readings-many, parts-few, parts-nets, chosen-below, rule-blind, rule-sound}
+use Rattle.engine.proofs.Laws.Miter.{candidates-good}
+use Rattle.engine.proofs.Laws.Rule.{readings-many, parts-few, parts-nets, chosen-good, rule-given, rule-blind, rule-sound}
 use Rattle.engine.proofs.choosing.choose_job.Statement.{statement}
 use Rattle.engine.proofs.choosing.choose_job.Tie as tie
 
@@ -17,36 +17,41 @@ plan-of-requires : tie.Need-plan-of-requires
 plan-of-requires c κs =
     let s = c .before .before .before .before .before in
     let p = s .pre .0 .parts in
-    (c .before .miter-of .ensures .0, record { long = p .nets-long; below = s .pre .1; few = parts-few p }, refl)
+    (c .before .merged-miter .ensures .0, record { long = p .nets-long; below = s .pre .1; few = parts-few p }, refl)
 
 -- ---- the sets of all readings
 
 abbrev planned : tie.After-sets-of-inputs → tie.After-plan-of
 planned u = u .before .before
 
-abbrev mitered : tie.After-sets-of-inputs → tie.After-miter-of
+abbrev mitered : tie.After-sets-of-inputs → tie.After-merged-miter
 mitered u = planned u .before .before
 
 abbrev start : tie.After-sets-of-inputs → tie.Start
 start u = mitered u .before .before .before .before
 
 -- the plan is the job's, so the sets are of its inputs
-met : (u : tie.After-sets-of-inputs) (j : Job) → PartsOf j (start u .args .job) → SetsTo j (2 ^ j .inputs) (u .sets-of-inputs .result)
+met : (u : tie.After-sets-of-inputs) (j : Job) → PartsOf j (start u .args .job)
+    → SetsTo j (2 ^ j .inputs) (u .sets-of-inputs .result .skipped) (u .sets-of-inputs .result .sets)
 met u j p =
-    u .sets-of-inputs .ensures .1 j
-    (planned u .plan-of .ensures .1 j (candidateNets j) (mitered u .miter-of .ensures .1 j p) (parts-nets p)
-    (candidates-below j (p .good)))
+    u .sets-of-inputs .ensures j
+    (planned u .plan-of .ensures .1 j (candidateNets j) (mitered u .merged-miter .ensures .1 j p) (parts-nets p)
+    (candidates-good j (p .good)))
 
 reading-count-requires : tie.Need-reading-count-requires
 reading-count-requires c κs = parts-few (start c .pre .0 .parts)
 
 first-empty-requires : tie.Need-first-empty-requires
 first-empty-requires c κs =
-    omega (arith, c .reading-count .ensures, readings-many (parts-few (start (c .before) .pre .0 .parts)))
+    let n = c .before .before in
+    omega (arith, n .reading-count .ensures, readings-many (parts-few (start (n .before) .pre .0 .parts)))
+
+abbrev counted : tie.After-first-empty → tie.After-reading-count
+counted e = e .before .before .before
 
 rule-blind-requires : tie.Need-rule-blind-requires
 rule-blind-requires c κs =
-    let n = c .before .before .before in
+    let n = counted (c .before .before) in
     let p = start (n .before) .pre in
     let m = readings-many (parts-few (p .0 .parts)) in
     (omega (arith, n .reading-count .ensures, c .before .if1 .taken), p .2)
@@ -57,29 +62,29 @@ returns c =
     let w = c .before .before in
     let t = w .before .before in
     let e = t .before in
-    let n = e .before in
+    let n = counted e in
     let b = rule-blind p (met (n .before) j p) (n .reading-count .ensures) (e .first-empty .ensures) (t .if1 .taken) in
     w .rule-blind .ensures j (b .0) (b .1)
 
 -- ---- the chosen support
 
 abbrev sets : tie.After-best-support → tie.After-sets-of-inputs
-sets b = b .before .before .before .before
+sets b = counted (b .before .before .before .before) .before
 
 best-support-requires : tie.Need-best-support-requires
 best-support-requires c κs =
-    let u = c .before .before .before in
-    record { few = parts-few (start u .pre .0 .parts); targets = mitered u .miter-of .ensures .0 .targets }
+    let u = counted (c .before .before .before) .before in
+    record { few = parts-few (start u .pre .0 .parts); targets = mitered u .merged-miter .ensures .0 .targets }
 
 unseen-readings-requires : tie.Need-unseen-readings-requires
 unseen-readings-requires c κs =
-    let b = c .before .before in
+    let b = c .before .before .before in
     let u = sets b in
-    (mitered u .miter-of .ensures .0, b .best-support .ensures .0 .1 (start u .pre .1))
+    (mitered u .merged-miter .ensures .0, b .best-support .ensures .0 .1 (start u .pre .1))
 
 rule-patch-requires : tie.Need-rule-patch-requires
 rule-patch-requires c κs =
-    let b = c .before .before .before .before in
+    let b = c .before .before .before .before .before in
     (b .best-support .ensures .0 .0, start (sets b) .pre .2)
 
 returns-2 : tie.Need-returns-2
@@ -87,17 +92,17 @@ returns-2 c =
     λ j p.
     let w = c .before .before in
     let x = w .before .before in
-    let b = x .before .before .before in
-    let t = b .before in
+    let b = x .before .before .before .before in
+    let t = b .before .before .before in
     let e = t .before in
-    let n = e .before in
-    let u = sets b in
-    let m = mitered u .miter-of .ensures .1 j p in
+    let n = counted e in
+    let u = n .before in
+    let m = mitered u .merged-miter .ensures .1 j p in
     let q = rule-sound p (met u j p) (n .reading-count .ensures) (e .first-empty .ensures) (m .targets) (t .if1 .left) in
     let best = b .best-support .ensures .1 j q in
-    w .rule-patch .ensures j (q .sound) best
-    (x .unseen-readings .ensures j (chosen j) m (best .support)
-    (chosen-below (p .good) (q .sound)) (best .sets))
+    w .rule-patch .ensures j (q .sound) (best .0)
+    (x .unseen-readings .ensures j (chosen j) m (best .0 .support) (chosen-good (p .good) (q .sound))
+    (best .1 _ (rule-given p (met u j p) (n .reading-count .ensures) (e .first-empty .ensures))))
 
 pub choose-job-spec : {M : Type 1} → statement M
 choose-job-spec =

@@ -1,11 +1,11 @@
--- `engine::comparing::compare_sheet` meets its contract: the support of an accepted sheet is of candidates, which are old nets, and
--- the table stands where the reply says. Assumes nothing.
+-- `engine::comparing::compare_sheet` meets its contract: the support of an accepted sheet is of candidates, to which no target leads,
+-- and the table stands where the reply says. Assumes nothing.
 use Prim.Native.Nat.{_^_, _≤_}
 use mathlib.Core.Path.{refl, sym}
 use native.Mathlib.Omega.{arith}
 use lib.Pow.{pow-mono}
 use Rattle.engine.proofs.Laws.Compare.{declined-sheet, compared-sheet}
-use Rattle.engine.proofs.Laws.PartsSheet.{parts-sheet, parts-few, parts-old, parts-read}
+use Rattle.engine.proofs.Laws.PartsSheet.{parts-sheet, parts-few, parts-good, parts-read}
 use Rattle.engine.proofs.comparing.compare_sheet.Statement.{statement}
 use Rattle.engine.proofs.comparing.compare_sheet.Tie as tie
 
@@ -35,8 +35,8 @@ table-of-requires c κs =
     let k = c .reading-count .ensures in
     (omega arith, omega arith)
 
-miter-of-requires : tie.Need-miter-of-requires
-miter-of-requires c κs =
+merged-miter-requires : tie.Need-merged-miter-requires
+merged-miter-requires c κs =
     let u = c .before .before .before .before .before .before in
     u .before .before .before .before .before .before .before .pre
 
@@ -46,18 +46,13 @@ plan-of-requires c κs =
     let u = r .before .before .before .before in
     let s = u .before .before .before .before .before .before .before in
     let z = r .before .before .if1 .left in
-    (c .before .miter-of .ensures .0, parts-read (s .pre .parts) _ (u .read-sheet .ensures) z, refl)
+    (c .before .merged-miter .ensures .0, parts-read (s .pre .parts) _ (u .read-sheet .ensures) z, refl)
 
 slice-aggregate-first-difference : tie.Need-slice-aggregate-first-difference
 slice-aggregate-first-difference c = sym (c .before .plan-of .ensures .0 .long)
 
-slice-aggregate-first-difference-2 : tie.Need-slice-aggregate-first-difference-2
-slice-aggregate-first-difference-2 c = sym (c .before .before .before .before .before .before .table-of .ensures .long)
-
 first-difference-requires : tie.Need-first-difference-requires
-first-difference-requires c κs =
-    let p = c .before .before in
-    (p .plan-of .ensures .0, omega (arith, p .before .before .before .before .table-of .ensures .long))
+first-difference-requires c κs = c .before .before .plan-of .ensures .0
 
 returns-2 : tie.Need-returns-2
 returns-2 c j q =
@@ -71,13 +66,13 @@ returns-2 c j q =
     compared-sheet q _ e z _ (r .reading-count .ensures) (t .table-of .ensures)
     (c .first-difference .ensures j _
     (record {
-      planned = p .plan-of .ensures .1 j _ (m .miter-of .ensures .1 j q) (parts-sheet q _ e z .nets) (parts-old q _ e z);
-      old = parts-old q _ e z;
+      planned = p .plan-of .ensures .1 j _ (m .merged-miter .ensures .1 j q) (parts-sheet q _ e z .nets) (parts-good q _ e z);
+      free = parts-good q _ e z;
     }))
 
 pub compare-sheet-spec : {M : Type 1} → statement M
 compare-sheet-spec =
     tie.close
     (tie.spec slice-aggregate-read-sheet slice-aggregate-read-sheet-2 (λ c κs. tt) returns reading-count-requires
-    table-of-requires miter-of-requires plan-of-requires slice-aggregate-first-difference
-    slice-aggregate-first-difference-2 first-difference-requires returns-2)
+    table-of-requires merged-miter-requires plan-of-requires slice-aggregate-first-difference
+    first-difference-requires returns-2)

@@ -1,10 +1,11 @@
 -- `engine::comparing::first_difference` meets its contract. The invariant: at no input of the blocks passed do the driven outputs
 -- differ. Assumes nothing.
 use Prim.Native.Nat.{_-_, _*_}
-use mathlib.Core.Path.{_≡_, refl}
+use mathlib.Core.Path.{_≡_, refl, _∙_}
 use native.Mathlib.Omega.{arith}
+use denote.Ref.{now}
 use lib.ListN.{length}
-use Rattle.engine.proofs.Laws.Compare.{Scanning, scanning-none, scanning-next, scanned-differs, scanned-equal}
+use Rattle.engine.proofs.Laws.Compare.{RowCompared, row-compared, Scanning, scanning-none, scanning-next, scanned-differs, scanned-equal}
 use Rattle.engine.proofs.comparing.first_difference.Statement.{statement}
 use Rattle.engine.proofs.comparing.first_difference.Tie as tie
 
@@ -17,24 +18,41 @@ abbrev μ-loop : tie.MeasureT-loop
 loop-holds : tie.Need-loop-holds Inv-loop μ-loop
 loop-holds c = (refl, scanning-none _ _ _ (omega arith))
 
+read-block-requires : tie.Need-read-block-requires Inv-loop μ-loop
+read-block-requires c κs =
+    let l = c .before .before in
+    (l .before .before .before .pre, omega arith, l .loop .inv .0)
+
 driven-row-requires : tie.Need-driven-row-requires Inv-loop μ-loop
 driven-row-requires c κs =
-    let l = c .before .before in
-    let p = l .before .before .before .before .pre in
-    (p .0, p .1, omega arith, l .loop .inv .0)
+    let t = c .before in
+    let r = t .before in
+    (r .before .before .before .before .before .before .pre, t .table-rows .ensures .0, r .read-block .ensures .long)
+
+abbrev at-loop : tie.After-driven-row Inv-loop μ-loop → tie.At-loop Inv-loop μ-loop
+at-loop c = c .before .before .before .before .before .before
+
+-- the block's row, by the table's entries at its readings
+driven : (c : tie.After-driven-row Inv-loop μ-loop)
+    → (let l = at-loop c in
+    let a = l .before .before .before .args in
+    RowCompared (a .plan) (now (a .gates)) (now (a .table)) (l .loop .b) (c .driven-row .result))
+driven c =
+    let t = c .before .before in
+    let s = at-loop c .before .before .before in
+    row-compared (now (s .args .table)) (s .pre) (t .before .read-block .ensures) (t .table-rows .ensures .1) (c .driven-row .ensures)
 
 returns : tie.Need-returns Inv-loop μ-loop
 returns c =
     let d = c .before .before .before in
-    scanned-differs (d .before .before .before .loop .inv .1) (d .driven-row .ensures .0) (c .before .first-unequal .ensures) (omega arith)
+    scanned-differs (at-loop d .loop .inv .1) (driven d) (c .before .first-zero .ensures) (omega arith)
     (c .before .before .block-inputs .ensures) (c .if1 .taken)
 
 loop-again : tie.Need-loop-again Inv-loop μ-loop
 loop-again c =
     let d = c .before .before .before in (
-      d .driven-row .ensures .1,
-      scanning-next (d .before .before .before .loop .inv .1) (d .driven-row .ensures .0) (c .before .first-unequal .ensures)
-          (omega arith)
+      d .driven-row .ensures .long ∙ d .before .before .before .read-block .ensures .long,
+      scanning-next (at-loop d .loop .inv .1) (driven d) (c .before .first-zero .ensures) (omega arith)
           (c .before .before .block-inputs .ensures)
           (c .if1 .left),
     )
@@ -45,6 +63,6 @@ returns-2 c = scanned-equal (c .before .loop .inv .1) (omega arith)
 pub first-difference-spec : {M : Type 1} → statement M
 first-difference-spec =
     tie.close
-    (tie.spec Inv-loop μ-loop (λ c. omega arith) loop-holds (λ c. omega arith) driven-row-requires (λ c. omega arith)
-    (λ c. omega arith) (λ c κs. tt) (λ c κs. tt) (λ c. omega arith) (λ c. omega arith) (λ c. omega arith) returns
-    (λ c. omega arith) (λ c. omega arith) loop-again returns-2)
+    (tie.spec Inv-loop μ-loop (λ c. omega arith) loop-holds (λ c. omega arith) read-block-requires
+    (λ c κs. c .read-block .ensures .many) driven-row-requires (λ c. omega arith) (λ c. omega arith) (λ c κs. tt) (λ c κs. tt)
+    (λ c. omega arith) (λ c. omega arith) (λ c. omega arith) returns (λ c. omega arith) (λ c. omega arith) loop-again returns-2)

@@ -10,7 +10,7 @@ returns c =
     let e = c .before in
     let f = e .before in
     let g = f .before in
-    let a = g .before .before .args in
+    let a = g .before .args in
     looked-four (now (a .table)) (a .readings) (g .look .result) (f .look2 .result) (e .look3 .result) (c .look4 .result)
     (g .look .ensures .1)
     (f .look2 .ensures .1)

@@ -18,19 +18,16 @@ abbrev μ-loop : tie.MeasureT-loop
 μ-loop table read found₀ i₀ found i = 256 - i
 
 transpose-requires : tie.Need-transpose-requires Inv-loop μ-loop
-transpose-requires c κs = (c .before .pre .0, omega arith)
+transpose-requires c κs = (c .pre, omega arith)
 
 loop-holds : tie.Need-loop-holds Inv-loop μ-loop
 loop-holds c = (omega arith, length-replicate {A = ℕ} 256 0, λ k l. let f : ⊥ = omega arith in absurd f)
-
-look-four-requires : tie.Need-look-four-requires Inv-loop μ-loop
-look-four-requires c κs = c .before .before .before .before .pre .1
 
 loop-again : tie.Need-loop-again Inv-loop μ-loop
 loop-again c =
     let t = c .before .before in
     let l = t .loop in
-    let a = t .before .before .before .args in
+    let a = t .before .before .args in
     let x = c .look-four .result in (
       omega arith,
       length-set (l .found) (l .i) x ∙ l .inv .1,
@@ -46,7 +43,7 @@ returns : tie.Need-returns Inv-loop μ-loop
 returns c =
     let t = c .before .before in
     let l = t .loop in
-    let a = t .before .before .before .args in (
+    let a = t .before .before .args in (
       c .transpose2 .ensures .0,
       looked-rows (now (a .table)) (a .readings) (t .before .transpose .result) (l .found) (c .transpose2 .result)
           (t .before .transpose .ensures .1)
@@ -57,6 +54,6 @@ returns c =
 pub table-rows-spec : {M : Type 1} → statement M
 table-rows-spec =
     tie.close
-    (tie.spec Inv-loop μ-loop transpose-requires loop-holds (λ c. omega arith) (λ c. omega arith) look-four-requires
+    (tie.spec Inv-loop μ-loop transpose-requires loop-holds (λ c. omega arith) (λ c. omega arith) (λ c κs. tt)
     (λ c. omega arith) (λ c. omega arith) (λ c. omega arith) (λ c. omega arith) loop-again transpose-requires-2
     returns)

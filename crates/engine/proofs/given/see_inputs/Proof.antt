@@ -1,22 +1,23 @@
 -- `engine::given::see_inputs` meets its contract. The invariant: the places after the blocks passed, all 0 before the first open reading.
 -- Assumes nothing.
 use Prim.Native.Nat.{ℕ, _-_, _*_}
-use mathlib.Core.Path.{_≡_}
-use mathlib.Core.Logic.{inl, inr}
+use mathlib.Core.Path.{_≡_, refl}
+use mathlib.Core.Logic.{inl, inr, ⊎-elim}
 use native.Mathlib.Omega.{arith}
 use denote.Ref.{now}
 use lib.ListN.{length, length-replicate}
-use Rattle.engine.proofs.Laws.Given.{Seeing, seeing-none, seeing-range, seeing-next, seeing-all}
+use Rattle.engine.specs.Eval.{bit}
+use Rattle.engine.proofs.Laws.Given.{Seeing, seeing-none, seeing-range, seeing-next, seeing-pass, seeing-all}
 use Rattle.engine.proofs.Laws.Rule.{readings-many}
 use Rattle.engine.proofs.given.see_inputs.Statement.{statement}
 use Rattle.engine.proofs.given.see_inputs.Tie as tie
 
 abbrev Inv-loop : tie.InvT-loop
-Inv-loop gates plan count size unseen₀ words₀ next₀ b₀ unseen words next b =
-    (length words ≡ 16384) × Seeing plan gates unseen₀ count size b next unseen
+Inv-loop gates plan skipped count size unseen₀ words₀ next₀ b₀ unseen words next b =
+    (length words ≡ 16384) × Seeing plan gates skipped unseen₀ count size b next unseen
 
 abbrev μ-loop : tie.MeasureT-loop
-μ-loop gates plan count size unseen₀ words₀ next₀ b₀ unseen words next b = size - 1024 * b
+μ-loop gates plan skipped count size unseen₀ words₀ next₀ b₀ unseen words next b = size - 1024 * b
 
 reading-count-requires : tie.Need-reading-count-requires Inv-loop μ-loop
 reading-count-requires c κs = c .before .pre .0 .reads
@@ -31,43 +32,45 @@ loop-holds c =
     let s = c .before .before .before .before .before in
     let p = s .pre in (
       length-replicate {A = ℕ} 16384 0,
-      seeing-none (s .args .plan) (now (s .args .gates)) (p .0 .inputs) (p .0 .reads) (p .1) (c .before .before .before .reading-count .ensures)
+      seeing-none (s .args .plan) (now (s .args .gates)) (s .args .skipped) (p .0 .inputs) (p .0 .reads) (p .1)
+          (c .before .before .before .reading-count .ensures)
           (c .next-unseen .ensures),
     )
 
 returns : tie.Need-returns Inv-loop μ-loop
-returns c =
-    let l = c .before .before in
-    seeing-all (l .before .before .before .before .before .before .pre .1) (l .loop .inv .1) (inr (c .if1 .taken))
+returns c = seeing-all (c .before .before .loop .inv .1) (inr (c .if1 .taken))
+
+shr-if2 : tie.Need-shr-if2 Inv-loop μ-loop
+shr-if2 c = omega (arith, c .before .before .loop .inv .1 .few)
 
 see-block-requires : tie.Need-see-block-requires Inv-loop μ-loop
 see-block-requires c κs =
-    let l = c .before .before .before .before .before in
+    let l = c .before .before .before .before .before .before in
     let s = l .before .before .before .before .before .before in
     ((s .pre .0, seeing-range (l .loop .inv .1) (omega arith) (c .before .before .block-inputs .ensures)), (l .loop .inv .0, l .loop .inv .1 .long))
 
 next-unseen-requires-2 : tie.Need-next-unseen-requires-2 Inv-loop μ-loop
 next-unseen-requires-2 c κs =
-    let i = c .before .before .before .before .before .before .before .loop .inv .1 in
+    let i = c .before .before .before .before .before .before .before .before .loop .inv .1 in
     (i .most, i .places)
 
 loop-again : tie.Need-loop-again Inv-loop μ-loop
+unfolding bit
 loop-again c =
-    let b = c .before .before in
-    let l = b .before .before .before .before .before .before in (
-      b .see-block .ensures .1,
-      seeing-next (l .loop .inv .1) (omega arith) (b .before .before .before .block-inputs .ensures) (b .see-block .ensures .0)
-          (c .next-unseen2 .ensures),
-    )
+    let l = c .before .before .before .loop in
+    ⊎-elim
+    (λ w.
+    rw (w .7, w .8, w .9)
+    (w .4 .ensures .1, seeing-next (l .inv .1) (omega arith) (w .1 .ensures) (w .0 .taken) (w .4 .ensures .0) (w .6 .ensures)))
+    (λ w. rw (w .1, w .2, w .3) (l .inv .0, seeing-pass (l .inv .1) (omega arith) refl (w .0 .left)))
+    (c .if2 .came)
 
 returns-2 : tie.Need-returns-2 Inv-loop μ-loop
-returns-2 c =
-    let l = c .before in
-    seeing-all (l .before .before .before .before .before .before .pre .1) (l .loop .inv .1) (inl (omega arith))
+returns-2 c = seeing-all (c .before .loop .inv .1) (inl (omega arith))
 
 pub see-inputs-spec : {M : Type 1} → statement M
 see-inputs-spec =
     tie.close
     (tie.spec Inv-loop μ-loop reading-count-requires (λ c. omega arith) next-unseen-requires loop-holds (λ c. omega arith) returns
-    (λ c. omega arith) (λ c. omega arith) (λ c κs. tt) see-block-requires next-unseen-requires-2 (λ c. omega arith) (λ c. omega arith)
+    shr-if2 (λ c. omega arith) (λ c. omega arith) (λ c κs. tt) see-block-requires next-unseen-requires-2 (λ c. omega arith) (λ c. omega arith)
     loop-again returns-2)

@@ -1,41 +1,135 @@
--- `engine::guess::list_inputs` meets its contract: the table does, or all vectors are evaluated. Assumes nothing.
-use mathlib.Core.Path.{sym, _∙_, ap}
+-- `engine::guess::list_inputs` meets its contract: the tables do, or all vectors are evaluated. Assumes nothing.
+use Prim.Native.Nat.{ℕ, _-_, _*_, _^_, min, _≤_}
+use mathlib.Core.Path.{_≡_, refl, sym, _∙_, ap, subst}
 use mathlib.Core.Logic.{⊎-elim}
+use mathlib.Core.List.{List}
 use native.Mathlib.Omega.{arith}
+use borrow.Author.Needs.{needs}
+use borrow.Author.Tests.{ltb-true}
+use denote.Ref.{now}
+use lib.Dec.{ltb}
 use lib.ListN.{length}
-use Rattle.engine.proofs.Laws.Guess.{block-trusted}
-use Rattle.engine.proofs.Laws.Searching.{block-small}
+use lib.Pow.{pow-mono}
+use Rattle.records.proofs.Laws.Bytes.{and-right}
+use Rattle.engine.specs.Inner.Search.{FreeKept}
+use Rattle.engine.proofs.Laws.Choice.{not-both}
+use Rattle.engine.proofs.Laws.Guess.{block-guessed, block-noted}
 use Rattle.engine.proofs.guess.list_inputs.Statement.{statement}
 use Rattle.engine.proofs.guess.list_inputs.Tie as tie
 
-slice-aggregate-guess-block : tie.Need-slice-aggregate-guess-block
-slice-aggregate-guess-block c = sym (c .before .before .before .before .before .pre .2 .table .long)
+few : (s : tie.Start) → 2 ^ s .args .plan .inputs ≤ 1048576
+few s = pow-mono {j = 20} (s .pre .0 .0 .inputs)
+
+mul-block-inputs : tie.Need-mul-block-inputs
+mul-block-inputs c = let s = c .before .before in omega (arith, few s, s .pre .0 .1)
+
+sub-block-inputs : tie.Need-sub-block-inputs
+sub-block-inputs c = let s = c .before .before in omega (arith, few s, s .pre .0 .1)
+
+read-block-requires : tie.Need-read-block-requires
+read-block-requires c κs =
+    let s = c .before .before .before .before in
+    (s .pre .0 .0, omega (arith, few s, s .pre .0 .1), s .pre .1 .2)
+
+abbrev start : tie.After-read-block → tie.Start
+start c = c .before .before .before .before .before
+
+-- how many inputs the block has
+counted : (c : tie.After-read-block)
+    → (let a = start c .args in
+    c .before .before .block-inputs .result ≡ min (2 ^ a .plan .inputs - 1024 * a .b) 1024)
+counted c = omega (arith, few (start c), c .before .before .block-inputs .ensures)
+
+-- ---- where the tables are tried
 
 guess-block-requires : tie.Need-guess-block-requires
 guess-block-requires c κs =
-    let p = c .before .before .before .before .before .before .pre in
-    (p .0, omega (arith, p .2 .table .long), block-small (p .1) (p .0 .inputs), p .3)
-
-trusted-requires : tie.Need-trusted-requires
-trusted-requires c κs = c .before .before .before .before .before .before .before .before .pre .2
+    let r = c .before .before in
+    (start r .pre .0 .0, r .read-block .ensures .many, r .read-block .ensures .long)
 
 returns : tie.Need-returns
 returns c =
-    let g = c .before .before in
-    let s = g .before .before .before .before .before .before .before in
+    let g = c .before in
+    let r = g .before .before .before in
+    let s = start r in
+    let p = s .pre in
     let e = g .guess-block .ensures in
-    let t = c .trusted .ensures in
-    (block-trusted (s .args .b) (s .args .count) (s .pre .2) (e .0 (c .before .if2 .taken)) (t .0) (t .1), e .1)
+    let t = ltb-true 0 (s .args .trust) (and-right (ltb 0 (s .args .b)) (ltb 0 (s .args .trust)) (g .before .before .if1 .taken)) in
+    ((block-guessed (r .read-block .ensures) (counted r) (p .0 .2) (p .1 .0 t) (e .1 (c .if2 .taken)), λ k. t), (p .1 .1, e .0 .1))
 
-learn-block-requires : tie.Need-learn-block-requires
-learn-block-requires c κs =
-    let p = c .before .before .before .before .pre in
-    (p .0, p .1, p .2, ⊎-elim (λ w. ap length (w .6) ∙ w .4 .ensures .1) (λ w. ap length (w .1) ∙ p .3) (c .before .if1 .came))
+-- ---- where all vectors are evaluated
+
+abbrev read : tie.Joined1 → tie.After-read-block
+read c = c .before
+
+-- words w in place of those read have the same values on the nets that no target leads to
+abbrev Kept : tie.After-read-block → List ℕ → Type 0
+Kept r w =
+    let a = start r .args in
+    FreeKept (a .plan) (now (a .gates)) (r .read-block .last .1 .1 .1 .0) w × (length w ≡ 16384)
+
+-- .. also where the tables were tried
+kept : (c : tie.Joined1) → Kept (read c) (c .if1 .words)
+kept c =
+    let r = read c in
+    ⊎-elim
+    (λ w. subst (Kept r) (sym (w .4)) (w .2 .ensures .0))
+    (λ w. subst (Kept r) (sym (w .1)) (λ j is q b f. f, r .read-block .ensures .long))
+    (c .if1 .came)
+
+zero-block-requires : tie.Need-zero-block-requires
+zero-block-requires c κs = let j = c .before in (start (read j) .pre .0 .0, kept j .1)
+
+abbrev joined : tie.After-zero-block → tie.Joined1
+joined c = c .before .before
+
+masks-of-requires : tie.Need-masks-of-requires
+masks-of-requires c κs =
+    let z = c .before in
+    (start (read (joined z)) .pre .0 .0, z .zero-block .ensures .long ∙ kept (joined z) .1)
+
+abbrev read-before : tie.After-masks-of → tie.After-read-block
+read-before c = read (joined (c .before .before))
+
+add-sort-block : tie.Need-add-sort-block
+add-sort-block c = omega (arith, counted (read-before (c .before)))
+
+sort-block-requires : tie.Need-sort-block-requires
+sort-block-requires c κs =
+    let m = c .before .before in
+    let r = read-before m in
+    (m .masks-of .ensures .0 .long, r .read-block .ensures .many, omega (arith, counted r))
+
+-- the sets keep their number
+sets-kept : (c : tie.Joined3) → length (c .if3 .sets) ≡ 1024
+sets-kept c =
+    let h = start (read-before (c .before)) .pre .1 .1 in
+    ⊎-elim (λ w. ap length (w .3) ∙ w .2 .ensures ∙ h) (λ w. ap length (w .1) ∙ h) (c .if3 .came)
+
+mul-list-block : tie.Need-mul-list-block
+mul-list-block c = let s = start (read-before (c .before)) in omega (arith, few s, s .pre .0 .1)
+
+list-block-requires : tie.Need-list-block-requires
+list-block-requires c κs =
+    let r = read-before (c .before) in
+    let s = start r in
+    (omega (arith, counted r), omega (arith, few s, s .pre .0 .1), s .pre .0 .2)
 
 returns-2 : tie.Need-returns-2
-returns-2 c = c .learn-block .ensures
+returns-2 c =
+    let m = c .before .before in
+    let z = m .before .before in
+    let r = read-before m in (
+      (
+        block-noted (r .read-block .ensures) (counted r) (kept (joined z) .0) (z .zero-block .ensures) (m .masks-of .ensures .0)
+            (c .list-block .ensures),
+        λ k. absurd (not-both k refl),
+      ),
+      (sets-kept (c .before), m .masks-of .ensures .1),
+    )
 
 pub list-inputs-spec : {M : Type 1} → statement M
 list-inputs-spec =
     tie.close
-    (tie.spec slice-aggregate-guess-block guess-block-requires trusted-requires returns learn-block-requires returns-2)
+    (tie.spec (λ c. search needs) mul-block-inputs sub-block-inputs (λ c κs. tt) read-block-requires guess-block-requires returns
+    zero-block-requires masks-of-requires add-sort-block sort-block-requires mul-list-block list-block-requires returns-2)

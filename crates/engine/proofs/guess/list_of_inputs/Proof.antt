@@ -1,83 +1,138 @@
--- `engine::guess::list_of_inputs` meets its contract. The invariant: the list after the inputs passed. Assumes nothing.
-use Prim.Native.Nat.{ℕ, _+_, _-_, _*_}
-use mathlib.Core.Path.{_≡_}
+-- `engine::guess::list_of_inputs` meets its contract. The invariant: the list after the inputs passed, and a table of its vectors
+-- while the tables are trusted. Assumes nothing.
+use Prim.Native.Nat.{ℕ, _+_, _-_, _*_, _^_, min, _≤_, _<_}
+use mathlib.Core.Path.{_≡_, refl, sym, subst}
+use mathlib.Core.Logic.{⊎-elim}
+use mathlib.Core.List.{List}
+use mathlib.Core.Bool.{Bool, true, false, not, _&&_}
 use native.Mathlib.Omega.{arith}
+use borrow.Author.Tests.{lt-ltb}
 use denote.Ref.{now}
+use lib.Dec.{ltb}
 use lib.ListN.{length, length-replicate}
-use Rattle.engine.specs.Inner.Guess.{GuessHeld}
-use Rattle.engine.proofs.Laws.Guess.{ListsTo, guess-start, lists-skip, lists-stuck, lists-all}
-use Rattle.engine.proofs.Laws.Search.{WalkTo, list-start, walk-start, walk-here, walk-range, walk-block, walk-skip, walk-end}
+use Rattle.engine.specs.Inner.Guess.{OfListed}
+use Rattle.engine.specs.Inner.List.{Held}
+use Rattle.engine.specs.declared.list.Vectors.{Vectors}
+use Rattle.engine.proofs.Laws.Choice.{not-both}
+use Rattle.engine.proofs.Laws.Guess.{ListsTo, zeros-listed, lists-start, lists-skip, lists-stuck, lists-all}
+use Rattle.engine.proofs.Laws.Search.{WalkTo, block-range, walk-start, walk-here, walk-block, walk-skip, walk-end}
 use Rattle.engine.proofs.guess.list_of_inputs.Statement.{statement}
 use Rattle.engine.proofs.guess.list_of_inputs.Tie as tie
 
+-- the list, the table and the trust between two blocks
+record Trusted (v : Vectors) (t : List ℕ) (n : ℕ) : Type 0 where
+  held : Held v
+  free : v .stuck ≡ false
+  few : n ≤ 64
+  table : 0 < n → OfListed v t
+
 abbrev Inv-loop : tie.InvT-loop
-Inv-loop gates plan size words₀ guess₀ b₀ words guess b =
-    (length words ≡ 16384) × GuessHeld guess × WalkTo (ListsTo plan gates (guess .list)) (plan .inputs) size b
+Inv-loop gates plan size words₀ sets₀ table₀ list₀ trust₀ b₀ words sets table list trust b =
+    (length words ≡ 16384) × (length sets ≡ 1024) × Trusted list table trust × WalkTo (ListsTo plan gates list) (plan .inputs) size b
 
 abbrev μ-loop : tie.MeasureT-loop
-μ-loop gates plan size words₀ guess₀ b₀ words guess b = size - 1024 * b
+μ-loop gates plan size words₀ sets₀ table₀ list₀ trust₀ b₀ words sets table list trust b = size - 1024 * b
 
-all-vectors-requires : tie.Need-all-vectors-requires Inv-loop μ-loop
-all-vectors-requires c κs = c .before .before .pre .targets
+first-trust-requires : tie.Need-first-trust-requires Inv-loop μ-loop
+first-trust-requires c κs = c .before .before .before .pre .inputs
 
 loop-holds : tie.Need-loop-holds Inv-loop μ-loop
 loop-holds c =
-    let s = c .before .before .before in
-    (length-replicate {A = ℕ} 16384 0, guess-start (c .all-vectors .result), walk-start (ListsTo _ _ _) (s .pre .inputs) (λ j q. list-start j))
+    let f = c .before .first-list in
+    let s = c .before .before .before .before in (
+      length-replicate {A = ℕ} 16384 0,
+      length-replicate {A = ℕ} 1024 4294967295,
+      record { held = f .ensures .0; free = f .ensures .2; few = c .first-trust .ensures; table = λ l. zeros-listed (f .result) },
+      walk-start (ListsTo (s .args .plan) (now (s .args .gates)) (f .result)) (s .pre .inputs) (lists-start (f .result) (f .ensures .1)),
+    )
+
+abbrev start : tie.At-loop Inv-loop μ-loop → tie.Start Inv-loop μ-loop
+start l = l .before .before .before .before .before
 
 settled-from-requires : tie.Need-settled-from-requires Inv-loop μ-loop
-settled-from-requires c κs =
-    let l = c .before in
-    (l .before .before .before .before .pre, omega (arith, l .loop .inv .2 .inputs))
+settled-from-requires c κs = let l = c .before in (start l .pre, omega (arith, l .loop .inv .3 .inputs))
+
+-- ---- a block
 
 list-inputs-requires : tie.Need-list-inputs-requires Inv-loop μ-loop
 list-inputs-requires c κs =
-    let l = c .before .before .before .before .before in
+    let l = c .before .before .before .before .before .before in
     let i = l .loop .inv in
-    (l .before .before .before .before .pre, walk-range (i .2) (omega arith) (c .before .block-inputs .ensures), i .1, i .0)
+    let t = i .2 in
+    ((start l .pre, omega (arith, i .3 .inputs), t .held, t .free), (t .table, i .1, i .0))
 
--- the list after a block too
+abbrev at : tie.After-list-inputs Inv-loop μ-loop → tie.At-loop Inv-loop μ-loop
+at c = c .before .before .before .before .before .before .before
+
+-- the list after it
 listed : (c : tie.After-list-inputs Inv-loop μ-loop)
-    → (let l = c .before .before .before .before .before .before in
-    let a = l .before .before .before .before .args in
-    ListsTo (a .plan) (now (a .gates)) (c .list-inputs .result .list) (1024 * l .loop .b + c .before .before .block-inputs .result))
-listed c j q =
-    let i = c .before .before .before .before .before .before .loop .inv .2 in
-    c .list-inputs .ensures .0 .listed j q (walk-here i (omega arith) j q)
+    → (let l = at c in
+    let a = start l .args in
+    let x = 1024 * l .loop .b in
+    ListsTo (a .plan) (now (a .gates)) (c .list-inputs .result .list) (x + min (2 ^ a .plan .inputs - x) 1024))
+listed c j q = c .list-inputs .ensures .0 .0 .listed j q (walk-here (at c .loop .inv .3) (omega arith) j q)
 
 returns : tie.Need-returns Inv-loop μ-loop
 returns c =
     let w = c .before .before in
-    let i = w .before .before .before .before .before .before .loop .inv .2 in
-    let r = walk-range i (omega arith) (w .before .before .block-inputs .ensures) in
+    let l = at w in
     let v = w .list-inputs .result .list in
-    (w .list-inputs .ensures .0 .held, lists-all v (lists-stuck v (r .within) (c .before .if2 .taken) (listed w)))
+    let r = block-range (start l .args .plan .inputs) (l .loop .b) (omega (arith, l .loop .inv .3 .inputs)) in
+    (w .list-inputs .ensures .0 .0 .held, lists-all v (lists-stuck v (r .within) (c .if2 .taken) (listed w)))
+
+-- a table that is trusted and not made anew was kept
+not-anew : (kept : Bool) (n : ℕ) → (not kept && ltb 0 n) ≡ false → 0 < n → kept ≡ true
+not-anew true n e l = refl
+not-anew false n e l = absurd (not-both (lt-ltb 0 n l) e)
+
+-- the table after it
+table-after : (c : tie.Joined3 Inv-loop μ-loop) → 0 < c .before .before .next-trust .result
+    → OfListed (c .before .before .before .before .before .list-inputs .result .list) (c .if3 .table)
+table-after c h =
+    let n = c .before .before in
+    let w = n .before .before .before in
+    let i = w .list-inputs in
+    let l = at w .loop in
+    ⊎-elim
+    (λ u. subst (OfListed (i .result .list)) (sym (u .2)) (u .1 .ensures))
+    (λ u.
+    let k = not-anew (i .result .kept) (n .next-trust .result) (u .0 .left) h in
+    subst (OfListed (i .result .list)) (sym (u .1))
+    (subst (λ (v : Vectors). OfListed v (l .table)) (sym (i .ensures .0 .0 .same k)) (l .inv .2 .table (i .ensures .0 .1 k))))
+    (c .if3 .came)
 
 loop-again : tie.Need-loop-again Inv-loop μ-loop
 loop-again c =
-    let w = c .before in
-    let i = w .before .before .before .before .before .before .loop .inv .2 in
-    let b = w .list-inputs .ensures in (
-      b .1,
-      b .0 .guess (c .if2 .left),
-      walk-block i (omega arith) (w .before .before .block-inputs .ensures) (ListsTo _ _ (w .list-inputs .result .list)) (listed w),
+    let n = c .before .before in
+    let w = n .before .before .before in
+    let i = at w .loop .inv .3 in
+    let e = w .list-inputs .ensures in (
+      e .1 .1,
+      e .1 .0,
+      record { held = e .0 .0 .held; free = n .before .if2 .left; few = n .next-trust .ensures; table = table-after c },
+      walk-block i (omega arith) (omega (arith, i .inputs)) (ListsTo _ _ (w .list-inputs .result .list)) (listed w),
     )
+
+-- ---- blocks that need no look
+
+add-b-2 : tie.Need-add-b-2 Inv-loop μ-loop
+add-b-2 c = omega (arith, c .before .settled-from .ensures .few)
 
 loop-again-2 : tie.Need-loop-again-2 Inv-loop μ-loop
 loop-again-2 c =
-    let l = c .before .before .before in
-    let i = l .loop .inv in
+    let i = c .before .before .before .loop .inv in
     let s = c .before .settled-from .ensures in
-    (i .0, i .1, walk-skip (i .2) (omega arith) _ _ (s .within) (lists-skip _ s (walk-here (i .2) (omega arith))))
+    (i .0, i .1, i .2, walk-skip (i .3) (omega arith) _ _ (s .within) (lists-skip _ s (walk-here (i .3) (omega arith))))
 
 returns-2 : tie.Need-returns-2 Inv-loop μ-loop
 returns-2 c =
-    let i = c .before .before .loop .inv in
-    (i .1 .held, lists-all _ (walk-end (i .2) (omega arith)))
+    let i = c .before .loop .inv in
+    (i .2 .held, lists-all _ (walk-end (i .3) (omega arith)))
 
 pub list-of-inputs-spec : {M : Type 1} → statement M
 list-of-inputs-spec =
     tie.close
-    (tie.spec Inv-loop μ-loop (λ c. omega arith) all-vectors-requires loop-holds (λ c. omega arith) settled-from-requires (λ c. omega arith)
-    (λ c. omega arith) (λ c κs. tt) list-inputs-requires returns (λ c. omega arith) (λ c. omega arith) loop-again (λ c. omega arith)
-    (λ c. omega arith) loop-again-2 returns-2)
+    (tie.spec Inv-loop μ-loop (λ c. omega arith) (λ c κs. tt) first-trust-requires loop-holds (λ c. omega arith) settled-from-requires
+    list-inputs-requires returns (λ c κs. at (c .before .before) .loop .inv .2 .few)
+    (λ c κs. c .before .before .before .before .before .list-inputs .ensures .0 .0 .held) (λ c. omega arith) (λ c. omega arith) loop-again
+    add-b-2 (λ c. omega arith) loop-again-2 returns-2)

@@ -1,9 +1,8 @@
--- `engine::guess::listed_table` meets its contract. The invariant: each entry is 0, or in the set of the listed vectors. Assumes nothing.
-use Prim.Native.Nat.{_-_, _≤_}
-use borrow.Author.Needs.{needs, elem-fits}
+-- `engine::guess::listed_table` meets its contract. The invariant: each entry holds two vectors, 0 or in the set of the listed ones.
+-- Assumes nothing.
+use Prim.Native.Nat.{_-_, _/_, _^_, _≤_, _<_}
 use native.Mathlib.Omega.{arith}
-use mir.Syntax.{w16, w64}
-use lib.Bits.{bitAnd, and-le-l}
+use borrow.Author.Needs.{needs}
 use lib.ListN.{getD}
 use Rattle.engine.proofs.Laws.Guess.{TableIn, table-none, table-next, table-listed}
 use Rattle.engine.proofs.Laws.VectorSets.{lowest-lt}
@@ -19,29 +18,25 @@ abbrev μ-loop : tie.MeasureT-loop
 listed-set-requires : tie.Need-listed-set-requires Inv-loop μ-loop
 listed-set-requires c κs = let h = c .before .pre in (h .long, h .below)
 
+cast-listed : tie.Need-cast-listed Inv-loop μ-loop
+cast-listed c = search needs
+
 loop-holds : tie.Need-loop-holds Inv-loop μ-loop
 loop-holds c = (omega arith, table-none (c .listed-set .result))
 
-cast-lowest-of : tie.Need-cast-lowest-of Inv-loop μ-loop
-cast-lowest-of c =
-    let s = c .before .before .before .before in
-    let sets = s .args .t1 in
-    let r = c .before .loop .r in
-    let f = elem-fits w16 w64 sets (s .good .0 .0) r (s .good .0 .1 .1) tt in
-    omega (arith, f, and-le-l (getD sets r 0) (c .before .before .listed-set .result))
+cast-both : tie.Need-cast-both Inv-loop μ-loop
+cast-both c = search needs
 
-cast-table : tie.Need-cast-table Inv-loop μ-loop
-cast-table c =
-    let s = getD (c .before .before .before .before .before .args .t1) (c .before .before .loop .r) 0 in
-    omega (arith, c .lowest-of .ensures, lowest-lt (bitAnd s (c .before .before .before .listed-set .result)))
+-- both are vectors
+small : (c : tie.After-lowest-of2 Inv-loop μ-loop) → (c .before .lowest-of .result < 16) × (c .lowest-of2 .result < 16)
+small c = (rw (c .before .lowest-of .ensures) (lowest-lt _), rw (c .lowest-of2 .ensures) (lowest-lt _))
 
 loop-again : tie.Need-loop-again Inv-loop μ-loop
 loop-again c =
-    let l = c .before .before in
-    let t = l .loop in
-    let sets = l .before .before .before .args .t1 in
-    let n = table-next (l .before .listed-set .result) (t .table) (t .r) (getD sets (t .r) 0) (t .inv .1) in
-    (omega arith, rw (c .lowest-of .ensures) n)
+    let t = c .before .before .before in
+    let x = getD (t .before .before .before .args .t1) (t .loop .r) 0 in
+    let n = table-next (t .before .listed-set .result) (t .loop .table) (t .loop .r) x (x / 2 ^ 16) (t .loop .inv .1) in
+    (omega arith, rw (c .before .lowest-of .ensures, c .lowest-of2 .ensures) n)
 
 returns : tie.Need-returns Inv-loop μ-loop
 returns c =
@@ -52,5 +47,6 @@ returns c =
 pub listed-table-spec : {M : Type 1} → statement M
 listed-table-spec =
     tie.close
-    (tie.spec Inv-loop μ-loop listed-set-requires loop-holds (λ c. omega arith) (λ c. omega arith) cast-lowest-of
-    (λ c κs. search needs) cast-table (λ c. omega arith) (λ c. omega arith) (λ c. omega arith) loop-again returns)
+    (tie.spec Inv-loop μ-loop listed-set-requires cast-listed loop-holds (λ c. omega arith) (λ c. omega arith) cast-both
+    (λ c κs. search needs) (λ c κs. search needs) (λ c. omega (arith, small c)) (λ c. omega (arith, small c)) (λ c. omega (arith, small c)) (λ c. omega arith) (λ c. omega arith) (λ c. omega arith)
+    (λ c. omega arith) loop-again returns)

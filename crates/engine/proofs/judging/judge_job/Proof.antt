@@ -6,7 +6,7 @@ use Rattle.records.specs.Job.{Job}
 use Rattle.records.specs.Parts.{PartsOf}
 use Rattle.engine.specs.Support.{candidateNets}
 use Rattle.engine.specs.Inner.Guess.{ListTo}
-use Rattle.engine.proofs.Laws.Miter.{candidates-below}
+use Rattle.engine.proofs.Laws.Miter.{candidates-good}
 use Rattle.engine.proofs.Laws.Rule.{parts-few, parts-nets, list-loop, stuck-small}
 use Rattle.engine.proofs.judging.judge_job.Statement.{statement}
 use Rattle.engine.proofs.judging.judge_job.Tie as tie
@@ -15,12 +15,12 @@ plan-of-requires : tie.Need-plan-of-requires
 plan-of-requires c κs =
     let s = c .before .before .before .before in
     let p = s .pre .0 .parts in
-    (c .before .miter-of .ensures .0, record { long = p .nets-long; below = s .pre .1; few = parts-few p }, refl)
+    (c .before .merged-miter .ensures .0, record { long = p .nets-long; below = s .pre .1; few = parts-few p }, refl)
 
 abbrev planned : tie.After-list-of-inputs → tie.After-plan-of
 planned u = u .before .before
 
-abbrev mitered : tie.After-list-of-inputs → tie.After-miter-of
+abbrev mitered : tie.After-list-of-inputs → tie.After-merged-miter
 mitered u = planned u .before .before
 
 abbrev start : tie.After-list-of-inputs → tie.Start
@@ -30,8 +30,8 @@ start u = mitered u .before .before .before
 listed : (u : tie.After-list-of-inputs) (j : Job) → PartsOf j (start u .args .job) → ListTo j (2 ^ j .inputs) (u .list-of-inputs .result)
 listed u j p =
     u .list-of-inputs .ensures .1 j
-    (planned u .plan-of .ensures .1 j (candidateNets j) (mitered u .miter-of .ensures .1 j p) (parts-nets p)
-    (candidates-below j (p .good)))
+    (planned u .plan-of .ensures .1 j (candidateNets j) (mitered u .merged-miter .ensures .1 j p) (parts-nets p)
+    (candidates-good j (p .good)))
 
 rule-list-requires : tie.Need-rule-list-requires
 rule-list-requires c κs =

@@ -16,17 +16,17 @@ abbrev μ-loop : tie.MeasureT-loop
 loop-holds : tie.Need-loop-holds Inv-loop μ-loop
 loop-holds c = (omega arith, inl refl)
 
-add-if1-2 : tie.Need-add-if1-2 Inv-loop μ-loop
-add-if1-2 c =
+add-if1-3 : tie.Need-add-if1-3 Inv-loop μ-loop
+add-if1-3 c =
     let s = c .before .before in
     let l = c .before .loop in
-    omega (arith, s .pre .2 (l .t + 1), s .pre .2 (l .best))
+    omega (arith, s .pre .2 (l .t + 2), s .pre .2 (l .best + 1))
 
-add-if1-4 : tie.Need-add-if1-4 Inv-loop μ-loop
-add-if1-4 c =
+add-if1-6 : tie.Need-add-if1-6 Inv-loop μ-loop
+add-if1-6 c =
     let s = c .before .before in
     let l = c .before .loop in
-    omega (arith, s .pre .2 (l .best + 1), s .pre .2 (l .t))
+    omega (arith, s .pre .2 (l .best + 2), s .pre .2 (l .t + 1))
 
 loop-again : tie.Need-loop-again Inv-loop μ-loop
 loop-again c =
@@ -41,5 +41,5 @@ pub shortest-list-spec : {M : Type 1} → statement M
 shortest-list-spec =
     tie.close
     (tie.spec Inv-loop μ-loop loop-holds (λ c. omega arith) (λ c. omega arith) (λ c. omega arith) (λ c. omega arith)
-    (λ c. omega arith) add-if1-2 (λ c. omega arith) (λ c. omega arith) (λ c. omega arith) (λ c. omega arith)
-    (λ c. omega arith) add-if1-4 (λ c. omega arith) (λ c. omega arith) loop-again returns)
+    (λ c. omega arith) (λ c. omega arith) add-if1-3 (λ c. omega arith) (λ c. omega arith) (λ c. omega arith) (λ c. omega arith)
+    (λ c. omega arith) (λ c. omega arith) add-if1-6 (λ c. omega arith) (λ c. omega arith) loop-again returns)

@@ -13,7 +13,7 @@ run-requires : tie.Need-run-requires
 run-requires c κs =
     let s = c .before .before .before .before .before .before in
     let h = s .pre .0 in
-    (omega (arith, h .within (s .args .t + 1), h .long), c .before .before .set-net .ensures .long ∙ s .pre .2)
+    (omega (arith, h .within (s .args .t + 2), h .long), c .before .before .set-net .ensures .long ∙ s .pre .2)
 
 returns : tie.Need-returns
 returns c =
@@ -24,4 +24,4 @@ pub turn-target-spec : {M : Type 1} → statement M
 turn-target-spec =
     tie.close
     (tie.spec (λ c. search needs) (λ c κs. search needs) (λ c. search needs) (λ c. search needs) (λ c. search needs)
-    (λ c. search needs) (λ c. search needs) run-requires returns)
+    (λ c. search needs) (λ c. search needs) (λ c. search needs) run-requires returns)

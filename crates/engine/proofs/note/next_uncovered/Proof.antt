@@ -16,7 +16,7 @@ returns-2 c =
     let f = c .before in
     let r = f .before in
     let a = r .before .before .args in
-    covered-next (now (a .masks)) (r .listed-row .result) (a .list) (a .y) _ (r .listed-row .ensures) (f .first-unequal .ensures)
+    covered-next (now (a .masks)) (r .listed-row .result) (a .list) (a .y) _ (r .listed-row .ensures) (f .first-zero .ensures)
     (omega arith)
 
 pub next-uncovered-spec : {M : Type 1} → statement M

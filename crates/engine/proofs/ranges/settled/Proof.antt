@@ -44,7 +44,7 @@ loaded c =
 eval-partial-requires : tie.Need-eval-partial-requires
 eval-partial-requires c κs =
     let h = c .before .before .before .before .before .before .before .before .before .pre in
-    (omega (arith, h .within 0, h .long), loaded (c .before) .0)
+    (omega (arith, h .within 1, h .long), loaded (c .before) .0)
 
 returns : tie.Need-returns
 returns c t j is o =

@@ -1,29 +1,42 @@
--- `engine::search::sets_of_inputs` meets its contract. The invariant: the sets after the blocks passed. Assumes nothing.
-use Prim.Native.Nat.{ℕ, _-_, _*_, _^_}
+-- `engine::search::sets_of_inputs` meets its contract. The invariant: the sets after the blocks passed, and, while it is trusted, their
+-- table. Assumes nothing.
+use Prim.Native.Nat.{ℕ, _+_, _-_, _*_, _/_, _%_, _^_, _≤_, _<_}
 use mathlib.Core.Path.{_≡_, _∙_, ap, subst}
+use mathlib.Core.Logic.{⊎-elim}
 use mathlib.Core.List.{List}
 use native.Mathlib.Omega.{arith}
-use denote.Ref.{now}
+use borrow.Author.Tests.{ltb-true, ltb-false, not-false}
 use lib.ListN.{length, length-replicate}
+use lib.Pow.{pow-mono}
 use Rattle.records.specs.Job.{Job}
 use Rattle.engine.specs.Support.{candidateNets}
 use Rattle.engine.specs.Inner.Plan.{PlannedOf}
-use Rattle.engine.specs.Inner.Search.{SetsTo}
+use Rattle.engine.specs.Inner.Search.{SetsTo, SoleTable}
 use Rattle.engine.specs.declared.plan.Plan.{Plan}
-use Rattle.engine.proofs.Laws.Search.{sets-start, sets-skip, WalkTo, walk-start, walk-here, walk-range, walk-block, walk-skip, walk-end}
+use Rattle.engine.proofs.Laws.Choice.{and-cases}
+use Rattle.engine.proofs.Laws.ReadingSets.{sets-start, sets-skip}
+use Rattle.engine.proofs.Laws.Sole.{sole-start}
+use Rattle.engine.proofs.Laws.Search.{WalkTo, walk-start, walk-here, walk-range, walk-block, walk-skip, walk-end}
 use Rattle.engine.proofs.search.sets_of_inputs.Statement.{statement}
 use Rattle.engine.proofs.search.sets_of_inputs.Tie as tie
 
--- the sets ss are those after the inputs below x, for every job of the plan
-abbrev SetsAfter : Plan → List ℕ → List ℕ → ℕ → Type 0
-SetsAfter p gates ss x = (j : Job) → PlannedOf j (candidateNets j) p gates → SetsTo j x ss
+-- the sets are those after the inputs below x, for every job of the plan
+abbrev SetsAfter : Plan → List ℕ → ℕ → List ℕ → ℕ → Type 0
+SetsAfter p gates skipped sets x = (j : Job) → PlannedOf j (candidateNets j) p gates → SetsTo j x skipped sets
 
 abbrev Inv-loop : tie.InvT-loop
-Inv-loop gates plan size words₀ sets₀ b₀ words sets b =
-    (length words ≡ 16384) × (length sets ≡ 1024) × WalkTo (SetsAfter plan gates sets) (plan .inputs) size b
+Inv-loop gates plan size words₀ sets₀ trust₀ table₀ skipped₀ b₀ words sets trust table skipped b =
+    (length words ≡ 16384)
+    × (length sets ≡ 1024)
+    × (trust ≤ 64)
+    × (0 < trust → SoleTable sets table)
+    × WalkTo (SetsAfter plan gates skipped sets) (plan .inputs) size b
 
 abbrev μ-loop : tie.MeasureT-loop
-μ-loop gates plan size words₀ sets₀ b₀ words sets b = size - 1024 * b
+μ-loop gates plan size words₀ sets₀ trust₀ table₀ skipped₀ b₀ words sets trust table skipped b = size - 1024 * b
+
+abbrev start : tie.At-loop Inv-loop μ-loop → tie.Start Inv-loop μ-loop
+start l = l .before .before .before .before .before
 
 shl-size : tie.Need-shl-size Inv-loop μ-loop
 shl-size c = omega (arith, c .before .before .pre .inputs)
@@ -31,63 +44,94 @@ shl-size c = omega (arith, c .before .before .pre .inputs)
 all-vectors-requires : tie.Need-all-vectors-requires Inv-loop μ-loop
 all-vectors-requires c κs = c .before .before .pre .targets
 
+first-trust-requires : tie.Need-first-trust-requires Inv-loop μ-loop
+first-trust-requires c κs = c .before .before .before .pre .inputs
+
 loop-holds : tie.Need-loop-holds Inv-loop μ-loop
 loop-holds c =
-    let s = c .before .before .before in
-    let p = s .args .plan in (
+    let a = c .before in
+    let s = a .before .before .before in (
       length-replicate {A = ℕ} 16384 0,
-      length-replicate 1024 (c .all-vectors .result),
-      walk-start (SetsAfter p (now (s .args .gates)) _) (s .pre .inputs)
-          (λ j q. sets-start j (c .all-vectors .ensures ∙ ap (λ (m : ℕ). 2 ^ 2 ^ m - 1) (q .targets))),
+      length-replicate 1024 (65536 + a .all-vectors .result),
+      c .first-trust .ensures,
+      λ _. sole-start (a .all-vectors .result),
+      walk-start (SetsAfter _ _ _ _) (s .pre .inputs)
+          (λ j q. sets-start j (omega (arith, s .pre .targets, q .targets)) (a .all-vectors .ensures ∙ ap (λ (m : ℕ). 2 ^ 2 ^ m - 1) (q .targets))),
     )
 
 settled-from-requires : tie.Need-settled-from-requires Inv-loop μ-loop
 settled-from-requires c κs =
     let l = c .before in
-    (l .before .before .before .before .pre, omega (arith, l .loop .inv .2 .inputs))
+    (start l .pre, omega (arith, l .loop .inv .4 .inputs))
 
 meet-inputs-requires : tie.Need-meet-inputs-requires Inv-loop μ-loop
 meet-inputs-requires c κs =
-    let l = c .before .before .before .before .before .before in
-    let i = l .loop .inv in
-    ((l .before .before .before .before .pre, walk-range (i .2) (omega arith) (c .before .before .block-inputs .ensures)), (i .0, i .1))
+    let b = c .before .before .before in
+    let l = b .before .before .before .before in
+    let i = l .loop .inv in (
+      (start l .pre, walk-range (i .4) (omega arith) (b .block-inputs .ensures), λ e. i .3 (ltb-true 0 (l .loop .trust) e)),
+      (i .1, i .0),
+    )
+
+next-trust-requires : tie.Need-next-trust-requires Inv-loop μ-loop
+next-trust-requires c κs = c .before .before .before .before .before .before .before .before .loop .inv .2
 
 loop-again : tie.Need-loop-again Inv-loop μ-loop
 loop-again c =
-    let l = c .before .before .before .before .before .before .before in
-    let a = l .before .before .before .before .args in
+    let n = c .before in
+    let m = n .before in
+    let b = m .before .before .before .before in
+    let l = b .before .before .before .before in
     let i = l .loop .inv in
-    let m = c .meet-inputs .ensures in (
-      m .1,
-      m .0 .long ∙ i .1,
-      walk-block (i .2) (omega arith) (c .before .before .before .block-inputs .ensures) (SetsAfter (a .plan) (now (a .gates)) _)
-          (λ j q. m .0 .sets j q (walk-here (i .2) (omega arith) j q)),
+    let e = m .meet-inputs .ensures in (
+      e .0 .1,
+      e .0 .0 .long ∙ i .1,
+      n .next-trust .ensures,
+      -- the table is made again; or the sets stay; or it is not trusted any more
+      λ o.
+          ⊎-elim (λ w. rw (w .2) (w .1 .ensures))
+          (λ w.
+          rw (w .1)
+          (⊎-elim
+          (λ k.
+          let s = e .1 (not-false (m .meet-inputs .result) k) in
+          rw (s .1) (i .3 (ltb-true 0 (l .loop .trust) (s .0))))
+          (λ z. let f : ⊥ = omega (arith, ltb-false 0 (n .next-trust .result) z) in absurd f)
+          (and-cases _ _ (w .0 .left))))
+          (c .if2 .came),
+      walk-block (i .4) (omega arith) (b .block-inputs .ensures) (SetsAfter _ _ _ _)
+          (λ j q. e .0 .0 .sets j (l .loop .skipped) q (walk-here (i .4) (omega arith) j q)),
     )
+
+shl-skipped : tie.Need-shl-skipped Inv-loop μ-loop
+shl-skipped c = omega (arith, c .before .before .before .loop .inv .4 .few)
 
 add-b-2 : tie.Need-add-b-2 Inv-loop μ-loop
 add-b-2 c = omega (arith, c .before .settled-from .ensures .few)
 
 loop-again-2 : tie.Need-loop-again-2 Inv-loop μ-loop
 loop-again-2 c =
+    let f = c .before .settled-from in
     let l = c .before .before .before in
-    let a = l .before .before .before .before .args in
     let i = l .loop .inv in
-    let f = c .before .settled-from in (
+    let n = l .loop .b / 32 in
+    let e : 1 * 2 ^ n % 18446744073709551616 ≡ 2 ^ n = omega (arith, pow-mono {i = n} {j = 63} (omega (arith, i .4 .few))) in (
       i .0,
       i .1,
-      walk-skip (i .2) (omega arith) (SetsAfter (a .plan) (now (a .gates)) _) (f .result) (f .ensures .within)
-          (λ j q. sets-skip (omega arith) (f .ensures .settled j (candidateNets j) q) (walk-here (i .2) (omega arith) j q)),
+      i .2,
+      i .3,
+      walk-skip (i .4) (omega arith) (SetsAfter _ _ _ _) (f .result) (f .ensures .within)
+          (λ j q. rw e (sets-skip (f .ensures) (omega arith) q (walk-here (i .4) (omega arith) j q))),
     )
 
 returns : tie.Need-returns Inv-loop μ-loop
 returns c =
     let l = c .before .loop in
-    let i = l .inv in
-    (i .1, λ j q. subst (λ (n : ℕ). SetsTo j (2 ^ n) (l .sets)) (q .inputs) (walk-end (i .2) (omega arith) j q))
+    λ j q. subst (λ (n : ℕ). SetsTo j (2 ^ n) (l .skipped) (l .sets)) (q .inputs) (walk-end (l .inv .4) (omega arith) j q)
 
 pub sets-of-inputs-spec : {M : Type 1} → statement M
 sets-of-inputs-spec =
     tie.close
-    (tie.spec Inv-loop μ-loop shl-size all-vectors-requires loop-holds (λ c. omega arith) settled-from-requires (λ c. omega arith)
-    (λ c. omega arith) (λ c κs. tt) meet-inputs-requires (λ c. omega arith) (λ c. omega arith) loop-again add-b-2
-    (λ c. omega arith) loop-again-2 returns)
+    (tie.spec Inv-loop μ-loop shl-size all-vectors-requires (λ c. omega arith) (λ c. omega arith) first-trust-requires loop-holds
+    (λ c. omega arith) settled-from-requires (λ c. omega arith) (λ c. omega arith) (λ c κs. tt) meet-inputs-requires next-trust-requires
+    (λ c κs. tt) (λ c. omega arith) (λ c. omega arith) loop-again shl-skipped add-b-2 (λ c. omega arith) loop-again-2 returns)

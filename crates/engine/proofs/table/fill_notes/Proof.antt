@@ -1,8 +1,8 @@
 -- `engine::table::fill_notes` meets its contract. The invariant: the readings before r have their notes. Assumes nothing.
-use Prim.Native.Nat.{ℕ, _-_, _≤_, _<_}
-use borrow.Author.Needs.{needs, elem-fits}
+use Prim.Native.Nat.{_-_, _≤_, _<_}
+use borrow.Author.Needs.{needs}
 use native.Mathlib.Omega.{arith}
-use mir.Syntax.{w16}
+use denote.Ref.{now}
 use lib.ListN.{getD}
 use Rattle.engine.specs.Inner.Kernel.{Filled}
 use Rattle.engine.specs.Inner.Table.{noteFrom}
@@ -13,11 +13,11 @@ use Rattle.engine.proofs.table.fill_notes.Statement.{statement}
 use Rattle.engine.proofs.table.fill_notes.Tie as tie
 
 abbrev Inv-loop : tie.InvT-loop
-Inv-loop len sets unseen count notes₀ r₀ notes r =
+Inv-loop sets unseen len count notes₀ r₀ notes r =
     (r ≤ count) × Filled (λ q. noteFrom (getD sets q 0) (getD unseen q 0)) 0 r notes₀ notes
 
 abbrev μ-loop : tie.MeasureT-loop
-μ-loop len sets unseen count notes₀ r₀ notes r = count - r
+μ-loop sets unseen len count notes₀ r₀ notes r = count - r
 
 loop-holds : tie.Need-loop-holds Inv-loop μ-loop
 loop-holds c = (omega arith, fill-none _ 0 _)
@@ -33,8 +33,9 @@ mul-note-of c = let l = place-lt c in omega arith
 
 loop-again : tie.Need-loop-again Inv-loop μ-loop
 loop-again c =
-    let l = c .before .before .loop in
-    let n = place-lt (c .before) in
+    let i = c .before .before .before in
+    let l = i .before .loop in
+    let n = place-lt i in
     (omega arith, fill-next _ 0 _ _ _ (l .inv .1) (l .r) _ (omega arith) (omega (arith, l .inv .1 .long)) (c .note-of .ensures))
 
 returns : tie.Need-returns Inv-loop μ-loop
@@ -43,18 +44,17 @@ returns c =
     let l = c .before .loop in
     let n = c .before .before .reading-count .ensures in
     let m = readings-many (s .pre) in
-    let small : (r : ℕ) → getD (s .args .t1) r 0 < 65536 = λ r. elem-fits w16 w16 (s .args .t1) (s .good .0 .0) r (s .good .0 .1 .1) tt .fits in
     record {
       long = l .inv .1 .long;
       notes =
           λ j is h g e.
           rw (← e)
-          (notes-sets j is (s .args .t1) (s .args .t2) h g small (l .notes) (rw e (omega (arith, l .inv .1 .long)))
+          (notes-sets j is (now (s .args .sets)) (now (s .args .unseen)) h g (l .notes) (rw e (omega (arith, l .inv .1 .long)))
           (λ r i. fill-at (l .inv .1) r (omega (arith, rw e at i))));
     }
 
 pub fill-notes-spec : {M : Type 1} → statement M
 fill-notes-spec =
     tie.close
-    (tie.spec Inv-loop μ-loop (λ c κs. search needs) loop-holds mul-note-of place-lt mul-note-of place-lt
-    (λ c κs. tt) (λ c. place-lt (c .before)) (λ c. omega arith) (λ c. omega arith) loop-again returns)
+    (tie.spec Inv-loop μ-loop (λ c κs. search needs) loop-holds mul-note-of place-lt (λ c. mul-note-of (c .before))
+    (λ c. place-lt (c .before)) (λ c κs. tt) (λ c. place-lt (c .before .before .before)) (λ c. omega arith) (λ c. omega arith) loop-again returns)

@@ -34,7 +34,7 @@ returns-2 c =
     let a = c .before .before .before .args in
     rw (
       eq-eqb (a .unseen) 0 (c .before .before .if1 .left),
-      eq-eqb (a .set) (2 ^ orZero (lowest (a .set))) (c .if2 .taken ∙ power (c .before)),
+      eq-eqb (a .set % 65536) (2 ^ orZero (lowest (a .set))) (c .if2 .taken ∙ power (c .before)),
     )
 
 returns-3 : tie.Need-returns-3
@@ -43,8 +43,8 @@ returns-3 c =
     let a = c .before .before .before .args in
     rw (
       eq-eqb (a .unseen) 0 (c .before .before .if1 .left),
-      ne-eqb (a .set) (2 ^ orZero (lowest (a .set))) (λ e. c .if2 .left (e ∙ sym (power (c .before)))),
+      ne-eqb (a .set % 65536) (2 ^ orZero (lowest (a .set))) (λ e. c .if2 .left (e ∙ sym (power (c .before)))),
     )
 
 pub note-of-spec : {M : Type 1} → statement M
-note-of-spec = tie.close (tie.spec returns (λ c κs. search needs) shl-if2 returns-2 returns-3)
+note-of-spec = tie.close (tie.spec returns (λ c. omega arith) (λ c κs. search needs) shl-if2 returns-2 returns-3)

@@ -1,12 +1,12 @@
--- `engine::word::first_unequal` meets its contract. The invariant: of the scenarios of the words passed the row says 1. Assumes
+-- `engine::word::first_zero` meets its contract. The invariant: of the scenarios of the words passed the row says 1. Assumes
 -- nothing.
 use Prim.Native.Nat.{ℕ, _*_, _-_, _≤_, _<_}
 use mathlib.Core.Path.{_≡_}
 use native.Mathlib.Omega.{arith}
 use Rattle.engine.specs.Inner.Kernel.{rowValue}
-use Rattle.engine.proofs.Laws.Leaves.{equal-more, unequal-found}
-use Rattle.engine.proofs.word.first_unequal.Statement.{statement}
-use Rattle.engine.proofs.word.first_unequal.Tie as tie
+use Rattle.engine.proofs.Laws.Leaves.{ones-more, zero-found}
+use Rattle.engine.proofs.word.first_zero.Statement.{statement}
+use Rattle.engine.proofs.word.first_zero.Tie as tie
 
 abbrev Inv-loop : tie.InvT-loop
 Inv-loop row w₀ w = (w ≤ 16) × ((y : ℕ) → y < 64 * w → rowValue row y ≡ 1)
@@ -24,14 +24,14 @@ returns : tie.Need-returns Inv-loop μ-loop
 returns c =
     let t = c .before .before .before in
     let l = t .loop in
-    unequal-found (t .before .args .t1) (l .w) _ (l .inv .1) (c .before .lowest-bit .ensures) (omega arith) (c .if1 .taken)
+    zero-found (t .before .args .t1) (l .w) _ (l .inv .1) (c .before .lowest-bit .ensures) (omega arith) (c .if1 .taken)
 
 loop-again : tie.Need-loop-again Inv-loop μ-loop
 loop-again c =
     let t = c .before .before .before in
     let l = t .loop in (
       omega arith,
-      λ y h. equal-more (t .before .args .t1) (l .w) _ (l .inv .1) (c .before .lowest-bit .ensures) y (omega arith),
+      λ y h. ones-more (t .before .args .t1) (l .w) _ (l .inv .1) (c .before .lowest-bit .ensures) y (omega arith),
     )
 
 returns-2 : tie.Need-returns-2 Inv-loop μ-loop
@@ -39,12 +39,12 @@ returns-2 c =
     let l = c .before .loop in
     record {
       most = omega arith;
-      equal = λ y h. l .inv .1 y (omega arith);
-      unequal = λ h. let f : ⊥ = omega arith in absurd f;
+      ones = λ y h. l .inv .1 y (omega arith);
+      zero = λ h. let f : ⊥ = omega arith in absurd f;
     }
 
-pub first-unequal-spec : {M : Type 1} → statement M
-first-unequal-spec =
+pub first-zero-spec : {M : Type 1} → statement M
+first-zero-spec =
     tie.close
     (tie.spec Inv-loop μ-loop loop-holds (λ c. omega arith) (λ c. omega arith) (λ c κs. omega arith)
     (λ c. omega arith) add-result returns (λ c. omega arith) (λ c. omega arith) loop-again returns-2)

@@ -1,0 +1,148 @@
+// Gates of one kind over the same nets have the same values: what reads a later one may read an earlier one's net. In most jobs the golden
+// circuit is the old one but for what the targets cut off, and then nothing reads the golden gates that stand in both: a plan leaves
+// them out.
+ghost use mathlib.Core.Path.{_≡_};
+ghost use mathlib.Core.Bool.{true};
+ghost use Prim.Native.Nat.{_+_, _-_, _≤_, _<_};
+ghost use lib.ListN.{length, getD};
+ghost use Rattle.records.specs.Job.{Job};
+ghost use Rattle.engine.specs.Inner.Renumber.{gateIn};
+ghost use Rattle.records.specs.Parts.{PartsOf};
+ghost use Rattle.engine.specs.Inner.Miter.{SomeParts, MiterRoom, MiterOf, MergedOf};
+ghost use Rattle.engine.specs.Inner.Merge.{Backward, Chained, GatesMerged};
+use super::limits::MITER_GATES;
+use super::limits::NETS;
+use super::miter::Miter;
+use super::miter::miter_of;
+use super::renumber::move_nets;
+use super::renumber::moved_code;
+use super::renumber::number_inputs;
+use records::JobParts;
+use records::OUTPUTS;
+
+// Packed gates, and for each net one that stands for it.
+pub struct MergedGates {
+    pub gates: [u64; MITER_GATES],
+    pub stands: [u16; NETS],
+}
+
+// For each place one more than the index of the last gate that has it, and for each gate one more than that of the one before it with
+// the same place; 0 where there is none.
+pub struct Chains {
+    pub heads: [u16; NETS],
+    pub next: [u16; MITER_GATES],
+}
+
+// A place below 1,024 for a packed gate, by its kind, count and operands.
+fn place_of(c: u64) -> usize
+    ensures { λ r. ⌜ r < 1024 ⌝ }
+{
+    let x = c / 131072;
+    ((x ^ (x >> 9) ^ (x >> 18) ^ (x >> 27) ^ (c % 128)) % 1024) as usize
+}
+
+// Whether two packed gates have one kind, count and operands.
+fn alike(a: u64, b: u64) -> bool
+    ensures { λ r. ⌜ (r ≡ true → gateIn a ≡ gateIn b) ⌝ }
+{
+    (a % 128 == b % 128) & (a / 131072 == b / 131072)
+}
+
+// The chains of the first count gates.
+fn chains_of(gates: &[u64; MITER_GATES], count: usize) -> Chains
+    requires { ⌜ count ≤ 800 ⌝ }
+    ensures { λ r. ⌜ Chained count (r .heads) (r .next) ⌝ }
+{
+    let mut heads = [0u16; NETS];
+    let mut next = [0u16; MITER_GATES];
+    let mut i = 0usize;
+    while i < count {
+        let at = place_of(gates[i]);
+        next[i] = heads[at];
+        i += 1;
+        heads[at] = i as u16;
+    }
+    Chains { heads, next }
+}
+
+// One more than the index of the last gate alike c in the chain whose last gate is at from - 1; 0 where there is none.
+fn find(gates: &[u64; MITER_GATES], next: &[u16; MITER_GATES], from: usize, c: u64) -> usize
+    requires { ⌜ (from ≤ 800) × Backward (now next) ⌝ }
+    ensures { λ r. ⌜ (r ≤ from) × (0 < r → gateIn (getD (now (gates .entry)) (r - 1) 0) ≡ gateIn c) ⌝ }
+{
+    let mut k = from;
+    while 0 < k {
+        if alike(gates[k - 1], c) {
+            return k;
+        }
+        k = next[k - 1] as usize;
+    }
+    0
+}
+
+// The gates from first on with each operand replaced by the net that stands for it: that of an earlier gate alike, or itself. It costs
+// some steps a gate, since chains are short.
+fn merge_gates(base: usize, first: usize, count: usize, gates: [u64; MITER_GATES]) -> MergedGates
+    requires { ⌜ (base + count ≤ 1024) × (first ≤ count) × (count ≤ 800) × (length gates ≡ 800) ⌝ }
+    ensures { λ r. ⌜ GatesMerged base count gates r ⌝ }
+{
+    let mut gates = gates;
+    let mut stands = number_inputs(base + count);
+    let chains = chains_of(&gates, first);
+    let mut heads = chains.heads;
+    let mut next = chains.next;
+    let mut i = first;
+    while i < count {
+        let c = moved_code(gates[i], base + i, &stands);
+        gates[i] = c;
+        let at = place_of(c);
+        let k = find(&gates, &next, heads[at] as usize, c);
+        if 0 < k {
+            stands[base + i] = (base + k - 1) as u16;
+        } else {
+            next[i] = heads[at];
+            heads[at] = (i + 1) as u16;
+        }
+        i += 1;
+    }
+    MergedGates { gates, stands }
+}
+
+// The miter with its gates from first on merged, which are the golden ones, and the golden outputs at the nets that stand for theirs.
+// A job of few inputs keeps its gates: evaluating them costs less.
+fn merged(miter: Miter, first: usize) -> Miter
+    requires { ⌜ MiterRoom miter × (first ≤ miter .count) ⌝ }
+    ensures { λ r. ⌜ MiterRoom r ⌝ }
+    ensures { λ r. ⌜ ((j : Job) → MiterOf j miter → MergedOf j r) ⌝ }
+{
+    if miter.inputs < 12 {
+        return miter;
+    }
+    let gates = miter.gates;
+    let goldens = miter.goldens;
+    let outputs = miter.outputs;
+    let merged = merge_gates(miter.inputs + miter.targets, first, miter.count, gates);
+    let stands = merged.stands;
+    let mut nets = [0u16; OUTPUTS];
+    move_nets(&goldens, OUTPUTS, &stands, &mut nets);
+    let merged_gates = merged.gates;
+    Miter {
+        inputs: miter.inputs,
+        targets: miter.targets,
+        count: miter.count,
+        gates: merged_gates,
+        outs: miter.outs,
+        outputs,
+        goldens: nets,
+    }
+}
+
+// The miter of a good job's parts, its golden gates merged with the gates before them.
+pub(super) fn merged_miter(job: JobParts) -> Miter
+    requires { ⌜ SomeParts job ⌝ }
+    ensures { λ r. ⌜ MiterRoom r ⌝ }
+    ensures { λ r. ⌜ ((j : Job) → PartsOf j job → MergedOf j r) ⌝ }
+{
+    let first = job.counts.old.gates;
+    merged(miter_of(job), first)
+}
