@@ -1,8 +1,9 @@
 /* Many inputs at a time: what the block programs have in common. Old and golden netlist are one list of
- * gates, over inputs, targets, old gates' nets and golden gates' nets, without the gates that lead nowhere. A net has W
- * words: bit i of word w in block b is its value on input 64 (W b + w) + i. W is a constant wherever these functions are
- * inlined, so that the compiler makes vector instructions of their inner loops. Inputs that do not fill a block repeat in
- * it, which alters nothing: the smallest comes first. */
+ * gates, over inputs, targets, old gates' nets and golden gates' nets, without the gates that lead nowhere. Golden gates
+ * that do what earlier gates do are merged with them where that is asked for. A net has W words: bit i of word w in block b
+ * is its value on input 64 (W b + w) + i. W is a constant wherever these functions are inlined, so that the compiler makes
+ * vector instructions of their inner loops. Inputs that do not fill a block repeat in it, which alters nothing: the smallest
+ * comes first. */
 #ifndef BLOCKS_H
 #define BLOCKS_H
 #include "verdict.h"
@@ -32,6 +33,11 @@ struct miter {
     uint8_t led[ALL_NETS];                  /* for each net the targets that lead to it, bit t for target t */
 };
 
+/* The gates that no target leads to, and the others. */
+struct halves {
+    struct gates before, behind;
+};
+
 /* ---- made once a job */
 
 /* A net of one netlist in the list of both. */
@@ -52,6 +58,63 @@ static inline void add_gates(struct gates *to, const struct netlist *l, size_t b
     }
 }
 
+/* ---- merging: the net of a golden gate that does what an earlier gate does is stood for by the earlier one's */
+
+/* With fewer inputs than these, evaluating the gates costs less. */
+enum { LEAST_TO_MERGE = 12, PLACES = 1024 };
+
+/* What is asked for. */
+enum { UNMERGED, MERGED };
+
+/* For each place one more than the index of the last gate that has it, and for each gate one more than that of the one
+ * before it with the same place; 0 where there is none. */
+struct chains {
+    uint16_t heads[PLACES], next[ALL_GATES];
+};
+
+static inline unsigned place_of(const struct gate *g) {
+    uint64_t operands;
+    memcpy(&operands, g->operands, sizeof operands);
+    return (operands + g->op) * 0x9e3779b97f4a7c15 >> 54;
+}
+
+/* Operands tell how many there are: behind them stands ZERO. */
+static inline int alike(const struct gate *a, const struct gate *b) {
+    return a->op == b->op && a->inverts == b->inverts && !memcmp(a->operands, b->operands, sizeof a->operands);
+}
+
+static inline void enter(struct chains *c, const struct gates *g, size_t k) {
+    unsigned place = place_of(&g->list[k]);
+    c->next[k] = c->heads[place];
+    c->heads[place] = k + 1;
+}
+
+/* An entered gate that does what this one does, or none. */
+static inline const struct gate *find_alike(const struct chains *c, const struct gates *g, const struct gate *wanted) {
+    for (size_t k = c->heads[place_of(wanted)]; k > 0; k = c->next[k - 1])
+        if (alike(&g->list[k - 1], wanted)) return &g->list[k - 1];
+    return NULL;
+}
+
+/* The first gates, as many as this, are the old ones. Nothing golden reads a net any more for which another one stands. */
+static inline void merge_golden(struct miter *m, size_t old_gates) {
+    struct gates *g = &m->gates;
+    struct chains c = {.heads = {0}};
+    uint16_t stands[ALL_NETS]; /* for each net the one that stands for it, mostly itself */
+    for (unsigned net = 0; net < ALL_NETS; net++) stands[net] = net;
+    for (size_t k = 0; k < old_gates; k++) enter(&c, g, k);
+    for (size_t k = old_gates; k < g->count; k++) {
+        struct gate *golden = &g->list[k];
+        for (unsigned i = 0; i < SLOTS; i++) golden->operands[i] = stands[golden->operands[i]];
+        const struct gate *earlier = find_alike(&c, g, golden);
+        if (earlier) stands[golden->net] = earlier->net;
+        else enter(&c, g, k);
+    }
+    for (size_t i = 0; i < m->outputs; i++) m->golden[i] = stands[m->golden[i]];
+}
+
+/* ---- the gates that are evaluated */
+
 /* Leaves the gates that lead to an output or one of these nets. */
 static inline void drop_dead(struct miter *m, const uint16_t *nets, size_t count) {
     uint8_t live[ALL_NETS] = {0};
@@ -67,7 +130,8 @@ static inline void drop_dead(struct miter *m, const uint16_t *nets, size_t count
     g->count = kept;
 }
 
-static inline void make_miter(const struct job *j, const uint16_t *nets, size_t count, struct miter *m) {
+/* Of a job, with the gates that lead to an output or one of these nets, golden ones MERGED or UNMERGED. */
+static inline void make_miter(const struct job *j, const uint16_t *nets, size_t count, int merging, struct miter *m) {
     size_t shift = j->targets + j->old.gates;
     m->gates.count = 0;
     add_gates(&m->gates, &j->old, j->inputs + j->targets, j->inputs, 0);
@@ -77,6 +141,7 @@ static inline void make_miter(const struct job *j, const uint16_t *nets, size_t 
         m->old[i] = j->old.outs[i];
         m->golden[i] = moved(j->golden.outs[i], j->inputs, shift);
     }
+    if (merging == MERGED && j->inputs >= LEAST_TO_MERGE) merge_golden(m, j->old.gates);
     drop_dead(m, nets, count);
     memset(m->led, 0, sizeof m->led);
     for (size_t t = 0; t < j->targets; t++) m->led[j->inputs + t] = 1u << t;
@@ -93,6 +158,12 @@ static inline void pick_gates(const struct miter *m, unsigned targets, struct ga
         unsigned led = m->led[m->gates.list[k].net];
         if (targets ? led & targets : !led) to->list[to->count++] = m->gates.list[k];
     }
+}
+
+static inline void make_halves(const struct job *j, const struct miter *m, struct halves *h) {
+    pick_gates(m, 0, &h->before);
+    h->behind.count = 0;
+    if (j->targets) pick_gates(m, (1u << j->targets) - 1, &h->behind);
 }
 
 /* ---- once a block */
@@ -174,13 +245,15 @@ INLINE void transpose(uint64_t *rows, unsigned W) {
 
 /* ---- targets driven by a table */
 
-/* The targets' words where each input takes the entry of a table at its reading of these nets. */
-INLINE void drive(
-    const struct job *j, const uint16_t *nets, size_t count, const uint8_t *table, uint64_t *values, unsigned W) {
-    _Alignas(64) uint64_t rows[ROWS * WIDEST];
+/* The rows of these nets, the others zero. */
+INLINE void read_rows(const uint16_t *nets, size_t count, const uint64_t *values, uint64_t *rows, unsigned W) {
     for (size_t i = 0; i < ROWS; i++)
         if (i < count) memcpy(rows + i * W, values + nets[i] * W, 8 * W);
         else fill(rows + i * W, 0, W);
+}
+
+/* Puts in the place of each input's reading the entry that a table has at it: row i becomes bit i of the entries. */
+INLINE void look_up(const uint8_t *table, uint64_t *rows, unsigned W) {
     transpose(rows, W);
     for (unsigned i = 0; i < ROWS * W; i++) {
         uint64_t r = rows[i], entries = 0;
@@ -188,19 +261,31 @@ INLINE void drive(
         rows[i] = entries;
     }
     transpose(rows, W);
-    memcpy(values + j->inputs * W, rows, 8 * W * j->targets);
 }
 
-/* The place of the first input of the block at which outputs differ, 64 W where they do not. */
-INLINE unsigned first_difference(const struct miter *m, const uint64_t *values, unsigned W) {
-    uint64_t differing[WIDEST] = {0};
+/* Where outputs differ. */
+INLINE void find_differing(const struct miter *m, const uint64_t *values, uint64_t *differing, unsigned W) {
+    uint64_t sum[WIDEST] = {0};
     for (size_t i = 0; i < m->outputs; i++) {
         const uint64_t *a = values + m->old[i] * W, *b = values + m->golden[i] * W;
-        for (unsigned w = 0; w < W; w++) differing[w] |= a[w] ^ b[w];
+        for (unsigned w = 0; w < W; w++) sum[w] |= a[w] ^ b[w];
     }
-    for (unsigned w = 0; w < W; w++)
-        if (differing[w]) return 64 * w + __builtin_ctzll(differing[w]);
-    return 64 * W;
+    for (unsigned w = 0; w < W; w++) differing[w] = sum[w];
+}
+
+/* Gives the targets these rows, from a block on whose gates before them have their values: where outputs then differ. */
+INLINE void drive(const struct job *j, const struct miter *m, const struct halves *h, const uint64_t *rows, uint64_t *values,
+    uint64_t *differing, unsigned W) {
+    memcpy(values + j->inputs * W, rows, 8 * W * j->targets);
+    run(&h->behind, values, W);
+    find_differing(m, values, differing, W);
+}
+
+/* Whether a row has a one. */
+INLINE int some(const uint64_t *row, unsigned W) {
+    uint64_t sum = 0;
+    for (unsigned w = 0; w < W; w++) sum |= row[w];
+    return sum != 0;
 }
 
 #endif

@@ -1,7 +1,17 @@
 /* Judge and choose in one walk over the inputs, as decide was before card 7 (walk_blocks.h, support.h): what the two
- * services together are measured by. */
+ * services together are measured by. All vectors of every block are evaluated, and no gates are merged. */
 #include "support.h"
 #include "walk_blocks.h"
+
+/* The masks and the readings of a block: every live gate at vector 0, then those that each vector changes. */
+INLINE void rows_of_block(const struct job *j, const struct plan *p, uint32_t block, uint64_t *values, uint64_t *masks,
+    uint64_t *readings, unsigned W) {
+    load_inputs(j->inputs, block, values, W);
+    clear_targets(j, values, W);
+    run(&p->miter.gates, values, W);
+    read_rows(j->nets, j->candidates, values, readings, W);
+    find_rows(j, p, 0, values, masks, W);
+}
 
 INLINE void walk_by(const struct job *j, const struct plan *p, struct list *l, uint32_t *sets, unsigned W) {
     _Alignas(64) uint64_t values[ALL_NETS * WIDEST], masks[ROWS * WIDEST], readings[ROWS * WIDEST];
@@ -34,7 +44,7 @@ int blocks_decide(const uint8_t *job, size_t job_len, uint8_t judged[LONGEST_JUD
     int number = read_job(job, job_len, &j);
     if (number) return number;
     start_list(&l);
-    make_plan(&j, &p);
+    make_plan(&j, UNMERGED, &p);
     walk_inputs(&j, &p, &l, &s);
     *judged_len = put_judged(judged, &l) - judged;
     if (!l.unfixable) *chosen_len = put_choice(chosen, &j, &s) - chosen;

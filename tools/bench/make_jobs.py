@@ -7,6 +7,7 @@
     wide_KIND.job            20 inputs, 400 gates a side; 50 in the targets' fanout, or 300, led to by all or one target each
     rare_ONE_OR_TWO.job      the same with 50; the old netlist at vector 0 is the golden one, or is so but at rare inputs
     unseen_wide.job          the same with 50, and a support behind most gates of which many readings do not occur
+    unseen_gated.job         such a job whose outputs are all 0 wherever the last input is, so that half the inputs are settled
     CIRCUIT_SIZE.job         typical cuts: old and golden netlist are two designs of one circuit, some old nets cut open
     tiny_CIRCUIT_SIZE.job    the same of 2 to 6 inputs and up to 20 gates a side
     pair_GATES_four.job      gates of four operands, and in pair_GATES_chain.job each of them as three gates of two operands
@@ -358,6 +359,23 @@ def unseen(rng):
     yield "unseen_wide", job
 
 
+def gated(job, net):
+    """The job with each output the and of what it was and an input."""
+
+    def behind(side):
+        first = job.net_count(side)
+        gates = side.gates + [Gate.of(AND, o, net) for o in side.outputs]
+        return Netlist(gates, list(range(first, first + len(side.outputs))))
+
+    return replace(job, old=behind(job.old), golden=behind(job.golden))
+
+
+def settled(rng):
+    job = gated(walked_job(rng, 20, 4, 368, 50, 10, related=True), 19)
+    assert choice_of(job).patch.notes.count(0) > 0
+    yield "unseen_gated", job
+
+
 def rare(rng):
     """One listed vector, then two."""
     for k, name in ((0, "one"), (1, "two")):
@@ -546,7 +564,7 @@ def main():
     if what == "growth":
         put_jobs(folder, growth(rng))
         return
-    for made in (wide, cuts, tiny, pairs, unseen, rare, ties):
+    for made in (wide, cuts, tiny, pairs, unseen, rare, ties, settled):
         put_jobs(folder, made(rng))
     put_sheets(folder)
 

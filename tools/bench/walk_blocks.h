@@ -1,7 +1,8 @@
 /* The walk over all inputs, 1,024 at a time (blocks.h): what judge_blocks.c, choose_blocks.c and decide_blocks.c have in
  * common. Every live gate is evaluated at vector 0. Then one target is flipped at a time, so that the next vector costs the
  * gates which that target leads to. The masks of the vectors and the readings are transposed, which brings what an input
- * needs into one place. Which readings occur is told by a bit beside the vectors of a reading's set. */
+ * needs into one place. Which readings occur is told by a bit beside the vectors of a reading's set. A test that may spare a
+ * block all but one or two vectors is tried as long as it is trusted. */
 #ifndef WALK_BLOCKS_H
 #define WALK_BLOCKS_H
 #include "blocks.h"
@@ -51,8 +52,8 @@ static void group_outputs(struct plan *p, size_t targets) {
     memcpy(m->golden, golden, sizeof golden);
 }
 
-static void make_plan(const struct job *j, struct plan *p) {
-    make_miter(j, j->nets, j->candidates, &p->miter);
+static void make_plan(const struct job *j, int merging, struct plan *p) {
+    make_miter(j, j->nets, j->candidates, merging, &p->miter);
     for (unsigned t = 0; t < j->targets; t++) pick_gates(&p->miter, 1u << t, &p->led[t]);
     order_targets(p, j->targets);
     group_outputs(p, j->targets);
@@ -90,21 +91,14 @@ INLINE void find_masks(
     }
 }
 
-/* The rows of the priced nets, the others zero. */
-INLINE void read_rows(const struct job *j, const uint64_t *values, uint64_t *readings, unsigned W) {
-    for (size_t i = 0; i < ROWS; i++)
-        if (i < j->candidates) memcpy(readings + i * W, values + j->nets[i] * W, 8 * W);
-        else fill(readings + i * W, 0, W);
-}
-
-INLINE void clear_targets(const struct job *j, uint64_t *values, unsigned W) {
-    for (size_t t = 0; t < j->targets; t++) fill(values + (j->inputs + t) * W, 0, W);
-}
-
 /* The same, and zero in the rows behind. */
 INLINE void find_rows(const struct job *j, const struct plan *p, unsigned v, uint64_t *values, uint64_t *masks, unsigned W) {
     memset(masks + (W << j->targets), 0, 8 * W * (ROWS - (1u << j->targets)));
     find_masks(j, p, v, values, masks, W);
+}
+
+INLINE void clear_targets(const struct job *j, uint64_t *values, unsigned W) {
+    for (size_t t = 0; t < j->targets; t++) fill(values + (j->inputs + t) * W, 0, W);
 }
 
 /* Takes the block's inputs that no listed vector fixes, smallest first; 0 where one of them is unfixable. */
@@ -128,16 +122,6 @@ INLINE int list_vectors(const struct job *j, struct list *l, const uint64_t *mas
     return 1;
 }
 
-/* The masks and the readings of a block: every live gate at vector 0, then those that each vector changes. */
-INLINE void rows_of_block(const struct job *j, const struct plan *p, uint32_t block, uint64_t *values, uint64_t *masks,
-    uint64_t *readings, unsigned W) {
-    load_inputs(j->inputs, block, values, W);
-    clear_targets(j, values, W);
-    run(&p->miter.gates, values, W);
-    read_rows(j, values, readings, W);
-    find_rows(j, p, 0, values, masks, W);
-}
-
 /* Each input narrows the set of its reading, of which the bits above the vectors' go with the first one that gives it; the
  * reading and the vectors stand in the same sixteen bits of two words. */
 INLINE void note(uint64_t *masks, uint64_t *readings, uint32_t *sets, unsigned W) {
@@ -156,6 +140,19 @@ static inline void take_sets(const uint32_t *sets, size_t candidates, struct set
         to->given[r] = !(sets[r] >> VECTORS);
         to->shared[r] = sets[r];
     }
+}
+
+/* ---- trust: how often a test that may spare a block may still fail */
+
+enum { MOST_TRUST = 64 };
+
+/* At first on one block of sixteen, with fewer inputs than least on none. */
+static inline unsigned first_trust(size_t inputs, size_t least) { return inputs < least ? 0 : (1u << inputs) / 16384; }
+
+/* After a try, before which there was some. */
+static inline unsigned next_trust(unsigned trust, int spared) {
+    if (!spared) return trust - 1;
+    return trust < MOST_TRUST ? trust + 1 : MOST_TRUST;
 }
 
 #endif
