@@ -32,6 +32,7 @@ pub mod MiterCode
 pub mod OldSide
 pub mod Outputs
 pub mod Packed
+pub mod Pairs
 pub mod Unpacked
 pub mod PartsSheet
 pub mod Partial

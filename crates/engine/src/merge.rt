@@ -1,6 +1,6 @@
 // Gates of one kind over the same nets have the same values: what reads a later one may read an earlier one's net. In most jobs the golden
 // circuit is the old one but for what the targets cut off, and then nothing reads the golden gates that stand in both: a plan leaves
-// them out.
+// them out. Outputs that have come to be one net need not be compared, nor what leads to them alone be evaluated.
 ghost use mathlib.Core.Path.{_≡_};
 ghost use mathlib.Core.Bool.{true};
 ghost use Prim.Native.Nat.{_+_, _-_, _≤_, _<_};
@@ -9,7 +9,7 @@ ghost use Rattle.records.specs.Job.{Job};
 ghost use Rattle.engine.specs.Inner.Renumber.{gateIn};
 ghost use Rattle.records.specs.Parts.{PartsOf};
 ghost use Rattle.engine.specs.Inner.Miter.{SomeParts, MiterRoom, MiterOf, MergedOf};
-ghost use Rattle.engine.specs.Inner.Merge.{Backward, Chained, GatesMerged};
+ghost use Rattle.engine.specs.Inner.Merge.{Backward, Chained, GatesMerged, PairsKept};
 use super::limits::MITER_GATES;
 use super::limits::NETS;
 use super::miter::Miter;
@@ -31,6 +31,13 @@ pub struct MergedGates {
 pub struct Chains {
     pub heads: [u16; NETS],
     pub next: [u16; MITER_GATES],
+}
+
+// Nets that are compared, an old one and a golden one, count pairs.
+pub struct Pairs {
+    pub count: usize,
+    pub outputs: [u16; OUTPUTS],
+    pub goldens: [u16; OUTPUTS],
 }
 
 // A place below 1,024 for a packed gate, by its kind, count and operands.
@@ -108,16 +115,39 @@ fn merge_gates(base: usize, first: usize, count: usize, gates: [u64; MITER_GATES
     MergedGates { gates, stands }
 }
 
-// The miter with its gates from first on merged, which are the golden ones, and the golden outputs at the nets that stand for theirs.
-// A job of few inputs keeps its gates: evaluating them costs less.
+// The first outs pairs, but for those of one net, which are equal whatever it is.
+fn pairs_apart(outputs: [u16; OUTPUTS], goldens: [u16; OUTPUTS], outs: usize) -> Pairs
+    requires { ⌜ (outs ≤ 32) × (length outputs ≡ 32) × (length goldens ≡ 32) ⌝ }
+    ensures { λ r. ⌜ PairsKept outputs goldens outs r ⌝ }
+{
+    let mut olds = [0u16; OUTPUTS];
+    let mut news = [0u16; OUTPUTS];
+    let mut count = 0usize;
+    let mut i = 0usize;
+    while i < outs {
+        let a = outputs[i];
+        let b = goldens[i];
+        if a != b {
+            olds[count] = a;
+            news[count] = b;
+            count += 1;
+        }
+        i += 1;
+    }
+    Pairs {
+        count,
+        outputs: olds,
+        goldens: news,
+    }
+}
+
+// The miter with its gates from first on merged, which are the golden ones, and the pairs of an old output and the net that stands for
+// its golden one, where they are not one net.
 fn merged(miter: Miter, first: usize) -> Miter
     requires { ⌜ MiterRoom miter × (first ≤ miter .count) ⌝ }
     ensures { λ r. ⌜ MiterRoom r ⌝ }
     ensures { λ r. ⌜ ((j : Job) → MiterOf j miter → MergedOf j r) ⌝ }
 {
-    if miter.inputs < 12 {
-        return miter;
-    }
     let gates = miter.gates;
     let goldens = miter.goldens;
     let outputs = miter.outputs;
@@ -126,23 +156,29 @@ fn merged(miter: Miter, first: usize) -> Miter
     let mut nets = [0u16; OUTPUTS];
     move_nets(&goldens, OUTPUTS, &stands, &mut nets);
     let merged_gates = merged.gates;
+    let pairs = pairs_apart(outputs, nets, miter.outs);
+    let olds = pairs.outputs;
+    let news = pairs.goldens;
     Miter {
         inputs: miter.inputs,
         targets: miter.targets,
         count: miter.count,
         gates: merged_gates,
-        outs: miter.outs,
-        outputs,
-        goldens: nets,
+        outs: pairs.count,
+        outputs: olds,
+        goldens: news,
     }
 }
 
-// The miter of a good job's parts, its golden gates merged with the gates before them.
+// The miter of a good job's parts, its golden gates merged with the gates before them. A job of few inputs keeps its gates: evaluating them
+// costs less.
 pub(super) fn merged_miter(job: JobParts) -> Miter
     requires { ⌜ SomeParts job ⌝ }
     ensures { λ r. ⌜ MiterRoom r ⌝ }
     ensures { λ r. ⌜ ((j : Job) → PartsOf j job → MergedOf j r) ⌝ }
 {
-    let first = job.counts.old.gates;
-    merged(miter_of(job), first)
+    if job.counts.inputs < 12 {
+        return miter_of(job);
+    }
+    merged(miter_of(job), job.counts.old.gates)
 }

@@ -30,7 +30,7 @@ use Rattle.engine.specs.declared.plan.Plan.{Plan}
 use Rattle.engine.proofs.Laws.Choice.{true-or-false, all-true, all-of-members, all-below-more, map-agree}
 use Rattle.engine.proofs.Laws.Gray.{rank-ordered, ordered-rank, rank-side}
 use Rattle.engine.proofs.Laws.Kernel.{netAt-column}
-use Rattle.engine.proofs.Laws.Miter.{miter-nets, oldNets-le, outputs-nets, rectifies-miter, reading-miter}
+use Rattle.engine.proofs.Laws.Miter.{miter-nets, oldNets-le, reading-miter}
 use Rattle.engine.proofs.Laws.Plan.{fanMarks, freeOf, zero-free, candidate-free}
 
 -- ---- numbers of bits
@@ -74,13 +74,12 @@ module _ {j : Job} {is : List ℕ} {plan : Plan} {gates : List ℕ} where
       let good = p .good in
       let x = 1024 * b + y in
       let values = live-values j good (p .live) x (v y) y words (at .agrees y h) in
+      let pairs = p .pairs in
       rw (
-        p .outputs,
-        values (j .old .outputs) (outputs-nets j good) (p .live-outputs),
-        values (take (plan .outs) (plan .goldens)) (p .below) (p .live-goldens),
-        p .goldens x (v y),
+        values (take (plan .outs) (plan .outputs)) (pairs .olds) (p .live-outputs),
+        values (take (plan .outs) (plan .goldens)) (pairs .goldens) (p .live-goldens),
       )
-      (sym (rectifies-miter j good x (v y)))
+      (pairs .equal x (v y))
 
   -- read nets that no target leads to are the reading
   pub read-values : (p : ReadsOf j is plan gates) {b : ℕ} {words : List ℕ} → BlockFree j (p .live) b words

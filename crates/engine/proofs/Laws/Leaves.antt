@@ -19,7 +19,7 @@ use Rattle.engine.specs.Inner.Note.{gathered}
 use Rattle.engine.proofs.Laws.Eval.{bit-lt}
 use Rattle.engine.proofs.Laws.Fill.{fill-at}
 use Rattle.engine.proofs.Laws.Kernel.{net-filled, bit-sum}
-use Rattle.engine.proofs.Laws.Outputs.{map-more, same-snoc}
+use Rattle.engine.proofs.Laws.Outputs.{map-more, same-next}
 use Rattle.engine.proofs.Laws.Word.{bit-and, bit-zero, bit-ones}
 
 -- ---- rows
@@ -163,10 +163,8 @@ pub equal-next : (f : ℕ → ℕ) (os ps : List ℕ) (k v v′ : ℕ) → k < l
 equal-next f os ps k v v′ h l e d =
     let x = map f (take k os) in
     let y = map f (take k ps) in
-    let m : length x ≡ length y =
-    omega (arith, length-map (take k os) f, length-map (take k ps) f, length-take-le k os (omega arith), length-take-le k ps (omega arith)) in
-    rw (map-more f os k h, map-more f ps k l, same-snoc x y (f (getD os k 0)) (f (getD ps k 0)) m)
-    (d ∙ ap (λ (u : ℕ). cond (eqb (f (getD os k 0)) (f (getD ps k 0))) u 0) e ∙ both-equal (same x y) (eqb (f (getD os k 0)) (f (getD ps k 0))))
+    let t = eqb (f (getD os k 0)) (f (getD ps k 0)) in
+    d ∙ ap (λ (u : ℕ). cond t u 0) e ∙ both-equal (same x y) t ∙ ap (λ (c : Bool). cond c 1 0) (sym (same-next f os ps k h l))
 
 -- ---- a row of zeros
 

@@ -42,7 +42,7 @@ use Rattle.engine.proofs.Laws.FitGates.{noGate, good-at, Local, netAt-e
 use Rattle.engine.proofs.Laws.FitNets.{all-mapped, operands-renumbered, renumbered-good}
 use Rattle.engine.proofs.Laws.Fitted.{length-bits}
 use Rattle.engine.proofs.Laws.List.{set-below}
-use Rattle.engine.proofs.Laws.Miter.{miter-good, goldens-nets}
+use Rattle.engine.proofs.Laws.Miter.{miter-good, outputs-nets, goldens-nets, rectifies-miter}
 use Rattle.engine.proofs.Laws.MiterCode.{formed-mapped}
 use Rattle.engine.proofs.Laws.Run.{good-first, good-rest}
 use Rattle.engine.proofs.Laws.Unpacked.{gates-unpacked}
@@ -338,10 +338,12 @@ merged-self {j} {m} q =
       merged = miterGates j;
       same = same-self (j .inputs + j .targets) (miterGates j) (miter-good j (q .good)) (q .forms);
       gates = q .gates;
-      outs = q .outs;
-      outputs = q .outputs;
-      below = rw (q .goldens) (goldens-nets j (q .good));
-      goldens = λ x v. ap (map (netAt (miterValues j x v))) (q .goldens);
+      pairs =
+          record {
+            olds = rw (q .outputs) (outputs-nets j (q .good));
+            goldens = rw (q .goldens) (goldens-nets j (q .good));
+            equal = λ x v. rw (q .outputs, q .goldens) (sym (rectifies-miter j (q .good) x v));
+          };
     }
 
 -- the miter with other gates and golden nets
@@ -431,13 +433,15 @@ module _ {m : Miter} (room : MiterRoom m) {g : MergedGates} (w : GatesMerged (m 
           merged = c .merged;
           same = c .same;
           gates = c .gates;
-          outs = q .outs;
-          outputs = q .outputs;
-          below =
-              rw goldens-replaced
-              (all-mapped (netAt (g .stands)) (miterNets j) (miterGoldens j)
-              (λ i t. let s = golden-stands w q i t in omega (arith, s .1 .before)));
-          goldens = λ x v. rw goldens-replaced (goldens-same w q x v);
+          pairs =
+              record {
+                olds = rw (q .outputs) (outputs-nets j (q .good));
+                goldens =
+                    rw goldens-replaced
+                    (all-mapped (netAt (g .stands)) (miterNets j) (miterGoldens j)
+                    (λ i t. let s = golden-stands w q i t in omega (arith, s .1 .before)));
+                equal = λ x v. rw (q .outputs, goldens-replaced, goldens-same w q x v) (sym (rectifies-miter j (q .good) x v));
+              };
         }
 
 -- the old gates come first

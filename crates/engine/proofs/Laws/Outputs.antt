@@ -7,8 +7,8 @@ use native.Mathlib.Numerals.{add-one}
 use native.Mathlib.Omega.{arith}
 use lib.Bits.{differ}
 use lib.Dec.{eqb}
-use lib.ListN.{length, getD, take, set}
-use lib.Seq.{take-suc, take-suc-set}
+use lib.ListN.{length, getD, take, set, length-map}
+use lib.Seq.{take-suc, take-suc-set, length-take-le}
 use Rattle.engine.specs.Choice.{same}
 
 -- ---- one more output
@@ -30,7 +30,7 @@ same-snoc (z ∷ xs) (w ∷ ys) x y e =
     and-assoc true b c = refl
     and-assoc false b c = refl
 
-map-snoc : (f : ℕ → ℕ) (xs : List ℕ) (x : ℕ) → map f (xs ++ (x ∷ [])) ≡ map f xs ++ (f x ∷ [])
+pub map-snoc : (f : ℕ → ℕ) (xs : List ℕ) (x : ℕ) → map f (xs ++ (x ∷ [])) ≡ map f xs ++ (f x ∷ [])
 map-snoc f [] x = refl
 map-snoc f (y ∷ xs) x = ap (λ (l : List ℕ). f y ∷ l) (map-snoc f xs x)
 
@@ -39,6 +39,17 @@ pub map-more : (f : ℕ → ℕ) (os : List ℕ) (i : ℕ) → i < length os
     → map f (take (i + 1) os) ≡ map f (take i os) ++ (f (getD os i 0) ∷ [])
 map-more f os i h =
     ap (λ (k : ℕ). map f (take k os)) (add-one i) ∙ ap (map f) (take-suc os i 0 h) ∙ map-snoc f (take i os) (getD os i 0)
+
+-- .. of two such lists that are compared
+pub same-next : (f : ℕ → ℕ) (os ps : List ℕ) (i : ℕ) → i < length os → i < length ps
+    → same (map f (take (i + 1) os)) (map f (take (i + 1) ps))
+    ≡ (same (map f (take i os)) (map f (take i ps)) && eqb (f (getD os i 0)) (f (getD ps i 0)))
+same-next f os ps i h l =
+    let x = map f (take i os) in
+    let y = map f (take i ps) in
+    let m : length x ≡ length y =
+    omega (arith, length-map (take i os) f, length-map (take i ps) f, length-take-le i os (omega arith), length-take-le i ps (omega arith)) in
+    rw (map-more f os i h, map-more f ps i l) (same-snoc x y (f (getD os i 0)) (f (getD ps i 0)) m)
 
 -- a turn of the loop that copies the picked nets' words
 pub select-turn : (nets picks words : List ℕ) (i : ℕ) → i < length picks → i < length words

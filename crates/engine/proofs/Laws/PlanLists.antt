@@ -24,10 +24,10 @@ use Rattle.engine.specs.Inner.Miter.{shiftedNet, shifted, shiftOf, miter
 use Rattle.engine.specs.Inner.Plan.{codeMark, marksOf, marked, Closed, leavesFrom, marksFrom, picked, listAt, listsTo, liveMarks, ListPut, ListsUpTo, NetsRead, PlanHeld, PlanLists, ReadsOf, PlannedOf}
 use Rattle.engine.specs.declared.miter.Miter.{Miter}
 use Rattle.engine.specs.declared.plan.Plan.{Plan}
-use Rattle.engine.proofs.Laws.Choice.{true-or-false, not-both, all-true, all-of-members, all-below-more}
+use Rattle.engine.proofs.Laws.Choice.{true-or-false, not-both, all-true, all-of-members}
 use Rattle.engine.proofs.Laws.FitNets.{operands-renumbered}
 use Rattle.engine.proofs.Laws.Marks.{leafMark, leafMark-out, marks-leaf, unmarked-of, same-marks, marks-follow}
-use Rattle.engine.proofs.Laws.Miter.{extended-append, length-extended, shiftedNet-input, shiftedNet-gate, job-within, miter-gates, miter-nets, oldNets-le, outputs-below}
+use Rattle.engine.proofs.Laws.Miter.{extended-append, length-extended, shiftedNet-input, shiftedNet-gate, job-within, miter-gates, miter-nets, oldNets-le}
 use Rattle.engine.proofs.Laws.Packed.{packed-own}
 use Rattle.engine.proofs.Laws.Plan.{candidate-free}
 use Rattle.engine.proofs.Laws.PlanCode.{length-leavesFrom, getD-leavesFrom, ends-length}
@@ -379,29 +379,25 @@ module _ (j : Job) (is : List ℕ) (m : Miter) (o : MergedOf j m) (nets : List �
       → (ends gates : List ℕ) → ListsUpTo (m .targets + 2) (m .inputs) (m .targets) live (take (m .count) (m .gates)) ends gates
       → PlannedOf j is (planOf m nets reads (m .outs) ends) gates
   planned le ends gates u =
-      let os = j .old .outputs in
+      let os = take (m .outs) (m .outputs) in
       let gs = take (m .outs) (m .goldens) in
       let cs = packedFrom (j .inputs + j .targets) (o .merged) in
-      let l : live ≡ liveMarks os gs is cs = rw (o .gates, o .outputs, e) at le in
+      let l : live ≡ liveMarks os gs is cs = rw (o .gates, e) at le in
       let members = live-members j is (o .good) (o .same) c os gs live l in
-      let below = all-below-more (miterNets j) 1024 (omega (arith, miter-nets j (o .good))) gs (o .below) in
+      let below : (xs : List ℕ) → all (λ i. ltb i (miterNets j)) xs ≡ true → (i : ℕ) → Mem i xs → i < 1024 =
+      λ xs h i n. omega (arith, ltb-true i (miterNets j) (all-true (λ k. ltb k (miterNets j)) xs h i n), miter-nets j (o .good)) in
       record {
         good = o .good;
         inputs = o .inputs;
         targets = o .targets;
-        outs = o .outs;
-        outputs = o .outputs;
-        below = o .below;
-        goldens = o .goldens;
+        pairs = o .pairs;
         nets = e;
         merged = o .merged;
         same = o .same;
         live = marked live;
         closed = closed-live j is (o .good) (o .same) c os gs live l;
-        live-outputs =
-            members os
-            (λ i n. live-os os gs is cs i n (ltb-true i 1024 (all-true (λ k. ltb k 1024) os (outputs-below j (o .good)) i n)));
-        live-goldens = members gs (λ i n. live-gs os gs is cs i n (ltb-true i 1024 (all-true (λ k. ltb k 1024) gs below i n)));
+        live-outputs = members os (λ i n. live-os os gs is cs i n (below os (o .pairs .olds) i n));
+        live-goldens = members gs (λ i n. live-gs os gs is cs i n (below gs (o .pairs .goldens) i n));
         live-nets = live-read j is (o .good) (o .same) c os gs live l;
         lists = plan-lists j (o .good) (o .same) live ends gates (rw (o .gates, o .inputs, o .targets) at u);
       }

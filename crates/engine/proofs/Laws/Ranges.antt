@@ -21,7 +21,7 @@ use Rattle.records.specs.Refusal.{gateGood, gatesGood}
 use Rattle.records.proofs.Laws.Bytes.{and-both, all-cons, length-tabulate, length-placed}
 use Rattle.records.proofs.Laws.Gate.{gateGood-count}
 use Rattle.engine.specs.Inner.Packed.{own, packed, packedFrom, formed, evaluated}
-use Rattle.engine.specs.Inner.Miter.{miterGates, miterGoldens, miterNets, miterValues}
+use Rattle.engine.specs.Inner.Miter.{miterGates, miterNets, miterValues}
 use Rattle.engine.specs.Inner.Plan.{fanned, PlanHeld, PlannedOf}
 use Rattle.engine.specs.declared.plan.Plan.{Plan}
 use Rattle.engine.specs.Eval.{bits}
@@ -30,7 +30,7 @@ use Rattle.engine.specs.Ternary.{unknown, ternaryValue, Completes}
 use Rattle.engine.specs.Inner.Ranges.{knownAt, ternaryOf, codeTernary, Completed, InRange, Known}
 use Rattle.engine.proofs.Laws.Choice.{mem-keep, same-refl}
 use Rattle.engine.proofs.Laws.Fitted.{length-bits}
-use Rattle.engine.proofs.Laws.Miter.{miter-nets, outputs-nets, rectifies-miter}
+use Rattle.engine.proofs.Laws.Miter.{miter-nets}
 use Rattle.engine.proofs.Laws.Packed.{packed-kind, packed-operands, length-operands}
 use Rattle.engine.proofs.Laws.Partial.{gate-completes, map-take-agree}
 use Rattle.engine.proofs.Laws.FitGates.{netAt-extended}
@@ -236,7 +236,7 @@ module _ (j : Job) (is : List ℕ) (p : Plan) (gates : List ℕ) (o : PlannedOf 
       → Completed leafCount leaves nets → PlanHeld p gates
       → let after = evaluated codeTernary nets liveGates in
       ((i : ℕ) → i < p .outs → Known (getD after (getD (p .outputs) i 0) 0) (getD after (getD (p .goldens) i 0) 0))
-      → map (netAt (values leaves (miterGates j))) (j .old .outputs)
+      → map (netAt (values leaves (miterGates j))) (take (p .outs) (p .outputs))
       ≡ map (netAt (values leaves (miterGates j))) (take (p .outs) (p .goldens))
   unfolding netAt
   outputs-settled leaves nets e f c q k =
@@ -245,25 +245,24 @@ module _ (j : Job) (is : List ℕ) (p : Plan) (gates : List ℕ) (o : PlannedOf 
       let below : ℕ → Bool = λ i. ltb i (miterNets j) in
       let a : p .outs ≤ length (p .outputs) = omega (arith, q .outs, q .outputs) in
       let b : p .outs ≤ length (p .goldens) = omega (arith, q .outs, q .goldens) in
-      rw (o .outputs) at
-      (map-take-agree (netAt vs) (netAt vs) (p .outs) (p .outputs) (p .goldens) a b
+      map-take-agree (netAt vs) (netAt vs) (p .outs) (p .outputs) (p .goldens) a b
       (λ i l.
       let u = getD (p .outputs) i 0 in
       let w = getD (p .goldens) i 0 in
       let z = k i l in
       let y : getD after w 0 < unknown = omega (arith, z .below, z .equal) in
       live-completed leaves nets e f c u
-      (ltb-true u (miterNets j) (all-take-at below (p .outs) (p .outputs) a (rw (o .outputs) (outputs-nets j (o .good))) i l))
-      (all-take-at (o .live) (p .outs) (p .outputs) a (rw (o .outputs) (o .live-outputs)) i l)
+      (ltb-true u (miterNets j) (all-take-at below (p .outs) (p .outputs) a (o .pairs .olds) i l))
+      (all-take-at (o .live) (p .outs) (p .outputs) a (o .live-outputs) i l)
       .kept
       (z .below)
       ∙ z .equal
       ∙ sym
       (live-completed leaves nets e f c w
-      (ltb-true w (miterNets j) (all-take-at below (p .outs) (p .goldens) b (o .below) i l))
+      (ltb-true w (miterNets j) (all-take-at below (p .outs) (p .goldens) b (o .pairs .goldens) i l))
       (all-take-at (o .live) (p .outs) (p .goldens) b (o .live-goldens) i l)
       .kept
-      y)))
+      y))
 
   -- .. so that every vector rectifies every input of a range in which they are known
   pub rectifies-range : (low prefix : ℕ) (nets : List ℕ) → length nets ≡ 1024
@@ -279,5 +278,5 @@ module _ (j : Job) (is : List ℕ) (p : Plan) (gates : List ℕ) (o : PlannedOf 
       let m = j .targets in
       let leaves = bits n x ++ bits m v in
       let l : length leaves ≡ n + m = omega (arith, length-append (bits n x) (bits m v), length-bits n x, length-bits m v) in
-      let s = outputs-settled leaves nets l f (rw (o .inputs, o .targets) at (c x v r)) q k ∙ o .goldens x v in
-      rw (rectifies-miter j (o .good) x v, s) (same-refl (map (netAt (values leaves (miterGates j))) (miterGoldens j)))
+      let s = outputs-settled leaves nets l f (rw (o .inputs, o .targets) at (c x v r)) q k in
+      sym (o .pairs .equal x v) ∙ rw s (same-refl (map (netAt (values leaves (miterGates j))) (take (p .outs) (p .goldens))))

@@ -18,7 +18,8 @@
 --   SomeParts p          p are the parts of some good job
 --   MiterRoom m          lengths and bounds of the struct m
 --   MiterOf j m          the struct m has the miter of the good job j
---   MergedOf j m         .. gates that may stand for the miter's, and nets that have the values of its golden outputs
+--   PairsOf j os gs      the values of the nets os and gs are the same, pair by pair, exactly when the vector rectifies the input
+--   MergedOf j m         .. gates that may stand for the miter's, and such nets
 use Prim.Native.Nat.{ℕ, _+_, _≤_, _<_}
 use mathlib.Core.Path.{_≡_}
 use mathlib.Core.List.{List, _++_, map}
@@ -35,7 +36,9 @@ use Rattle.records.specs.Claims.{Below, PartsGood}
 use Rattle.records.specs.Parts.{PartsOf}
 use Rattle.records.specs.declared.gate.Gate.{Gate as GateStruct}
 use Rattle.records.specs.declared.loading.JobParts.{JobParts}
+use Rattle.engine.specs.Choice.{same}
 use Rattle.engine.specs.Eval.{bits}
+use Rattle.engine.specs.Rectify.{rectifies}
 use Rattle.engine.specs.Inner.Packed.{packedFrom, formed}
 use Rattle.engine.specs.declared.miter.Miter.{Miter}
 
@@ -129,6 +132,12 @@ pub record MiterOf (j : Job) (m : Miter) : Type 0 where
   pub outputs : take (m .outs) (m .outputs) ≡ j .old .outputs
   pub goldens : take (m .outs) (m .goldens) ≡ miterGoldens j
 
+-- .. and nets of the miter
+pub record PairsOf (j : Job) (os gs : List ℕ) : Type 0 where
+  pub olds : all (λ i. ltb i (miterNets j)) os ≡ true
+  pub goldens : all (λ i. ltb i (miterNets j)) gs ≡ true
+  pub equal : (x v : ℕ) → same (map (netAt (miterValues j x v)) os) (map (netAt (miterValues j x v)) gs) ≡ rectifies j x v
+
 pub record MergedOf (j : Job) (m : Miter) : Type 0 where
   pub good : PartsGood j
   pub inputs : m .inputs ≡ j .inputs
@@ -137,7 +146,4 @@ pub record MergedOf (j : Job) (m : Miter) : Type 0 where
   pub merged : List Gate
   pub same : SameGates (j .inputs + j .targets) (miterGates j) merged
   pub gates : take (m .count) (m .gates) ≡ packedFrom (j .inputs + j .targets) merged
-  pub outs : m .outs ≡ length (j .old .outputs)
-  pub outputs : take (m .outs) (m .outputs) ≡ j .old .outputs
-  pub below : all (λ i. ltb i (miterNets j)) (take (m .outs) (m .goldens)) ≡ true
-  pub goldens : (x v : ℕ) → map (netAt (miterValues j x v)) (take (m .outs) (m .goldens)) ≡ map (netAt (miterValues j x v)) (miterGoldens j)
+  pub pairs : PairsOf j (take (m .outs) (m .outputs)) (take (m .outs) (m .goldens))

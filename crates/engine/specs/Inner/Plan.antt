@@ -40,7 +40,7 @@ use Rattle.records.specs.Claims.{PartsGood, Below}
 use Rattle.engine.specs.Choice.{keep}
 use Rattle.engine.specs.Inner.Packed.{own, packedFrom, operandsOf, evaluated}
 use Rattle.engine.specs.Inner.Kernel.{column}
-use Rattle.engine.specs.Inner.Miter.{miterGates, miterGoldens, miterNets, miterValues, SameGates}
+use Rattle.engine.specs.Inner.Miter.{miterGates, miterNets, miterValues, SameGates, PairsOf}
 use Rattle.engine.specs.declared.plan.Plan.{Plan}
 
 unfoldable pub codeMark : List ℕ → ℕ → ℕ
@@ -166,16 +166,13 @@ pub record PlannedOf (j : Job) (is : List ℕ) (p : Plan) (gates : List ℕ) : T
   pub good : PartsGood j
   pub inputs : p .inputs ≡ j .inputs
   pub targets : p .targets ≡ j .targets
-  pub outs : p .outs ≡ length (j .old .outputs)
-  pub outputs : take (p .outs) (p .outputs) ≡ j .old .outputs
-  pub below : all (λ i. ltb i (miterNets j)) (take (p .outs) (p .goldens)) ≡ true
-  pub goldens : (x v : ℕ) → map (netAt (miterValues j x v)) (take (p .outs) (p .goldens)) ≡ map (netAt (miterValues j x v)) (miterGoldens j)
+  pub pairs : PairsOf j (take (p .outs) (p .outputs)) (take (p .outs) (p .goldens))
   pub nets : take (p .reads) (p .nets) ≡ is
   pub merged : List Gate
   pub same : SameGates (j .inputs + j .targets) (miterGates j) merged
   pub live : ℕ → Bool
   pub closed : Closed live (j .inputs + j .targets) merged
-  pub live-outputs : all live (j .old .outputs) ≡ true
+  pub live-outputs : all live (take (p .outs) (p .outputs)) ≡ true
   pub live-goldens : all live (take (p .outs) (p .goldens)) ≡ true
   pub live-nets : all live is ≡ true
   pub lists : PlanLists j merged live (p .ends) gates
