@@ -22,6 +22,7 @@ use super::drive::table_rows;
 use super::leaves::block_inputs;
 use super::limits::READINGS;
 use super::limits::ROWS;
+use super::limits::TRIES;
 use super::limits::VECTORS;
 use super::limits::WORDS;
 use super::list::Vectors;
@@ -34,6 +35,7 @@ use super::search::read_block;
 use super::search::settled_from;
 use super::search::zero_block;
 use super::trust::first_trust;
+use super::trust::next_tries;
 use super::trust::next_trust;
 use super::word::first_zero;
 use super::word::join_rows;
@@ -136,7 +138,8 @@ fn list_inputs(
     }
 }
 
-// The vector list over all inputs. It ends at the first block with an input that no vector rectifies.
+// The vector list over all inputs. It ends at the first block with an input that no vector rectifies. Blocks that partial evaluation settles
+// are skipped; that is given up where it settles too little.
 pub(super) fn list_of_inputs(gates: &[u64], plan: Plan) -> Vectors
     requires { ⌜ PlanHeld plan (now gates) ⌝ }
     ensures { λ r. ⌜ Held r ⌝ }
@@ -148,9 +151,11 @@ pub(super) fn list_of_inputs(gates: &[u64], plan: Plan) -> Vectors
     let mut table = [0u16; READINGS];
     let mut list = first_list();
     let mut trust = first_trust(plan.inputs, 14);
+    let mut tries = TRIES;
     let mut b = 0usize;
     while 1024 * b < size {
-        let skip = settled_from(gates, plan, b);
+        let skip = settled_from(gates, plan, b, tries);
+        tries = next_tries(tries, b, skip);
         if skip == 0 {
             let next = list_inputs(gates, plan, b, list, trust, &table, &mut sets, &mut words);
             list = next.list;

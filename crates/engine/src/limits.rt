@@ -13,6 +13,8 @@ pub const VECTORS: usize = 16;
 pub const ROWS: usize = ROW * VECTORS;
 // How many blocks more a test that may save a block's work may fail on than it does not (src/trust.rt).
 pub const TRUST: usize = 64;
+// How many tries of partial evaluation may settle nothing at first; each that settles a range gives one back (src/trust.rt).
+pub const TRIES: usize = 8;
 // The readings of ten candidates.
 pub const READINGS: usize = 1024;
 // The gates of both netlists, and those with a list for each target.

@@ -15,6 +15,7 @@ use super::leaves::load_inputs;
 use super::leaves::read_rows;
 use super::limits::READINGS;
 use super::limits::ROWS;
+use super::limits::TRIES;
 use super::limits::WORDS;
 use super::masks::masks_of;
 use super::note::meet_block;
@@ -23,6 +24,7 @@ use super::ranges::settled;
 use super::sole::keep_block;
 use super::sole::sole_table;
 use super::trust::first_trust;
+use super::trust::next_tries;
 use super::trust::next_trust;
 
 // The words of block b on the nets that no target leads to, and the rows of the nets read. It costs one gate evaluation a gate of these, for
@@ -54,11 +56,14 @@ pub(super) fn zero_block(gates: &[u64], plan: Plan, words: &mut [u64; WORDS])
 }
 
 // How many blocks from b on need no look: 32 where partial evaluation shows that their 2 ^ 15 inputs are rectified by every vector, else 0.
-// It is tried at every 32nd block, and costs one gate evaluation a gate there.
-pub(super) fn settled_from(gates: &[u64], plan: Plan, b: usize) -> usize
+// It is tried at every 32nd block while there are tries left, and costs one gate evaluation a gate there.
+pub(super) fn settled_from(gates: &[u64], plan: Plan, b: usize, tries: usize) -> usize
     requires { ⌜ PlanHeld plan (now gates) × (1024 * b < 2 ^ plan .inputs) ⌝ }
     ensures { λ r. ⌜ SettledFrom plan (now (gates .entry)) b r ⌝ }
 {
+    if tries == 0 {
+        return 0;
+    }
     if plan.inputs < 15 {
         return 0;
     }
@@ -122,7 +127,7 @@ pub(super) fn all_vectors(targets: usize) -> u16
 }
 
 // The sets of all readings. It costs, for each block of 1,024 inputs, one gate evaluation a gate of both netlists and, where the table does not
-// do, those of the masks, less what partial evaluation skips.
+// do, those of the masks, less what partial evaluation skips; and, for each try of that, one a gate. It is given up where it settles too little.
 pub(super) fn sets_of_inputs(gates: &[u64], plan: Plan) -> Met
     requires { ⌜ PlanHeld plan (now gates) ⌝ }
     ensures { λ r. ⌜ ((j : Job) → PlannedOf j (candidateNets j) plan (now (gates .entry)) → SetsTo j (2 ^ j .inputs) (r .skipped) (r .sets)) ⌝ }
@@ -132,10 +137,12 @@ pub(super) fn sets_of_inputs(gates: &[u64], plan: Plan) -> Met
     let mut sets = [65536 + all_vectors(plan.targets) as u32; READINGS];
     let mut trust = first_trust(plan.inputs, 17);
     let mut table = [32u16; READINGS];
+    let mut tries = TRIES;
     let mut skipped = 0usize;
     let mut b = 0usize;
     while 1024 * b < size {
-        let skip = settled_from(gates, plan, b);
+        let skip = settled_from(gates, plan, b, tries);
+        tries = next_tries(tries, b, skip);
         if skip == 0 {
             let count = block_inputs(size - 1024 * b);
             let kept = meet_inputs(

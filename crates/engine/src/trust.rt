@@ -38,3 +38,15 @@ pub(super) fn next_trust(trust: usize, b: usize, saved: bool) -> usize
     }
     if b == 0 { trust } else { less(trust) }
 }
+
+// How many tries of partial evaluation may still settle nothing, after block b, from which on it skipped so many blocks, or none. Only
+// every 32nd block has a try.
+pub(super) fn next_tries(tries: usize, b: usize, skip: usize) -> usize
+    requires { ⌜ tries ≤ 64 ⌝ }
+    ensures { λ r. ⌜ r ≤ 64 ⌝ }
+{
+    if b % 32 != 0 {
+        return tries;
+    }
+    if skip == 0 { less(tries) } else { more(tries) }
+}

@@ -27,11 +27,15 @@ record Trusted (v : Vectors) (t : List ℕ) (n : ℕ) : Type 0 where
   table : 0 < n → OfListed v t
 
 abbrev Inv-loop : tie.InvT-loop
-Inv-loop gates plan size words₀ sets₀ table₀ list₀ trust₀ b₀ words sets table list trust b =
-    (length words ≡ 16384) × (length sets ≡ 1024) × Trusted list table trust × WalkTo (ListsTo plan gates list) (plan .inputs) size b
+Inv-loop gates plan size words₀ sets₀ table₀ list₀ trust₀ tries₀ b₀ words sets table list trust tries b =
+    (length words ≡ 16384)
+    × (length sets ≡ 1024)
+    × Trusted list table trust
+    × WalkTo (ListsTo plan gates list) (plan .inputs) size b
+    × (tries ≤ 64)
 
 abbrev μ-loop : tie.MeasureT-loop
-μ-loop gates plan size words₀ sets₀ table₀ list₀ trust₀ b₀ words sets table list trust b = size - 1024 * b
+μ-loop gates plan size words₀ sets₀ table₀ list₀ trust₀ tries₀ b₀ words sets table list trust tries b = size - 1024 * b
 
 first-trust-requires : tie.Need-first-trust-requires Inv-loop μ-loop
 first-trust-requires c κs = c .before .before .before .pre .inputs
@@ -44,6 +48,7 @@ loop-holds c =
       length-replicate {A = ℕ} 1024 4294967295,
       record { held = f .ensures .0; free = f .ensures .2; few = c .first-trust .ensures; table = λ l. zeros-listed (f .result) },
       walk-start (ListsTo (s .args .plan) (now (s .args .gates)) (f .result)) (s .pre .inputs) (lists-start (f .result) (f .ensures .1)),
+      omega arith,
     )
 
 abbrev start : tie.At-loop Inv-loop μ-loop → tie.Start Inv-loop μ-loop
@@ -56,13 +61,17 @@ settled-from-requires c κs = let l = c .before in (start l .pre, omega (arith, 
 
 list-inputs-requires : tie.Need-list-inputs-requires Inv-loop μ-loop
 list-inputs-requires c κs =
-    let l = c .before .before .before .before .before .before in
+    let l = c .before .before .before .before .before .before .before in
     let i = l .loop .inv in
     let t = i .2 in
     ((start l .pre, omega (arith, i .3 .inputs), t .held, t .free), (t .table, i .1, i .0))
 
+-- past the loop's test, and at it
+abbrev inside : tie.After-list-inputs Inv-loop μ-loop → tie.In-loop Inv-loop μ-loop
+inside c = c .before .before .before .before .before .before .before
+
 abbrev at : tie.After-list-inputs Inv-loop μ-loop → tie.At-loop Inv-loop μ-loop
-at c = c .before .before .before .before .before .before .before
+at c = inside c .before
 
 -- the list after it
 listed : (c : tie.After-list-inputs Inv-loop μ-loop)
@@ -77,7 +86,7 @@ returns c =
     let w = c .before .before in
     let l = at w in
     let v = w .list-inputs .result .list in
-    let r = block-range (start l .args .plan .inputs) (l .loop .b) (omega (arith, l .loop .inv .3 .inputs)) in
+    let r = block-range (start l .args .plan .inputs) (l .loop .b) (omega (arith, l .loop .inv .3 .inputs, inside w .loop-test .taken)) in
     (w .list-inputs .ensures .0 .0 .held, lists-all v (lists-stuck v (r .within) (c .if2 .taken) (listed w)))
 
 -- a table that is trusted and not made anew was kept
@@ -110,19 +119,26 @@ loop-again c =
       e .1 .1,
       e .1 .0,
       record { held = e .0 .0 .held; free = n .before .if2 .left; few = n .next-trust .ensures; table = table-after c },
-      walk-block i (omega arith) (omega (arith, i .inputs)) (ListsTo _ _ (w .list-inputs .result .list)) (listed w),
+      walk-block i (omega (arith, inside w .loop-test .taken)) (omega (arith, i .inputs))
+          (ListsTo _ _ (w .list-inputs .result .list)) (listed w),
+      w .before .before .before .before .before .next-tries .ensures,
     )
 
 -- ---- blocks that need no look
 
 add-b-2 : tie.Need-add-b-2 Inv-loop μ-loop
-add-b-2 c = omega (arith, c .before .settled-from .ensures .few)
+add-b-2 c = omega (arith, c .before .before .settled-from .ensures .few)
 
 loop-again-2 : tie.Need-loop-again-2 Inv-loop μ-loop
 loop-again-2 c =
-    let i = c .before .before .before .loop .inv in
-    let s = c .before .settled-from .ensures in
-    (i .0, i .1, i .2, walk-skip (i .3) (omega arith) _ _ (s .within) (lists-skip _ s (walk-here (i .3) (omega arith))))
+    let i = c .before .before .before .before .loop .inv in
+    let s = c .before .before .settled-from .ensures in (
+      i .0,
+      i .1,
+      i .2,
+      walk-skip (i .3) (omega arith) _ _ (s .within) (lists-skip _ s (walk-here (i .3) (omega arith))),
+      c .before .next-tries .ensures,
+    )
 
 returns-2 : tie.Need-returns-2 Inv-loop μ-loop
 returns-2 c =
@@ -133,6 +149,6 @@ pub list-of-inputs-spec : {M : Type 1} → statement M
 list-of-inputs-spec =
     tie.close
     (tie.spec Inv-loop μ-loop (λ c. omega arith) (λ c κs. tt) first-trust-requires loop-holds (λ c. omega arith) settled-from-requires
-    list-inputs-requires returns (λ c κs. at (c .before .before) .loop .inv .2 .few)
+    (λ c κs. c .before .before .loop .inv .4) list-inputs-requires returns (λ c κs. at (c .before .before) .loop .inv .2 .few)
     (λ c κs. c .before .before .before .before .before .list-inputs .ensures .0 .0 .held) (λ c. omega arith) (λ c. omega arith) loop-again
     add-b-2 (λ c. omega arith) loop-again-2 returns-2)

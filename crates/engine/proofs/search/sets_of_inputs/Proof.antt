@@ -25,15 +25,16 @@ abbrev SetsAfter : Plan → List ℕ → ℕ → List ℕ → ℕ → Type 0
 SetsAfter p gates skipped sets x = (j : Job) → PlannedOf j (candidateNets j) p gates → SetsTo j x skipped sets
 
 abbrev Inv-loop : tie.InvT-loop
-Inv-loop gates plan size words₀ sets₀ trust₀ table₀ skipped₀ b₀ words sets trust table skipped b =
+Inv-loop gates plan size words₀ sets₀ trust₀ table₀ tries₀ skipped₀ b₀ words sets trust table tries skipped b =
     (length words ≡ 16384)
     × (length sets ≡ 1024)
     × (trust ≤ 64)
     × (0 < trust → SoleTable sets table)
     × WalkTo (SetsAfter plan gates skipped sets) (plan .inputs) size b
+    × (tries ≤ 64)
 
 abbrev μ-loop : tie.MeasureT-loop
-μ-loop gates plan size words₀ sets₀ trust₀ table₀ skipped₀ b₀ words sets trust table skipped b = size - 1024 * b
+μ-loop gates plan size words₀ sets₀ trust₀ table₀ tries₀ skipped₀ b₀ words sets trust table tries skipped b = size - 1024 * b
 
 abbrev start : tie.At-loop Inv-loop μ-loop → tie.Start Inv-loop μ-loop
 start l = l .before .before .before .before .before
@@ -57,6 +58,7 @@ loop-holds c =
       λ _. sole-start (a .all-vectors .result),
       walk-start (SetsAfter _ _ _ _) (s .pre .inputs)
           (λ j q. sets-start j (omega (arith, s .pre .targets, q .targets)) (a .all-vectors .ensures ∙ ap (λ (m : ℕ). 2 ^ 2 ^ m - 1) (q .targets))),
+      omega arith,
     )
 
 settled-from-requires : tie.Need-settled-from-requires Inv-loop μ-loop
@@ -64,24 +66,27 @@ settled-from-requires c κs =
     let l = c .before in
     (start l .pre, omega (arith, l .loop .inv .4 .inputs))
 
+next-tries-requires : tie.Need-next-tries-requires Inv-loop μ-loop
+next-tries-requires c κs = c .before .before .loop .inv .5
+
 meet-inputs-requires : tie.Need-meet-inputs-requires Inv-loop μ-loop
 meet-inputs-requires c κs =
     let b = c .before .before .before in
-    let l = b .before .before .before .before in
+    let l = b .before .before .before .before .before in
     let i = l .loop .inv in (
       (start l .pre, walk-range (i .4) (omega arith) (b .block-inputs .ensures), λ e. i .3 (ltb-true 0 (l .loop .trust) e)),
       (i .1, i .0),
     )
 
 next-trust-requires : tie.Need-next-trust-requires Inv-loop μ-loop
-next-trust-requires c κs = c .before .before .before .before .before .before .before .before .loop .inv .2
+next-trust-requires c κs = c .before .before .before .before .before .before .before .before .before .loop .inv .2
 
 loop-again : tie.Need-loop-again Inv-loop μ-loop
 loop-again c =
     let n = c .before in
     let m = n .before in
     let b = m .before .before .before .before in
-    let l = b .before .before .before .before in
+    let l = b .before .before .before .before .before in
     let i = l .loop .inv in
     let e = m .meet-inputs .ensures in (
       e .0 .1,
@@ -101,18 +106,19 @@ loop-again c =
           (c .if2 .came),
       walk-block (i .4) (omega arith) (b .block-inputs .ensures) (SetsAfter _ _ _ _)
           (λ j q. e .0 .0 .sets j (l .loop .skipped) q (walk-here (i .4) (omega arith) j q)),
+      b .before .before .next-tries .ensures,
     )
 
 shl-skipped : tie.Need-shl-skipped Inv-loop μ-loop
-shl-skipped c = omega (arith, c .before .before .before .loop .inv .4 .few)
+shl-skipped c = omega (arith, c .before .before .before .before .loop .inv .4 .few)
 
 add-b-2 : tie.Need-add-b-2 Inv-loop μ-loop
-add-b-2 c = omega (arith, c .before .settled-from .ensures .few)
+add-b-2 c = omega (arith, c .before .before .settled-from .ensures .few)
 
 loop-again-2 : tie.Need-loop-again-2 Inv-loop μ-loop
 loop-again-2 c =
-    let f = c .before .settled-from in
-    let l = c .before .before .before in
+    let f = c .before .before .settled-from in
+    let l = c .before .before .before .before in
     let i = l .loop .inv in
     let n = l .loop .b / 32 in
     let e : 1 * 2 ^ n % 18446744073709551616 ≡ 2 ^ n = omega (arith, pow-mono {i = n} {j = 63} (omega (arith, i .4 .few))) in (
@@ -122,6 +128,7 @@ loop-again-2 c =
       i .3,
       walk-skip (i .4) (omega arith) (SetsAfter _ _ _ _) (f .result) (f .ensures .within)
           (λ j q. rw e (sets-skip (f .ensures) (omega arith) q (walk-here (i .4) (omega arith) j q))),
+      c .before .next-tries .ensures,
     )
 
 returns : tie.Need-returns Inv-loop μ-loop
@@ -133,5 +140,5 @@ pub sets-of-inputs-spec : {M : Type 1} → statement M
 sets-of-inputs-spec =
     tie.close
     (tie.spec Inv-loop μ-loop shl-size all-vectors-requires (λ c. omega arith) (λ c. omega arith) first-trust-requires loop-holds
-    (λ c. omega arith) settled-from-requires (λ c. omega arith) (λ c. omega arith) (λ c κs. tt) meet-inputs-requires next-trust-requires
-    (λ c κs. tt) (λ c. omega arith) (λ c. omega arith) loop-again shl-skipped add-b-2 (λ c. omega arith) loop-again-2 returns)
+    (λ c. omega arith) settled-from-requires next-tries-requires (λ c. omega arith) (λ c. omega arith) (λ c κs. tt) meet-inputs-requires
+    next-trust-requires (λ c κs. tt) (λ c. omega arith) (λ c. omega arith) loop-again shl-skipped add-b-2 (λ c. omega arith) loop-again-2 returns)
