@@ -22,7 +22,6 @@ use super::drive::table_rows;
 use super::leaves::block_inputs;
 use super::limits::READINGS;
 use super::limits::ROWS;
-use super::limits::TRIES;
 use super::limits::VECTORS;
 use super::limits::WORDS;
 use super::list::Vectors;
@@ -31,6 +30,7 @@ use super::masks::masks_of;
 use super::note::list_block;
 use super::note::sort_block;
 use super::plan::Plan;
+use super::search::first_tries;
 use super::search::read_block;
 use super::search::settled_from;
 use super::search::zero_block;
@@ -151,7 +151,7 @@ pub(super) fn list_of_inputs(gates: &[u64], plan: Plan) -> Vectors
     let mut table = [0u16; READINGS];
     let mut list = first_list();
     let mut trust = first_trust(plan.inputs, 14);
-    let mut tries = TRIES;
+    let mut tries = first_tries(gates, plan);
     let mut b = 0usize;
     while 1024 * b < size {
         let skip = settled_from(gates, plan, b, tries);

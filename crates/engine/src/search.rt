@@ -16,6 +16,7 @@ use super::leaves::read_rows;
 use super::limits::READINGS;
 use super::limits::ROWS;
 use super::limits::TRIES;
+use super::limits::TRUST;
 use super::limits::WORDS;
 use super::masks::masks_of;
 use super::note::meet_block;
@@ -53,6 +54,21 @@ pub(super) fn zero_block(gates: &[u64], plan: Plan, words: &mut [u64; WORDS])
     clear_targets(plan.inputs, plan.targets, words);
     let ends = plan.ends;
     run(gates, ends[0], ends[1], words);
+}
+
+// How many tries of partial evaluation may settle nothing: few, but where it settles the last 2 ^ 15 inputs, as it does on a job whose outputs
+// a high input holds still, it is tried to the end.
+pub(super) fn first_tries(gates: &[u64], plan: Plan) -> usize
+    requires { ⌜ PlanHeld plan (now gates) ⌝ }
+    ensures { λ r. ⌜ r ≤ 64 ⌝ }
+{
+    if plan.inputs < 15 {
+        return 0;
+    }
+    if settled(gates, plan, 15, 31 >> (20 - plan.inputs)) {
+        return TRUST;
+    }
+    TRIES
 }
 
 // How many blocks from b on need no look: 32 where partial evaluation shows that their 2 ^ 15 inputs are rectified by every vector, else 0.
@@ -137,7 +153,7 @@ pub(super) fn sets_of_inputs(gates: &[u64], plan: Plan) -> Met
     let mut sets = [65536 + all_vectors(plan.targets) as u32; READINGS];
     let mut trust = first_trust(plan.inputs, 17);
     let mut table = [32u16; READINGS];
-    let mut tries = TRIES;
+    let mut tries = first_tries(gates, plan);
     let mut skipped = 0usize;
     let mut b = 0usize;
     while 1024 * b < size {

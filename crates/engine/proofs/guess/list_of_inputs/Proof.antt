@@ -40,19 +40,23 @@ abbrev μ-loop : tie.MeasureT-loop
 first-trust-requires : tie.Need-first-trust-requires Inv-loop μ-loop
 first-trust-requires c κs = c .before .before .before .pre .inputs
 
+first-tries-requires : tie.Need-first-tries-requires Inv-loop μ-loop
+first-tries-requires c κs = c .before .before .before .before .pre
+
 loop-holds : tie.Need-loop-holds Inv-loop μ-loop
 loop-holds c =
-    let f = c .before .first-list in
-    let s = c .before .before .before .before in (
+    let t = c .before in
+    let f = t .before .first-list in
+    let s = t .before .before .before .before in (
       length-replicate {A = ℕ} 16384 0,
       length-replicate {A = ℕ} 1024 4294967295,
-      record { held = f .ensures .0; free = f .ensures .2; few = c .first-trust .ensures; table = λ l. zeros-listed (f .result) },
+      record { held = f .ensures .0; free = f .ensures .2; few = t .first-trust .ensures; table = λ l. zeros-listed (f .result) },
       walk-start (ListsTo (s .args .plan) (now (s .args .gates)) (f .result)) (s .pre .inputs) (lists-start (f .result) (f .ensures .1)),
-      omega arith,
+      c .first-tries .ensures,
     )
 
 abbrev start : tie.At-loop Inv-loop μ-loop → tie.Start Inv-loop μ-loop
-start l = l .before .before .before .before .before
+start l = l .before .before .before .before .before .before
 
 settled-from-requires : tie.Need-settled-from-requires Inv-loop μ-loop
 settled-from-requires c κs = let l = c .before in (start l .pre, omega (arith, l .loop .inv .3 .inputs))
@@ -148,7 +152,7 @@ returns-2 c =
 pub list-of-inputs-spec : {M : Type 1} → statement M
 list-of-inputs-spec =
     tie.close
-    (tie.spec Inv-loop μ-loop (λ c. omega arith) (λ c κs. tt) first-trust-requires loop-holds (λ c. omega arith) settled-from-requires
+    (tie.spec Inv-loop μ-loop (λ c. omega arith) (λ c κs. tt) first-trust-requires first-tries-requires loop-holds (λ c. omega arith) settled-from-requires
     (λ c κs. c .before .before .loop .inv .4) list-inputs-requires returns (λ c κs. at (c .before .before) .loop .inv .2 .few)
     (λ c κs. c .before .before .before .before .before .list-inputs .ensures .0 .0 .held) (λ c. omega arith) (λ c. omega arith) loop-again
     add-b-2 (λ c. omega arith) loop-again-2 returns-2)

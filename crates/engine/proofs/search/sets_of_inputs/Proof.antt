@@ -37,7 +37,7 @@ abbrev μ-loop : tie.MeasureT-loop
 μ-loop gates plan size words₀ sets₀ trust₀ table₀ tries₀ skipped₀ b₀ words sets trust table tries skipped b = size - 1024 * b
 
 abbrev start : tie.At-loop Inv-loop μ-loop → tie.Start Inv-loop μ-loop
-start l = l .before .before .before .before .before
+start l = l .before .before .before .before .before .before
 
 shl-size : tie.Need-shl-size Inv-loop μ-loop
 shl-size c = omega (arith, c .before .before .pre .inputs)
@@ -48,17 +48,21 @@ all-vectors-requires c κs = c .before .before .pre .targets
 first-trust-requires : tie.Need-first-trust-requires Inv-loop μ-loop
 first-trust-requires c κs = c .before .before .before .pre .inputs
 
+first-tries-requires : tie.Need-first-tries-requires Inv-loop μ-loop
+first-tries-requires c κs = c .before .before .before .before .pre
+
 loop-holds : tie.Need-loop-holds Inv-loop μ-loop
 loop-holds c =
-    let a = c .before in
+    let t = c .before in
+    let a = t .before in
     let s = a .before .before .before in (
       length-replicate {A = ℕ} 16384 0,
       length-replicate 1024 (65536 + a .all-vectors .result),
-      c .first-trust .ensures,
+      t .first-trust .ensures,
       λ _. sole-start (a .all-vectors .result),
       walk-start (SetsAfter _ _ _ _) (s .pre .inputs)
           (λ j q. sets-start j (omega (arith, s .pre .targets, q .targets)) (a .all-vectors .ensures ∙ ap (λ (m : ℕ). 2 ^ 2 ^ m - 1) (q .targets))),
-      omega arith,
+      c .first-tries .ensures,
     )
 
 settled-from-requires : tie.Need-settled-from-requires Inv-loop μ-loop
@@ -139,6 +143,6 @@ returns c =
 pub sets-of-inputs-spec : {M : Type 1} → statement M
 sets-of-inputs-spec =
     tie.close
-    (tie.spec Inv-loop μ-loop shl-size all-vectors-requires (λ c. omega arith) (λ c. omega arith) first-trust-requires loop-holds
+    (tie.spec Inv-loop μ-loop shl-size all-vectors-requires (λ c. omega arith) (λ c. omega arith) first-trust-requires first-tries-requires loop-holds
     (λ c. omega arith) settled-from-requires next-tries-requires (λ c. omega arith) (λ c. omega arith) (λ c κs. tt) meet-inputs-requires
     next-trust-requires (λ c κs. tt) (λ c. omega arith) (λ c. omega arith) loop-again shl-skipped add-b-2 (λ c. omega arith) loop-again-2 returns)
