@@ -109,7 +109,7 @@ fn choose_job(job: JobParts, reply: &mut [u8]) -> ChooseReply
     let weights = job.weights;
     let miter = merged_miter(job);
     let mut gates = [0u64; LISTED];
-    let plan = plan_of(miter, nets, candidates, &mut gates);
+    let plan = plan_of(miter, nets, candidates, miter.targets, &mut gates);
     let met = sets_of_inputs(&gates, plan);
     let count = reading_count(candidates);
     let reading = first_empty(&met.sets, count);

@@ -14,7 +14,7 @@ ghost use Rattle.engine.specs.Eval.{bit};
 ghost use Rattle.engine.specs.Support.{candidateNets};
 ghost use Rattle.engine.specs.Inner.List.{Held, listedOf, startList};
 ghost use Rattle.engine.specs.Inner.Search.{FreeKept};
-ghost use Rattle.engine.specs.Inner.Plan.{PlanHeld, PlannedOf};
+ghost use Rattle.engine.specs.Inner.Plan.{PlanHeld, TurnsOf};
 ghost use Rattle.engine.specs.Inner.Guess.{ListTo, OfListed, BlockGuessed, BlockListed};
 use super::drive::driven_row;
 use super::drive::four_rows;
@@ -143,7 +143,7 @@ fn list_inputs(
 pub(super) fn list_of_inputs(gates: &[u64], plan: Plan) -> Vectors
     requires { ⌜ PlanHeld plan (now gates) ⌝ }
     ensures { λ r. ⌜ Held r ⌝ }
-    ensures { λ r. ⌜ ((j : Job) → PlannedOf j (candidateNets j) plan (now (gates .entry)) → ListTo j (2 ^ j .inputs) r) ⌝ }
+    ensures { λ r. ⌜ ((j : Job) → TurnsOf j (candidateNets j) plan (now (gates .entry)) → ListTo j (2 ^ j .inputs) r) ⌝ }
 {
     let size = 1usize << plan.inputs;
     let mut words = [0u64; WORDS];

@@ -84,7 +84,8 @@ fn judge_job(job: JobParts, reply: &mut [u8]) -> JudgeReply
     let candidates = job.counts.candidates;
     let nets = job.nets;
     let mut gates = [0u64; LISTED];
-    let plan = plan_of(merged_miter(job), nets, candidates, &mut gates);
+    let miter = merged_miter(job);
+    let plan = plan_of(miter, nets, candidates, miter.targets, &mut gates);
     let list = list_of_inputs(&gates, plan);
     rule_list(list, reply)
 }

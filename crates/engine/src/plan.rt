@@ -11,7 +11,7 @@ ghost use Rattle.records.specs.Claims.{Below};
 ghost use Rattle.engine.specs.Inner.Packed.{operandsOf};
 ghost use Rattle.engine.specs.Inner.Miter.{MiterRoom, MergedOf};
 ghost use Rattle.engine.specs.Inner.Plan.{codeMark, markedAll, liveFrom, liveMarks, leavesFrom, marksFrom, picked};
-ghost use Rattle.engine.specs.Inner.Plan.{ListPut, ListsUpTo, NetsRead, PlanHeld, ReadsOf, PlannedOf};
+ghost use Rattle.engine.specs.Inner.Plan.{ListPut, ListsUpTo, NetsRead, PlanHeld, ReadsOf, PlannedOf, TurnsOf};
 use super::limits::LISTED;
 use super::limits::NETS;
 use super::miter::Miter;
@@ -159,25 +159,26 @@ fn pick(
     end
 }
 
-// The live gates that no target leads to, the others, and those that each target leads to: one list behind the other, and the end of
-// each.
+// The live gates that no target leads to, the others, and those that each of the first turns targets leads to: one list behind the other,
+// and the end of each.
 fn lists_of(
     gates: &[u64],
     count: usize,
     live: [u8; NETS],
     inputs: usize,
     targets: usize,
+    turns: usize,
     out: &mut [u64; LISTED],
 ) -> [usize; 6]
-    requires { ⌜ (count ≤ length (now gates)) × (inputs ≤ 20) × (targets ≤ 4) × (length (now out) ≡ 2400) ⌝ }
-    ensures { λ r. ⌜ ListsUpTo (targets + 2) inputs targets live (take count (now (gates .entry))) r (now (out .exit)) ⌝ }
+    requires { ⌜ (count ≤ length (now gates)) × (inputs ≤ 20) × (targets ≤ 4) × (turns ≤ targets) × (length (now out) ≡ 2400) ⌝ }
+    ensures { λ r. ⌜ ListsUpTo (turns + 2) inputs targets live (take count (now (gates .entry))) r (now (out .exit)) ⌝ }
 {
     let fan = mark_from(gates, count, inputs, targets);
     let mut ends = [0usize; 6];
     ends[0] = pick(gates, count, &live, &fan, false, 0, out);
     ends[1] = pick(gates, count, &live, &fan, true, ends[0], out);
     let mut t = 0usize;
-    while t < targets {
+    while t < turns {
         let marks = mark_from(gates, count, inputs + t, 1);
         ends[t + 2] = pick(gates, count, &live, &marks, true, ends[t + 1], out);
         t += 1;
@@ -205,17 +206,19 @@ fn live_marks(
     mark_live(gates, count, three)
 }
 
-// The plan of a search over a miter's inputs where the first reads nets are read, and its gates.
+// The plan of a search over a miter's inputs where the first reads nets are read, and its gates, with lists for so many targets: all of them,
+// or none where no target is set by itself.
 pub(super) fn plan_of(
     miter: Miter,
     nets: [u16; CANDIDATES],
     reads: usize,
+    turns: usize,
     gates: &mut [u64; LISTED],
 ) -> Plan
-    requires { ⌜ MiterRoom miter × NetsRead nets reads × (length (now gates) ≡ 2400) ⌝ }
+    requires { ⌜ MiterRoom miter × NetsRead nets reads × (turns ≤ miter .targets) × (length (now gates) ≡ 2400) ⌝ }
     ensures { λ r. ⌜ PlanHeld r (now (gates .exit)) ⌝ }
-    ensures { λ r. ⌜ ((j : Job) (is : List ℕ) → MergedOf j miter → take reads nets ≡ is
-        → all (candidateGood j) is ≡ true → PlannedOf j is r (now (gates .exit))) ⌝ }
+    ensures { λ r. ⌜ ((j : Job) (is : List ℕ) → MergedOf j miter → take reads nets ≡ is → all (candidateGood j) is ≡ true
+        → PlannedOf j is r (now (gates .exit)) × (turns ≡ miter .targets → TurnsOf j is r (now (gates .exit)))) ⌝ }
 {
     let outputs = miter.outputs;
     let goldens = miter.goldens;
@@ -234,6 +237,7 @@ pub(super) fn plan_of(
         live,
         miter.inputs,
         miter.targets,
+        turns,
         gates,
     );
     Plan {

@@ -7,7 +7,7 @@ ghost use lib.ListN.{length};
 ghost use Rattle.records.specs.Job.{Job};
 ghost use Rattle.engine.specs.Support.{candidateNets};
 ghost use Rattle.engine.specs.Inner.Search.{SetsTo, BlockRange, BlockRead, BlockZero, BlockMet, SoleTable, SettledFrom};
-ghost use Rattle.engine.specs.Inner.Plan.{PlanHeld, PlannedOf};
+ghost use Rattle.engine.specs.Inner.Plan.{PlanHeld, TurnsOf};
 use super::kernel::run;
 use super::leaves::block_inputs;
 use super::leaves::clear_targets;
@@ -146,7 +146,7 @@ pub(super) fn all_vectors(targets: usize) -> u16
 // do, those of the masks, less what partial evaluation skips; and, for each try of that, one a gate. It is given up where it settles too little.
 pub(super) fn sets_of_inputs(gates: &[u64], plan: Plan) -> Met
     requires { ⌜ PlanHeld plan (now gates) ⌝ }
-    ensures { λ r. ⌜ ((j : Job) → PlannedOf j (candidateNets j) plan (now (gates .entry)) → SetsTo j (2 ^ j .inputs) (r .skipped) (r .sets)) ⌝ }
+    ensures { λ r. ⌜ ((j : Job) → TurnsOf j (candidateNets j) plan (now (gates .entry)) → SetsTo j (2 ^ j .inputs) (r .skipped) (r .sets)) ⌝ }
 {
     let size = 1usize << plan.inputs;
     let mut words = [0u64; WORDS];

@@ -23,7 +23,7 @@ use Rattle.engine.specs.Inner.Kernel.{rowValue, FirstZero}
 use Rattle.engine.specs.Inner.List.{Held, lowest, listedFrom, listedOf, startList}
 use Rattle.engine.specs.Inner.Masks.{rectifiers}
 use Rattle.engine.specs.Inner.Note.{gathered, ListNoted}
-use Rattle.engine.specs.Inner.Plan.{BlockFree, PlannedOf}
+use Rattle.engine.specs.Inner.Plan.{BlockFree, PlannedOf, TurnsOf}
 use Rattle.engine.specs.Inner.Search.{BlockRead, BlockZero, FreeKept, DrivenRow, BlockMasks, SettledFrom}
 use Rattle.engine.specs.declared.list.Vectors.{Vectors}
 use Rattle.engine.specs.declared.plan.Plan.{Plan}
@@ -222,7 +222,7 @@ module _ {p : Plan} {gates : List ℕ} {b count : ℕ} {words readings : List �
       record {
         held = h;
         same = λ t. refl;
-        listed = λ j q l. rw (← e) (list-guessed readings b count g q (r .free j (candidateNets j) (reads-of q)) o l);
+        listed = λ j t l. let q = t .planned in rw (← e) (list-guessed readings b count g q (r .free j (candidateNets j) (reads-of q)) o l);
       }
 
   -- a block where all vectors were evaluated
@@ -232,15 +232,16 @@ module _ {p : Plan} {gates : List ℕ} {b count : ℕ} {words readings : List �
       record {
         held = n .held;
         same = λ t. absurd (not-both t refl);
-        listed = λ j q.
+        listed = λ j t.
             let is = candidateNets j in
+            let q = t .planned in
             rw (← e)
-            (list-noted j b count (omega arith) (m .sets j is q b (z .values j is q b (k j is q b (r .free j is (reads-of q))))) n);
+            (list-noted j b count (omega arith) (m .sets j is t b (z .values j is q b (k j is q b (r .free j is (reads-of q))))) n);
       }
 
 -- the list after the inputs below x, of every job with this plan
 abbrev pub ListsTo : Plan → List ℕ → Vectors → ℕ → Type 0
-ListsTo p gates v x = (j : Job) → PlannedOf j (candidateNets j) p gates → ListTo j x v
+ListsTo p gates v x = (j : Job) → TurnsOf j (candidateNets j) p gates → ListTo j x v
 
 module _ {p : Plan} {gates : List ℕ} (v : Vectors) where
   pub lists-start : listedOf v ≡ startList → ListsTo p gates v 0
@@ -250,11 +251,11 @@ module _ {p : Plan} {gates : List ℕ} (v : Vectors) where
   -- blocks in which every vector rectifies every input leave the list
   pub lists-skip : {b r : ℕ} → SettledFrom p gates b r → ListsTo p gates v (1024 * b) → ListsTo p gates v (1024 * (b + r))
   lists-skip {b} {r} s l j q =
-      list-skip j (1024 * b) (1024 * (b + r)) v (omega arith) (s .settled j (candidateNets j) q) (l j q)
+      list-skip j (1024 * b) (1024 * (b + r)) v (omega arith) (s .settled j (candidateNets j) (q .planned)) (l j q)
 
   -- once stuck, it is the list of all inputs
   pub lists-stuck : {x : ℕ} → x ≤ 2 ^ p .inputs → v .stuck ≡ true → ListsTo p gates v x → ListsTo p gates v (2 ^ p .inputs)
   lists-stuck {x} h s l j q = list-stuck j x (2 ^ p .inputs) v h s (l j q)
 
-  pub lists-all : ListsTo p gates v (2 ^ p .inputs) → (j : Job) → PlannedOf j (candidateNets j) p gates → ListTo j (2 ^ j .inputs) v
-  lists-all l j q = rw (q .inputs) at (l j q)
+  pub lists-all : ListsTo p gates v (2 ^ p .inputs) → (j : Job) → TurnsOf j (candidateNets j) p gates → ListTo j (2 ^ j .inputs) v
+  lists-all l j q = rw (q .planned .inputs) at (l j q)

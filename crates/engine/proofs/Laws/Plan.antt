@@ -21,7 +21,7 @@ use Rattle.engine.specs.Eval.{bit, bits}
 use Rattle.engine.specs.Inner.Packed.{own, packedFrom, codeValue, evaluated}
 use Rattle.engine.specs.Inner.Kernel.{valueIn, column, Ran, NetSet, NetsSet}
 use Rattle.engine.specs.Inner.Miter.{shifted, shiftOf, miterGates, miterNets, miterValues, SameGates}
-use Rattle.engine.specs.Inner.Plan.{marksOf, marked, fanned, Closed, Agrees, BlockAt, BlockFree, ReadsOf, PlannedOf}
+use Rattle.engine.specs.Inner.Plan.{marksOf, marked, fanned, ledBy, Closed, Agrees, BlockAt, BlockFree, ReadsOf, PlannedOf}
 use Rattle.engine.specs.declared.plan.Plan.{Plan}
 use Rattle.engine.proofs.Laws.Choice.{true-or-false, not-both, all-true, all-of-members}
 use Rattle.engine.proofs.Laws.Eval.{bit-lt}
@@ -277,12 +277,15 @@ module _ {j : Job} {is : List ℕ} {p : Plan} {gates : List ℕ} (q : PlannedOf 
       r
 
   -- target t set anew, from the values at the vectors v
-  pub block-target : (b t : ℕ) (u v : ℕ → ℕ) (w w₁ w₂ : List ℕ) → t < j .targets → BlockAt j (q .live) b v w
+  pub block-target : (b t : ℕ) (u v : ℕ → ℕ) (w w₁ w₂ : List ℕ) → t < j .targets
+      → slice (getD (p .ends) (t + 1) 0) (getD (p .ends) (t + 2) 0) gates
+      ≡ partOf (q .live) (ledBy j t) (base j) (q .merged)
+      → BlockAt j (q .live) b v w
       → NetSet (j .inputs + t) (λ y. bit t (u y)) w w₁
       → ((y k : ℕ) → y < 1024 → k < j .targets → (k < t) ⊎ (t < k) → bit k (u y) ≡ bit k (v y))
       → Ran (slice (getD (p .ends) (t + 1) 0) (getD (p .ends) (t + 2) 0) gates) w₁ w₂ → BlockAt j (q .live) b u w₂
   unfolding miterValues
-  block-target b t u v w w₁ w₂ h a s d r =
+  block-target b t u v w w₁ w₂ h l a s d r =
       block-changed (j .inputs + t) 1 b u w w₁ (omega arith)
       (λ y i l n o.
       let e : i ≡ j .inputs + t = omega arith in
@@ -298,7 +301,7 @@ module _ {j : Job} {is : List ℕ} {p : Plan} {gates : List ℕ} (q : PlannedOf 
       z)
       _
       w₂
-      (q .lists .lists t h)
+      l
       r
     where
       -- a leaf other than the target

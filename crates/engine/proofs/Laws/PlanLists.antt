@@ -21,7 +21,7 @@ use Rattle.records.proofs.Laws.Bytes.{and-right, and-false-right, false-of, all
 use Rattle.engine.specs.Choice.{keep}
 use Rattle.engine.specs.Inner.Packed.{own, packed, packedFrom, formed, evaluated}
 use Rattle.engine.specs.Inner.Miter.{shiftedNet, shifted, shiftOf, miterGates, miterNets, SameGates, MiterRoom, MergedOf}
-use Rattle.engine.specs.Inner.Plan.{codeMark, marksOf, marked, Closed, leavesFrom, marksFrom, picked, listAt, listsTo, liveMarks, ListPut, ListsUpTo, NetsRead, PlanHeld, PlanLists, ReadsOf, PlannedOf}
+use Rattle.engine.specs.Inner.Plan.{codeMark, marksOf, marked, Closed, leavesFrom, marksFrom, picked, listAt, listsTo, liveMarks, ListPut, ListsUpTo, NetsRead, PlanHeld, PlanLists, ReadsOf, PlannedOf, TurnsOf}
 use Rattle.engine.specs.declared.miter.Miter.{Miter}
 use Rattle.engine.specs.declared.plan.Plan.{Plan}
 use Rattle.engine.proofs.Laws.Choice.{true-or-false, not-both, all-true, all-of-members}
@@ -287,15 +287,15 @@ module _ (j : Job) (good : PartsGood j) {merged : List Gate} (s : SameGates (j .
       ∙ take-all 2400 (list 0) (omega (arith, two-few))
       ∙ list-zero
 
-  module _ (ends gates : List ℕ) (u : ListsUpTo (j .targets + 2) (j .inputs) (j .targets) live packs ends gates) where
-    front : (t : ℕ) → t < j .targets + 2 → take (getD ends t 0) gates ≡ upTo t
-    front t h = u .fronts t h ∙ take-all 2400 (upTo t) (upTo-within t h)
+  module _ (ends gates : List ℕ) (n : ℕ) (w : n ≤ j .targets) (u : ListsUpTo (n + 2) (j .inputs) (j .targets) live packs ends gates) where
+    front : (t : ℕ) → t < n + 2 → take (getD ends t 0) gates ≡ upTo t
+    front t h = u .fronts t h ∙ take-all 2400 (upTo t) (upTo-within t (omega arith))
 
-    end : (t : ℕ) → t < j .targets + 2 → getD ends t 0 ≡ length (upTo t)
+    end : (t : ℕ) → t < n + 2 → getD ends t 0 ≡ length (upTo t)
     end t h =
-        ends-length (j .inputs) (j .targets) live packs (j .targets + 2) ends gates u t h ∙ omega (arith, upTo-within t h)
+        ends-length (j .inputs) (j .targets) live packs (n + 2) ends gates u t h ∙ omega (arith, upTo-within t (omega arith))
 
-    part : (t k : ℕ) → k ≡ suc t → k < j .targets + 2 → slice (getD ends t 0) (getD ends k 0) gates ≡ list k
+    part : (t k : ℕ) → k ≡ suc t → k < n + 2 → slice (getD ends t 0) (getD ends k 0) gates ≡ list k
     unfolding listsTo
     part t k e h =
         ap (drop (getD ends t 0)) (front k h ∙ ap upTo e)
@@ -309,11 +309,13 @@ module _ (j : Job) (good : PartsGood j) {merged : List Gate} (s : SameGates (j .
           order = omega (arith, end 0 (omega arith), end 1 (omega arith), length-append (list 0) (list 1));
           free = front 0 (omega arith) ∙ list-zero;
           fan = part 0 1 refl (omega arith) ∙ list-one;
-          lists =
-              λ t h.
-              let e : t + 2 ≡ suc (suc t) = omega arith in
-              part (t + 1) (t + 2) (omega arith) (omega arith) ∙ ap list e ∙ list-led t;
         }
+
+    -- .. and those of the first n targets
+    pub turn-list : (t : ℕ) → t < n → slice (getD ends (t + 1) 0) (getD ends (t + 2) 0) gates ≡ listOf (j .inputs + t) 1 true
+    turn-list t h =
+        let e : t + 2 ≡ suc (suc t) = omega arith in
+        part (t + 1) (t + 2) (omega arith) (omega arith) ∙ ap list e ∙ list-led t
 
 -- ---- a plan
 
@@ -374,33 +376,48 @@ module _ (j : Job) (is : List ℕ) (good : PartsGood j) {merged : List Gate} (s 
 
 module _ (j : Job) (is : List ℕ) (m : Miter) (o : MergedOf j m) (nets : List ℕ) (reads : ℕ) (e : take reads nets ≡ is)
     (c : all (candidateGood j) is ≡ true) (live : List ℕ) where
-  pub planned : live
-      ≡ liveMarks (take (m .outs) (m .outputs)) (take (m .outs) (m .goldens)) (take reads nets) (take (m .count) (m .gates))
-      → (ends gates : List ℕ) → ListsUpTo (m .targets + 2) (m .inputs) (m .targets) live (take (m .count) (m .gates)) ends gates
-      → PlannedOf j is (planOf m nets reads (m .outs) ends) gates
-  planned le ends gates u =
-      let os = take (m .outs) (m .outputs) in
-      let gs = take (m .outs) (m .goldens) in
-      let cs = packedFrom (j .inputs + j .targets) (o .merged) in
-      let l : live ≡ liveMarks os gs is cs = rw (o .gates, e) at le in
-      let members = live-members j is (o .good) (o .same) c os gs live l in
-      let below : (xs : List ℕ) → all (λ i. ltb i (miterNets j)) xs ≡ true → (i : ℕ) → Mem i xs → i < 1024 =
-      λ xs h i n. omega (arith, ltb-true i (miterNets j) (all-true (λ k. ltb k (miterNets j)) xs h i n), miter-nets j (o .good)) in
-      record {
-        good = o .good;
-        inputs = o .inputs;
-        targets = o .targets;
-        pairs = o .pairs;
-        nets = e;
-        merged = o .merged;
-        same = o .same;
-        live = marked live;
-        closed = closed-live j is (o .good) (o .same) c os gs live l;
-        live-outputs = members os (λ i n. live-os os gs is cs i n (below os (o .pairs .olds) i n));
-        live-goldens = members gs (λ i n. live-gs os gs is cs i n (below gs (o .pairs .goldens) i n));
-        live-nets = live-read j is (o .good) (o .same) c os gs live l;
-        lists = plan-lists j (o .good) (o .same) live ends gates (rw (o .gates, o .inputs, o .targets) at u);
-      }
+  module _ (le : live
+      ≡ liveMarks (take (m .outs) (m .outputs)) (take (m .outs) (m .goldens)) (take reads nets) (take (m .count) (m .gates)))
+      (ends gates : List ℕ) (n : ℕ) (few : n ≤ m .targets)
+      (u : ListsUpTo (n + 2) (m .inputs) (m .targets) live (take (m .count) (m .gates)) ends gates) where
+    lists-of : ListsUpTo (n + 2) (j .inputs) (j .targets) live (packedFrom (j .inputs + j .targets) (o .merged)) ends gates
+    lists-of = rw (o .gates, o .inputs, o .targets) at u
+
+    abbrev plan : PlannedOf j is (planOf m nets reads (m .outs) ends) gates
+    plan =
+        let os = take (m .outs) (m .outputs) in
+        let gs = take (m .outs) (m .goldens) in
+        let cs = packedFrom (j .inputs + j .targets) (o .merged) in
+        let l : live ≡ liveMarks os gs is cs = rw (o .gates, e) at le in
+        let members = live-members j is (o .good) (o .same) c os gs live l in
+        let below : (xs : List ℕ) → all (λ i. ltb i (miterNets j)) xs ≡ true → (i : ℕ) → Mem i xs → i < 1024 =
+        λ xs h i n. omega (arith, ltb-true i (miterNets j) (all-true (λ k. ltb k (miterNets j)) xs h i n), miter-nets j (o .good)) in
+        record {
+          good = o .good;
+          inputs = o .inputs;
+          targets = o .targets;
+          pairs = o .pairs;
+          nets = e;
+          merged = o .merged;
+          same = o .same;
+          live = marked live;
+          closed = closed-live j is (o .good) (o .same) c os gs live l;
+          live-outputs = members os (λ i n. live-os os gs is cs i n (below os (o .pairs .olds) i n));
+          live-goldens = members gs (λ i n. live-gs os gs is cs i n (below gs (o .pairs .goldens) i n));
+          live-nets = live-read j is (o .good) (o .same) c os gs live l;
+          lists = plan-lists j (o .good) (o .same) live ends gates n (omega (arith, o .targets)) lists-of;
+        }
+
+    pub planned : PlannedOf j is (planOf m nets reads (m .outs) ends) gates
+    planned = plan
+
+    -- .. with the lists of all targets
+    pub turned : n ≡ m .targets → TurnsOf j is (planOf m nets reads (m .outs) ends) gates
+    turned all =
+        record {
+          planned = plan;
+          lists = λ t h. turn-list j (o .good) (o .same) live ends gates n (omega (arith, o .targets)) lists-of t (omega (arith, o .targets));
+        }
 
   -- .. that reads alone: every end is that of the live gates that no target leads to
   pub planned-reads : live ≡ liveMarks [] [] (take reads nets) (take (m .count) (m .gates)) → (ms : List ℕ)

@@ -144,13 +144,14 @@ module _ {p : Plan} {gates : List ℕ} (h : PlanHeld p gates) (b count : ℕ) {w
   block-met {masks = masks} {ss = ss} r k z m n =
       record {
         long = met-long masks readings ss count n;
-        sets = λ j s q.
+        sets = λ j s t.
             let is = candidateNets j in
+            let q = t .planned in
             sets-more j (omega (arith, h .targets, q .targets)) (1024 * b) count
             (n
             ∙ noted-sets j is (rectifiers j) (rectifiers-low j) b count masks readings ss
             (subst (λ (i : ℕ). BlockRange i b count) (q .inputs) r)
-            (m .sets j is q b (z .values j is q b (k j is q b (e .free j is (reads-of q)))))
+            (m .sets j is t b (z .values j is q b (k j is q b (e .free j is (reads-of q)))))
             (e .readings j is (reads-of q) (candidates-good j (q .good)))
             (reading-small (h .reads) (reads-of q)));
       }
@@ -160,8 +161,9 @@ module _ {p : Plan} {gates : List ℕ} (h : PlanHeld p gates) (b count : ℕ) {w
   block-kept {ss} few k =
       record {
         long = refl;
-        sets = λ j s q.
+        sets = λ j s o.
             let is = candidateNets j in
+            let q = o .planned in
             sets-stay (omega arith) (λ i z. z)
             (λ z l u.
             let y : ℕ = z - 1024 * b in

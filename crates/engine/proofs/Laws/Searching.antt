@@ -15,7 +15,7 @@ use Rattle.engine.specs.Choice.{same}
 use Rattle.engine.specs.Rectify.{rectifies}
 use Rattle.engine.specs.Inner.Kernel.{Ran, NetSet, NetsSet, valueIn, rowValue}
 use Rattle.engine.specs.Inner.Masks.{ordered, turns, Among}
-use Rattle.engine.specs.Inner.Plan.{BlockAt, BlockFree, ReadsOf, PlannedOf}
+use Rattle.engine.specs.Inner.Plan.{BlockAt, BlockFree, ReadsOf, PlannedOf, TurnsOf}
 use Rattle.engine.specs.Inner.Search.{BlockRead, BlockZero, DrivenRow, TargetTurned, BlockMasks, BlockRange, SettledFrom}
 use Rattle.engine.specs.Inner.Note.{gathered}
 use Rattle.engine.specs.Inner.Ranges.{InRange}
@@ -100,9 +100,9 @@ module _ (p : Plan) (gates : List ℕ) where
         long = r .long ∙ s .long;
         turned = λ j is q b v u h e k a.
             let n : NetSet (j .inputs + t) (λ y. bit t u) w w₁ =
-            subst (λ (i : ℕ). NetSet (i + t) (λ y. bit t u) w w₁) (q .inputs)
+            subst (λ (i : ℕ). NetSet (i + t) (λ y. bit t u) w w₁) (q .planned .inputs)
             (record { long = s .long; put = λ y l. s .put y l ∙ sym e; kept = s .kept }) in
-            block-target q b t (λ y. u) (λ y. v) w w₁ w₂ h a n (λ y i l. k i) r;
+            block-target (q .planned) b t (λ y. u) (λ y. v) w w₁ w₂ h (q .lists t h) a n (λ y i l. k i) r;
       }
 
 -- ---- the rows of the vectors, one after the other
@@ -110,8 +110,8 @@ module _ (p : Plan) (gates : List ℕ) where
 -- from the words w₀ at vector 0: the words w at the vector of the step before s, and the rows ms of the steps below s
 abbrev pub MasksDone : Plan → List ℕ → ℕ → List ℕ → ℕ → List ℕ → List ℕ → Type 0
 MasksDone p gates u w₀ s w ms =
-    (j : Job) (is : List ℕ) (q : PlannedOf j is p gates) (b : ℕ) → BlockAt j (q .live) b (λ y. 0) w₀
-    → BlockAt j (q .live) b (λ y. ordered u (s - 1)) w × MasksTo j b u s ms
+    (j : Job) (is : List ℕ) (q : TurnsOf j is p gates) (b : ℕ) → BlockAt j (q .planned .live) b (λ y. 0) w₀
+    → BlockAt j (q .planned .live) b (λ y. ordered u (s - 1)) w × MasksTo j b u s ms
 
 bit-shifted : (t v : ℕ) → bit t v ≡ bit 0 (v / 2 ^ t)
 unfolding bit
@@ -122,8 +122,9 @@ module _ (p : Plan) (gates : List ℕ) (u : ℕ) (o : u < 4) where
       → MasksDone p gates u w 1 w ms
   masks-first w r {ms} e n j is q b a =
       let z : 0 ≡ ordered u 0 = sym (ordered-none u o) in
-      let d : BlockAt j (q .live) b (λ y. ordered u 0) w = subst (λ (v : ℕ). BlockAt j (q .live) b (λ y. v) w) z a in
-      (d, masks-next j b u o 0 r (masks-none j b u o 0) (omega arith) (subst (λ (v : ℕ). NetSet v (rowValue r) (replicate 256 0) ms) z n) (row-rectifies p gates q b (λ y. ordered u 0) r d e))
+      let live = q .planned .live in
+      let d : BlockAt j live b (λ y. ordered u 0) w = subst (λ (v : ℕ). BlockAt j live b (λ y. v) w) z a in
+      (d, masks-next j b u o 0 r (masks-none j b u o 0) (omega arith) (subst (λ (v : ℕ). NetSet v (rowValue r) (replicate 256 0) ms) z n) (row-rectifies p gates (q .planned) b (λ y. ordered u 0) r d e))
 
   pub masks-turned : (s : ℕ) {w₀ w w′ ms ms′ : List ℕ} (r : List ℕ) → p .targets ≤ 4 → Among (p .targets) u → 0 < s → s < 2 ^ p .targets
       → MasksDone p gates u w₀ s w ms → TargetTurned p gates (turns u s) (ordered u s / 2 ^ turns u s) w w′ → RowEqual p w′ r
@@ -134,19 +135,19 @@ module _ (p : Plan) (gates : List ℕ) (u : ℕ) (o : u < 4) where
       let g = d j is q b a in
       let back : s - 1 + 1 ≡ s = omega arith in
       let here : s + 1 - 1 ≡ s = omega arith in
-      let turned : BlockAt j (q .live) b (λ y. ordered u s) w′ =
+      let turned : BlockAt j (q .planned .live) b (λ y. ordered u s) w′ =
       t .turned j is q b (ordered u (s - 1)) (ordered u s)
-      (omega (arith, turns-among u o (p .targets) (omega arith) f s z l k, q .targets))
+      (omega (arith, turns-among u o (p .targets) (omega arith) f s z l k, q .planned .targets))
       (bit-shifted (turns u s) (ordered u s))
       (λ i h c.
       subst (λ (x : ℕ). bit i (ordered u x) ≡ bit i (ordered u (s - 1))) back
-      (ordered-kept u o (s - 1) i (omega arith) (omega (arith, q .targets))
+      (ordered-kept u o (s - 1) i (omega arith) (omega (arith, q .planned .targets))
       (λ y.
       let y′ : i ≡ turns u s = y ∙ ap (turns u) back in
       ⊎-elim (λ (v : i < turns u s). let x : ⊥ = omega arith in x) (λ (v : turns u s < i). let x : ⊥ = omega arith in x) c)))
       (g .0) in (
-        subst (λ (x : ℕ). BlockAt j (q .live) b (λ y. ordered u x) w′) (sym here) turned,
-        masks-next j b u o s r (g .1) k n (row-rectifies p gates q b (λ y. ordered u s) r turned e),
+        subst (λ (x : ℕ). BlockAt j (q .planned .live) b (λ y. ordered u x) w′) (sym here) turned,
+        masks-next j b u o s r (g .1) k n (row-rectifies p gates (q .planned) b (λ y. ordered u s) r turned e),
       )
 
   pub masks-all : {w₀ w ms : List ℕ} → p .targets ≤ 4 → Among (p .targets) u → length ms ≡ 256
@@ -155,8 +156,9 @@ module _ (p : Plan) (gates : List ℕ) (u : ℕ) (o : u < 4) where
       record {
         long = l;
         sets = λ j is q b a y h.
-            masks-gathered j b u ms (omega (arith, q .targets)) o (subst (λ (k : ℕ). Among k u) (q .targets) f)
-            (subst (λ (k : ℕ). MasksTo j b u (2 ^ k) ms) (q .targets) (d j is q b a .1))
+            let n = q .planned .targets in
+            masks-gathered j b u ms (omega (arith, n)) o (subst (λ (k : ℕ). Among k u) n f)
+            (subst (λ (k : ℕ). MasksTo j b u (2 ^ k) ms) n (d j is q b a .1))
             y
             h;
       }

@@ -18,7 +18,7 @@ use Rattle.engine.specs.Support.{candidateNets}
 use Rattle.engine.specs.Inner.Masks.{rectifiers}
 use Rattle.engine.specs.Inner.List.{Held, listedOf, listedFrom, startList}
 use Rattle.engine.specs.Inner.Note.{gathered, maxReadings}
-use Rattle.engine.specs.Inner.Plan.{BlockFree, PlannedOf}
+use Rattle.engine.specs.Inner.Plan.{BlockFree, PlannedOf, TurnsOf}
 use Rattle.engine.specs.declared.guess.Listing.{Listing}
 use Rattle.engine.specs.declared.list.Vectors.{Vectors}
 use Rattle.engine.specs.declared.plan.Plan.{Plan}
@@ -43,5 +43,5 @@ BlockGuessed p gates before readings table count =
 pub record BlockListed (p : Plan) (gates : List ℕ) (b : ℕ) (before : Vectors) (r : Listing) : Type 0 where
   pub held : Held (r .list)
   pub same : r .kept ≡ true → r .list ≡ before
-  pub listed : (j : Job) → PlannedOf j (candidateNets j) p gates → ListTo j (1024 * b) before
+  pub listed : (j : Job) → TurnsOf j (candidateNets j) p gates → ListTo j (1024 * b) before
       → ListTo j (1024 * b + min (2 ^ p .inputs - 1024 * b) 1024) (r .list)

@@ -21,10 +21,11 @@
 --   ListsUpTo n ..            the ends and the places of the first n lists, as far as there is room
 --   NetsRead nets reads       the first reads of ten nets may be read
 --   PlanHeld p gates          the lengths and bounds of a plan's struct and of its gates
---   PlanLists j hs live ends gates  the lists, of the gates hs in place of the miter's
+--   PlanLists j hs live ends gates  the first two lists, of the gates hs in place of the miter's
 --   ReadsOf j is p gates      before the first end, gates has those of the good job j that lead to the nets is, which p reads, and that no
 --                             target leads to
 --   PlannedOf j is p gates    p and gates are a plan of the good job j where the nets is are read
+--   TurnsOf j is p gates      .. with the lists of all targets
 use Prim.Native.Nat.{ℕ, zero, suc, _+_, _*_, _≤_, _<_}
 use mathlib.Core.Path.{_≡_}
 use mathlib.Core.List.{List, [], _∷_, _++_, map}
@@ -145,9 +146,6 @@ pub record PlanLists (j : Job) (hs : List Gate) (live : ℕ → Bool) (ends gate
       ≡ keep (λ c. live (own c) && not (fanned j (own c))) (packedFrom (j .inputs + j .targets) hs)
   pub fan : slice (getD ends 0 0) (getD ends 1 0) gates
       ≡ keep (λ c. live (own c) && fanned j (own c)) (packedFrom (j .inputs + j .targets) hs)
-  pub lists : (t : ℕ) → t < j .targets
-      → slice (getD ends (t + 1) 0) (getD ends (t + 2) 0) gates
-      ≡ keep (λ c. live (own c) && ledBy j t (own c)) (packedFrom (j .inputs + j .targets) hs)
 
 pub record ReadsOf (j : Job) (is : List ℕ) (p : Plan) (gates : List ℕ) : Type 0 where
   pub good : PartsGood j
@@ -176,3 +174,9 @@ pub record PlannedOf (j : Job) (is : List ℕ) (p : Plan) (gates : List ℕ) : T
   pub live-goldens : all live (take (p .outs) (p .goldens)) ≡ true
   pub live-nets : all live is ≡ true
   pub lists : PlanLists j merged live (p .ends) gates
+
+pub record TurnsOf (j : Job) (is : List ℕ) (p : Plan) (gates : List ℕ) : Type 0 where
+  pub planned : PlannedOf j is p gates
+  pub lists : (t : ℕ) → t < j .targets
+      → slice (getD (p .ends) (t + 1) 0) (getD (p .ends) (t + 2) 0) gates
+      ≡ keep (λ c. planned .live (own c) && ledBy j t (own c)) (packedFrom (j .inputs + j .targets) (planned .merged))

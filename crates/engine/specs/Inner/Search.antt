@@ -30,7 +30,7 @@ use Rattle.engine.specs.Inner.Masks.{rectifiers}
 use Rattle.engine.specs.Rectify.{rectifies}
 use Rattle.engine.specs.Inner.Kernel.{rowValue}
 use Rattle.engine.specs.Inner.List.{maxVectors, lowest}
-use Rattle.engine.specs.Inner.Plan.{BlockAt, BlockFree, ReadsOf, PlannedOf}
+use Rattle.engine.specs.Inner.Plan.{BlockAt, BlockFree, ReadsOf, PlannedOf, TurnsOf}
 use Rattle.engine.specs.Inner.Note.{gathered, maxReadings}
 use Rattle.engine.specs.declared.plan.Plan.{Plan}
 use mathlib.Core.Bool.{true, cond}
@@ -88,13 +88,13 @@ BlockKept p gates readings before ss =
 -- the lowest bit of x is the new bit of target t
 pub record TargetTurned (p : Plan) (gates : List ℕ) (t x : ℕ) (before after : List ℕ) : Type 0 where
   pub long : length after ≡ length before
-  pub turned : (j : Job) (is : List ℕ) (q : PlannedOf j is p gates) (b v u : ℕ) → t < j .targets → bit t u ≡ bit 0 x
+  pub turned : (j : Job) (is : List ℕ) (q : TurnsOf j is p gates) (b v u : ℕ) → t < j .targets → bit t u ≡ bit 0 x
       → ((k : ℕ) → k < j .targets → (k < t) ⊎ (t < k) → bit k u ≡ bit k v)
-      → BlockAt j (q .live) b (λ y. v) before → BlockAt j (q .live) b (λ y. u) after
+      → BlockAt j (q .planned .live) b (λ y. v) before → BlockAt j (q .planned .live) b (λ y. u) after
 
 pub record BlockMasks (p : Plan) (gates words masks : List ℕ) : Type 0 where
   pub long : length masks ≡ 256
-  pub sets : (j : Job) (is : List ℕ) (q : PlannedOf j is p gates) (b : ℕ) → BlockAt j (q .live) b (λ y. 0) words
+  pub sets : (j : Job) (is : List ℕ) (q : TurnsOf j is p gates) (b : ℕ) → BlockAt j (q .planned .live) b (λ y. 0) words
       → (y : ℕ) → y < 1024 → gathered masks y ≡ rectifiers j (1024 * b + y)
 
 pub record BlockRange (n b count : ℕ) : Type 0 where
@@ -112,5 +112,5 @@ pub record SettledFrom (p : Plan) (gates : List ℕ) (b r : ℕ) : Type 0 where
 
 pub record BlockMet (p : Plan) (gates : List ℕ) (b count : ℕ) (before after : List ℕ) : Type 0 where
   pub long : length after ≡ length before
-  pub sets : (j : Job) (k : ℕ) → PlannedOf j (candidateNets j) p gates → SetsTo j (1024 * b) k before
+  pub sets : (j : Job) (k : ℕ) → TurnsOf j (candidateNets j) p gates → SetsTo j (1024 * b) k before
       → SetsTo j (1024 * b + count) k after

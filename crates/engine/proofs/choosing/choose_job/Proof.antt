@@ -17,7 +17,7 @@ plan-of-requires : tie.Need-plan-of-requires
 plan-of-requires c κs =
     let s = c .before .before .before .before .before in
     let p = s .pre .0 .parts in
-    (c .before .merged-miter .ensures .0, record { long = p .nets-long; below = s .pre .1; few = parts-few p }, refl)
+    (c .before .merged-miter .ensures .0, record { long = p .nets-long; below = s .pre .1; few = parts-few p }, omega arith, refl)
 
 -- ---- the sets of all readings
 
@@ -36,7 +36,9 @@ met : (u : tie.After-sets-of-inputs) (j : Job) → PartsOf j (start u .args .job
 met u j p =
     u .sets-of-inputs .ensures j
     (planned u .plan-of .ensures .1 j (candidateNets j) (mitered u .merged-miter .ensures .1 j p) (parts-nets p)
-    (candidates-good j (p .good)))
+    (candidates-good j (p .good))
+    .1
+    refl)
 
 reading-count-requires : tie.Need-reading-count-requires
 reading-count-requires c κs = parts-few (start c .pre .0 .parts)

@@ -46,7 +46,7 @@ plan-of-requires c κs =
     let u = r .before .before .before .before in
     let s = u .before .before .before .before .before .before .before in
     let z = r .before .before .if1 .left in
-    (c .before .merged-miter .ensures .0, parts-read (s .pre .parts) _ (u .read-sheet .ensures) z, refl)
+    (c .before .merged-miter .ensures .0, parts-read (s .pre .parts) _ (u .read-sheet .ensures) z, omega arith, refl)
 
 slice-aggregate-first-difference : tie.Need-slice-aggregate-first-difference
 slice-aggregate-first-difference c = sym (c .before .plan-of .ensures .0 .long)
@@ -66,7 +66,7 @@ returns-2 c j q =
     compared-sheet q _ e z _ (r .reading-count .ensures) (t .table-of .ensures)
     (c .first-difference .ensures j _
     (record {
-      planned = p .plan-of .ensures .1 j _ (m .merged-miter .ensures .1 j q) (parts-sheet q _ e z .nets) (parts-good q _ e z);
+      planned = p .plan-of .ensures .1 j _ (m .merged-miter .ensures .1 j q) (parts-sheet q _ e z .nets) (parts-good q _ e z) .0;
       free = parts-good q _ e z;
     }))
 

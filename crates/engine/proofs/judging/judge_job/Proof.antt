@@ -1,6 +1,7 @@
 -- `engine::judging::judge_job` meets its contract: the miter, its lists of gates and the vector list of all inputs. Assumes nothing.
 use Prim.Native.Nat.{_^_}
 use mathlib.Core.Path.{refl}
+use native.Mathlib.Omega.{arith}
 use borrow.Author.Needs.{needs}
 use Rattle.records.specs.Job.{Job}
 use Rattle.records.specs.Parts.{PartsOf}
@@ -15,7 +16,7 @@ plan-of-requires : tie.Need-plan-of-requires
 plan-of-requires c κs =
     let s = c .before .before .before .before in
     let p = s .pre .0 .parts in
-    (c .before .merged-miter .ensures .0, record { long = p .nets-long; below = s .pre .1; few = parts-few p }, refl)
+    (c .before .merged-miter .ensures .0, record { long = p .nets-long; below = s .pre .1; few = parts-few p }, omega arith, refl)
 
 abbrev planned : tie.After-list-of-inputs → tie.After-plan-of
 planned u = u .before .before
@@ -31,7 +32,9 @@ listed : (u : tie.After-list-of-inputs) (j : Job) → PartsOf j (start u .args .
 listed u j p =
     u .list-of-inputs .ensures .1 j
     (planned u .plan-of .ensures .1 j (candidateNets j) (mitered u .merged-miter .ensures .1 j p) (parts-nets p)
-    (candidates-good j (p .good)))
+    (candidates-good j (p .good))
+    .1
+    refl)
 
 rule-list-requires : tie.Need-rule-list-requires
 rule-list-requires c κs =

@@ -10,11 +10,11 @@ use Rattle.engine.proofs.plan.lists_of.Statement.{statement}
 use Rattle.engine.proofs.plan.lists_of.Tie as tie
 
 abbrev Inv-loop : tie.InvT-loop
-Inv-loop gates count inputs targets out₀ live ends₀ t₀ out ends t =
-    (t ≤ targets) × ListsUpTo (t + 2) inputs targets live (take count gates) ends out
+Inv-loop gates count inputs targets turns out₀ live ends₀ t₀ out ends t =
+    (t ≤ turns) × ListsUpTo (t + 2) inputs targets live (take count gates) ends out
 
 abbrev μ-loop : tie.MeasureT-loop
-μ-loop gates count inputs targets out₀ live ends₀ t₀ out ends t = targets - t
+μ-loop gates count inputs targets turns out₀ live ends₀ t₀ out ends t = turns - t
 
 mark-from-requires : tie.Need-mark-from-requires Inv-loop μ-loop
 mark-from-requires c κs = (c .before .pre .0, omega arith)
@@ -22,7 +22,7 @@ mark-from-requires c κs = (c .before .pre .0, omega arith)
 pick-requires : tie.Need-pick-requires Inv-loop μ-loop
 pick-requires c κs =
     let p = c .before .before .before .before .before .pre in
-    (p .0, omega arith, p .3)
+    (p .0, omega arith, p .4)
 
 pick-requires-2 : tie.Need-pick-requires-2 Inv-loop μ-loop
 pick-requires-2 c κs =
@@ -60,7 +60,7 @@ loop-again c =
     let s = t .before .before .before .before .before .before .before .before .before .before .before in
     let a = s .args in
     let l = t .loop in
-    let h : l .t + 2 < 6 = omega (arith, m .before .loop-test .taken, s .pre .2) in
+    let h : l .t + 2 < 6 = omega (arith, m .before .loop-test .taken, s .pre .2, s .pre .3) in
     let cs = take (a .count) (now (a .gates)) in
     let e = list-led (a .inputs) (a .targets) (a .t3) cs (l .t) (m .mark-from2 .result) (m .mark-from2 .ensures) in
     let n : l .t + 2 + 1 ≡ l .t + 1 + 2 = omega arith in (
@@ -74,7 +74,7 @@ returns : tie.Need-returns Inv-loop μ-loop
 returns c =
     let l = c .before .loop in
     let a = c .before .before .before .before .before .before .before .before .before .before .before .before .args in
-    let e : l .t ≡ a .targets = omega arith in
+    let e : l .t ≡ a .turns = omega arith in
     rw e at (l .inv .1)
 
 pub lists-of-spec : {M : Type 1} → statement M

@@ -10,7 +10,7 @@ use lib.ListN.{length, length-replicate}
 use lib.Pow.{pow-mono}
 use Rattle.records.specs.Job.{Job}
 use Rattle.engine.specs.Support.{candidateNets}
-use Rattle.engine.specs.Inner.Plan.{PlannedOf}
+use Rattle.engine.specs.Inner.Plan.{TurnsOf}
 use Rattle.engine.specs.Inner.Search.{SetsTo, SoleTable}
 use Rattle.engine.specs.declared.plan.Plan.{Plan}
 use Rattle.engine.proofs.Laws.Choice.{and-cases}
@@ -22,7 +22,7 @@ use Rattle.engine.proofs.search.sets_of_inputs.Tie as tie
 
 -- the sets are those after the inputs below x, for every job of the plan
 abbrev SetsAfter : Plan → List ℕ → ℕ → List ℕ → ℕ → Type 0
-SetsAfter p gates skipped sets x = (j : Job) → PlannedOf j (candidateNets j) p gates → SetsTo j x skipped sets
+SetsAfter p gates skipped sets x = (j : Job) → TurnsOf j (candidateNets j) p gates → SetsTo j x skipped sets
 
 abbrev Inv-loop : tie.InvT-loop
 Inv-loop gates plan size words₀ sets₀ trust₀ table₀ tries₀ skipped₀ b₀ words sets trust table tries skipped b =
@@ -61,7 +61,7 @@ loop-holds c =
       t .first-trust .ensures,
       λ _. sole-start (a .all-vectors .result),
       walk-start (SetsAfter _ _ _ _) (s .pre .inputs)
-          (λ j q. sets-start j (omega (arith, s .pre .targets, q .targets)) (a .all-vectors .ensures ∙ ap (λ (m : ℕ). 2 ^ 2 ^ m - 1) (q .targets))),
+          (λ j q. sets-start j (omega (arith, s .pre .targets, q .planned .targets)) (a .all-vectors .ensures ∙ ap (λ (m : ℕ). 2 ^ 2 ^ m - 1) (q .planned .targets))),
       c .first-tries .ensures,
     )
 
@@ -131,14 +131,14 @@ loop-again-2 c =
       i .2,
       i .3,
       walk-skip (i .4) (omega arith) (SetsAfter _ _ _ _) (f .result) (f .ensures .within)
-          (λ j q. rw e (sets-skip (f .ensures) (omega arith) q (walk-here (i .4) (omega arith) j q))),
+          (λ j q. rw e (sets-skip (f .ensures) (omega arith) (q .planned) (walk-here (i .4) (omega arith) j q))),
       c .before .next-tries .ensures,
     )
 
 returns : tie.Need-returns Inv-loop μ-loop
 returns c =
     let l = c .before .loop in
-    λ j q. subst (λ (n : ℕ). SetsTo j (2 ^ n) (l .skipped) (l .sets)) (q .inputs) (walk-end (l .inv .4) (omega arith) j q)
+    λ j q. subst (λ (n : ℕ). SetsTo j (2 ^ n) (l .skipped) (l .sets)) (q .planned .inputs) (walk-end (l .inv .4) (omega arith) j q)
 
 pub sets-of-inputs-spec : {M : Type 1} → statement M
 sets-of-inputs-spec =
