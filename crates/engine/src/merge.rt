@@ -9,7 +9,7 @@ ghost use Rattle.records.specs.Job.{Job};
 ghost use Rattle.engine.specs.Inner.Renumber.{gateIn};
 ghost use Rattle.records.specs.Parts.{PartsOf};
 ghost use Rattle.engine.specs.Inner.Miter.{SomeParts, MiterRoom, MiterOf, MergedOf};
-ghost use Rattle.engine.specs.Inner.Merge.{Backward, Chained, GatesMerged, PairsKept};
+ghost use Rattle.engine.specs.Inner.Merge.{Backward, GatesMerged, PairsKept};
 use super::limits::MITER_GATES;
 use super::limits::NETS;
 use super::miter::Miter;
@@ -24,13 +24,6 @@ use records::OUTPUTS;
 pub struct MergedGates {
     pub gates: [u64; MITER_GATES],
     pub stands: [u16; NETS],
-}
-
-// For each place one more than the index of the last gate that has it, and for each gate one more than that of the one before it with
-// the same place; 0 where there is none.
-pub struct Chains {
-    pub heads: [u16; NETS],
-    pub next: [u16; MITER_GATES],
 }
 
 // Nets that are compared, an old one and a golden one, count pairs.
@@ -55,23 +48,6 @@ fn alike(a: u64, b: u64) -> bool
     (a % 128 == b % 128) & (a / 131072 == b / 131072)
 }
 
-// The chains of the first count gates.
-fn chains_of(gates: &[u64; MITER_GATES], count: usize) -> Chains
-    requires { ⌜ count ≤ 800 ⌝ }
-    ensures { λ r. ⌜ Chained count (r .heads) (r .next) ⌝ }
-{
-    let mut heads = [0u16; NETS];
-    let mut next = [0u16; MITER_GATES];
-    let mut i = 0usize;
-    while i < count {
-        let at = place_of(gates[i]);
-        next[i] = heads[at];
-        i += 1;
-        heads[at] = i as u16;
-    }
-    Chains { heads, next }
-}
-
 // One more than the index of the last gate alike c in the chain whose last gate is at from - 1; 0 where there is none.
 fn find(gates: &[u64; MITER_GATES], next: &[u16; MITER_GATES], from: usize, c: u64) -> usize
     requires { ⌜ (from ≤ 800) × Backward (now next) ⌝ }
@@ -87,18 +63,18 @@ fn find(gates: &[u64; MITER_GATES], next: &[u16; MITER_GATES], from: usize, c: u
     0
 }
 
-// The gates from first on with each operand replaced by the net that stands for it: that of an earlier gate alike, or itself. It costs
-// some steps a gate, since chains are short.
-fn merge_gates(base: usize, first: usize, count: usize, gates: [u64; MITER_GATES]) -> MergedGates
-    requires { ⌜ (base + count ≤ 1024) × (first ≤ count) × (count ≤ 800) × (length gates ≡ 800) ⌝ }
+// The gates with each operand replaced by the net that stands for it: that of an earlier gate alike, or itself. Gates are found by chains: heads
+// has for each place one more than the index of the last gate that has it, next for each gate one more than that of the one before it with
+// the same place, and 0 where there is none. It costs some steps a gate, since chains are short.
+fn merge_gates(base: usize, count: usize, gates: [u64; MITER_GATES]) -> MergedGates
+    requires { ⌜ (base + count ≤ 1024) × (count ≤ 800) × (length gates ≡ 800) ⌝ }
     ensures { λ r. ⌜ GatesMerged base count gates r ⌝ }
 {
     let mut gates = gates;
     let mut stands = number_inputs(base + count);
-    let chains = chains_of(&gates, first);
-    let mut heads = chains.heads;
-    let mut next = chains.next;
-    let mut i = first;
+    let mut heads = [0u16; NETS];
+    let mut next = [0u16; MITER_GATES];
+    let mut i = 0usize;
     while i < count {
         let c = moved_code(gates[i], base + i, &stands);
         gates[i] = c;
@@ -141,22 +117,23 @@ fn pairs_apart(outputs: [u16; OUTPUTS], goldens: [u16; OUTPUTS], outs: usize) ->
     }
 }
 
-// The miter with its gates from first on merged, which are the golden ones, and the pairs of an old output and the net that stands for
-// its golden one, where they are not one net.
-fn merged(miter: Miter, first: usize) -> Miter
-    requires { ⌜ MiterRoom miter × (first ≤ miter .count) ⌝ }
+// The miter with its gates merged, and the pairs of the nets that stand for an old output and its golden one, where they are not one net.
+fn merged(miter: Miter) -> Miter
+    requires { ⌜ MiterRoom miter ⌝ }
     ensures { λ r. ⌜ MiterRoom r ⌝ }
     ensures { λ r. ⌜ ((j : Job) → MiterOf j miter → MergedOf j r) ⌝ }
 {
     let gates = miter.gates;
     let goldens = miter.goldens;
     let outputs = miter.outputs;
-    let merged = merge_gates(miter.inputs + miter.targets, first, miter.count, gates);
+    let merged = merge_gates(miter.inputs + miter.targets, miter.count, gates);
     let stands = merged.stands;
-    let mut nets = [0u16; OUTPUTS];
-    move_nets(&goldens, OUTPUTS, &stands, &mut nets);
+    let mut old_nets = [0u16; OUTPUTS];
+    move_nets(&outputs, OUTPUTS, &stands, &mut old_nets);
+    let mut golden_nets = [0u16; OUTPUTS];
+    move_nets(&goldens, OUTPUTS, &stands, &mut golden_nets);
     let merged_gates = merged.gates;
-    let pairs = pairs_apart(outputs, nets, miter.outs);
+    let pairs = pairs_apart(old_nets, golden_nets, miter.outs);
     let olds = pairs.outputs;
     let news = pairs.goldens;
     Miter {
@@ -170,7 +147,7 @@ fn merged(miter: Miter, first: usize) -> Miter
     }
 }
 
-// The miter of a good job's parts, its golden gates merged with the gates before them. A job of few inputs keeps its gates: evaluating them
+// The miter of a good job's parts, its gates merged. A job of few inputs keeps its gates: evaluating them
 // costs less.
 pub(super) fn merged_miter(job: JobParts) -> Miter
     requires { ⌜ SomeParts job ⌝ }
@@ -180,5 +157,5 @@ pub(super) fn merged_miter(job: JobParts) -> Miter
     if job.counts.inputs < 12 {
         return miter_of(job);
     }
-    merged(miter_of(job), job.counts.old.gates)
+    merged(miter_of(job))
 }

@@ -346,16 +346,16 @@ merged-self {j} {m} q =
           };
     }
 
--- the miter with other gates and golden nets
-abbrev pub replaced : Miter → List ℕ → List ℕ → Miter
-replaced m cs gos =
+-- the miter with other gates and nets of the outputs
+abbrev pub replaced : Miter → List ℕ → List ℕ → List ℕ → Miter
+replaced m cs os gos =
     record {
       inputs = m .inputs;
       targets = m .targets;
       count = m .count;
       gates = cs;
       outs = m .outs;
-      outputs = m .outputs;
+      outputs = os;
       goldens = gos;
     }
 
@@ -373,58 +373,70 @@ module _ {m : Miter} {g : MergedGates} (w : GatesMerged (m .inputs + m .targets)
         gates = rw (q .inputs, q .targets) (q .gates);
       }))
 
-  golden-stands : (i : ℕ) → Mem i (miterGoldens j)
-      → (i < miterNets j) × StandsFor (j .inputs + j .targets) (miterGates j) i (netAt (g .stands) i)
-  unfolding miterNets
-  golden-stands i t =
-      let n = miterNets j in
-      let l : i < miterNets j = ltb-true i n (all-true (λ k. ltb k n) (miterGoldens j) (goldens-nets j (q .good)) i t) in
-      (l, miter-merged .stands i (omega (arith, q .count)))
+  -- nets of the miter
+  module _ (is : List ℕ) (b : all (λ i. ltb i (miterNets j)) is ≡ true) where
+    net-stands : (i : ℕ) → Mem i is → (i < miterNets j) × StandsFor (j .inputs + j .targets) (miterGates j) i (netAt (g .stands) i)
+    unfolding miterNets
+    net-stands i t =
+        let n = miterNets j in
+        let l : i < miterNets j = ltb-true i n (all-true (λ k. ltb k n) is b i t) in
+        (l, miter-merged .stands i (omega (arith, q .count)))
 
-  goldens-same : (x v : ℕ) → map (netAt (miterValues j x v)) (map (netAt (g .stands)) (miterGoldens j))
-      ≡ map (netAt (miterValues j x v)) (miterGoldens j)
-  unfolding miterValues values valueOf
-  goldens-same x v =
-      let vs = miterValues j x v in
-      let leaves = bits (j .inputs) x ++ bits (j .targets) v in
-      let l : length leaves ≡ j .inputs + j .targets =
-      length-append (bits (j .inputs) x) (bits (j .targets) v)
-      ∙ omega (arith, length-bits (j .inputs) x, length-bits (j .targets) v) in
-      map-map (netAt vs) (netAt (g .stands)) (miterGoldens j)
-      ∙ map-agree (λ i. netAt vs (netAt (g .stands) i)) (netAt vs) (miterGoldens j)
-      (λ i t. golden-stands i t .1 .same gateValue leaves l)
+    nets-same : (x v : ℕ) → map (netAt (miterValues j x v)) (map (netAt (g .stands)) is) ≡ map (netAt (miterValues j x v)) is
+    unfolding miterValues values valueOf
+    nets-same x v =
+        let vs = miterValues j x v in
+        let leaves = bits (j .inputs) x ++ bits (j .targets) v in
+        let l : length leaves ≡ j .inputs + j .targets =
+        length-append (bits (j .inputs) x) (bits (j .targets) v)
+        ∙ omega (arith, length-bits (j .inputs) x, length-bits (j .targets) v) in
+        map-map (netAt vs) (netAt (g .stands)) is
+        ∙ map-agree (λ i. netAt vs (netAt (g .stands) i)) (netAt vs) is
+        (λ i t. net-stands i t .1 .same gateValue leaves l)
 
-module _ {m : Miter} (room : MiterRoom m) {g : MergedGates} (w : GatesMerged (m .inputs + m .targets) (m .count) (m .gates) g)
-    (gos : List ℕ) (e : take 32 gos ≡ map (λ o. getD (g .stands) o 0) (take 32 (m .goldens))) where
-  pub merged-room : length gos ≡ 32 → MiterRoom (replaced m (g .gates) gos)
-  merged-room l =
-      let b =
-      below-of-nets 32 gos l
-      (moved-nets 32 (g .stands) (m .goldens) gos (omega (arith, room .goldens)) e (λ i h. room .below i .1) (w .nets)) in
-      record {
-        gates = w .long;
-        outputs = room .outputs;
-        goldens = l;
-        below = λ i. (room .below i .0, b i);
-        count = room .count;
-        outs = room .outs;
-        inputs = room .inputs;
-        targets = room .targets;
-      }
+    nets-below : all (λ i. ltb i (miterNets j)) (map (netAt (g .stands)) is) ≡ true
+    nets-below =
+        all-mapped (netAt (g .stands)) (miterNets j) is
+        (λ i t. let s = net-stands i t in omega (arith, s .1 .before))
 
-  module _ {j : Job} (q : MiterOf j m) where
-    goldens-replaced : take (m .outs) gos ≡ map (netAt (g .stands)) (miterGoldens j)
+module _ {m : Miter} (room : MiterRoom m) {g : MergedGates} (w : GatesMerged (m .inputs + m .targets) (m .count) (m .gates) g) where
+  -- the nets that stand for some
+  abbrev Moved : List ℕ → List ℕ → Type 0
+  Moved is ks = take 32 ks ≡ map (λ o. getD (g .stands) o 0) (take 32 is)
+
+  module _ (os gos : List ℕ) (d : Moved (m .outputs) os) (e : Moved (m .goldens) gos) where
+    pub merged-room : length os ≡ 32 → length gos ≡ 32 → MiterRoom (replaced m (g .gates) os gos)
+    merged-room k l =
+        let a = below-of-nets 32 os k (moved-nets 32 (g .stands) (m .outputs) os (omega (arith, room .outputs)) d (λ i h. room .below i .0) (w .nets)) in
+        let b = below-of-nets 32 gos l (moved-nets 32 (g .stands) (m .goldens) gos (omega (arith, room .goldens)) e (λ i h. room .below i .1) (w .nets)) in
+        record {
+          gates = w .long;
+          outputs = k;
+          goldens = l;
+          below = λ i. (a i, b i);
+          count = room .count;
+          outs = room .outs;
+          inputs = room .inputs;
+          targets = room .targets;
+        }
+
+    -- the first of them
+    moved-first : (is ks : List ℕ) → Moved is ks → (xs : List ℕ) → take (m .outs) is ≡ xs → take (m .outs) ks ≡ map (netAt (g .stands)) xs
     unfolding netAt
-    goldens-replaced =
+    moved-first is ks h xs z =
         let f : ℕ → ℕ = λ o. getD (g .stands) o 0 in
-        sym (take-take (m .outs) 32 gos (room .outs))
-        ∙ ap (take (m .outs)) e
-        ∙ sym (map-take f (m .outs) (take 32 (m .goldens)))
-        ∙ ap (map f) (take-take (m .outs) 32 (m .goldens) (room .outs) ∙ q .goldens)
+        sym (take-take (m .outs) 32 ks (room .outs))
+        ∙ ap (take (m .outs)) h
+        ∙ sym (map-take f (m .outs) (take 32 is))
+        ∙ ap (map f) (take-take (m .outs) 32 is (room .outs) ∙ z)
 
-    pub merged-of : MergedOf j (replaced m (g .gates) gos)
-    merged-of =
+    pub merged-of : {j : Job} → MiterOf j m → MergedOf j (replaced m (g .gates) os gos)
+    merged-of {j} q =
         let c = miter-merged w q in
+        let a = outputs-nets j (q .good) in
+        let b = goldens-nets j (q .good) in
+        let r = moved-first (m .outputs) os d (j .old .outputs) (q .outputs) in
+        let s = moved-first (m .goldens) gos e (miterGoldens j) (q .goldens) in
         record {
           good = q .good;
           inputs = q .inputs;
@@ -435,18 +447,11 @@ module _ {m : Miter} (room : MiterRoom m) {g : MergedGates} (w : GatesMerged (m 
           gates = c .gates;
           pairs =
               record {
-                olds = rw (q .outputs) (outputs-nets j (q .good));
-                goldens =
-                    rw goldens-replaced
-                    (all-mapped (netAt (g .stands)) (miterNets j) (miterGoldens j)
-                    (λ i t. let s = golden-stands w q i t in omega (arith, s .1 .before)));
-                equal = λ x v. rw (q .outputs, goldens-replaced, goldens-same w q x v) (sym (rectifies-miter j (q .good) x v));
+                olds = rw r (nets-below w q (j .old .outputs) a);
+                goldens = rw s (nets-below w q (miterGoldens j) b);
+                equal =
+                    λ x v.
+                    rw (r, s, nets-same w q (j .old .outputs) a x v, nets-same w q (miterGoldens j) b x v)
+                    (sym (rectifies-miter j (q .good) x v));
               };
         }
-
--- the old gates come first
-pub old-first : {j : Job} {p : JobParts} {m : Miter} → PartsOf j p → MiterOf j m → p .counts .old .gates ≤ m .count
-unfolding countsOf sideCountsOf miterGates
-old-first {j} {p} q o =
-    let e = ap (λ (c : Counts). c .old .gates) (q .counts) in
-    omega (arith, e, o .count, length-append (j .old .gates) (map (shifted (j .inputs) (shiftOf j)) (j .golden .gates)))

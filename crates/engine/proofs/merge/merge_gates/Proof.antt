@@ -8,20 +8,21 @@ use native.Mathlib.Omega.{arith}
 use lib.ListN.{getD, set}
 use lib.Seq.{getD-set-same}
 use Rattle.engine.specs.Inner.Renumber.{gateIn}
+use Rattle.engine.proofs.Laws.Loaded.{below-zeros}
 use Rattle.engine.proofs.Laws.Merge.{Merging, merging-none, merging-moved, merging-stands, merging-place, merging-all}
 use Rattle.engine.proofs.merge.merge_gates.Statement.{statement}
 use Rattle.engine.proofs.merge.merge_gates.Tie as tie
 
 abbrev Inv-loop : tie.InvT-loop
-Inv-loop base first count gates₀ stands₀ heads₀ next₀ i₀ gates stands heads next i =
+Inv-loop base count gates₀ stands₀ heads₀ next₀ i₀ gates stands heads next i =
     Merging base count gates₀ i gates stands heads next
 
 abbrev μ-loop : tie.MeasureT-loop
-μ-loop base first count gates₀ stands₀ heads₀ next₀ i₀ gates stands heads next i = count - i
+μ-loop base count gates₀ stands₀ heads₀ next₀ i₀ gates stands heads next i = count - i
 
 -- the function's entry, from the loop
 abbrev start : tie.At-loop Inv-loop μ-loop → tie.Start Inv-loop μ-loop
-start l = l .before .before .before .before .before .before
+start l = l .before .before
 
 -- the turn's start, from the gate moved
 abbrev turn : tie.After-moved-code Inv-loop μ-loop → tie.In-loop Inv-loop μ-loop
@@ -63,9 +64,8 @@ moving m =
 
 loop-holds : tie.Need-loop-holds Inv-loop μ-loop
 loop-holds c =
-    let m = c .before .before in
-    let n = m .before .before in
-    merging-none (n .before .pre .3) (n .number-inputs .ensures) (m .chains-of .ensures)
+    merging-none (c .before .pre .2) (c .number-inputs .ensures)
+    (record { heads = below-zeros 1 1024 (omega arith); next = λ k. omega (arith, below-zeros 1 800 (omega arith) k) })
 
 moved-code-requires : tie.Need-moved-code-requires Inv-loop μ-loop
 moved-code-requires c κs =
@@ -116,7 +116,6 @@ merge-gates-spec =
     μ-loop
     (λ c. omega arith)  -- add-number-inputs
     (λ c κs. c .pre .0)  -- number-inputs-requires
-    (λ c κs. omega (arith, c .before .before .pre .1, c .before .before .pre .2))  -- chains-of-requires
     loop-holds
     (λ c. omega (arith, room c))  -- mul-moved-code
     (λ c. omega (arith, room c))  -- array-read-moved-code
