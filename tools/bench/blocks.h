@@ -1,9 +1,9 @@
 /* Many inputs at a time: what the block programs have in common. Old and golden netlist are one list of
- * gates, over inputs, targets, old gates' nets and golden gates' nets, without the gates that lead nowhere. Golden gates
- * that do what earlier gates do are merged with them where that is asked for. A net has W words: bit i of word w in block b
- * is its value on input 64 (W b + w) + i. W is a constant wherever these functions are inlined, so that the compiler makes
- * vector instructions of their inner loops. Inputs that do not fill a block repeat in it, which alters nothing: the smallest
- * comes first. */
+ * gates, over inputs, targets, old gates' nets and golden gates' nets, without the gates that lead nowhere. Where that is
+ * asked for, golden gates that do what earlier gates do are merged with them, and outputs that are then one net on both
+ * sides are not compared. A net has W words: bit i of word w in block b is its value on input 64 (W b + w) + i. W is a
+ * constant wherever these functions are inlined, so that the compiler makes vector instructions of their inner loops. Inputs
+ * that do not fill a block repeat in it, which alters nothing: the smallest comes first. */
 #ifndef BLOCKS_H
 #define BLOCKS_H
 #include "verdict.h"
@@ -28,8 +28,8 @@ struct gates {
 
 struct miter {
     struct gates gates;
-    size_t outputs;
-    uint16_t old[OUTPUTS], golden[OUTPUTS]; /* the outputs' nets */
+    size_t outputs;                         /* that are compared: all, or some, or none */
+    uint16_t old[OUTPUTS], golden[OUTPUTS]; /* their nets */
     uint8_t led[ALL_NETS];                  /* for each net the targets that lead to it, bit t for target t */
 };
 
@@ -113,9 +113,20 @@ static inline void merge_golden(struct miter *m, size_t old_gates) {
     for (size_t i = 0; i < m->outputs; i++) m->golden[i] = stands[m->golden[i]];
 }
 
+/* Leaves the outputs whose two nets are not the same: the others never differ. */
+static inline void drop_same(struct miter *m) {
+    size_t kept = 0;
+    for (size_t i = 0; i < m->outputs; i++)
+        if (m->old[i] != m->golden[i]) {
+            m->old[kept] = m->old[i];
+            m->golden[kept++] = m->golden[i];
+        }
+    m->outputs = kept;
+}
+
 /* ---- the gates that are evaluated */
 
-/* Leaves the gates that lead to an output or one of these nets. */
+/* Leaves the gates that lead to an output that is compared or one of these nets. */
 static inline void drop_dead(struct miter *m, const uint16_t *nets, size_t count) {
     uint8_t live[ALL_NETS] = {0};
     struct gates *g = &m->gates;
@@ -130,7 +141,7 @@ static inline void drop_dead(struct miter *m, const uint16_t *nets, size_t count
     g->count = kept;
 }
 
-/* Of a job, with the gates that lead to an output or one of these nets, golden ones MERGED or UNMERGED. */
+/* Of a job, with the gates that lead to an output that is compared or one of these nets, golden ones MERGED or UNMERGED. */
 static inline void make_miter(const struct job *j, const uint16_t *nets, size_t count, int merging, struct miter *m) {
     size_t shift = j->targets + j->old.gates;
     m->gates.count = 0;
@@ -141,7 +152,10 @@ static inline void make_miter(const struct job *j, const uint16_t *nets, size_t 
         m->old[i] = j->old.outs[i];
         m->golden[i] = moved(j->golden.outs[i], j->inputs, shift);
     }
-    if (merging == MERGED && j->inputs >= LEAST_TO_MERGE) merge_golden(m, j->old.gates);
+    if (merging == MERGED && j->inputs >= LEAST_TO_MERGE) {
+        merge_golden(m, j->old.gates);
+        drop_same(m);
+    }
     drop_dead(m, nets, count);
     memset(m->led, 0, sizeof m->led);
     for (size_t t = 0; t < j->targets; t++) m->led[j->inputs + t] = 1u << t;
