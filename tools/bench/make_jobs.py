@@ -7,7 +7,10 @@
     wide_KIND.job            20 inputs, 400 gates a side; 50 in the targets' fanout, or 300, led to by all or one target each
     rare_ONE_OR_TWO.job      the same with 50; the old netlist at vector 0 is the golden one, or is so but at rare inputs
     unseen_wide.job          the same with 50, and a support behind most gates of which many readings do not occur
-    unseen_gated.job         such a job whose outputs are all 0 wherever the last input is, so that half the inputs are settled
+    unseen_gated.job         such a job whose outputs are all 0 wherever the last input is, so that half the inputs are settled;
+                             in unseen_mirror.job they are 0 wherever it is 1, so that the other half is
+    revised_DESIGN.job       20 inputs, 300 to 400 gates a side: the golden netlist is the old one but for two to four gates, whose
+                             nets are cut open, and the targets lead to some of the outputs
     CIRCUIT_SIZE.job         typical cuts: old and golden netlist are two designs of one circuit, some old nets cut open
     tiny_CIRCUIT_SIZE.job    the same of 2 to 6 inputs and up to 20 gates a side
     pair_GATES_four.job      gates of four operands, and in pair_GATES_chain.job each of them as three gates of two operands
@@ -102,13 +105,18 @@ def chain(nets, join):
     return last
 
 
-def ripple_adder(size):
-    """One full adder after the other."""
-    c = Circuit(2 * size)
+def add_up(c, size):
+    """The sum of the first two numbers and its carry: one full adder after the other."""
     sums, carry = [], None
     for i in range(size):
         total, carry = c.half_add(i, size + i) if i == 0 else c.full_add(i, size + i, carry)
         sums.append(total)
+    return sums, carry
+
+
+def ripple_adder(size):
+    c = Circuit(2 * size)
+    sums, carry = add_up(c, size)
     return c, sums + [carry]
 
 
@@ -128,16 +136,20 @@ def prefix_adder(size):
     return c, propagate[:1] + sums + carry[-1:]
 
 
-def ripple_comparator(size):
-    """Less, equal, greater: from the lowest bit up."""
-    c = Circuit(2 * size)
+def compare_up(c, size):
+    """Whether the first number is less than the second, equal, greater: from the lowest bit up."""
     less, equal = None, None
     for i in range(size):
         same = c.gate(XNOR, i, size + i)
         below = c.both(c.gate(NOT, i), size + i)
         less = below if i == 0 else c.either(below, c.both(same, less))
         equal = same if i == 0 else c.both(same, equal)
-    return c, [less, equal, c.gate(NOR, less, equal)]
+    return [less, equal, c.gate(NOR, less, equal)]
+
+
+def ripple_comparator(size):
+    c = Circuit(2 * size)
+    return c, compare_up(c, size)
 
 
 def tree_comparator(size):
@@ -208,6 +220,25 @@ def column_multiplier(size, columns):
     return c, outputs
 
 
+def alu(size):
+    """Two numbers, and two bits that choose what the result is: their sum, and, or, or xor. Besides it the larger number, less,
+    equal, greater, the sum's carry, whether the result is 0, and the parities of the result and of the numbers. The adder shares no
+    gates with the other functions, so that 2 * size gates do what earlier ones do."""
+    c = Circuit(2 * size + 2)
+    bits = [(i, size + i) for i in range(size)]
+    chooses = [(c.gate(NOT, net), net) for net in (2 * size, 2 * size + 1)]
+    chosen = [c.both(low, high) for high in chooses[1] for low in chooses[0]]
+    sums, carry = add_up(c, size)
+    functions = [sums] + [[c.gate(kind, *pair) for pair in bits] for kind in (AND, OR, XOR)]
+    result = [c.gate(OR, *[c.both(*pair) for pair in zip(chosen, values)]) for values in zip(*functions)]
+    compared = compare_up(c, size)
+    not_less = c.gate(NOT, compared[0])
+    larger = [c.either(c.both(compared[0], b), c.both(not_less, a)) for a, b in bits]
+    zero = c.gate(NOT, tree(result, c.either))
+    parities = [tree(nets, c.differ_by_nands) for nets in (result, list(range(size)), list(range(size, 2 * size)))]
+    return c, result + larger + compared + [carry, zero] + parities
+
+
 # ---- typical cuts
 
 
@@ -243,14 +274,20 @@ def cut_job(rng, old, golden, m, priced):
         named = frontier(circuit, places)
         if len(named) <= priced:
             break
-    behind = reached(circuit, places)
+    return cut_at(rng, old, golden, places, named, seen, priced, lambda count: [rng.randrange(1, 100) for _ in range(count)])
+
+
+def cut_at(rng, old, golden, places, named, seen, priced, weights):
+    """Cuts these gates of the old circuit open. The named nets are priced and, up to so many, others of those seen."""
+    circuit, outputs = old
+    n, m, behind = circuit.n, len(places), reached(circuit, places)
     others = [net for net in seen if net not in behind and net not in named]
     named = sorted(named | set(rng.sample(others, min(len(others), priced - len(named)))))
 
     def moved(net):
         return net if net < n else net + m - sum(place < net - n for place in places)
 
-    candidates = [Candidate(moved(net), rng.randrange(1, 100)) for net in named]
+    candidates = [Candidate(moved(net), weight) for net, weight in zip(named, weights(len(named)))]
     left = cj.cut(n, m, circuit.gates, outputs, places, lambda: False)
     return Job(n, m, left, Netlist(golden[0].gates, golden[1]), candidates)
 
@@ -276,6 +313,76 @@ def tiny(rng):
     for size, m in ((3, 1), (6, 2)):
         yield f"tiny_parity_{size}", cut_job(rng, chain_parity(size), tree_parity(size), m, 5)
     yield "tiny_multiplier_2_4", cut_job(rng, array_multiplier(2, 4), column_multiplier(2, 4), 1, 4)
+
+
+# ---- revisions
+
+
+def revised_job(rng, old, changes):
+    """The golden circuit is the old one with other gates at some places, whose nets are cut open: of ten priced nets some tell what
+    these gates are made of, the others are among what leads to the same outputs. No two weights are the same."""
+    circuit, outputs = old
+    places = sorted(changes)
+    golden = Circuit(circuit.n)
+    golden.gates = [changes.get(k, gate) for k, gate in enumerate(circuit.gates)]
+    behind = reached(circuit, places)
+    altered = [net for net in outputs if net in behind]
+    assert 0 < len(altered) < len(outputs)
+    named, seen = frontier(golden, places), cj.cone(circuit.n, circuit.gates, altered)
+    job = cut_at(rng, old, (golden, outputs), places, named, seen, 10, lambda count: rng.sample(range(1, 100), count))
+    choice = choice_of(job)
+    assert choice.name == "patch" and choice.patch.support and len(judgement_of(job).vectors) > 1
+    return job
+
+
+def revised_multiplier(rng, size, columns, row):
+    """The bit products of one row are inverted, as for a signed number."""
+    circuit, outputs = array_multiplier(size, columns)
+    products_of_row = [k for k, gate in enumerate(circuit.gates) if gate.operands()[1] == size + row]
+    changes = {k: Gate.of(NAND, *circuit.gates[k].operands()) for k in products_of_row}
+    return revised_job(rng, (circuit, outputs), changes)
+
+
+def revised_alu(rng, size):
+    """The numbers are compared as signed ones, and the sum's carry becomes its overflow."""
+    circuit, outputs = alu(size)
+
+    def operands(net):
+        return circuit.gates[net - circuit.n].operands()
+
+    less, carry = outputs[2 * size], outputs[2 * size + 3]
+    highest = operands(less)[0]
+    first, second = operands(carry)
+    last_carry = operands(second)[1]
+    changes = {highest: Gate.of(NOR, *operands(highest)), carry: Gate.of(XOR, first, second, last_carry)}
+    return revised_job(rng, (circuit, outputs), {net - circuit.n: gate for net, gate in changes.items()})
+
+
+def revised_random(rng, n, gates, fanout, outputs):
+    """A random netlist in which three gates become other kinds. None of them leads to another; each leads to some outputs, all
+    together to half of them at most."""
+    made = walked_job(rng, n, 4, gates, fanout, 10, outputs).golden
+    circuit = Circuit(n)
+    circuit.gates = made.gates
+
+    def led_to(places, nets):
+        return len(reached(circuit, places) & set(nets))
+
+    while True:
+        places = rng.sample(range(gates), 3)
+        apart = all(led_to([k], [n + place for place in places]) == 1 for k in places)
+        shown = all(led_to([k], made.outputs) > 1 for k in places)
+        if apart and shown and led_to(places, made.outputs) <= outputs // 2:
+            break
+    kinds = {k: rng.choice([kind for kind in range(AND, XNOR + 1) if kind != made.gates[k].kind]) for k in places}
+    changes = {k: Gate.of(kind, *made.gates[k].operands()) for k, kind in kinds.items()}
+    return revised_job(rng, (circuit, made.outputs), changes)
+
+
+def revisions(rng):
+    yield "revised_multiplier", revised_multiplier(rng, 10, 12, 8)
+    yield "revised_alu", revised_alu(rng, 9)
+    yield "revised_random", revised_random(rng, 20, 400, 50, 32)
 
 
 # ---- jobs of a given size
@@ -359,21 +466,24 @@ def unseen(rng):
     yield "unseen_wide", job
 
 
-def gated(job, net):
-    """The job with each output the and of what it was and an input."""
+def gated(job, net, kind):
+    """The job with each output joined with an input by a gate of this kind."""
 
     def behind(side):
         first = job.net_count(side)
-        gates = side.gates + [Gate.of(AND, o, net) for o in side.outputs]
+        gates = side.gates + [Gate.of(kind, o, net) for o in side.outputs]
         return Netlist(gates, list(range(first, first + len(side.outputs))))
 
     return replace(job, old=behind(job.old), golden=behind(job.golden))
 
 
 def settled(rng):
-    job = gated(walked_job(rng, 20, 4, 368, 50, 10, related=True), 19)
-    assert choice_of(job).patch.notes.count(0) > 0
-    yield "unseen_gated", job
+    """All outputs are 0 where the last input is 0, then where it is 1."""
+    made = walked_job(rng, 20, 4, 368, 50, 10, related=True)
+    for name, kind in (("gated", AND), ("mirror", NOR)):
+        job = gated(made, 19, kind)
+        assert choice_of(job).patch.notes.count(0) > 0
+        yield f"unseen_{name}", job
 
 
 def rare(rng):
@@ -564,7 +674,7 @@ def main():
     if what == "growth":
         put_jobs(folder, growth(rng))
         return
-    for made in (wide, cuts, tiny, pairs, unseen, rare, ties, settled):
+    for made in (wide, cuts, tiny, pairs, unseen, rare, ties, settled, revisions):
         put_jobs(folder, made(rng))
     put_sheets(folder)
 
