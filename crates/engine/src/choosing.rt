@@ -13,7 +13,6 @@ ghost use Rattle.engine.specs.Inner.Miter.{SomeParts};
 ghost use Rattle.engine.specs.Inner.Best.{HeldSupport, ChosenOf};
 ghost use Rattle.engine.specs.Inner.Given.{Unseen};
 ghost use Rattle.engine.specs.Inner.Choosing.{ChosenJob};
-use super::best::Chosen;
 use super::best::Priced;
 use super::best::best_support;
 use super::best::first_empty;
@@ -31,6 +30,7 @@ use super::table::fill_table;
 use super::table::reading_count;
 use records::Check;
 use records::JobParts;
+use records::Support;
 use records::load;
 
 pub struct PatchCost {
@@ -83,19 +83,24 @@ fn rule_blind(reading: usize, reply: &mut [u8]) -> ChooseReply
 
 // The choice where all candidates together are sound: the chosen support with its table and notes, and its sheet; unseen is not 0 at its
 // readings that no input gives.
-fn rule_patch(best: Chosen, unseen: [u32; READINGS], reply: &mut [u8]) -> ChooseReply
-    requires { ⌜ HeldSupport (best .support) × (2084 ≤ length (now reply)) ⌝ }
-    ensures { λ r. ⌜ ((j : Job) → sound j (candidateNets j) ≡ true → ChosenOf j best → Unseen j (chosen j) unseen
-        → ChosenJob j (now (reply .entry)) r (now (reply .exit))) ⌝ }
+fn rule_patch(
+    support: Support,
+    cost: u32,
+    sets: &[u32; READINGS],
+    unseen: &[u32; READINGS],
+    reply: &mut [u8],
+) -> ChooseReply
+    requires { ⌜ HeldSupport support × (2084 ≤ length (now reply)) ⌝ }
+    ensures { λ r. ⌜ ((j : Job) → sound j (candidateNets j) ≡ true → ChosenOf j support cost (now (sets .entry))
+        → Unseen j (chosen j) (now (unseen .entry)) → ChosenJob j (now (reply .entry)) r (now (reply .exit))) ⌝ }
 {
-    let support = best.support;
-    let table = fill_table(&best.sets, support.len);
-    let notes = fill_notes(&best.sets, &unseen, support.len);
-    let len = put_patch(reply, support, &table, best.cost, &notes);
+    let table = fill_table(sets, support.len);
+    let notes = fill_notes(sets, unseen, support.len);
+    let len = put_patch(reply, support, &table, cost, &notes);
     ChooseReply {
         number: 0,
         len,
-        verdict: Choice::Patch(PatchCost { cost: best.cost }),
+        verdict: Choice::Patch(PatchCost { cost }),
     }
 }
 
@@ -124,7 +129,7 @@ fn choose_job(job: JobParts, reply: &mut [u8]) -> ChooseReply
     let best = best_support(nets, priced, &met.sets);
     let support = best.support;
     let unseen = unseen_readings(miter, support, &best.sets, met.skipped);
-    rule_patch(best, unseen, reply)
+    rule_patch(support, best.cost, &best.sets, &unseen, reply)
 }
 
 // The service choose: the cheapest patch of a job, or the blind reading, and its sheet at the start of the reply buffer. Refused are a

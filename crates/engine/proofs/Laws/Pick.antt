@@ -19,7 +19,6 @@ use Rattle.records.proofs.Laws.Bytes.{false-of}
 use Rattle.records.specs.declared.sheet.Support.{Support}
 use Rattle.engine.specs.Support.{sound, candidateNets, cost, patchGates, earlier, better, chosen}
 use Rattle.engine.specs.Inner.Best.{picked, total, lowFirst, before, openAt, candidateWeights, SetsOf, GivenBits, LeftOut, OpenPick, PricedRoom, PricedOf, PickOf, CountedOf, OpenOf, BestFrom, PickedNets, HeldSupport, Choosable, ChosenOf}
-use Rattle.engine.specs.declared.best.Chosen.{Chosen}
 use Rattle.engine.specs.declared.best.Left.{Left}
 use Rattle.engine.specs.declared.best.Pick.{Pick}
 use Rattle.engine.specs.declared.best.Priced.{Priced}
@@ -478,13 +477,13 @@ module _ {j : Job} {is ss : List ℕ} {v : Priced} (room : PricedRoom v) (ni : l
         let l : t .0 < 2 ^ n = rw nets-many at (t .1) in
         rw (t .2) (g .least (t .0) (div-eq-of-lt l) (rw (t .2) at s)))
 
-    pub chosen-of : {c : Chosen} → PickedNets (take n is) (r .set) (c .support) → c .cost ≡ r .cost
-        → SetsOf j (picked (candidateNets j) (r .set)) (c .sets) → ChosenOf j c
-    chosen-of p e s =
+    pub chosen-of : {u : Support} {ps : List ℕ} → PickedNets (take n is) (r .set) u → SetsOf j (picked (candidateNets j) (r .set)) ps
+        → ChosenOf j u (r .cost) ps
+    chosen-of p s =
         let q : picked (take n is) (r .set) ≡ chosen j = rw nets-are at best-chosen in
         record {
           len = p .len ∙ ap length q;
           support = p .nets ∙ q;
-          cost = e ∙ g .pick .cost ∙ ap (cost j) best-chosen;
+          cost = g .pick .cost ∙ ap (cost j) best-chosen;
           sets = rw (← best-chosen) s;
         }

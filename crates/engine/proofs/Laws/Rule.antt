@@ -18,6 +18,7 @@ use Rattle.records.specs.Inner.{Within}
 use Rattle.records.specs.Parts.{PartsOf}
 use Rattle.records.specs.declared.loading.JobParts.{JobParts}
 use Rattle.records.specs.declared.job.Counts.{Counts}
+use Rattle.records.specs.declared.sheet.Support.{Support}
 use Rattle.records.proofs.Laws.Bytes.{false-of, and-left}
 use Rattle.engine.specs.Rectify.{Listed, vectorLoop}
 use Rattle.engine.specs.Support.{sound, tableOf, notesOf, candidateNets, cost, chosen}
@@ -32,7 +33,6 @@ use Rattle.engine.specs.Inner.Given.{Unseen}
 use Rattle.engine.specs.Inner.Table.{TableFilled, NotesFilled}
 use Rattle.engine.specs.Inner.Judging.{JudgedJob}
 use Rattle.engine.specs.Inner.Choosing.{ChosenJob}
-use Rattle.engine.specs.declared.best.Chosen.{Chosen}
 use Rattle.engine.specs.declared.list.Vectors.{Vectors}
 use Rattle.engine.specs.declared.judging.Judgement.{Judgement}
 use Rattle.engine.specs.declared.judging.Judgement.the-variants as Judgement
@@ -112,18 +112,17 @@ module _ (j : Job) {d e : List ℕ} {n : ℕ} where
 
 -- ---- the chosen support
 
-module _ {j : Job} {c : Chosen} (h : ChosenOf j c) where
+module _ {j : Job} {s : Support} {c : ℕ} {ss : List ℕ} (h : ChosenOf j s c ss) where
   abbrev nets : List ℕ
-  nets = take (c .support .len) (c .support .nets)
+  nets = take (s .len) (s .nets)
 
-  pub table-of-chosen : {t : List ℕ} → TableFilled (c .sets) (c .support .len) t → take (2 ^ c .support .len) t ≡ tableOf j nets
+  pub table-of-chosen : {t : List ℕ} → TableFilled ss (s .len) t → take (2 ^ s .len) t ≡ tableOf j nets
   table-of-chosen f = f .table j (chosen j) (h .sets) (sym (h .len)) ∙ ap (tableOf j) (sym (h .support))
 
-  pub notes-of-chosen : {os t : List ℕ} → Unseen j (chosen j) os → NotesFilled (c .sets) os (c .support .len) t
-      → take (2 ^ c .support .len) t ≡ notesOf j nets
+  pub notes-of-chosen : {os t : List ℕ} → Unseen j (chosen j) os → NotesFilled ss os (s .len) t → take (2 ^ s .len) t ≡ notesOf j nets
   notes-of-chosen u f = f .notes j (chosen j) (h .sets) u (sym (h .len)) ∙ ap (notesOf j) (sym (h .support))
 
-  pub cost-of-chosen : c .cost ≡ cost j nets
+  pub cost-of-chosen : c ≡ cost j nets
   cost-of-chosen = h .cost ∙ ap (cost j) (sym (h .support))
 
 -- ---- a job's parts

@@ -27,7 +27,7 @@
 --   BestFrom j i s b r     of pick b and the sound sets that are s from place i on, r is the one that is chosen
 --   HeldSupport r          the nets of the support r stand in its ten places
 --   Choosable ..           the job whose candidates and sets of vectors stand in places has a sound support
---   ChosenOf j c           the chosen support of job j, its cost, and its sets
+--   ChosenOf j s c ss      the support s is the chosen one of job j, c its cost, and ss are its sets
 use Prim.Native.Nat.{ℕ, zero, suc, _+_, _-_, _*_, _/_, _%_, _^_, _≤_, _<_}
 use mathlib.Core.Path.{_≡_}
 use mathlib.Core.Logic.{_↔_, _⊎_}
@@ -46,7 +46,6 @@ use Rattle.engine.specs.Rectify.{rectifies}
 use Rattle.engine.specs.Support.{reading, sound, candidateNets, cost, patchGates, better, chosen}
 use Rattle.engine.specs.Inner.List.{maxVectors}
 use Rattle.engine.specs.Inner.Note.{maxReadings}
-use Rattle.engine.specs.declared.best.Chosen.{Chosen}
 use Rattle.engine.specs.declared.best.Left.{Left}
 use Rattle.engine.specs.declared.best.Pick.{Pick}
 use Rattle.engine.specs.declared.best.Priced.{Priced}
@@ -181,8 +180,8 @@ pub record Choosable (j : Job) (is : List ℕ) (p : Priced) (ss : List ℕ) : Ty
   pub sets : ReadingSets j ss
   pub sound : sound j (candidateNets j) ≡ true
 
-pub record ChosenOf (j : Job) (c : Chosen) : Type 0 where
-  pub len : c .support .len ≡ length (chosen j)
-  pub support : take (c .support .len) (c .support .nets) ≡ chosen j
-  pub cost : c .cost ≡ cost j (chosen j)
-  pub sets : SetsOf j (chosen j) (c .sets)
+pub record ChosenOf (j : Job) (s : Support) (c : ℕ) (ss : List ℕ) : Type 0 where
+  pub len : s .len ≡ length (chosen j)
+  pub support : take (s .len) (s .nets) ≡ chosen j
+  pub cost : c ≡ cost j (chosen j)
+  pub sets : SetsOf j (chosen j) ss

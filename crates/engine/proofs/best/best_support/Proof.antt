@@ -1,6 +1,6 @@
 -- `engine::best::best_support` meets its contract: the search starts from all candidates, which are sound together. Assumes nothing.
 use Prim.Native.Nat.{_-_}
-use mathlib.Core.Path.{_≡_, refl}
+use mathlib.Core.Path.{_≡_}
 use native.Mathlib.Omega.{arith}
 use lib.Pow.{pow-pos}
 use lib.ListN.{length}
@@ -50,7 +50,7 @@ returns c =
           let all = all-pick (s .pre) ni nw q (m .before .reading-count .ensures) (m .sum-weights .ensures) in
           let g = b .best-from .ensures .1 j (all-priced (s .pre) ni nw q) all (all-open (s .pre) ni nw q) in
           let f = c .before .sets-of .ensures j (nets-many (s .pre) ni nw q) (all-sets (s .pre) ni nw q) (g .pick .sound) in
-          (chosen-of (s .pre) ni nw q g (p .0) refl (f .0), λ k b. rw (← best-chosen (s .pre) ni nw q g) (f .1 k b)),
+          (chosen-of (s .pre) ni nw q g (p .0) (f .0), λ k b. rw (← best-chosen (s .pre) ni nw q g) (f .1 k b)),
     )
 
 pub best-support-spec : {M : Type 1} → statement M

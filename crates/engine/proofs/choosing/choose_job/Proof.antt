@@ -84,17 +84,20 @@ unseen-readings-requires c κs =
     let u = sets b in
     (mitered u .merged-miter .ensures .0, b .best-support .ensures .0 .1 (start u .pre .1))
 
+abbrev supported : tie.After-unseen-readings → tie.After-best-support
+supported x = x .before .before .before .before
+
 rule-patch-requires : tie.Need-rule-patch-requires
 rule-patch-requires c κs =
-    let b = c .before .before .before .before .before in
+    let b = supported (c .before .before .before .before) in
     (b .best-support .ensures .0 .0, start (sets b) .pre .2)
 
 returns-2 : tie.Need-returns-2
 returns-2 c =
     λ j p.
     let w = c .before .before in
-    let x = w .before .before in
-    let b = x .before .before .before .before in
+    let x = w .before .before .before .before .before in
+    let b = supported x in
     let t = b .before .before .before in
     let e = t .before in
     let n = counted e in

@@ -6,18 +6,18 @@ use Rattle.engine.proofs.choosing.rule_patch.Statement.{statement}
 use Rattle.engine.proofs.choosing.rule_patch.Tie as tie
 
 abbrev start : tie.After-fill-table → tie.Start
-start t = t .before .before .before .before .before
+start t = t .before .before
 
 fill-table-requires : tie.Need-fill-table-requires
-fill-table-requires c κs = c .before .before .before .before .pre .0 .few
+fill-table-requires c κs = c .before .pre .0 .few
 
 fill-notes-requires : tie.Need-fill-notes-requires
-fill-notes-requires c κs = start (c .before .before .before) .pre .0 .few
+fill-notes-requires c κs = start c .pre .0 .few
 
 put-patch-requires : tie.Need-put-patch-requires
 put-patch-requires c κs =
     let n = c .before .before .before in
-    let t = n .before .before .before .before in
+    let t = n .before in
     let p = start t .pre in
     let few = p .0 .few in
     let m = readings-many few in
@@ -28,7 +28,7 @@ returns c =
     λ j s q u.
     let w = c .before .before in
     let n = w .before .before .before .before in
-    let t = n .before .before .before .before in
+    let t = n .before in
     patch-choice j s (q .support) (table-of-chosen q (t .fill-table .ensures)) (cost-of-chosen q)
     (notes-of-chosen q u (n .fill-notes .ensures)) (w .put-patch .ensures)
 
