@@ -1,15 +1,18 @@
 // The choice of the support. It works on sets of vectors alone: place r of a support's sets holds the vectors that rectify every
 // input giving reading r of its nets. Bit 16 of a set is 1 where no input that was looked at gives the reading; it is joined like a vector.
+// The search has the sets of nested supports in one array, the arena: those of a support with len nets stand in 2 ^ len places from a
+// place at on, and those of the same support without one net in the places behind them.
 ghost use mathlib.Core.Path.{_≡_};
 ghost use mathlib.Core.Bool.{true};
-ghost use Prim.Native.Nat.{ℕ, _-_, _≤_, _<_};
+ghost use Prim.Native.Nat.{ℕ, _+_, _-_, _^_, _≤_, _<_};
 ghost use mathlib.Core.List.{List};
-ghost use lib.ListN.{length, take};
+ghost use lib.ListN.{length, take, drop};
 ghost use Rattle.records.specs.Job.{Job};
 ghost use Rattle.engine.specs.Support.{sound, candidateNets, patchGates, chosen};
 ghost use Rattle.records.specs.Claims.{Below};
 ghost use Rattle.engine.specs.Inner.Plan.{NetsRead};
-ghost use Rattle.engine.specs.Inner.Best.{picked, total, lowFirst, before, PickedNets, FirstEmpty, SetsOf, GivenBits, LeftOut, OpenPick, PricedRoom, PricedOf, PickOf, CountedOf, OpenOf, BestFrom, HeldSupport, Choosable, ChosenOf};
+ghost use Rattle.engine.specs.Inner.Best.{picked, total, lowFirst, before, PickedNets, FirstEmpty, SetsOf, GivenBits, SameTo, Kept, ArenaRoom, LeftOut, OpenPick, PricedRoom, PricedOf, PickOf, CountedOf, OpenOf, BestFrom, HeldSupport, Choosable, ChosenOf};
+use super::limits::ARENA;
 use super::limits::READINGS;
 use super::table::fill_table;
 use super::table::reading_count;
@@ -30,12 +33,6 @@ pub struct Pick {
     pub cost: u32,
     pub len: usize,
     pub gates: usize,
-}
-
-// The sets of a support with one net fewer, and whether none is empty; the places from the first empty one on are not filled.
-pub struct Left {
-    pub sets: [u32; READINGS],
-    pub sound: bool,
 }
 
 // A support, its cost and its sets.
@@ -60,54 +57,79 @@ pub(super) fn first_empty(sets: &[u32; READINGS], count: usize) -> usize
     r
 }
 
-// The sets of len nets without the one at place: a reading of the others leaves what both readings share that it comes from. It
-// ends at the first set that is empty, since the support is not sound then, and takes at most 2 ^ (len - 1) steps.
-fn leave_out(sets: &[u32; READINGS], len: usize, place: usize) -> Left
-    requires { ⌜ (place < len) × (len ≤ 10) ⌝ }
-    ensures { λ r. ⌜ LeftOut (now (sets .entry)) (len - 1) place r ⌝ }
+// The arena with the sets of len nets from its first place on.
+fn arena_of(sets: &[u32; READINGS], len: usize) -> [u32; ARENA]
+    requires { ⌜ len ≤ 10 ⌝ }
+    ensures { λ r. ⌜ (length r ≡ 2048) × SameTo (2 ^ len) (now (sets .entry)) r ⌝ }
 {
-    let count = reading_count(len - 1);
-    let other = reading_count(place);
-    let mut out = [0u32; READINGS];
-    let mut q = 0usize;
-    while q < count {
-        let r = q + ((q >> place) << place);
-        let both = sets[r] & sets[r + other];
-        if both % 65536 == 0 {
-            return Left {
-                sets: out,
-                sound: false,
-            };
-        }
-        out[q] = both;
-        q += 1;
+    let count = reading_count(len);
+    let mut arena = [0u32; ARENA];
+    let mut r = 0usize;
+    while r < count {
+        arena[r] = sets[r];
+        r += 1;
     }
-    Left {
-        sets: out,
-        sound: true,
-    }
+    arena
 }
 
-// The sets of the candidates that are in a sound set, from those of all.
-fn sets_of(sets: &[u32; READINGS], candidates: usize, set: usize) -> [u32; READINGS]
-    requires { ⌜ candidates ≤ 10 ⌝ }
-    ensures { λ r. ⌜ ((j : Job) → length (candidateNets j) ≡ candidates → SetsOf j (candidateNets j) (now (sets .entry))
-        → sound j (picked (candidateNets j) set) ≡ true → SetsOf j (picked (candidateNets j) set) r
-        × ((k : ℕ) → GivenBits j (candidateNets j) (now (sets .entry)) k → GivenBits j (picked (candidateNets j) set) r k)) ⌝ }
+// The sets of len nets from place at on.
+fn sets_at(arena: &[u32; ARENA], at: usize, len: usize) -> [u32; READINGS]
+    requires { ⌜ (len ≤ 10) × ArenaRoom at len (now arena) ⌝ }
+    ensures { λ r. ⌜ (length r ≡ 1024) × SameTo (2 ^ len) (drop at (now (arena .entry))) r ⌝ }
 {
-    let mut found = *sets;
+    let count = reading_count(len);
+    let mut sets = [0u32; READINGS];
+    let mut r = 0usize;
+    while r < count {
+        sets[r] = arena[at + r];
+        r += 1;
+    }
+    sets
+}
+
+// The sets of the len nets from place at on, put behind them without the net at place: a reading of the others leaves what both readings
+// share that it comes from. Whether none is empty: it ends at the first that is, since the support is not sound then, and takes at most
+// 2 ^ (len - 1) steps.
+fn leave_out(at: usize, len: usize, place: usize, arena: &mut [u32; ARENA]) -> bool
+    requires { ⌜ (place < len) × (len ≤ 10) × ArenaRoom at len (now arena) ⌝ }
+    ensures { λ r. ⌜ LeftOut (drop at (now (arena .entry))) (len - 1) place r (drop (at + 2 ^ len) (now (arena .exit)))
+        × Kept (at + 2 ^ len) (now (arena .entry)) (now (arena .exit)) ⌝ }
+{
+    let to = at + reading_count(len);
+    let count = reading_count(len - 1);
+    let other = reading_count(place);
+    let mut q = 0usize;
+    while q < count {
+        let r = at + (q + ((q >> place) << place));
+        let both = arena[r] & arena[r + other];
+        if both % 65536 == 0 {
+            return false;
+        }
+        arena[to + q] = both;
+        q += 1;
+    }
+    true
+}
+
+// The sets of the candidates that are in a sound set, from those of all in the first places.
+fn sets_of(candidates: usize, set: usize, arena: &mut [u32; ARENA]) -> [u32; READINGS]
+    requires { ⌜ (candidates ≤ 10) × (length (now arena) ≡ 2048) ⌝ }
+    ensures { λ r. ⌜ (length r ≡ 1024) × ((j : Job) → length (candidateNets j) ≡ candidates → SetsOf j (candidateNets j) (now (arena .entry))
+        → sound j (picked (candidateNets j) set) ≡ true → SetsOf j (picked (candidateNets j) set) r
+        × ((k : ℕ) → GivenBits j (candidateNets j) (now (arena .entry)) k → GivenBits j (picked (candidateNets j) set) r k)) ⌝ }
+{
+    let mut at = 0usize;
     let mut len = candidates;
     let mut i = candidates;
     while 0 < i {
         i -= 1;
         if (set >> i) % 2 == 0 {
-            let left = leave_out(&found, len, i);
-            let next = left.sets;
-            found = next;
+            leave_out(at, len, i, arena);
+            at += reading_count(len);
             len -= 1;
         }
     }
-    found
+    sets_at(arena, at, len)
 }
 
 // The nets whose places are in the set.
@@ -185,8 +207,8 @@ fn precedes(a: Pick, b: Pick) -> bool
 
 // How many gates the patch of a support of len nets has whose sets these are: the trees of all targets over its table. At most
 // targets * (len + 1) * 2 ^ len entries are read, five times each.
-fn patch_gates(sets: &[u32; READINGS], len: usize, targets: usize) -> usize
-    requires { ⌜ (len ≤ 10) × (targets ≤ 4) ⌝ }
+fn patch_gates(sets: &[u32], len: usize, targets: usize) -> usize
+    requires { ⌜ (len ≤ 10) × (2 ^ len ≤ length (now sets)) × (targets ≤ 4) ⌝ }
     ensures { λ r. ⌜ ((j : Job) (is : List ℕ) → SetsOf j is (now (sets .entry)) → length is ≡ len → j .targets ≡ targets → r ≡ patchGates j is) ⌝ }
 {
     let table = fill_table(sets, len);
@@ -202,7 +224,8 @@ fn counted(priced: Priced, all: &[u32; READINGS], pick: Pick) -> Pick
     if 0 < pick.gates {
         return pick;
     }
-    let sets = sets_of(all, priced.count, pick.set);
+    let mut arena = arena_of(all, priced.count);
+    let sets = sets_of(priced.count, pick.set, &mut arena);
     Pick {
         set: pick.set,
         cost: pick.cost,
@@ -211,29 +234,31 @@ fn counted(priced: Priced, all: &[u32; READINGS], pick: Pick) -> Pick
     }
 }
 
-// The one that is chosen of best and a support that has these sets. It costs no more here, and gates are counted only where both cost
-// the same. All are the sets of all priced nets.
+// The one that is chosen of best and a support that has its sets in the arena from place at on. It costs no more here, and gates are
+// counted only where both cost the same. All are the sets of all priced nets.
 fn better_of(
     priced: Priced,
     all: &[u32; READINGS],
-    sets: &[u32; READINGS],
     best: Pick,
     from: Pick,
+    at: usize,
+    arena: &[u32; ARENA],
 ) -> Pick
-    requires { ⌜ PricedRoom priced × OpenPick 0 from × (best .len ≤ 10) ⌝ }
+    requires { ⌜ PricedRoom priced × OpenPick 0 from × (best .len ≤ 10) × ArenaRoom at (from .len) (now arena) ⌝ }
     ensures { λ r. ⌜ r .len ≤ 10 ⌝ }
-    ensures { λ r. ⌜ ((j : Job) → PricedOf j priced (now (all .entry)) → PickOf j best → OpenOf j 0 from (now (sets .entry))
+    ensures { λ r. ⌜ ((j : Job) → PricedOf j priced (now (all .entry)) → PickOf j best → OpenOf j 0 from (drop at (now (arena .entry)))
         → BestFrom j 0 (from .set) best r) ⌝ }
 {
     if from.cost < best.cost {
         return from;
     }
     let was = counted(priced, all, best);
+    let places = &arena[..];
     let now = Pick {
         set: from.set,
         cost: from.cost,
         len: from.len,
-        gates: patch_gates(sets, from.len, priced.targets),
+        gates: patch_gates(&places[at..], from.len, priced.targets),
     };
     if precedes(now, was) {
         return now;
@@ -242,39 +267,40 @@ fn better_of(
 }
 
 // The one that is chosen of best and all sound sets of candidates which have, from place i on, those in from.set, at from.cost. The
-// support of these and all i candidates before them has from.len nets; it is sound, and sets are its sets. A support that costs
-// more than best is not looked into, nor one that is not sound, since no part of it is. With the calls that it makes it takes at
-// most 3 ^ i * 2 ^ (from.len - i) steps, and counts gates where costs are equal.
+// support of these and all i candidates before them has from.len nets; it is sound, and its sets stand in the arena from place at on. A
+// support that costs more than best is not looked into, nor one that is not sound, since no part of it is. With the calls that it makes it
+// takes at most 3 ^ i * 2 ^ (from.len - i) steps, and counts gates where costs are equal.
 fn best_from(
     priced: Priced,
     all: &[u32; READINGS],
-    sets: &[u32; READINGS],
     best: Pick,
     from: Pick,
     i: usize,
+    at: usize,
+    arena: &mut [u32; ARENA],
 ) -> Pick
-    requires { ⌜ PricedRoom priced × OpenPick i from × (best .len ≤ 10) ⌝ }
-    ensures { λ r. ⌜ r .len ≤ 10 ⌝ }
-    ensures { λ r. ⌜ ((j : Job) → PricedOf j priced (now (all .entry)) → PickOf j best → OpenOf j i from (now (sets .entry))
+    requires { ⌜ PricedRoom priced × OpenPick i from × (best .len ≤ 10) × ArenaRoom at (from .len) (now arena) ⌝ }
+    ensures { λ r. ⌜ (r .len ≤ 10) × Kept (at + 2 ^ from .len) (now (arena .entry)) (now (arena .exit)) ⌝ }
+    ensures { λ r. ⌜ ((j : Job) → PricedOf j priced (now (all .entry)) → PickOf j best → OpenOf j i from (drop at (now (arena .entry)))
         → BestFrom j i (from .set) best r) ⌝ }
 {
     if best.cost < from.cost {
         return best;
     }
     if i == 0 {
-        return better_of(priced, all, sets, best, from);
+        return better_of(priced, all, best, from, at, arena);
     }
     let place = i - 1;
     let mut found = best;
-    let left = leave_out(sets, from.len, place);
-    if left.sound {
+    if leave_out(at, from.len, place, arena) {
+        let next = at + reading_count(from.len);
         let fewer = Pick {
             set: 2 * from.set,
             cost: from.cost,
             len: from.len - 1,
             gates: 0,
         };
-        found = best_from(priced, all, &left.sets, best, fewer, place);
+        found = best_from(priced, all, best, fewer, place, next, arena);
     }
     let kept = Pick {
         set: 2 * from.set + 1,
@@ -282,7 +308,7 @@ fn best_from(
         len: from.len,
         gates: 0,
     };
-    best_from(priced, all, sets, found, kept, place)
+    best_from(priced, all, found, kept, place, at, arena)
 }
 
 // The chosen support of the priced nets that stand in places: the best sound one. For k of them it takes at most 3 ^ k steps, and
@@ -311,8 +337,9 @@ pub(super) fn best_support(
         len: count,
         gates: 0,
     };
-    let best = best_from(priced, sets, sets, all, none, count);
-    let found = sets_of(sets, count, best.set);
+    let mut arena = arena_of(sets, count);
+    let best = best_from(priced, sets, all, none, count, 0, &mut arena);
+    let found = sets_of(count, best.set, &mut arena);
     Chosen {
         support: pick_support(nets, count, best.set),
         cost: best.cost,

@@ -17,6 +17,8 @@ pub const TRUST: usize = 64;
 pub const TRIES: usize = 8;
 // The readings of ten candidates.
 pub const READINGS: usize = 1024;
+// .. and of nine, and so on down to none (src/best.rt).
+pub const ARENA: usize = 2 * READINGS;
 // The gates of both netlists, and those with a list for each target.
 pub const MITER_GATES: usize = GATES + GATES;
 

@@ -1,6 +1,7 @@
 // The table of a support and its notes, from the sets of vectors of its readings.
 ghost use mathlib.Core.Path.{_≡_};
 ghost use Prim.Native.Nat.{_^_, _≤_};
+ghost use lib.ListN.{length};
 ghost use Rattle.engine.specs.Choice.{orZero};
 ghost use Rattle.engine.specs.Inner.List.{lowest};
 ghost use Rattle.engine.specs.Inner.Table.{TableFilled, noteFrom, NotesFilled};
@@ -25,8 +26,8 @@ fn lowest_vector(set: u32) -> u8
 
 // The table of a support of len nets that has these sets: at each reading the smallest vector that rectifies every input giving it,
 // 0 where there is none. It takes 2 ^ len turns, and evaluates no gate.
-pub(super) fn fill_table(sets: &[u32; READINGS], len: usize) -> [u8; READINGS]
-    requires { ⌜ len ≤ 10 ⌝ }
+pub(super) fn fill_table(sets: &[u32], len: usize) -> [u8; READINGS]
+    requires { ⌜ (len ≤ 10) × (2 ^ len ≤ length (now sets)) ⌝ }
     ensures { λ r. ⌜ TableFilled (now (sets .entry)) len r ⌝ }
 {
     let count = reading_count(len);

@@ -18,10 +18,10 @@ use Rattle.records.specs.Refusal.{ascending}
 use Rattle.records.proofs.Laws.Bytes.{false-of}
 use Rattle.records.specs.declared.sheet.Support.{Support}
 use Rattle.engine.specs.Support.{sound, candidateNets, cost, patchGates, earlier, better, chosen}
-use Rattle.engine.specs.Inner.Best.{picked, total, lowFirst, before, openAt, candidateWeights, SetsOf, GivenBits, LeftOut, OpenPick, PricedRoom, PricedOf, PickOf, CountedOf, OpenOf, BestFrom, PickedNets, HeldSupport, Choosable, ChosenOf}
-use Rattle.engine.specs.declared.best.Left.{Left}
+use Rattle.engine.specs.Inner.Best.{picked, total, lowFirst, before, openAt, candidateWeights, SetsOf, GivenBits, SameTo, LeftOut, OpenPick, PricedRoom, PricedOf, PickOf, CountedOf, OpenOf, BestFrom, PickedNets, HeldSupport, Choosable, ChosenOf}
 use Rattle.engine.specs.declared.best.Pick.{Pick}
 use Rattle.engine.specs.declared.best.Priced.{Priced}
+use Rattle.engine.proofs.Laws.Arena.{same-sets, same-given}
 use Rattle.engine.proofs.Laws.Best.{better-irrefl, better-trans, better-neither, chosen-unique}
 use Rattle.engine.proofs.Laws.Choice.{not-both, true-or-false}
 use Rattle.engine.proofs.Laws.Picked.{length-picked-le, picked-all, picked-subset, subset-picked, total-from-le, open-none, open-all, open-among, open-suc, open-in, open-out, total-in, total-out, above-first, low-earlier, cost-picked, nets-from, weights-from, in-or-out}
@@ -232,23 +232,23 @@ module _ (j : Job) where
       pub out-long : n - 1 ≡ length (openAt (candidateNets j) q t)
       out-long = few-nets ∙ ap length (sym out-nets)
 
-      module _ {l : Left} (f : LeftOut ss (n - 1) q l) where
-        pub out-sets : l .sound ≡ true → SetsOf j (openAt (candidateNets j) q t) (l .sets)
+      module _ {b : Bool} {ps : List ℕ} (f : LeftOut ss (n - 1) q b ps) where
+        pub out-sets : b ≡ true → SetsOf j (openAt (candidateNets j) q t) ps
         out-sets h =
             rw out-nets
-            (left-sets j below net above ss with-sets (l .sets) (λ r b. rw length-below (f .filled h r (rw few-nets b) .0)))
+            (left-sets j below net above ss with-sets ps (λ r b. rw length-below (f .filled h r (rw few-nets b) .0)))
 
-        pub out-given : (k : ℕ) → l .sound ≡ true → GivenBits j (openAt (candidateNets j) (suc q) s) ss k
-            → GivenBits j (openAt (candidateNets j) q t) (l .sets) k
+        pub out-given : (k : ℕ) → b ≡ true → GivenBits j (openAt (candidateNets j) (suc q) s) ss k
+            → GivenBits j (openAt (candidateNets j) q t) ps k
         out-given k h g =
             rw out-nets
-            (left-given j below net above ss (l .sets) (λ r b. rw length-below (f .filled h r (rw few-nets b) .0)) k (rw (← all-nets) g))
+            (left-given j below net above ss ps (λ r b. rw length-below (f .filled h r (rw few-nets b) .0)) k (rw (← all-nets) g))
 
-        pub out-sound : l .sound ≡ true → sound j (openAt (candidateNets j) q t) ≡ true
+        pub out-sound : b ≡ true → sound j (openAt (candidateNets j) q t) ≡ true
         out-sound h =
             rw out-nets (left-sound j below net above ss with-sets (λ r b. rw length-below (f .filled h r (rw few-nets b) .1)))
 
-        pub out-unsound : l .sound ≡ false → sound j (openAt (candidateNets j) q t) ≡ false
+        pub out-unsound : b ≡ false → sound j (openAt (candidateNets j) q t) ≡ false
         out-unsound h =
             let z = f .empty h in
             rw out-nets
@@ -268,8 +268,8 @@ module _ (j : Job) where
     half : (2 * p .set) / 2 ≡ p .set
     half = omega arith
 
-    module _ {l : Left} (f : LeftOut ss (p .len - 1) q l) where
-      pub left-open : l .sound ≡ true → OpenOf j q (record { set = 2 * p .set; cost = p .cost; len = p .len - 1; gates = 0 }) (l .sets)
+    module _ {b : Bool} {ps : List ℕ} (f : LeftOut ss (p .len - 1) q b ps) where
+      pub left-open : b ≡ true → OpenOf j q (record { set = 2 * p .set; cost = p .cost; len = p .len - 1; gates = 0 }) ps
       left-open e =
           record {
             places = omega (arith, h .places);
@@ -281,7 +281,7 @@ module _ (j : Job) where
             gates = refl;
           }
 
-      pub left-not : l .sound ≡ false → sound j (openAt (candidateNets j) q (2 * p .set)) ≡ false
+      pub left-not : b ≡ false → sound j (openAt (candidateNets j) q (2 * p .set)) ≡ false
       left-not e = out-unsound q (2 * p .set) (p .set) (p .len) (h .places) half (h .len) (h .sets) even f e
 
     pub kept-open : {v : Priced} {all : List ℕ} → PricedOf j v all
@@ -332,10 +332,10 @@ module _ (j : Job) where
       }
 
   -- .. as the search joins them: f is the best of those without the net, where they are looked into
-  module _ {q : ℕ} {p b f : Pick} {ss : List ℕ} {l : Left} {v : Priced} {all : List ℕ} (w : PricedOf j v all) (g : PickOf j b)
-      (h : OpenOf j (suc q) p ss) (o : LeftOut ss (p .len - 1) q l)
-      (a : ((l .sound ≡ true) × (OpenOf j q (record { set = 2 * p .set; cost = p .cost; len = p .len - 1; gates = 0 }) (l .sets)
-      → BestFrom j q (2 * p .set) b f)) ⊎ ((l .sound ≡ false) × (f ≡ b))) where
+  module _ {q : ℕ} {p b f : Pick} {ss : List ℕ} {d : Bool} {ps : List ℕ} {v : Priced} {all : List ℕ} (w : PricedOf j v all)
+      (g : PickOf j b) (h : OpenOf j (suc q) p ss) (o : LeftOut ss (p .len - 1) q d ps)
+      (a : ((d ≡ true) × (OpenOf j q (record { set = 2 * p .set; cost = p .cost; len = p .len - 1; gates = 0 }) ps
+      → BestFrom j q (2 * p .set) b f)) ⊎ ((d ≡ false) × (f ≡ b))) where
     half-best : BestFrom j q (2 * p .set) b f ⊎ ((sound j (openAt (candidateNets j) q (2 * p .set)) ≡ false) × (f ≡ b))
     half-best = ⊎-elim (λ u. inl (u .1 (left-open h o (u .0)))) (λ u. inr (left-not h o (u .0), u .1)) a
 
@@ -362,14 +362,16 @@ sets-all ss n s j e h u =
     let a : openAt (candidateNets j) n (s / 2 ^ n) ≡ candidateNets j = rw e at (open-all (candidateNets j) (s / 2 ^ length (candidateNets j))) in
     (sym (ap length a ∙ e), rw a h, λ k g. rw a g)
 
-pub sets-none : (ss : List ℕ) (n s len : ℕ) (ps : List ℕ) → SetsTo ss n s 0 len ps → (j : Job) → length (candidateNets j) ≡ n
-    → SetsOf j (candidateNets j) ss → sound j (picked (candidateNets j) s) ≡ true
-    → SetsOf j (picked (candidateNets j) s) ps
-    × ((k : ℕ) → GivenBits j (candidateNets j) ss k → GivenBits j (picked (candidateNets j) s) ps k)
-sets-none ss n s len ps f j e h u =
+-- .. copied into places of their own at the end
+pub sets-none : (ss : List ℕ) (n s len : ℕ) (ps rs : List ℕ) → SetsTo ss n s 0 len ps → SameTo (2 ^ len) ps rs → (j : Job)
+    → length (candidateNets j) ≡ n → SetsOf j (candidateNets j) ss → sound j (picked (candidateNets j) s) ≡ true
+    → SetsOf j (picked (candidateNets j) s) rs
+    × ((k : ℕ) → GivenBits j (candidateNets j) ss k → GivenBits j (picked (candidateNets j) s) rs k)
+sets-none ss n s len ps rs f m j e h u =
     let a : openAt (candidateNets j) 0 (s / 2 ^ 0) ≡ picked (candidateNets j) s = rw (div-one s) (open-none (candidateNets j) s) in
     let g = f j e h u in
-    (rw (← a) (g .1), λ k o. rw (← a) (g .2 k o))
+    let c = rw (g .0) at m in
+    (rw (← a) (same-sets c (g .1)), λ k o. rw (← a) (same-given c (g .2 k o)))
 
 module _ (ss : List ℕ) (n s q len : ℕ) (ps : List ℕ) (l : q < n) (f : SetsTo ss n s (suc q) len ps) where
   halved : s / 2 ^ q / 2 ≡ s / 2 ^ suc q
@@ -381,15 +383,15 @@ module _ (ss : List ℕ) (n s q len : ℕ) (ps : List ℕ) (l : q < n) (f : Sets
       let w = kept-nets j q (s / 2 ^ q) (s / 2 ^ suc q) len (omega arith) halved (g .0) (g .1) o in
       (g .0 ∙ ap length (sym w), rw w (g .1), λ k i. rw w (g .2 k i))
 
-  pub sets-out : {r : Left} → s / 2 ^ q % 2 ≡ 0 → LeftOut ps (len - 1) q r → SetsTo ss n s q (len - 1) (r .sets)
-  sets-out {r} o d j e h u =
+  pub sets-out : {b : Bool} {rs : List ℕ} → s / 2 ^ q % 2 ≡ 0 → LeftOut ps (len - 1) q b rs → SetsTo ss n s q (len - 1) rs
+  sets-out {b} o d j e h u =
       let g = f j e h u in
       let p : q < length (candidateNets j) = omega arith in
-      let t : r .sound ≡ true =
+      let t : b ≡ true =
       ⊎-elim
       (λ z. z)
       (λ z. absurd (not-both (sound-open j q s u) (out-unsound j q (s / 2 ^ q) (s / 2 ^ suc q) len p halved (g .0) (g .1) o d z)))
-      (true-or-false (r .sound)) in (
+      (true-or-false b) in (
         out-long j q (s / 2 ^ q) (s / 2 ^ suc q) len p halved (g .0) (g .1) o,
         out-sets j q (s / 2 ^ q) (s / 2 ^ suc q) len p halved (g .0) (g .1) o d t,
         λ k i. out-given j q (s / 2 ^ q) (s / 2 ^ suc q) len p halved (g .0) (g .1) o d k t (g .2 k i),

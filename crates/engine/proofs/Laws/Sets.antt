@@ -1,6 +1,6 @@
 -- What the sets of vectors of a support's readings say of it: at each reading the shared vector is the lowest of the set, so the
 -- support is sound where no set is empty. Leaving out a net joins two sets each. Assumes nothing.
-use Prim.Native.Nat.{ℕ, zero, suc, _+_, _*_, _/_, _%_, _^_, min, _≤_, _<_}
+use Prim.Native.Nat.{ℕ, zero, suc, _+_, _-_, _*_, _/_, _%_, _^_, min, _≤_, _<_}
 use mathlib.Core.Path.{_≡_, refl, sym, _∙_, ap}
 use mathlib.Core.Logic.{_↔_, _⊎_, inl, inr, ⊎-elim}
 use mathlib.Core.List.{List, [], _∷_, _++_, map}
@@ -174,15 +174,16 @@ spread-lt (suc i) (suc n) q h l =
     let r = spread-lt i n (q / 2) (omega arith) (omega arith) in
     omega arith
 
--- .. as the code makes them: they stand among the 1,024 places
-pub spread-word : (i n q : ℕ) → i ≤ n → n < 10 → q < 2 ^ n
-    → (q + q / 2 ^ i * 2 ^ i % 18446744073709551616 ≡ spread i q) × (spread i q + 2 ^ i < 1024)
+-- .. as the code makes them: they are readings of n nets
+pub spread-word : (i n q : ℕ) → i < n → n ≤ 10 → q < 2 ^ (n - 1)
+    → (q + q / 2 ^ i * 2 ^ i % 18446744073709551616 ≡ spread i q) × (spread i q + 2 ^ i < 2 ^ n)
 spread-word i n q h few l =
     let e = spread-shift i q in
-    let s = spread-lt i n q h l in
-    let m : 2 ^ suc n ≤ 2 ^ 10 = pow-mono few in
+    let p : suc (n - 1) ≡ n = omega arith in
+    let s : spread i q + 2 ^ i < 2 ^ n = rw p at (spread-lt i (n - 1) q (omega arith) l) in
+    let m : 2 ^ n ≤ 2 ^ 10 = pow-mono few in
     let d : q / 2 ^ i * 2 ^ i % 18446744073709551616 ≡ q / 2 ^ i * 2 ^ i = mod-eq-of-lt (omega arith) in
-    (omega arith, omega arith)
+    (omega arith, s)
 
 -- both readings with one net more come from the same
 spread-same : (i q r c d : ℕ) → c < 2 → d < 2 → spread i q + c * 2 ^ i ≡ spread i r + d * 2 ^ i → q ≡ r
@@ -209,20 +210,6 @@ reading-with j (z ∷ xs) x ks y =
     rw (m, d) (omega arith)
 
 -- ---- a net left out
-
--- the readings below n have their sets, none of them empty
-abbrev pub JoinedTo : List ℕ → ℕ → List ℕ → ℕ → Type 0
-JoinedTo ss i ps n = (q : ℕ) → q < n → (getD ps q 0 ≡ joinedAt ss i q) × NotEmpty (joinedAt ss i q)
-
-pub joined-next : (ss : List ℕ) (i : ℕ) (ps : List ℕ) (n v : ℕ) → n < length ps → v ≡ joinedAt ss i n
-    → (v % 65536 ≡ 0 → ⊥) → JoinedTo ss i ps n → JoinedTo ss i (set ps n v) (n + 1)
-joined-next ss i ps n v l e z f q h =
-    ⊎-elim
-    (λ (u : q ≡ n). rw u (getD-set-same ps n v 0 l ∙ e, rw (← e) (holds-some v z)))
-    (λ (u : q < n).
-    let g = f q u in
-    (getD-set-other ps n q v 0 (λ w. let y : ⊥ = omega arith in y) ∙ g .0, g .1))
-    (eq-or-lt-of-le (omega arith))
 
 module _ (j : Job) (xs : List ℕ) (x : ℕ) (ks ss : List ℕ) where
   abbrev others : List ℕ

@@ -11,7 +11,12 @@
 --   FirstEmpty ss n r      r is the least place below n whose set is empty, or n
 --   spread i q             the reading q with a bit 0 put in at place i: of one net more, at place i, whose value is 0
 --   joinedAt ss i q        the vectors in the sets of both readings that are q without net i
---   LeftOut ss n i r       r has the sets of n nets, made by leaving out net i of those of ss, up to the first that is empty
+--   SameTo n xs ys         ys is the same as xs at the first n places
+--   Kept n xs ys           .. and as long
+--   ArenaRoom at n xs      the arena xs has room for the sets of n nets from place at on, and behind them for those that leave out one net after
+--                          the other
+--   LeftOut ss n i b ps    ps are the sets of n nets, made by leaving out net i of those of ss, up to the first that is empty, and b says whether
+--                          none is
 --   PickedNets is s r      the support r has the nets of is whose places are in s
 --   total xs               the sum of xs
 --   lowFirst n a b         of the sets a and b of n candidates, a has the lowest in which they differ
@@ -46,7 +51,6 @@ use Rattle.engine.specs.Rectify.{rectifies}
 use Rattle.engine.specs.Support.{reading, sound, candidateNets, cost, patchGates, better, chosen}
 use Rattle.engine.specs.Inner.List.{maxVectors}
 use Rattle.engine.specs.Inner.Note.{maxReadings}
-use Rattle.engine.specs.declared.best.Left.{Left}
 use Rattle.engine.specs.declared.best.Pick.{Pick}
 use Rattle.engine.specs.declared.best.Priced.{Priced}
 
@@ -91,9 +95,20 @@ spread (suc i) q = q % 2 + 2 * spread i (q / 2)
 unfoldable pub joinedAt : List ℕ → ℕ → ℕ → ℕ
 joinedAt ss i q = bitAnd (getD ss (spread i q) 0) (getD ss (spread i q + 2 ^ i) 0)
 
-pub record LeftOut (ss : List ℕ) (n i : ℕ) (r : Left) : Type 0 where
-  pub filled : r .sound ≡ true → (q : ℕ) → q < 2 ^ n → (getD (r .sets) q 0 ≡ joinedAt ss i q) × NotEmpty (joinedAt ss i q)
-  pub empty : r .sound ≡ false → (q : ℕ) × (q < 2 ^ n) × (joinedAt ss i q % 65536 ≡ 0)
+abbrev pub SameTo : ℕ → List ℕ → List ℕ → Type 0
+SameTo n xs ys = (k : ℕ) → k < n → getD ys k 0 ≡ getD xs k 0
+
+pub record Kept (n : ℕ) (xs ys : List ℕ) : Type 0 where
+  pub long : length ys ≡ length xs
+  pub same : SameTo n xs ys
+
+pub record ArenaRoom (at n : ℕ) (xs : List ℕ) : Type 0 where
+  pub room : at + 2 * 2 ^ n ≤ 2048
+  pub long : length xs ≡ 2048
+
+pub record LeftOut (ss : List ℕ) (n i : ℕ) (sound : Bool) (ps : List ℕ) : Type 0 where
+  pub filled : sound ≡ true → (q : ℕ) → q < 2 ^ n → (getD ps q 0 ≡ joinedAt ss i q) × NotEmpty (joinedAt ss i q)
+  pub empty : sound ≡ false → (q : ℕ) × (q < 2 ^ n) × (joinedAt ss i q % 65536 ≡ 0)
 
 -- ---- picks
 

@@ -9,8 +9,8 @@ use Rattle.engine.proofs.best.patch_gates.Tie as tie
 
 trees-size-requires : tie.Need-trees-size-requires
 trees-size-requires c κs =
-    let p = c .before .before .pre in
-    (p .0, omega (arith, readings-many (p .0), c .before .fill-table .ensures .long), p .1)
+    let p = c .before .before .before .pre in
+    (p .0, omega (arith, readings-many (p .0), c .before .fill-table .ensures .long), p .2)
 
 returns : tie.Need-returns
 unfolding patchGates

@@ -6,10 +6,12 @@ use Rattle.engine.proofs.choosing.rule_patch.Statement.{statement}
 use Rattle.engine.proofs.choosing.rule_patch.Tie as tie
 
 abbrev start : tie.After-fill-table → tie.Start
-start t = t .before .before
+start t = t .before .before .before
 
 fill-table-requires : tie.Need-fill-table-requires
-fill-table-requires c κs = c .before .pre .0 .few
+fill-table-requires c κs =
+    let few = c .before .before .pre .0 .few in
+    (few, omega (arith, readings-many few))
 
 fill-notes-requires : tie.Need-fill-notes-requires
 fill-notes-requires c κs = start c .pre .0 .few

@@ -23,17 +23,22 @@ loop-holds c = (omega arith, refl, λ r h. let f : ⊥ = omega arith in absurd f
 -- a reading stands among the 1,024 places
 place-lt : (c : tie.In-loop Inv-loop μ-loop) → c .before .loop .r < 1024
 place-lt c =
-    let s = c .before .before .before in
-    let m = readings-many (s .pre) in
+    let s = c .before .before .before .before in
+    let m = readings-many (s .pre .0) in
     omega (arith, c .before .before .reading-count .ensures)
 
 mul-lowest-vector : tie.Need-mul-lowest-vector Inv-loop μ-loop
 mul-lowest-vector c = let l = place-lt c in omega arith
 
+shared-slice-read-lowest-vector : tie.Need-shared-slice-read-lowest-vector Inv-loop μ-loop
+shared-slice-read-lowest-vector c =
+    let a = c .before .before .before in
+    omega (arith, a .reading-count .ensures, a .before .before .pre .1)
+
 loop-again : tie.Need-loop-again Inv-loop μ-loop
 loop-again c =
     let i = c .before .before in
-    let ss = now (i .before .before .before .args .sets) in
+    let ss = now (i .before .before .before .before .args .sets) in
     let l = i .before .loop in (
       omega arith,
       length-set (l .table) (l .r) (c .lowest-vector .result) ∙ l .inv .1,
@@ -42,10 +47,10 @@ loop-again c =
 
 returns : tie.Need-returns Inv-loop μ-loop
 returns c =
-    let s = c .before .before .before in
+    let s = c .before .before .before .before in
     let l = c .before .loop in
     let n = c .before .before .reading-count .ensures in
-    let m = readings-many (s .pre) in
+    let m = readings-many (s .pre .0) in
     record {
       long = l .inv .1;
       table =
@@ -57,5 +62,5 @@ returns c =
 pub fill-table-spec : {M : Type 1} → statement M
 fill-table-spec =
     tie.close
-    (tie.spec Inv-loop μ-loop (λ c κs. search needs) loop-holds mul-lowest-vector place-lt (λ c κs. search needs)
-    (λ c. place-lt (c .before .before)) (λ c. omega arith) (λ c. omega arith) loop-again returns)
+    (tie.spec Inv-loop μ-loop (λ c κs. search needs) loop-holds mul-lowest-vector shared-slice-read-lowest-vector
+    (λ c κs. search needs) (λ c. place-lt (c .before .before)) (λ c. omega arith) (λ c. omega arith) loop-again returns)
