@@ -1,7 +1,7 @@
 /* Many inputs at a time: what the block programs have in common. Old and golden netlist are one list of
  * gates, over inputs, targets, old gates' nets and golden gates' nets, without the gates that lead nowhere. Where that is
- * asked for, golden gates that do what earlier gates do are merged with them, and outputs that are then one net on both
- * sides are not compared. A net has W words: bit i of word w in block b is its value on input 64 (W b + w) + i. W is a
+ * asked for, gates that do what earlier gates do are merged with them, and outputs that are then one net on both sides are
+ * not compared. A net has W words: bit i of word w in block b is its value on input 64 (W b + w) + i. W is a
  * constant wherever these functions are inlined, so that the compiler makes vector instructions of their inner loops. Inputs
  * that do not fill a block repeat in it, which alters nothing: the smallest comes first. */
 #ifndef BLOCKS_H
@@ -58,7 +58,7 @@ static inline void add_gates(struct gates *to, const struct netlist *l, size_t b
     }
 }
 
-/* ---- merging: the net of a golden gate that does what an earlier gate does is stood for by the earlier one's */
+/* ---- merging: the net of a gate that does what an earlier gate does is stood for by the earlier one's */
 
 /* With fewer inputs than these, evaluating the gates costs less. */
 enum { LEAST_TO_MERGE = 12, PLACES = 1024 };
@@ -96,21 +96,23 @@ static inline const struct gate *find_alike(const struct chains *c, const struct
     return NULL;
 }
 
-/* The first gates, as many as this, are the old ones. Nothing golden reads a net any more for which another one stands. */
-static inline void merge_golden(struct miter *m, size_t old_gates) {
+/* No gate and no output reads a net any more for which another one stands. */
+static inline void merge_gates(struct miter *m) {
     struct gates *g = &m->gates;
     struct chains c = {.heads = {0}};
     uint16_t stands[ALL_NETS]; /* for each net the one that stands for it, mostly itself */
     for (unsigned net = 0; net < ALL_NETS; net++) stands[net] = net;
-    for (size_t k = 0; k < old_gates; k++) enter(&c, g, k);
-    for (size_t k = old_gates; k < g->count; k++) {
-        struct gate *golden = &g->list[k];
-        for (unsigned i = 0; i < SLOTS; i++) golden->operands[i] = stands[golden->operands[i]];
-        const struct gate *earlier = find_alike(&c, g, golden);
-        if (earlier) stands[golden->net] = earlier->net;
+    for (size_t k = 0; k < g->count; k++) {
+        struct gate *gate = &g->list[k];
+        for (unsigned i = 0; i < SLOTS; i++) gate->operands[i] = stands[gate->operands[i]];
+        const struct gate *earlier = find_alike(&c, g, gate);
+        if (earlier) stands[gate->net] = earlier->net;
         else enter(&c, g, k);
     }
-    for (size_t i = 0; i < m->outputs; i++) m->golden[i] = stands[m->golden[i]];
+    for (size_t i = 0; i < m->outputs; i++) {
+        m->old[i] = stands[m->old[i]];
+        m->golden[i] = stands[m->golden[i]];
+    }
 }
 
 /* Leaves the outputs whose two nets are not the same: the others never differ. */
@@ -141,7 +143,7 @@ static inline void drop_dead(struct miter *m, const uint16_t *nets, size_t count
     g->count = kept;
 }
 
-/* Of a job, with the gates that lead to an output that is compared or one of these nets, golden ones MERGED or UNMERGED. */
+/* Of a job, with the gates that lead to an output that is compared or one of these nets, MERGED or UNMERGED. */
 static inline void make_miter(const struct job *j, const uint16_t *nets, size_t count, int merging, struct miter *m) {
     size_t shift = j->targets + j->old.gates;
     m->gates.count = 0;
@@ -153,7 +155,7 @@ static inline void make_miter(const struct job *j, const uint16_t *nets, size_t 
         m->golden[i] = moved(j->golden.outs[i], j->inputs, shift);
     }
     if (merging == MERGED && j->inputs >= LEAST_TO_MERGE) {
-        merge_golden(m, j->old.gates);
+        merge_gates(m);
         drop_same(m);
     }
     drop_dead(m, nets, count);

@@ -1,4 +1,4 @@
-/* Choose by hand-optimised C: 1,024 inputs at a time, all of them, golden gates merged (walk_blocks.h); then the support
+/* Choose by hand-optimised C: 1,024 inputs at a time, all of them, gates merged (walk_blocks.h); then the support
  * (support.h). All vectors of a block are evaluated, unless a table shows at the cost of one that the block changes nothing:
  * at each reading of the priced nets it has the only vector left in the reading's set. Where the table fails too often, it
  * is no longer tried. */

@@ -1,4 +1,4 @@
-/* Compare by hand-optimised C: 1,024 inputs at a time, golden gates merged (blocks.h). The gates that no target leads to are
+/* Compare by hand-optimised C: 1,024 inputs at a time, gates merged (blocks.h). The gates that no target leads to are
  * evaluated first; the readings are transposed, so that each input's stands in one place, looked up in the table, and the
  * entries transposed back to the targets' words; the other gates follow. */
 #include "blocks.h"

@@ -1,4 +1,4 @@
-/* Judge by hand-optimised C: 1,024 inputs at a time, golden gates merged (walk_blocks.h), up to the first unfixable one. As
+/* Judge by hand-optimised C: 1,024 inputs at a time, gates merged (walk_blocks.h), up to the first unfixable one. As
  * long as vector 0 alone is listed, every live gate is evaluated at it, once. Then two tables of listed vectors are tried on
  * each block, the second only where the first leaves an input: at each reading of the priced nets the first has a vector
  * that fixed the inputs seen so far that give it, the second one that fixed those which the first did not. Where both leave
