@@ -135,13 +135,12 @@ fn choose_job(job: JobParts, reply: &mut [u8]) -> ChooseReply
 // The service choose: the cheapest patch of a job, or the blind reading, and its sheet at the start of the reply buffer. Refused are a
 // buffer below 2,084 bytes (1) and what is no whole job (2 to 6). It walks all inputs, also those that no vector rectifies. It costs, for
 // each block of 1,024 inputs, one gate evaluation a gate of both netlists; and, unless each reading that the block gives has one vector
-// left, or none, which rectifies its inputs (see sole.rt, from 17 inputs on), one for every second vector and each gate that the target
-// with the fewest leads to, for every fourth vector and each gate that another leads to, and so on, and some 1,000 steps to note the inputs.
-// An evaluation takes 16 words. Golden gates that do what others do are left out from 12 inputs on (see merge.rt). Partial evaluation is tried on each 2 ^ 15 inputs: one gate evaluation a gate
-// on 0, 1 and not yet known, which may spare all their blocks. The choice among the sets of k candidates leaves out one net after the
-// other and stops at unsound and at too dear sets: at most 3 ^ k steps, whatever the gates are, and as many more where supports cost
-// the same and the gates of their patches are counted. The notes cost, for each block that was spared until all readings of the support are
-// seen, one gate evaluation a gate that leads to it, and nothing where none was.
+// left, or none, which rectifies its inputs (see sole.rt, from 17 inputs on), one for every second vector and each gate that the target with
+// the fewest leads to, for every fourth vector and each gate that another leads to, and so on, and some 1,000 steps to note the inputs. An
+// evaluation takes 16 words. Gates and outputs are left out, and partial evaluation is tried, as in judge. The choice among the sets of k
+// candidates leaves out one net after the other and stops at unsound and at too dear sets: at most 3 ^ k steps, whatever the gates are, and
+// as many more where supports cost the same and the gates of their patches are counted. The notes cost, for each block that was spared until
+// all readings of the support are seen, one gate evaluation a gate that leads to it, and nothing where none was.
 pub fn choose(job: &[u8], reply: &mut [u8]) -> ChooseReply
     ensures reply { λ r. ⌜ r ≡ chooseReply (now (reply .entry)) (now (job .entry)) ⌝ }
     ensures lent { λ _. ⌜ now (reply .exit) ≡ chosenBytes (now (reply .entry)) (now (job .entry)) ⌝ }

@@ -13,6 +13,7 @@ ghost use Rattle.engine.specs.Inner.Comparing.{PlanReads, TableCopied, s
 use super::drive::driven_row;
 use super::drive::table_rows;
 use super::leaves::block_inputs;
+use super::limits::BLOCK;
 use super::limits::LISTED;
 use super::limits::READINGS;
 use super::limits::WORDS;
@@ -53,15 +54,15 @@ fn first_difference(gates: &[u64], plan: Plan, table: &[u16; READINGS]) -> Compa
     let size = 1usize << plan.inputs;
     let mut words = [0u64; WORDS];
     let mut b = 0usize;
-    while 1024 * b < size {
+    while BLOCK * b < size {
         let readings = read_block(gates, plan, b, &mut words);
         let vectors = table_rows(readings, table);
         let row = driven_row(gates, plan, vectors, &mut words);
-        let count = block_inputs(size - 1024 * b);
+        let count = block_inputs(size - BLOCK * b);
         let y = first_zero(row);
         if y < count {
             return Comparison::Differs(DifferingInput {
-                input: (1024 * b + y) as u32,
+                input: (BLOCK * b + y) as u32,
             });
         }
         b += 1;
@@ -111,7 +112,7 @@ fn compare_sheet(job: JobParts, sheet: &[u8]) -> CompareReply
 
 // The service compare: whether the old circuit driven by the sheet's table has the golden outputs, or the smallest input at
 // which it has not. Refused are what read refuses of the job and read_sheet of the sheet. It costs, for each block of 1,024 inputs
-// up to the one with the difference, one gate evaluation a gate of both netlists.
+// up to the one with the difference, one gate evaluation a gate of both netlists, but for what judge leaves out too.
 pub fn compare(job: &[u8], sheet: &[u8]) -> CompareReply
     ensures { λ r. ⌜ r ≡ compareReply (now (job .entry)) (now (sheet .entry)) ⌝ }
 {

@@ -49,14 +49,14 @@ pub(super) fn table_rows(readings: [u64; ROWS], table: &[u16; READINGS]) -> [u64
     ensures { λ r. ⌜ (length r ≡ 256)
         × ((y : ℕ) → y < 1024 → gathered r y ≡ getD (now (table .entry)) (gathered readings y % 1024) 0) ⌝ }
 {
-    let read = transpose(readings, 16);
+    let read = transpose(readings, ROW);
     let mut found = [0u64; ROWS];
     let mut i = 0usize;
     while i < 256 {
         found[i] = look_four(read[i], table);
         i += 1;
     }
-    transpose(found, 16)
+    transpose(found, ROW)
 }
 
 // Row i of 16 rows.
@@ -66,8 +66,8 @@ pub(super) fn row_at(rows: [u64; ROWS], i: usize) -> [u64; ROW]
 {
     let mut r = [0u64; ROW];
     let mut w = 0usize;
-    while w < 16 {
-        r[w] = rows[16 * i + w];
+    while w < ROW {
+        r[w] = rows[ROW * i + w];
         w += 1;
     }
     r
@@ -81,7 +81,7 @@ pub(super) fn four_rows(rows: [u64; ROWS], at: usize) -> [u64; ROWS]
     let mut r = [0u64; ROWS];
     let mut i = 0usize;
     while i < 64 {
-        r[i] = rows[16 * at + i];
+        r[i] = rows[ROW * at + i];
         i += 1;
     }
     r

@@ -13,7 +13,9 @@ ghost use Rattle.engine.specs.Inner.Search.{BlockRange};
 ghost use Rattle.engine.specs.Inner.Best.{GivenBits};
 ghost use Rattle.engine.specs.Inner.Given.{UnmetOf, NextUnseen, BlockSeen, Unseen, AllSeen};
 use super::leaves::block_inputs;
+use super::limits::BLOCK;
 use super::limits::LISTED;
+use super::limits::RANGE;
 use super::limits::READINGS;
 use super::limits::ROWS;
 use super::limits::WORDS;
@@ -85,16 +87,16 @@ fn see_inputs(gates: &[u64], plan: Plan, skipped: usize, unseen: [u32; READINGS]
     let mut words = [0u64; WORDS];
     let mut next = next_unseen(&unseen, 0, count);
     let mut b = 0usize;
-    while 1024 * b < size {
+    while BLOCK * b < size {
         if next == count {
             return unseen;
         }
-        if (skipped >> (b / 32)) % 2 == 1 {
+        if (skipped >> (b / RANGE)) % 2 == 1 {
             see_block(
                 gates,
                 plan,
                 b,
-                block_inputs(size - 1024 * b),
+                block_inputs(size - BLOCK * b),
                 &mut words,
                 &mut unseen,
             );

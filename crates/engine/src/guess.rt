@@ -20,6 +20,7 @@ use super::drive::driven_row;
 use super::drive::four_rows;
 use super::drive::table_rows;
 use super::leaves::block_inputs;
+use super::limits::BLOCK;
 use super::limits::READINGS;
 use super::limits::ROWS;
 use super::limits::VECTORS;
@@ -120,7 +121,7 @@ fn list_inputs(
     ensures { λ r. ⌜ BlockListed plan (now (gates .entry)) b list r × (r .kept ≡ true → 0 < trust) ⌝ }
     ensures { λ _. ⌜ (length (now (sets .exit)) ≡ 1024) × (length (now (words .exit)) ≡ 16384) ⌝ }
 {
-    let count = block_inputs((1usize << plan.inputs) - 1024 * b);
+    let count = block_inputs((1usize << plan.inputs) - BLOCK * b);
     let readings = read_block(gates, plan, b, words);
     if (0 < b) & (0 < trust) {
         if guess_block(gates, plan, readings, table, count, words) {
@@ -133,7 +134,7 @@ fn list_inputs(
         sort_block(masks, readings, (count + 63) / 64, sets);
     }
     Listing {
-        list: list_block(masks, 1024 * b, count, list),
+        list: list_block(masks, BLOCK * b, count, list),
         kept: false,
     }
 }
@@ -153,7 +154,7 @@ pub(super) fn list_of_inputs(gates: &[u64], plan: Plan) -> Vectors
     let mut trust = first_trust(plan.inputs, 14);
     let mut tries = first_tries(gates, plan);
     let mut b = 0usize;
-    while 1024 * b < size {
+    while BLOCK * b < size {
         let skip = settled_from(gates, plan, b, tries);
         tries = next_tries(tries, b, skip);
         if skip == 0 {

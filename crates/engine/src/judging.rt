@@ -95,8 +95,9 @@ fn judge_job(job: JobParts, reply: &mut [u8]) -> JudgeReply
 // the first block of 1,024 inputs that has an unfixable one. For each block before, it costs one gate evaluation a gate of both
 // netlists where a table of listed vectors does, one more for each gate that a target leads to where a second table does too (see
 // guess.rt), and else that and those of all vectors, as choose. The tables are given up where they fail too often. An evaluation takes 16
-// words. Golden gates that do what others do are left out from 12 inputs on (see merge.rt). Partial evaluation is tried on each 2 ^ 15
-// inputs: one gate evaluation a gate on 0, 1 and not yet known, which may spare all their blocks.
+// words. From 12 inputs on gates that do what others do are left out, and outputs that are one net in both circuits with what leads to them
+// alone (see merge.rt). Partial evaluation is tried on each 2 ^ 15 inputs: one gate evaluation a gate on 0, 1 and not yet known, which may
+// spare all their blocks. It is given up where it settles too little: after eight such ranges where it settles none.
 pub fn judge(job: &[u8], reply: &mut [u8]) -> JudgeReply
     ensures reply { λ r. ⌜ r ≡ judgeReply (now (reply .entry)) (now (job .entry)) ⌝ }
     ensures lent { λ _. ⌜ now (reply .exit) ≡ judgedBytes (now (reply .entry)) (now (job .entry)) ⌝ }

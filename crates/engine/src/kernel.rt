@@ -9,6 +9,11 @@ ghost use Rattle.engine.specs.Inner.Packed.{operation, operandsOf, folde
 ghost use Rattle.engine.specs.Inner.Kernel.{applied, Filled, rowValue, valueIn, Ran};
 use super::limits::ROW;
 use super::limits::WORDS;
+use super::packed::COUNT_AT;
+use super::packed::COUNTS;
+use super::packed::NET;
+use super::packed::NET_AT;
+use super::packed::SLOTS_AT;
 use super::word::broadcast;
 
 // An operation on two words: 2 is and, 3 is or, any other is parity. A fourth arm would cost a jump table.
@@ -29,7 +34,7 @@ fn join(op: u64, at: usize, r: &mut [u64; ROW], words: &[u64; WORDS])
         (now (r .entry)) (now (r .exit)) ⌝ }
 {
     let mut w = 0usize;
-    while w < 16 {
+    while w < ROW {
         r[w] = apply(op, r[w], words[at + w]);
         w += 1;
     }
@@ -41,7 +46,7 @@ pub(super) fn store(at: usize, x: u64, r: [u64; ROW], words: &mut [u64; WORDS])
     ensures { λ _. ⌜ Filled (λ w. bitXor (getD r w 0) x) at 16 (now (words .entry)) (now (words .exit)) ⌝ }
 {
     let mut w = 0usize;
-    while w < 16 {
+    while w < ROW {
         words[at + w] = r[w] ^ x;
         w += 1;
     }
@@ -54,12 +59,12 @@ fn gate_words(c: u64, words: &[u64; WORDS]) -> [u64; ROW]
 {
     let mut r = [0u64; ROW];
     let mut op = 3u64;
-    let mut rest = c / 131072;
-    let mut i = c / 16 % 8;
+    let mut rest = c / SLOTS_AT;
+    let mut i = c / COUNT_AT % COUNTS;
     while 0 < i {
-        join(op, 16 * (rest % 1024) as usize, &mut r, words);
+        join(op, ROW * (rest % NET) as usize, &mut r, words);
         op = c / 2 % 8;
-        rest = rest / 1024;
+        rest = rest / NET;
         i -= 1;
     }
     r
@@ -75,7 +80,7 @@ pub(super) fn run(gates: &[u64], from: usize, to: usize, words: &mut [u64; WORDS
         let c = gates[i];
         let r = gate_words(c, words);
         store(
-            16 * (c / 128 % 1024) as usize,
+            ROW * (c / NET_AT % NET) as usize,
             broadcast(c as usize),
             r,
             words,

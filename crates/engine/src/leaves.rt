@@ -9,6 +9,7 @@ ghost use Rattle.engine.specs.Choice.{same};
 ghost use Rattle.engine.specs.Eval.{bit, numberOf};
 ghost use Rattle.engine.specs.Inner.Kernel.{rowValue, valueIn, NetSet, NetsSet};
 ghost use Rattle.engine.specs.Inner.Note.{gathered};
+use super::limits::BLOCK;
 use super::limits::ROW;
 use super::limits::ROWS;
 use super::limits::WORDS;
@@ -21,10 +22,10 @@ use records::OUTPUTS;
 pub(super) fn block_inputs(left: usize) -> usize
     ensures { λ r. ⌜ r ≡ min left 1024 ⌝ }
 {
-    if left < 1024 {
+    if left < BLOCK {
         return left;
     }
-    1024
+    BLOCK
 }
 
 // The row r becomes that of net i. (The kernel's store has one caller, so that it is part of the kernel's loop.)
@@ -33,8 +34,8 @@ pub(super) fn set_row(i: usize, r: [u64; ROW], words: &mut [u64; WORDS])
     ensures { λ _. ⌜ NetSet i (rowValue r) (now (words .entry)) (now (words .exit)) ⌝ }
 {
     let mut w = 0usize;
-    while w < 16 {
-        words[16 * i + w] = r[w];
+    while w < ROW {
+        words[ROW * i + w] = r[w];
         w += 1;
     }
 }
@@ -45,7 +46,7 @@ pub(super) fn set_net(i: usize, x: usize, words: &mut [u64; WORDS])
     ensures { λ _. ⌜ NetSet i (λ y. bit 0 x) (now (words .entry)) (now (words .exit)) ⌝ }
 {
     let v = broadcast(x);
-    let r = [v; 16];
+    let r = [v; ROW];
     set_row(i, r, words);
 }
 
@@ -56,8 +57,8 @@ fn input_row(i: usize, b: usize) -> [u64; ROW]
 {
     let mut r = [0u64; ROW];
     let mut w = 0usize;
-    while w < 16 {
-        r[w] = input_word(i, 16 * b + w);
+    while w < ROW {
+        r[w] = input_word(i, ROW * b + w);
         w += 1;
     }
     r
@@ -95,8 +96,8 @@ pub(super) fn row_of(i: usize, words: &[u64; WORDS]) -> [u64; ROW]
 {
     let mut r = [0u64; ROW];
     let mut w = 0usize;
-    while w < 16 {
-        r[w] = words[16 * i + w];
+    while w < ROW {
+        r[w] = words[ROW * i + w];
         w += 1;
     }
     r
@@ -108,8 +109,8 @@ pub(super) fn put_row(i: usize, r: [u64; ROW], rows: &mut [u64; ROWS])
     ensures { λ _. ⌜ NetSet i (rowValue r) (now (rows .entry)) (now (rows .exit)) ⌝ }
 {
     let mut w = 0usize;
-    while w < 16 {
-        rows[16 * i + w] = r[w];
+    while w < ROW {
+        rows[ROW * i + w] = r[w];
         w += 1;
     }
 }
@@ -137,8 +138,8 @@ fn keep_equal(a: usize, b: usize, r: &mut [u64; ROW], words: &[u64; WORDS])
         ≡ cond (eqb (valueIn (now (words .entry)) y a) (valueIn (now (words .entry)) y b)) (rowValue (now (r .entry)) y) 0) ⌝ }
 {
     let mut w = 0usize;
-    while w < 16 {
-        r[w] = r[w] & (words[16 * a + w] ^ words[16 * b + w] ^ !0);
+    while w < ROW {
+        r[w] = r[w] & (words[ROW * a + w] ^ words[ROW * b + w] ^ !0);
         w += 1;
     }
 }

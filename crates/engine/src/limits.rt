@@ -6,6 +6,11 @@ pub const NETS: usize = 1024;
 // The words of a net: 64 scenarios each.
 pub const ROW: usize = 16;
 
+// The scenarios of a row: a block of inputs.
+pub const BLOCK: usize = 64 * ROW;
+// The blocks that partial evaluation speaks for at once: 2 ^ 15 inputs.
+pub const RANGE: usize = 32;
+
 pub const WORDS: usize = ROW * NETS;
 // The settings of four targets (vectors), and a row for each.
 pub const VECTORS: usize = 16;

@@ -14,6 +14,9 @@ use super::limits::MITER_GATES;
 use super::limits::NETS;
 use super::miter::Miter;
 use super::miter::miter_of;
+use super::packed::NET;
+use super::packed::NET_AT;
+use super::packed::SLOTS_AT;
 use super::renumber::move_nets;
 use super::renumber::moved_code;
 use super::renumber::number_inputs;
@@ -37,15 +40,15 @@ pub struct Pairs {
 fn place_of(c: u64) -> usize
     ensures { λ r. ⌜ r < 1024 ⌝ }
 {
-    let x = c / 131072;
-    ((x ^ (x >> 9) ^ (x >> 18) ^ (x >> 27) ^ (c % 128)) % 1024) as usize
+    let x = c / SLOTS_AT;
+    ((x ^ (x >> 9) ^ (x >> 18) ^ (x >> 27) ^ (c % NET_AT)) % NET) as usize
 }
 
 // Whether two packed gates have one kind, count and operands.
 fn alike(a: u64, b: u64) -> bool
     ensures { λ r. ⌜ (r ≡ true → gateIn a ≡ gateIn b) ⌝ }
 {
-    (a % 128 == b % 128) & (a / 131072 == b / 131072)
+    (a % NET_AT == b % NET_AT) & (a / SLOTS_AT == b / SLOTS_AT)
 }
 
 // One more than the index of the last gate alike c in the chain whose last gate is at from - 1; 0 where there is none.

@@ -8,6 +8,10 @@ ghost use Rattle.records.specs.Job.{gateBytes};
 ghost use Rattle.engine.specs.Inner.Sheet.{BytesPut};
 ghost use Rattle.engine.specs.Inner.Renumber.{gateIn, unpacked};
 ghost use Rattle.engine.specs.Inner.Netlist.{netlistBytes};
+use super::packed::COUNT_AT;
+use super::packed::COUNTS;
+use super::packed::NET;
+use super::packed::SLOTS_AT;
 use super::sheet::two_bytes;
 use records::GATE_SIZE;
 use records::GATES;
@@ -19,15 +23,15 @@ fn put_code(c: u64, at: usize, bytes: &mut [u8; GATE_SIZE * GATES])
     requires { ⌜ (at + 10 ≤ 4000) × (length (now bytes) ≡ 4000) ⌝ }
     ensures { λ _. ⌜ now (bytes .exit) ≡ placed (now (bytes .entry)) at (gateBytes (gateIn c)) ⌝ }
 {
-    bytes[at] = (c % 16) as u8;
-    bytes[at + 1] = (c / 16 % 8) as u8;
-    let mut rest = c / 131072;
+    bytes[at] = (c % COUNT_AT) as u8;
+    bytes[at + 1] = (c / COUNT_AT % COUNTS) as u8;
+    let mut rest = c / SLOTS_AT;
     let mut i = 1usize;
     while i < 5 {
-        let pair = two_bytes((rest % 1024) as u16);
+        let pair = two_bytes((rest % NET) as u16);
         bytes[at + 2 * i] = pair[0];
         bytes[at + 2 * i + 1] = pair[1];
-        rest = rest / 1024;
+        rest = rest / NET;
         i += 1;
     }
 }

@@ -46,8 +46,8 @@ fn meet_column(masks: &[u64; ROWS], readings: &[u64; ROWS], w: usize, sets: &mut
     ensures { λ r. ⌜ ColumnMet (now (masks .entry)) (now (readings .entry)) w (now (sets .entry)) (now (sets .exit)) ⌝ }
 {
     let mut i = 0usize;
-    while i < 16 {
-        meet_four(readings[16 * i + w], masks[16 * i + w], sets);
+    while i < ROW {
+        meet_four(readings[ROW * i + w], masks[ROW * i + w], sets);
         i += 1;
     }
 }
@@ -130,7 +130,7 @@ fn gather_rows(masks: &[u64; ROWS], y: usize) -> usize
     let mut i = 16usize;
     while 0 < i {
         i -= 1;
-        r = 2 * r + ((masks[16 * i + w] >> b) % 2) as usize;
+        r = 2 * r + ((masks[ROW * i + w] >> b) % 2) as usize;
     }
     r
 }
@@ -142,8 +142,8 @@ fn join_row(v: usize, masks: &[u64; ROWS], words: [u64; ROW]) -> [u64; ROW]
 {
     let mut r = [0u64; ROW];
     let mut w = 0usize;
-    while w < 16 {
-        r[w] = words[w] | masks[16 * v + w];
+    while w < ROW {
+        r[w] = words[w] | masks[ROW * v + w];
         w += 1;
     }
     r

@@ -6,6 +6,17 @@ ghost use Rattle.records.specs.Claims.{Below};
 ghost use Rattle.engine.specs.Inner.Packed.{gateWith, packed};
 use records::SLOTS;
 
+// Where its parts begin: what is below its count, its net and its operand slots; a count is below COUNTS, a net below NET.
+pub(super) const COUNT_AT: u64 = 16;
+
+pub(super) const COUNTS: u64 = 8;
+
+pub(super) const NET_AT: u64 = 128;
+
+pub(super) const NET: u64 = 1024;
+
+pub(super) const SLOTS_AT: u64 = 131072;
+
 pub(super) fn pack(kind: u8, count: u8, own: usize, slots: [u16; SLOTS]) -> u64
     requires { ⌜ (kind < 16) × (count < 8) × (own < 1024) × Below 1024 slots ⌝ }
     ensures { λ r. ⌜ r ≡ packed own (gateWith kind count slots) ⌝ }

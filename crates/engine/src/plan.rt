@@ -15,6 +15,11 @@ ghost use Rattle.engine.specs.Inner.Plan.{ListPut, ListsUpTo, NetsRead, 
 use super::limits::LISTED;
 use super::limits::NETS;
 use super::miter::Miter;
+use super::packed::COUNT_AT;
+use super::packed::COUNTS;
+use super::packed::NET;
+use super::packed::NET_AT;
+use super::packed::SLOTS_AT;
 use records::CANDIDATES;
 use records::OUTPUTS;
 
@@ -43,11 +48,11 @@ fn gate_mark(c: u64, marks: &[u8; NETS]) -> u8
     ensures { λ r. ⌜ r ≡ codeMark (now (marks .entry)) c ⌝ }
 {
     let mut r = 0u8;
-    let mut rest = c / 131072;
-    let mut i = c / 16 % 8;
+    let mut rest = c / SLOTS_AT;
+    let mut i = c / COUNT_AT % COUNTS;
     while 0 < i {
-        r = greater(r, marks[(rest % 1024) as usize]);
-        rest = rest / 1024;
+        r = greater(r, marks[(rest % NET) as usize]);
+        rest = rest / NET;
         i -= 1;
     }
     r
@@ -77,7 +82,7 @@ pub(super) fn mark_from(gates: &[u64], count: usize, from: usize, k: usize) -> [
     while i < count {
         let c = gates[i];
         let m = gate_mark(c, &marks);
-        marks[(c / 128 % 1024) as usize] = m;
+        marks[(c / NET_AT % NET) as usize] = m;
         i += 1;
     }
     marks
@@ -101,11 +106,11 @@ fn mark_nets(nets: &[u16], count: usize, mut marks: [u8; NETS]) -> [u8; NETS]
 fn mark_operands(c: u64, marks: &mut [u8; NETS])
     ensures { λ _. ⌜ now (marks .exit) ≡ markedAll (now (marks .entry)) (operandsOf c) ⌝ }
 {
-    let mut rest = c / 131072;
-    let mut i = c / 16 % 8;
+    let mut rest = c / SLOTS_AT;
+    let mut i = c / COUNT_AT % COUNTS;
     while 0 < i {
-        marks[(rest % 1024) as usize] = 1;
-        rest = rest / 1024;
+        marks[(rest % NET) as usize] = 1;
+        rest = rest / NET;
         i -= 1;
     }
 }
@@ -119,7 +124,7 @@ fn mark_live(gates: &[u64], count: usize, mut marks: [u8; NETS]) -> [u8; NETS]
     while 0 < i {
         i -= 1;
         let c = gates[i];
-        if marks[(c / 128 % 1024) as usize] != 0 {
+        if marks[(c / NET_AT % NET) as usize] != 0 {
             mark_operands(c, &mut marks);
         }
     }
@@ -145,7 +150,7 @@ fn pick(
     let mut i = 0usize;
     while i < count {
         let c = gates[i];
-        let net = (c / 128 % 1024) as usize;
+        let net = (c / NET_AT % NET) as usize;
         if live[net] != 0 {
             if (marks[net] != 0) == led {
                 if end < LISTED {

@@ -17,6 +17,11 @@ ghost use Rattle.engine.specs.Inner.Packed.{countOf, operandsOf, evaluat
 ghost use Rattle.engine.specs.Inner.Plan.{PlanHeld, PlannedOf};
 ghost use Rattle.engine.specs.Inner.Ranges.{codeTernary, partialInput, InRange, Known};
 use super::limits::NETS;
+use super::packed::COUNT_AT;
+use super::packed::COUNTS;
+use super::packed::NET;
+use super::packed::NET_AT;
+use super::packed::SLOTS_AT;
 use super::plan::Plan;
 use super::ternary::ternary_value;
 use records::OUTPUTS;
@@ -27,14 +32,14 @@ fn known_operands(c: u64, known: &[u8; NETS]) -> [u8; SLOTS]
     ensures { λ r. ⌜ take (min (countOf c) 4) r ≡ map (netAt (now (known .entry))) (take 4 (operandsOf c)) ⌝ }
 {
     let mut r = [0u8; SLOTS];
-    let mut rest = c / 131072;
-    let count = (c / 16 % 8) as usize;
+    let mut rest = c / SLOTS_AT;
+    let count = (c / COUNT_AT % COUNTS) as usize;
     let mut i = 0usize;
     while i < SLOTS {
         if i < count {
-            r[i] = known[(rest % 1024) as usize];
+            r[i] = known[(rest % NET) as usize];
         }
-        rest = rest / 1024;
+        rest = rest / NET;
         i += 1;
     }
     r
@@ -45,7 +50,11 @@ fn ternary_gate(c: u64, known: &[u8; NETS]) -> u8
     ensures { λ r. ⌜ r ≡ codeTernary (now (known .entry)) c ⌝ }
 {
     let operands = known_operands(c, known);
-    ternary_value((c % 16) as u8, (c / 16 % 8) as u8, operands)
+    ternary_value(
+        (c % COUNT_AT) as u8,
+        (c / COUNT_AT % COUNTS) as u8,
+        operands,
+    )
 }
 
 // Each of the first count gates, one after the other, sets what is known of its own net.
@@ -56,7 +65,7 @@ fn eval_partial(gates: &[u64], count: usize, known: &mut [u8; NETS])
     let mut i = 0usize;
     while i < count {
         let c = gates[i];
-        known[(c / 128 % 1024) as usize] = ternary_gate(c, known);
+        known[(c / NET_AT % NET) as usize] = ternary_gate(c, known);
         i += 1;
     }
 }

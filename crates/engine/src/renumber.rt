@@ -10,6 +10,10 @@ ghost use Rattle.engine.specs.Inner.Tree.{Nets, GateRoom};
 ghost use Rattle.engine.specs.Inner.Renumber.{gateIn, OldHeld, InputsNumbered, withMark, MarkedPlaced};
 use super::limits::MITER_GATES;
 use super::limits::NETS;
+use super::packed::COUNT_AT;
+use super::packed::COUNTS;
+use super::packed::NET;
+use super::packed::SLOTS_AT;
 use super::packed::pack;
 use records::GATES;
 use records::SLOTS;
@@ -64,13 +68,13 @@ fn moved_slots(c: u64, numbers: &[u16; NETS]) -> [u16; SLOTS]
     ensures { λ r. ⌜ (r ≡ moved (now (numbers .entry)) (gateIn c) .slots) × Below 1024 r ⌝ }
 {
     let mut r = [0u16; SLOTS];
-    let mut rest = c / 131072;
-    let count = (c / 16 % 8) as usize;
+    let mut rest = c / SLOTS_AT;
+    let count = (c / COUNT_AT % COUNTS) as usize;
     let mut i = 0usize;
     while i < SLOTS {
-        let net = (rest % 1024) as usize;
+        let net = (rest % NET) as usize;
         r[i] = if i < count { numbers[net] } else { net as u16 };
-        rest = rest / 1024;
+        rest = rest / NET;
         i += 1;
     }
     r
@@ -82,7 +86,12 @@ pub(super) fn moved_code(c: u64, own: usize, numbers: &[u16; NETS]) -> u64
     ensures { λ r. ⌜ r ≡ packed own (moved (now (numbers .entry)) (gateIn c)) ⌝ }
 {
     let slots = moved_slots(c, numbers);
-    pack((c % 16) as u8, (c / 16 % 8) as u8, own, slots)
+    pack(
+        (c % COUNT_AT) as u8,
+        (c / COUNT_AT % COUNTS) as u8,
+        own,
+        slots,
+    )
 }
 
 // The old gates with this mark, in their order, numbered from the new netlist's next net on and put behind its gates.

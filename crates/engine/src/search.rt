@@ -13,6 +13,8 @@ use super::leaves::block_inputs;
 use super::leaves::clear_targets;
 use super::leaves::load_inputs;
 use super::leaves::read_rows;
+use super::limits::BLOCK;
+use super::limits::RANGE;
 use super::limits::READINGS;
 use super::limits::ROWS;
 use super::limits::TRIES;
@@ -83,11 +85,11 @@ pub(super) fn settled_from(gates: &[u64], plan: Plan, b: usize, tries: usize) ->
     if plan.inputs < 15 {
         return 0;
     }
-    if b % 32 != 0 {
+    if b % RANGE != 0 {
         return 0;
     }
-    if settled(gates, plan, 15, b / 32) {
-        return 32;
+    if settled(gates, plan, 15, b / RANGE) {
+        return RANGE;
     }
     0
 }
@@ -156,11 +158,11 @@ pub(super) fn sets_of_inputs(gates: &[u64], plan: Plan) -> Met
     let mut tries = first_tries(gates, plan);
     let mut skipped = 0usize;
     let mut b = 0usize;
-    while 1024 * b < size {
+    while BLOCK * b < size {
         let skip = settled_from(gates, plan, b, tries);
         tries = next_tries(tries, b, skip);
         if skip == 0 {
-            let count = block_inputs(size - 1024 * b);
+            let count = block_inputs(size - BLOCK * b);
             let kept = meet_inputs(
                 gates,
                 plan,
@@ -177,7 +179,7 @@ pub(super) fn sets_of_inputs(gates: &[u64], plan: Plan) -> Met
             }
             b += 1;
         } else {
-            skipped = skipped | (1usize << (b / 32));
+            skipped = skipped | (1usize << (b / RANGE));
             b += skip;
         }
     }

@@ -10,6 +10,7 @@ ghost use Rattle.engine.specs.Inner.Search.{FreeKept, soleOf, SoleTable,
 use super::drive::driven_row;
 use super::drive::row_at;
 use super::drive::table_rows;
+use super::limits::BLOCK;
 use super::limits::READINGS;
 use super::limits::ROWS;
 use super::limits::WORDS;
@@ -67,5 +68,5 @@ pub(super) fn keep_block(
         return false;
     }
     let row = driven_row(gates, plan, vectors, words);
-    1024 <= first_zero(join_rows(row, row_at(vectors, 4)))
+    BLOCK <= first_zero(join_rows(row, row_at(vectors, 4)))
 }

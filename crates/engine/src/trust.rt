@@ -1,5 +1,6 @@
 // How far a test that may save a block's work is trusted: a block on which it fails takes one, one on which it does not gives one back.
 ghost use Prim.Native.Nat.{_≤_};
+use super::limits::RANGE;
 use super::limits::TRUST;
 
 // At first it may fail on one block of sixteen, and on none where there are fewer inputs than least, since what it learns costs more there.
@@ -45,7 +46,7 @@ pub(super) fn next_tries(tries: usize, b: usize, skip: usize) -> usize
     requires { ⌜ tries ≤ 64 ⌝ }
     ensures { λ r. ⌜ r ≤ 64 ⌝ }
 {
-    if b % 32 != 0 {
+    if b % RANGE != 0 {
         return tries;
     }
     if skip == 0 { less(tries) } else { more(tries) }

@@ -39,7 +39,7 @@ fn stage(x: [u64; ROW], e: u64, low: u64) -> [u64; ROW]
 {
     let mut y = [0u64; ROW];
     let mut i = 0usize;
-    while i < 16 {
+    while i < ROW {
         y[i] = row(&x, e, low, i);
         i += 1;
     }
@@ -63,8 +63,8 @@ fn column(x: &[u64; ROWS], w: usize) -> [u64; ROW]
 {
     let mut c = [0u64; ROW];
     let mut i = 0usize;
-    while i < 16 {
-        c[i] = x[16 * i + w];
+    while i < ROW {
+        c[i] = x[ROW * i + w];
         i += 1;
     }
     c
@@ -75,8 +75,8 @@ fn put_column(w: usize, c: [u64; ROW], x: &mut [u64; ROWS])
     ensures { λ r. ⌜ Placed w 16 c (now (x .entry)) (now (x .exit)) ⌝ }
 {
     let mut i = 0usize;
-    while i < 16 {
-        x[16 * i + w] = c[i];
+    while i < ROW {
+        x[ROW * i + w] = c[i];
         i += 1;
     }
 }

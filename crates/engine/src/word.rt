@@ -4,6 +4,7 @@ ghost use Prim.Native.Nat.{ℕ, _+_, _*_, _≤_, _<_, max};
 ghost use mathlib.Core.Bool.{true};
 ghost use Rattle.engine.specs.Eval.{bit};
 ghost use Rattle.engine.specs.Inner.Kernel.{rowValue, LowestBit, FirstZero};
+use super::limits::BLOCK;
 use super::limits::ROW;
 
 // The word of a value that is the same in every scenario: the lowest bit of x.
@@ -54,14 +55,14 @@ pub(super) fn first_zero(row: [u64; ROW]) -> usize
     ensures { λ r. ⌜ FirstZero row r ⌝ }
 {
     let mut w = 0usize;
-    while w < 16 {
+    while w < ROW {
         let i = lowest_bit(row[w] ^ !0, 64);
         if i < 64 {
             return 64 * w + i;
         }
         w += 1;
     }
-    1024
+    BLOCK
 }
 
 // Whether the row says 0 of every scenario.
@@ -69,7 +70,7 @@ pub(super) fn zero_row(row: [u64; ROW]) -> bool
     ensures { λ r. ⌜ (r ≡ true → (y : ℕ) → y < 1024 → rowValue row y ≡ 0) ⌝ }
 {
     let mut w = 0usize;
-    while w < 16 {
+    while w < ROW {
         if row[w] != 0 {
             return false;
         }
@@ -84,7 +85,7 @@ pub(super) fn join_rows(a: [u64; ROW], b: [u64; ROW]) -> [u64; ROW]
 {
     let mut r = [0u64; ROW];
     let mut w = 0usize;
-    while w < 16 {
+    while w < ROW {
         r[w] = a[w] | b[w];
         w += 1;
     }
