@@ -37,7 +37,7 @@ kept (a ∷ bs) (suc r) s e = ap (λ (cs : List ℕ). a ∷ cs) (kept bs r s e)
 
 -- ---- a set gathered row by row, the last first
 
-numberOf-drop-le : (bs : List ℕ) (i : ℕ) → numberOf (drop i bs) ≤ numberOf bs
+pub numberOf-drop-le : (bs : List ℕ) (i : ℕ) → numberOf (drop i bs) ≤ numberOf bs
 unfolding numberOf
 numberOf-drop-le bs zero = omega arith
 numberOf-drop-le [] (suc i) = omega arith
