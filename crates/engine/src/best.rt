@@ -205,8 +205,8 @@ fn precedes(a: Pick, b: Pick) -> bool
     low_first(a.set, b.set)
 }
 
-// How many gates the patch of a support of len nets has whose sets these are: the trees of all targets over its table. At most
-// targets * (len + 1) * 2 ^ len entries are read, five times each.
+// How many gates the patch of a support of len nets has whose sets these are: the trees of all targets over its table. Up to
+// six nets each entry is read once for each target, and above that at most 1 + 5 * (len - 6) times.
 fn patch_gates(sets: &[u32], len: usize, targets: usize) -> usize
     requires { ⌜ (len ≤ 10) × (2 ^ len ≤ length (now sets)) × (targets ≤ 4) ⌝ }
     ensures { λ r. ⌜ ((j : Job) (is : List ℕ) → SetsOf j is (now (sets .entry)) → length is ≡ len → j .targets ≡ targets → r ≡ patchGates j is) ⌝ }

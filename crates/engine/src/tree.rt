@@ -254,12 +254,13 @@ fn word_join(low: u64, high: u64, ones: u64) -> Join
     Join::Both
 }
 
-// How many gates the tree over k nets has and a column of 2 ^ k bits that is one number. It calls itself on each half.
+// How many gates the tree has over k nets and a column of 2 ^ k bits that is one number: one where there are two bits or one. It calls itself
+// on each half.
 fn word_size(w: u64, k: usize) -> usize
     requires { ⌜ (k ≤ 6) × (w < 2 ^ 2 ^ k) ⌝ }
     ensures { λ r. ⌜ r ≡ treeSize k (bits (2 ^ k) w) ⌝ }
 {
-    if k == 0 {
+    if k < 2 {
         return 1;
     }
     let half = reading_count(k - 1);
@@ -283,8 +284,8 @@ fn word_size(w: u64, k: usize) -> usize
     below + above + join_size(join)
 }
 
-// How many gates that tree has. It calls itself on each half of the column, and reads one of up to 64 entries as a number; at most
-// 2 ^ k entries are read so, and above that at most (k - 6) 2 ^ k, five times each.
+// How many gates that tree has. It calls itself on each half of the column; one of up to 64 entries becomes a number, for which each is
+// read once, and above that each is read at most five times a net.
 fn tree_size(table: &[u8], at: usize, k: usize, t: usize) -> usize
     requires { ⌜ TablePart (now table) at k t ⌝ }
     ensures { λ r. ⌜ r ≡ treeSize k (columnPart (now (table .entry)) at k t) ⌝ }

@@ -17,7 +17,7 @@ use Rattle.records.specs.Bytes.{all, tabulate, upFrom}
 use Rattle.records.proofs.Laws.Bytes.{and-left, and-right, and-both, false-of, getD-tabulate}
 use Rattle.engine.specs.Choice.{same}
 use Rattle.engine.specs.Eval.{bit, bits, numberOf}
-use Rattle.engine.specs.Tree.{column, joinOf, buildsLow, buildsHigh, treeSize}
+use Rattle.engine.specs.Tree.{column, joinOf, buildsLow, buildsHigh, joinGates, treeSize}
 use Rattle.engine.specs.Inner.Tree.{TablePart, columnPart, joinSize}
 use Rattle.engine.specs.declared.tree.Join.{Join}
 use Rattle.engine.proofs.Laws.Choice.{same-true, same-iff-equal}
@@ -119,10 +119,16 @@ module _ (n x : ℕ) (h : x < 2 ^ n) where
 
 -- ---- the halves of a number
 
--- a tree over no nets is one gate
-pub word-none : (col : List ℕ) → treeSize 0 col ≡ 1
-unfolding treeSize
-word-none col = refl
+-- a tree over one net or none is one gate
+pub word-least : (k w : ℕ) → k < 2 → w < 2 ^ 2 ^ k → treeSize k (bits (2 ^ k) w) ≡ 1
+unfolding treeSize all same joinOf buildsLow buildsHigh joinGates bit bits tabulate upFrom
+word-least zero w h l = refl
+word-least (suc zero) zero h l = refl
+word-least (suc zero) (suc zero) h l = refl
+word-least (suc zero) (suc (suc zero)) h l = refl
+word-least (suc zero) (suc (suc (suc zero))) h l = refl
+word-least (suc zero) (suc (suc (suc (suc w)))) h l = let f : ⊥ = omega arith in absurd f
+word-least (suc (suc k)) w h l = let f : ⊥ = omega arith in absurd f
 
 module _ (k w : ℕ) (h : w < 2 ^ 2 ^ suc k) where
   abbrev low : ℕ

@@ -6,7 +6,7 @@ use native.Mathlib.Omega.{arith}
 use Rattle.engine.specs.Eval.{bits}
 use Rattle.engine.specs.Tree.{joinOf, buildsLow, buildsHigh, treeSize}
 use Rattle.engine.proofs.Laws.Tree.{builtSize, half-came, half-small}
-use Rattle.engine.proofs.Laws.TreeWord.{Halves, halves-word, low-lt, high-lt, word-none, word-equal, split-size}
+use Rattle.engine.proofs.Laws.TreeWord.{Halves, halves-word, low-lt, high-lt, word-least, word-equal, split-size}
 use Rattle.engine.proofs.Laws.Join.{joinSize-bounds}
 use borrow.Fn.Kinds.{In}
 use borrow.Fn.PlainCycle.{Measures, is, falls, and}
@@ -102,7 +102,7 @@ sizes-small t c =
     )
 
 word-size-returns : (t : ℕ) → word-size-lts.Need-returns (calls t) (word-size-at t) word-size.Post
-word-size-returns t c = rw (c .if1 .taken) (sym (word-none _))
+word-size-returns t c = let s = c .before in sym (word-least (s .args .k) (s .args .w) (c .if1 .taken) (s .pre .1 .1))
 
 word-size-sub-reading-count : (t : ℕ) → word-size-lts.Need-sub-reading-count (calls t) (word-size-at t) word-size.Post
 word-size-sub-reading-count t c = omega arith
