@@ -1,8 +1,8 @@
 // The walk over all inputs of a job that gives its vector list. Most blocks leave the list as it is, as a listed vector rectifies each of
-// their inputs. That is shown at the cost of one or two vectors: two tables of listed vectors drive the old circuit, one after the other. At
-// each reading of the candidates the first has one that rectified the inputs looked at which give it, up to one for which there was none, and
-// the second one that rectified those from there on which the first did not. Where neither equals the golden circuit, all vectors are
-// evaluated, and the tables learn.
+// their inputs. Where few are listed, these are evaluated one after the other until each input is covered. Else it is shown at the cost of
+// one or two vectors: two tables of listed vectors drive the old circuit, one after the other. At each reading of the candidates the first
+// has one that rectified the inputs looked at which give it, up to one for which there was none, and the second one that rectified those
+// from there on which the first did not. Where an input is left, all vectors are evaluated, and the tables learn.
 ghost use mathlib.Core.Path.{_≡_};
 ghost use mathlib.Core.Bool.{true, false};
 ghost use Prim.Native.Nat.{ℕ, _*_, _^_, _≤_, _<_};
@@ -15,13 +15,15 @@ ghost use Rattle.engine.specs.Support.{candidateNets};
 ghost use Rattle.engine.specs.Inner.List.{Held, listedOf, startList};
 ghost use Rattle.engine.specs.Inner.Search.{FreeKept};
 ghost use Rattle.engine.specs.Inner.Plan.{PlanHeld, TurnsOf};
-ghost use Rattle.engine.specs.Inner.Guess.{ListTo, OfListed, BlockGuessed, BlockListed};
+ghost use Rattle.engine.specs.Inner.Guess.{ListTo, OfListed, BlockGuessed, BlockShown, BlockListed};
 use super::drive::driven_row;
 use super::drive::four_rows;
 use super::drive::table_rows;
 use super::leaves::block_inputs;
+use super::leaves::equal_row;
 use super::limits::BLOCK;
 use super::limits::READINGS;
+use super::limits::ROW;
 use super::limits::ROWS;
 use super::limits::VECTORS;
 use super::limits::WORDS;
@@ -34,17 +36,19 @@ use super::plan::Plan;
 use super::search::first_tries;
 use super::search::read_block;
 use super::search::settled_from;
-use super::search::zero_block;
+use super::search::vector_block;
 use super::trust::first_trust;
+use super::trust::more;
 use super::trust::next_tries;
 use super::trust::next_trust;
 use super::word::first_zero;
 use super::word::join_rows;
 
-// The vector list after a block, and whether the tables showed that it stays.
+// The vector list after a block, how far the tables are trusted then, and whether they are to be made anew.
 pub struct Listing {
     pub list: Vectors,
-    pub kept: bool,
+    pub trust: usize,
+    pub anew: bool,
 }
 
 // The first len vectors of a list, as a set.
@@ -103,9 +107,93 @@ fn guess_block(
     count <= first_zero(join_rows(one, two))
 }
 
-// The list after the inputs of block b, and what the sets of the tables become where all vectors are evaluated. The tables are not tried on the
-// first block, nor once they are not trusted. Where they do, it costs one gate evaluation a gate of both netlists, and perhaps one more for each
-// gate that a target leads to; else that, those of the masks, and some 2,000 steps.
+// Whether listed vectors rectify each of the first count inputs of a block. It costs, for each listed vector up to the one with which they
+// do, one gate evaluation a gate that a target leads to.
+fn try_listed(
+    gates: &[u64],
+    plan: Plan,
+    list: Vectors,
+    count: usize,
+    words: &mut [u64; WORDS],
+) -> bool
+    requires { ⌜ PlanHeld plan (now gates) × Held list × (length (now words) ≡ 16384) ⌝ }
+    ensures { λ _. ⌜ FreeKept plan (now (gates .entry)) (now (words .entry)) (now (words .exit)) × (length (now (words .exit)) ≡ 16384) ⌝ }
+    ensures { λ r. ⌜ (r ≡ true → BlockShown plan (now (gates .entry)) (now (words .entry)) list count) ⌝ }
+{
+    let vectors = list.list;
+    let outputs = plan.outputs;
+    let goldens = plan.goldens;
+    let mut row = [0u64; ROW];
+    let mut i = 0usize;
+    while i < list.len {
+        vector_block(gates, plan, vectors[i] as usize, words);
+        let next = join_rows(row, equal_row(outputs, goldens, plan.outs, words));
+        row = next;
+        if count <= first_zero(row) {
+            return true;
+        }
+        i += 1;
+    }
+    false
+}
+
+// Whether evaluating so many listed vectors costs less than what else there is: where the tables are not trusted all vectors, and else looking
+// a block up in them, which takes as long as one vector more with some 200 gates in the fanout.
+fn few_listed(plan: Plan, len: usize, trust: usize) -> bool
+    requires { ⌜ (plan .targets ≤ 4) × (plan .outs ≤ 32) × (getD (plan .ends) 0 0 ≤ 2400) × (getD (plan .ends) 1 0 ≤ 2400) ⌝ }
+{
+    if trust == 0 {
+        return len < 1usize << plan.targets;
+    }
+    let ends = plan.ends;
+    let vector = 2 * ends[1] + 3 * plan.outs;
+    let free = 2 * ends[0];
+    if len == 2 {
+        return vector < free + 450;
+    }
+    if len == 3 {
+        return vector < free + 225;
+    }
+    if len == 4 {
+        return vector < free + 150;
+    }
+    len == 1
+}
+
+// How it is shown that a block leaves the list as it is: 1 by the listed vectors themselves, 2 by the tables, 0 not at all.
+fn shown_by(
+    gates: &[u64],
+    plan: Plan,
+    readings: [u64; ROWS],
+    list: Vectors,
+    trust: usize,
+    table: &[u16; READINGS],
+    count: usize,
+    words: &mut [u64; WORDS],
+) -> u8
+    requires { ⌜ PlanHeld plan (now gates) × (length readings ≡ 256) × Held list × (length (now words) ≡ 16384) ⌝ }
+    ensures { λ _. ⌜ FreeKept plan (now (gates .entry)) (now (words .entry)) (now (words .exit)) × (length (now (words .exit)) ≡ 16384) ⌝ }
+    ensures { λ r. ⌜ (r ≡ 1 → BlockShown plan (now (gates .entry)) (now (words .entry)) list count)
+        × (r ≡ 2 → (0 < trust) × BlockGuessed plan (now (gates .entry)) (now (words .entry)) readings (now (table .entry)) count) ⌝ }
+{
+    if few_listed(plan, list.len, trust) {
+        if try_listed(gates, plan, list, count, words) {
+            return 1;
+        }
+        return 0;
+    }
+    if trust == 0 {
+        return 0;
+    }
+    if guess_block(gates, plan, readings, table, count, words) {
+        return 2;
+    }
+    0
+}
+
+// The list after the inputs of block b, and what the sets of the tables become where all vectors are evaluated, as they are on the first
+// block. Where listed vectors or the tables show that it stays, it costs one gate evaluation a gate of both netlists, and one more for each
+// gate that a target leads to and each vector more that is tried; else that, those of the masks, and some 2,000 steps.
 fn list_inputs(
     gates: &[u64],
     plan: Plan,
@@ -116,26 +204,41 @@ fn list_inputs(
     sets: &mut [u32; READINGS],
     words: &mut [u64; WORDS],
 ) -> Listing
-    requires { ⌜ PlanHeld plan (now gates) × (1024 * b < 2 ^ plan .inputs) × Held list × (list .stuck ≡ false) ⌝ }
-    requires { ⌜ (0 < trust → OfListed list (now table)) × (length (now sets) ≡ 1024) × (length (now words) ≡ 16384) ⌝ }
-    ensures { λ r. ⌜ BlockListed plan (now (gates .entry)) b list r × (r .kept ≡ true → 0 < trust) ⌝ }
+    requires { ⌜ PlanHeld plan (now gates) × (1024 * b < 2 ^ plan .inputs) × Held list ⌝ }
+    requires { ⌜ (0 < trust → OfListed list (now table)) × (length (now sets) ≡ 1024) × (length (now words) ≡ 16384) × (trust ≤ 64) ⌝ }
+    ensures { λ r. ⌜ BlockListed plan (now (gates .entry)) b list (r .list) × (r .trust ≤ 64)
+        × (r .anew ≡ false → 0 < r .trust → OfListed (r .list) (now (table .entry))) ⌝ }
     ensures { λ _. ⌜ (length (now (sets .exit)) ≡ 1024) × (length (now (words .exit)) ≡ 16384) ⌝ }
 {
     let count = block_inputs((1usize << plan.inputs) - BLOCK * b);
     let readings = read_block(gates, plan, b, words);
-    if (0 < b) & (0 < trust) {
-        if guess_block(gates, plan, readings, table, count, words) {
-            return Listing { list, kept: true };
+    if 0 < b {
+        let by = shown_by(gates, plan, readings, list, trust, table, count, words);
+        if by == 1 {
+            return Listing {
+                list,
+                trust,
+                anew: false,
+            };
+        }
+        if by == 2 {
+            return Listing {
+                list,
+                trust: more(trust),
+                anew: false,
+            };
         }
     }
-    zero_block(gates, plan, words);
+    vector_block(gates, plan, 0, words);
     let masks = masks_of(gates, plan, words);
-    if 0 < trust {
+    let next = next_trust(trust, b, false);
+    if 0 < next {
         sort_block(masks, readings, (count + 63) / 64, sets);
     }
     Listing {
         list: list_block(masks, BLOCK * b, count, list),
-        kept: false,
+        trust: next,
+        anew: 0 < next,
     }
 }
 
@@ -163,8 +266,8 @@ pub(super) fn list_of_inputs(gates: &[u64], plan: Plan) -> Vectors
             if list.stuck {
                 return list;
             }
-            trust = next_trust(trust, b, next.kept);
-            if !next.kept & (0 < trust) {
+            trust = next.trust;
+            if next.anew {
                 table = listed_table(sets, list);
             }
             b += 1;

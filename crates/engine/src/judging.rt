@@ -92,12 +92,13 @@ fn judge_job(job: JobParts, reply: &mut [u8]) -> JudgeReply
 
 // The service judge: whether every input of a job is fixable, or the smallest that is not, and its sheet at the start of the reply buffer:
 // the unfixable input, if any, and the vector list. Refused are a buffer below 26 bytes (1) and what is no whole job (2 to 6). It ends at
-// the first block of 1,024 inputs that has an unfixable one. For each block before, it costs one gate evaluation a gate of both
-// netlists where a table of listed vectors does, one more for each gate that a target leads to where a second table does too (see
-// guess.rt), and else that and those of all vectors, as choose. The tables are given up where they fail too often. An evaluation takes 16
-// words. From 12 inputs on gates that do what others do are left out, and outputs that are one net in both circuits with what leads to them
-// alone (see merge.rt). Partial evaluation is tried on each 2 ^ 15 inputs: one gate evaluation a gate on 0, 1 and not yet known, which may
-// spare all their blocks. It is given up where it settles too little: after eight such ranges where it settles none.
+// the first block of 1,024 inputs that has an unfixable one. For each block before, it costs one gate evaluation a gate of both netlists
+// where the first listed vector does, or a table of listed vectors, one more for each gate that a target leads to and each further vector or
+// table that is tried (see guess.rt), and where these do not, that and those of all vectors, as choose. The tables are given up where they
+// fail too often. An evaluation takes 16 words. From 12 inputs on gates that do what others do are left out, and outputs that are one net in
+// both circuits with what leads to them alone (see merge.rt). Partial evaluation is tried on each 2 ^ 15 inputs: one gate evaluation a gate
+// on 0, 1 and not yet known, which may spare all their blocks. It is given up where it settles too little: after eight such ranges where it
+// settles none.
 pub fn judge(job: &[u8], reply: &mut [u8]) -> JudgeReply
     ensures reply { λ r. ⌜ r ≡ judgeReply (now (reply .entry)) (now (job .entry)) ⌝ }
     ensures lent { λ _. ⌜ now (reply .exit) ≡ judgedBytes (now (reply .entry)) (now (job .entry)) ⌝ }

@@ -77,14 +77,14 @@ pub(super) fn load_inputs(inputs: usize, b: usize, words: &mut [u64; WORDS])
     }
 }
 
-// Every target 0, from net at on.
-pub(super) fn clear_targets(at: usize, targets: usize, words: &mut [u64; WORDS])
-    requires { ⌜ (at + targets ≤ 1024) × (length (now words) ≡ 16384) ⌝ }
-    ensures { λ _. ⌜ NetsSet at targets (λ y k. 0) (now (words .entry)) (now (words .exit)) ⌝ }
+// The targets, from net at on, become the bits of a vector in every scenario.
+pub(super) fn set_vector(at: usize, targets: usize, vector: usize, words: &mut [u64; WORDS])
+    requires { ⌜ (at + targets ≤ 1024) × (targets ≤ 16) × (length (now words) ≡ 16384) ⌝ }
+    ensures { λ _. ⌜ NetsSet at targets (λ y k. bit k vector) (now (words .entry)) (now (words .exit)) ⌝ }
 {
     let mut i = 0usize;
     while i < targets {
-        set_net(at + i, 0, words);
+        set_net(at + i, vector >> i, words);
         i += 1;
     }
 }

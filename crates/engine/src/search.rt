@@ -6,13 +6,13 @@ ghost use Prim.Native.Nat.{_-_, _*_, _^_, _≤_, _<_};
 ghost use lib.ListN.{length};
 ghost use Rattle.records.specs.Job.{Job};
 ghost use Rattle.engine.specs.Support.{candidateNets};
-ghost use Rattle.engine.specs.Inner.Search.{SetsTo, BlockRange, BlockRead, BlockZero, BlockMet, SoleTable, SettledFrom};
+ghost use Rattle.engine.specs.Inner.Search.{SetsTo, BlockRange, BlockRead, BlockVector, BlockMet, SoleTable, SettledFrom};
 ghost use Rattle.engine.specs.Inner.Plan.{PlanHeld, TurnsOf};
 use super::kernel::run;
 use super::leaves::block_inputs;
-use super::leaves::clear_targets;
 use super::leaves::load_inputs;
 use super::leaves::read_rows;
+use super::leaves::set_vector;
 use super::limits::BLOCK;
 use super::limits::RANGE;
 use super::limits::READINGS;
@@ -48,12 +48,12 @@ pub(super) fn read_block(
     read_rows(nets, plan.reads, words)
 }
 
-// The words of a block at vector 0, from those on the nets that no target leads to. It costs one gate evaluation a gate that one leads to.
-pub(super) fn zero_block(gates: &[u64], plan: Plan, words: &mut [u64; WORDS])
+// The words of a block at a vector, from those on the nets that no target leads to. It costs one gate evaluation a gate that one leads to.
+pub(super) fn vector_block(gates: &[u64], plan: Plan, vector: usize, words: &mut [u64; WORDS])
     requires { ⌜ PlanHeld plan (now gates) × (length (now words) ≡ 16384) ⌝ }
-    ensures { λ _. ⌜ BlockZero plan (now (gates .entry)) (now (words .entry)) (now (words .exit)) ⌝ }
+    ensures { λ _. ⌜ BlockVector plan (now (gates .entry)) vector (now (words .entry)) (now (words .exit)) ⌝ }
 {
-    clear_targets(plan.inputs, plan.targets, words);
+    set_vector(plan.inputs, plan.targets, vector, words);
     let ends = plan.ends;
     run(gates, ends[0], ends[1], words);
 }
@@ -124,7 +124,7 @@ fn meet_inputs(
             return true;
         }
     }
-    zero_block(gates, plan, words);
+    vector_block(gates, plan, 0, words);
     let masks = masks_of(gates, plan, words);
     meet_block(masks, readings, (count + 63) / 64, sets);
     false

@@ -1,10 +1,10 @@
 -- Laws of the walk that gives the vector list (specs/Inner/Guess): sets and tables of listed vectors, that inputs which such tables
 -- rectify leave the list, and the list block after block. Assumes nothing.
-use Prim.Native.Nat.{ℕ, _+_, _-_, _*_, _/_, _%_, _^_, min, max, _≤_, _<_}
+use Prim.Native.Nat.{ℕ, zero, suc, _+_, _-_, _*_, _/_, _%_, _^_, min, max, _≤_, _<_}
 use mathlib.Core.Path.{_≡_, refl, sym, _∙_, ap, subst}
 use mathlib.Core.Logic.{_⊎_, inl, inr, ⊎-elim}
-use mathlib.Core.List.{List, List·Memᴰ as Mem}
-use mathlib.Core.Bool.{true, false}
+use mathlib.Core.List.{List, [], _∷_, List·Memᴰ as Mem}
+use mathlib.Core.Bool.{true}
 use mathlib.Core.Option.{none}
 use native.Mathlib.Nat.{div-one}
 use native.Mathlib.Omega.{arith}
@@ -18,24 +18,26 @@ use Rattle.engine.specs.Choice.{any, orZero}
 use Rattle.engine.specs.Eval.{bit}
 use Rattle.engine.specs.Rectify.{rectifies, Listed}
 use Rattle.engine.specs.Support.{candidateNets}
-use Rattle.engine.specs.Inner.Guess.{ListTo, OfListed, BlockGuessed, BlockListed}
+use Rattle.engine.specs.Inner.Guess.{ListTo, OfListed, BlockGuessed, BlockShown, BlockListed}
 use Rattle.engine.specs.Inner.Kernel.{rowValue, FirstZero}
 use Rattle.engine.specs.Inner.List.{Held, lowest, listedFrom, listedOf, startList}
 use Rattle.engine.specs.Inner.Masks.{rectifiers}
 use Rattle.engine.specs.Inner.Note.{gathered, ListNoted}
 use Rattle.engine.specs.Inner.Plan.{BlockFree, PlannedOf, TurnsOf}
-use Rattle.engine.specs.Inner.Search.{BlockRead, BlockZero, FreeKept, DrivenRow, BlockMasks, SettledFrom}
+use Rattle.engine.specs.Inner.Search.{BlockRead, BlockVector, FreeKept, DrivenRow, BlockMasks, SettledFrom}
 use Rattle.engine.specs.declared.list.Vectors.{Vectors}
 use Rattle.engine.specs.declared.plan.Plan.{Plan}
-use Rattle.engine.proofs.Laws.Choice.{not-both, any-true, any-of-member, none-or-some}
+use Rattle.engine.proofs.Laws.Choice.{or-left, or-right, any-true, any-of-member, none-or-some}
 use Rattle.engine.proofs.Laws.Compare.{LookedUp, one-true}
 use Rattle.engine.proofs.Laws.Eval.{bit-lt}
+use Rattle.engine.proofs.Laws.Kernel.{row-replicate}
 use Rattle.engine.proofs.Laws.Leaves.{getD-zeros}
 use Rattle.engine.proofs.Laws.List.{set-holds, zero-listed, listed-cases, listedFrom-still}
 use Rattle.engine.proofs.Laws.Note.{any-next, either-one, rowValue-lt}
-use Rattle.engine.proofs.Laws.Plan.{reads-of}
+use Rattle.engine.proofs.Laws.Plan.{reads-of, block-free}
 use Rattle.engine.proofs.Laws.Rows.{bit-pow}
 use Rattle.engine.proofs.Laws.Search.{list-noted, list-stuck, list-skip}
+use Rattle.engine.proofs.Laws.Searching.{RowEqual, row-rectifies}
 use Rattle.engine.proofs.Laws.VectorSets.{inSet, bit-rectifiers, lowest-lt, lowest-bit}
 use Rattle.engine.proofs.Laws.Word.{bit-or, bit-and, bit-zero}
 
@@ -211,27 +213,80 @@ module _ {p : Plan} {gates : List ℕ} (readings table entries : List ℕ) (l : 
       inr (one-rectifies d₂ q (d .free j is q b f) y u a (n₂ y u ∙ ap (λ (k : ℕ). k / 16 % 16) (l y u))))
       (either-one (rowValue row y) (rowValue row₂ y) (rowValue-lt row y) (rowValue-lt row₂ y) (sym (e y u) ∙ z .ones y (omega arith)))
 
+-- ---- a block at listed vectors, one after the other
+
+-- a vector that is listed, by its place
+pub any-at : (list : List ℕ) (n i : ℕ) → i < n → i < length list → any (eqb (getD list i 0)) (take n list) ≡ true
+unfolding any
+any-at [] n i h l = let f : ⊥ = omega arith in absurd f
+any-at (x ∷ xs) zero i h l = let f : ⊥ = omega arith in absurd f
+any-at (x ∷ xs) (suc n) zero h l = or-left (eqb x x) (any (eqb x) (take n xs)) (eq-eqb x x refl)
+any-at (x ∷ xs) (suc n) (suc i) h l =
+    let u = getD xs i 0 in
+    or-right (eqb u x) (any (eqb u) (take n xs)) (any-at xs n i (omega arith) (omega arith))
+
+module _ (p : Plan) (gates before vs : List ℕ) where
+  -- the row says 1 only of inputs that one of the vectors vs rectifies
+  abbrev pub RowShown : List ℕ → Type 0
+  RowShown row =
+      (j : Job) (is : List ℕ) (q : PlannedOf j is p gates) (b : ℕ) → BlockFree j (q .live) b before
+      → (y : ℕ) → y < 1024 → rowValue row y ≡ 1
+      → (u : ℕ) × (any (eqb u) vs ≡ true) × (rectifies j (1024 * b + y) u ≡ true)
+
+  pub shown-none : RowShown (replicate 16 0)
+  shown-none j is q b f y h e = let z : ⊥ = omega (arith, row-replicate 0 y h, bit-zero (y % 64)) in absurd z
+
+  -- one vector more
+  pub shown-next : (row r row′ : List ℕ) {words words′ : List ℕ} (v : ℕ) → any (eqb v) vs ≡ true → RowShown row → FreeKept p gates before words
+      → BlockVector p gates v words words′ → RowEqual p words′ r
+      → ((y : ℕ) → y < 1024 → rowValue row′ y ≡ max (rowValue row y) (rowValue r y)) → RowShown row′
+  shown-next row r row′ v m s k w e d j is q b f y h o =
+      ⊎-elim
+      (λ (t : rowValue row y ≡ 1). s j is q b f y h t)
+      (λ (t : rowValue r y ≡ 1).
+      (v, m, one-true (rectifies j (1024 * b + y) v) (sym (row-rectifies p gates q b (λ y. v) r (w .values j is q b (k j is q b f)) e y h) ∙ t)))
+      (either-one (rowValue row y) (rowValue r y) (rowValue-lt row y) (rowValue-lt r y) (sym (d y h) ∙ o))
+
+-- a block evaluated at a vector keeps what no target leads to
+pub vector-free : {p : Plan} {gates before words words′ : List ℕ} {v : ℕ} → FreeKept p gates before words → BlockVector p gates v words words′
+    → FreeKept p gates before words′
+vector-free k w j is q b f = block-free (w .values j is q b (k j is q b f))
+
 -- ---- a block, and block after block
 
 module _ {p : Plan} {gates : List ℕ} {b count : ℕ} {words readings : List ℕ} (r : BlockRead p gates b words readings)
     (e : count ≡ min (2 ^ p .inputs - 1024 * b) 1024) where
   -- a block on which the table does
   pub block-guessed : {table : List ℕ} {v : Vectors} → Held v → OfListed v table → BlockGuessed p gates words readings table count
-      → BlockListed p gates b v (record { list = v; kept = true })
+      → BlockListed p gates b v v
   block-guessed h o g =
       record {
         held = h;
-        same = λ t. refl;
         listed = λ j t l. let q = t .planned in rw (← e) (list-guessed readings b count g q (r .free j (candidateNets j) (reads-of q)) o l);
       }
 
+  -- a block on which the listed vectors themselves do
+  pub block-shown : {v : Vectors} → Held v → BlockShown p gates words v count
+      → BlockListed p gates b v v
+  block-shown {v} h s =
+      record {
+        held = h;
+        listed = λ j t l.
+            let is = candidateNets j in
+            let q = t .planned in
+            rw (← e)
+            (list-rectified j v (1024 * b) count
+            (λ y u. let g = s j is q b (r .free j is (reads-of q)) y u in (g .0, inr (g .1), g .2))
+            l);
+      }
+
   -- a block where all vectors were evaluated
-  pub block-noted : {words₁ words₂ masks : List ℕ} {v w : Vectors} → FreeKept p gates words words₁ → BlockZero p gates words₁ words₂
-      → BlockMasks p gates words₂ masks → ListNoted masks (1024 * b) count v w → BlockListed p gates b v (record { list = w; kept = false })
+  pub block-noted : {words₁ words₂ masks : List ℕ} {v w : Vectors} → FreeKept p gates words words₁ → BlockVector p gates 0 words₁ words₂
+      → BlockMasks p gates words₂ masks → ListNoted masks (1024 * b) count v w
+      → BlockListed p gates b v w
   block-noted k z m n =
       record {
         held = n .held;
-        same = λ t. absurd (not-both t refl);
         listed = λ j t.
             let is = candidateNets j in
             let q = t .planned in

@@ -9,7 +9,7 @@ use native.Mathlib.Nat.{eq-zero-or-pos}
 use native.Mathlib.Omega.{arith}
 use lib.Bits.{bitAnd, bitXor}
 use lib.Dec.{eqb}
-use lib.ListN.{length, getD, set, take, replicate, length-map}
+use lib.ListN.{length, getD, set, take, replicate}
 use lib.Seq.{getD-set-same, getD-set-other, getD-take, length-take-le}
 use Rattle.records.specs.Bytes.{upFrom, tabulate}
 use Rattle.engine.specs.Choice.{same}
@@ -19,7 +19,7 @@ use Rattle.engine.specs.Inner.Note.{gathered}
 use Rattle.engine.proofs.Laws.Eval.{bit-lt}
 use Rattle.engine.proofs.Laws.Fill.{fill-at}
 use Rattle.engine.proofs.Laws.Kernel.{net-filled, bit-sum}
-use Rattle.engine.proofs.Laws.Outputs.{map-more, same-next}
+use Rattle.engine.proofs.Laws.Outputs.{same-next}
 use Rattle.engine.proofs.Laws.Word.{bit-and, bit-zero, bit-ones}
 
 -- ---- rows

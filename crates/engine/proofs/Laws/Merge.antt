@@ -20,10 +20,6 @@ use Rattle.records.specs.Netlist.{netAt, extended, valueOf, values}
 use Rattle.records.specs.Job.{Job}
 use Rattle.records.specs.Refusal.{gateGood, gatesGood}
 use Rattle.records.specs.Claims.{Below}
-use Rattle.records.specs.Parts.{PartsOf}
-use Rattle.records.specs.Service.{countsOf, sideCountsOf}
-use Rattle.records.specs.declared.loading.JobParts.{JobParts}
-use Rattle.records.specs.declared.job.Counts.{Counts}
 use Rattle.records.proofs.Laws.Bytes.{and-both, all-cons}
 use Rattle.records.proofs.Laws.Gate.{gateGood-parts}
 use Rattle.engine.specs.Eval.{bits}
@@ -31,7 +27,7 @@ use Rattle.engine.specs.Fit.{moved}
 use Rattle.engine.specs.Inner.Packed.{fields, packed, packedFrom, formed}
 use Rattle.engine.specs.Inner.Renumber.{gateIn, InputsNumbered}
 use Rattle.engine.specs.Inner.Tree.{Nets}
-use Rattle.engine.specs.Inner.Miter.{shifted, shiftOf, onOperands, SameGates, miterGates, miterGoldens, miterNets, miterValues, codes, MiterRoom, MiterOf, MergedOf}
+use Rattle.engine.specs.Inner.Miter.{onOperands, SameGates, miterGates, miterGoldens, miterNets, miterValues, codes, MiterRoom, MiterOf, MergedOf}
 use Rattle.engine.specs.Inner.Merge.{Packs, StandsFor, MergedIn, Chained, GatesMerged}
 use Rattle.engine.specs.declared.merge.MergedGates.{MergedGates}
 use Rattle.engine.specs.declared.miter.Miter.{Miter}

@@ -5,7 +5,6 @@ use mathlib.Core.List.{List, [], _∷_, _++_, map}
 use mathlib.Core.Bool.{Bool, true, false, _&&_}
 use native.Mathlib.Numerals.{add-one}
 use native.Mathlib.Omega.{arith}
-use lib.Bits.{differ}
 use lib.Dec.{eqb}
 use lib.ListN.{length, getD, take, set, length-map}
 use lib.Seq.{take-suc, take-suc-set, length-take-le}

@@ -14,7 +14,7 @@ use Rattle.records.specs.Job.{Job}
 use Rattle.records.proofs.Laws.Bytes.{all-below}
 use Rattle.engine.specs.Choice.{same}
 use Rattle.engine.specs.Inner.Merge.{PairsKept}
-use Rattle.engine.specs.Inner.Miter.{miterNets, PairsOf, MiterRoom, MergedOf}
+use Rattle.engine.specs.Inner.Miter.{miterNets, MiterRoom, MergedOf}
 use Rattle.engine.specs.declared.merge.Pairs.{Pairs}
 use Rattle.engine.specs.declared.miter.Miter.{Miter}
 use Rattle.engine.proofs.Laws.Choice.{all-getD}

@@ -1,6 +1,6 @@
 -- Laws of the walk over a job's inputs, block by block: the list and the sets after a block, inputs that change nothing, and how far
 -- the walk has come. Assumes nothing.
-use Prim.Native.Nat.{ℕ, zero, suc, _+_, _-_, _*_, _%_, _^_, min, _≤_, _<_}
+use Prim.Native.Nat.{ℕ, _+_, _-_, _*_, _%_, _^_, min, _≤_, _<_}
 use mathlib.Core.Path.{_≡_, refl, sym, _∙_, ap, subst}
 use mathlib.Core.List.{List}
 use mathlib.Core.Bool.{Bool, true, false, cond}
@@ -10,7 +10,7 @@ use mathlib.Core.Logic.{inl, inr, ⊎-elim}
 use native.Mathlib.Nat.{zero-add, mod-eq-of-lt}
 use borrow.Author.Tests.{ltb-true, ltb-false}
 use lib.Dec.{ltb}
-use lib.ListN.{length, getD, length-take}
+use lib.ListN.{length, length-take}
 use lib.Pow.{pow-add, pow-pos, pow-mono}
 use Rattle.records.specs.Job.{Job}
 use Rattle.records.proofs.Laws.Bytes.{tabulate-ext}
@@ -22,7 +22,7 @@ use Rattle.engine.specs.Inner.Masks.{rectifiers}
 use Rattle.engine.specs.Inner.List.{listedOf, listedFrom, startList}
 use Rattle.engine.specs.Inner.Note.{setsFrom, gathered, filled, ListNoted}
 use Rattle.engine.specs.Inner.Plan.{PlanHeld, ReadsOf}
-use Rattle.engine.specs.Inner.Search.{BlockRange, BlockRead, BlockZero, FreeKept, BlockKept, BlockMasks, BlockMet}
+use Rattle.engine.specs.Inner.Search.{BlockRange, BlockRead, BlockVector, FreeKept, BlockKept, BlockMasks, BlockMet}
 use Rattle.engine.proofs.Laws.Choice.{true-or-false}
 use Rattle.engine.proofs.Laws.Miter.{candidates-good}
 use Rattle.engine.proofs.Laws.Plan.{reads-of}
@@ -138,7 +138,7 @@ met-long masks readings ss count e = ap length e ∙ setsFrom-length (gathered m
 
 module _ {p : Plan} {gates : List ℕ} (h : PlanHeld p gates) (b count : ℕ) {words readings : List ℕ} (e : BlockRead p gates b words readings) where
   -- from the masks of its inputs
-  pub block-met : {w₁ w₂ masks ss ts : List ℕ} → BlockRange (p .inputs) b count → FreeKept p gates words w₁ → BlockZero p gates w₁ w₂
+  pub block-met : {w₁ w₂ masks ss ts : List ℕ} → BlockRange (p .inputs) b count → FreeKept p gates words w₁ → BlockVector p gates 0 w₁ w₂
       → BlockMasks p gates w₂ masks → ts ≡ setsFrom (gathered masks) (λ y. gathered readings y % 1024) ss 0 (filled count)
       → BlockMet p gates b count ss ts
   block-met {masks = masks} {ss = ss} r k z m n =

@@ -4,7 +4,7 @@ use mathlib.Core.Path.{_≡_, refl, sym, _∙_, ap, subst}
 use mathlib.Core.Logic.{⊎-elim}
 use mathlib.Core.List.{List, map}
 use mathlib.Core.Bool.{Bool, true, cond}
-use native.Mathlib.Nat.{zero-add, div-one}
+use native.Mathlib.Nat.{zero-add}
 use native.Mathlib.Omega.{arith}
 use lib.ListN.{length, getD, take, replicate}
 use lib.Pow.{pow-add, pow-mono}
@@ -16,7 +16,7 @@ use Rattle.engine.specs.Rectify.{rectifies}
 use Rattle.engine.specs.Inner.Kernel.{Ran, NetSet, NetsSet, valueIn, rowValue}
 use Rattle.engine.specs.Inner.Masks.{ordered, turns, Among}
 use Rattle.engine.specs.Inner.Plan.{BlockAt, BlockFree, ReadsOf, PlannedOf, TurnsOf}
-use Rattle.engine.specs.Inner.Search.{BlockRead, BlockZero, DrivenRow, TargetTurned, BlockMasks, BlockRange, SettledFrom}
+use Rattle.engine.specs.Inner.Search.{BlockRead, BlockVector, DrivenRow, TargetTurned, BlockMasks, BlockRange, SettledFrom}
 use Rattle.engine.specs.Inner.Note.{gathered}
 use Rattle.engine.specs.Inner.Ranges.{InRange}
 use Rattle.engine.specs.declared.plan.Plan.{Plan}
@@ -24,7 +24,7 @@ use Rattle.engine.proofs.Laws.BlockRows.{equal-rectifies, read-values, 
 use Rattle.engine.proofs.Laws.Gray.{ordered-none, turns-among, ordered-kept}
 use Rattle.engine.proofs.Laws.Plan.{block-read, block-driven, block-target, block-free}
 use Rattle.engine.proofs.Laws.Rows.{bit-gathered}
-use Rattle.engine.proofs.Laws.Word.{bit-zero}
+use Rattle.engine.proofs.Laws.Shift.{bit-shifted}
 
 -- ---- the words of a block
 
@@ -41,7 +41,7 @@ RowEqual p words r =
 
 module _ (p : Plan) (gates : List ℕ) where
   -- .. which is where the vectors rectify the inputs
-  row-rectifies : {j : Job} {is : List ℕ} (q : PlannedOf j is p gates) (b : ℕ) (u : ℕ → ℕ) {w : List ℕ} (r : List ℕ)
+  pub row-rectifies : {j : Job} {is : List ℕ} (q : PlannedOf j is p gates) (b : ℕ) (u : ℕ → ℕ) {w : List ℕ} (r : List ℕ)
       → BlockAt j (q .live) b u w → RowEqual p w r
       → (y : ℕ) → y < 1024 → rowValue r y ≡ cond (rectifies j (1024 * b + y) (u y)) 1 0
   row-rectifies q b u r a e y h = e y h ∙ ap (λ (t : Bool). cond t 1 0) (equal-rectifies q a y h)
@@ -70,13 +70,13 @@ module _ (p : Plan) (gates : List ℕ) where
     block-set q b a =
         block-driven q b u w w₁ w₂ a (rw (q .inputs, q .targets) at (nets-alike {g = λ y k. bit k (u y)} s e)) r
 
-  -- .. to 0
-  pub block-zeroed : {w w₁ w₂ : List ℕ} → NetsSet (p .inputs) (p .targets) (λ y k. 0) w w₁
-      → Ran (slice (getD (p .ends) 0 0) (getD (p .ends) 1 0) gates) w₁ w₂ → BlockZero p gates w w₂
-  block-zeroed s r =
+  -- .. to one vector
+  pub block-vectored : {w w₁ w₂ : List ℕ} (v : ℕ) → NetsSet (p .inputs) (p .targets) (λ y k. bit k v) w w₁
+      → Ran (slice (getD (p .ends) 0 0) (getD (p .ends) 1 0) gates) w₁ w₂ → BlockVector p gates v w w₂
+  block-vectored v s r =
       record {
         long = r .long ∙ s .long;
-        values = λ j is q b a. block-set s r (λ y. 0) (λ y k h l. sym (bit-zero k)) q b a;
+        values = λ j is q b a. block-set s r (λ y. v) (λ y k h l. refl) q b a;
       }
 
   -- .. to the vectors of the rows
@@ -112,10 +112,6 @@ abbrev pub MasksDone : Plan → List ℕ → ℕ → List ℕ → ℕ → List �
 MasksDone p gates u w₀ s w ms =
     (j : Job) (is : List ℕ) (q : TurnsOf j is p gates) (b : ℕ) → BlockAt j (q .planned .live) b (λ y. 0) w₀
     → BlockAt j (q .planned .live) b (λ y. ordered u (s - 1)) w × MasksTo j b u s ms
-
-bit-shifted : (t v : ℕ) → bit t v ≡ bit 0 (v / 2 ^ t)
-unfolding bit
-bit-shifted t v = ap (λ (x : ℕ). x % 2) (sym (div-one (v / 2 ^ t)))
 
 module _ (p : Plan) (gates : List ℕ) (u : ℕ) (o : u < 4) where
   pub masks-first : (w r : List ℕ) {ms : List ℕ} → RowEqual p w r → NetSet 0 (rowValue r) (replicate 256 0) ms

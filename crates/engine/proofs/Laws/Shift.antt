@@ -1,7 +1,7 @@
 -- Laws of the bits of a number that is shifted or cut. Assumes nothing.
 use Prim.Native.Nat.{ℕ, _+_, _-_, _*_, _/_, _%_, _^_, _≤_, _<_}
 use mathlib.Core.Path.{_≡_, sym, _∙_, ap}
-use native.Mathlib.Nat.{mul-le-mul-right}
+use native.Mathlib.Nat.{add-zero, mul-le-mul-right}
 use native.Mathlib.Omega.{arith}
 use lib.Pow.{split, shr-shr, shl-shr, field, mod-mod-pow}
 use Rattle.engine.specs.Eval.{bit}
@@ -9,6 +9,9 @@ use Rattle.engine.specs.Eval.{bit}
 pub bit-shr : (j r a : ℕ) → bit j (a / 2 ^ r) ≡ bit (r + j) a
 unfolding bit
 bit-shr j r a = ap (λ (y : ℕ). y % 2) (shr-shr a r j)
+
+pub bit-shifted : (r a : ℕ) → bit r a ≡ bit 0 (a / 2 ^ r)
+bit-shifted r a = sym (bit-shr 0 r a ∙ ap (λ (k : ℕ). bit k a) (add-zero r))
 
 -- a bit below n is not lost where the number is cut to n bits
 pub bit-mod : (n j x : ℕ) → j < n → bit j (x % 2 ^ n) ≡ bit j x

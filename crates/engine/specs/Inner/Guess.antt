@@ -3,6 +3,7 @@
 --   ListTo j x v         the list v is the one after the inputs below x
 --   OfListed v t         the entries of the table t are of vectors of the list v, or 0
 --   BlockGuessed ..      each of the first count inputs of a block is rectified by one of the two vectors of the table's entry at its reading
+--   BlockShown ..        each of the first count inputs of a block is rectified by a listed vector
 --   BlockListed ..       the list after a block, from the one before
 use Prim.Native.Nat.{ℕ, _+_, _-_, _*_, _/_, _%_, _^_, _<_, min}
 use mathlib.Core.Path.{_≡_}
@@ -19,7 +20,6 @@ use Rattle.engine.specs.Inner.Masks.{rectifiers}
 use Rattle.engine.specs.Inner.List.{Held, listedOf, listedFrom, startList}
 use Rattle.engine.specs.Inner.Note.{gathered, maxReadings}
 use Rattle.engine.specs.Inner.Plan.{BlockFree, PlannedOf, TurnsOf}
-use Rattle.engine.specs.declared.guess.Listing.{Listing}
 use Rattle.engine.specs.declared.list.Vectors.{Vectors}
 use Rattle.engine.specs.declared.plan.Plan.{Plan}
 
@@ -40,8 +40,14 @@ BlockGuessed p gates before readings table count =
     → let e = getD table (gathered readings y % 1024) 0 in
     (rectifies j (1024 * b + y) (e % 16) ≡ true) ⊎ (rectifies j (1024 * b + y) (e / 16 % 16) ≡ true)
 
-pub record BlockListed (p : Plan) (gates : List ℕ) (b : ℕ) (before : Vectors) (r : Listing) : Type 0 where
-  pub held : Held (r .list)
-  pub same : r .kept ≡ true → r .list ≡ before
+-- the block's words before
+abbrev pub BlockShown : Plan → List ℕ → List ℕ → Vectors → ℕ → Type 0
+BlockShown p gates before v count =
+    (j : Job) (is : List ℕ) (q : PlannedOf j is p gates) (b : ℕ) → BlockFree j (q .live) b before
+    → (y : ℕ) → y < count
+    → (u : ℕ) × (any (eqb u) (listedOf v .vectors) ≡ true) × (rectifies j (1024 * b + y) u ≡ true)
+
+pub record BlockListed (p : Plan) (gates : List ℕ) (b : ℕ) (before after : Vectors) : Type 0 where
+  pub held : Held after
   pub listed : (j : Job) → TurnsOf j (candidateNets j) p gates → ListTo j (1024 * b) before
-      → ListTo j (1024 * b + min (2 ^ p .inputs - 1024 * b) 1024) (r .list)
+      → ListTo j (1024 * b + min (2 ^ p .inputs - 1024 * b) 1024) after

@@ -4,7 +4,7 @@
 --   SetsTo j x k ss     the sets of all readings after the inputs below x. Bit 16 of a set is 0 only where one of them gives the reading; where
 --                       it is 1, none does but in ranges of 2 ^ 15 inputs that were skipped, bit i of k for range i
 --   BlockRead ..        the words of a block on the nets that no target leads to, and the rows of the nets read
---   BlockZero ..        the words of a block at vector 0, from those
+--   BlockVector ..      the words of a block at a vector, from those
 --   DrivenRow ..        where the vectors of a block's rows rectify its inputs
 --   soleOf s            the only vector of the set s
 --   SoleTable ss t      the table t of the readings' only vectors
@@ -53,10 +53,10 @@ pub record BlockRead (p : Plan) (gates : List ℕ) (b : ℕ) (words rows : List 
   pub readings : (j : Job) (is : List ℕ) → ReadsOf j is p gates → all (candidateGood j) is ≡ true
       → (y : ℕ) → y < 1024 → gathered rows y ≡ reading j is (1024 * b + y)
 
-pub record BlockZero (p : Plan) (gates before after : List ℕ) : Type 0 where
+pub record BlockVector (p : Plan) (gates : List ℕ) (v : ℕ) (before after : List ℕ) : Type 0 where
   pub long : length after ≡ length before
   pub values : (j : Job) (is : List ℕ) (q : PlannedOf j is p gates) (b : ℕ) → BlockFree j (q .live) b before
-      → BlockAt j (q .live) b (λ y. 0) after
+      → BlockAt j (q .live) b (λ y. v) after
 
 -- what the words before say of the nets that no target leads to, those after say
 abbrev pub FreeKept : Plan → List ℕ → List ℕ → List ℕ → Type 0

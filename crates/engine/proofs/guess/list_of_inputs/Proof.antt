@@ -1,19 +1,15 @@
 -- `engine::guess::list_of_inputs` meets its contract. The invariant: the list after the inputs passed, and a table of its vectors
 -- while the tables are trusted. Assumes nothing.
 use Prim.Native.Nat.{ℕ, _+_, _-_, _*_, _^_, min, _≤_, _<_}
-use mathlib.Core.Path.{_≡_, refl, sym, subst}
+use mathlib.Core.Path.{_≡_, sym, subst}
 use mathlib.Core.Logic.{⊎-elim}
 use mathlib.Core.List.{List}
-use mathlib.Core.Bool.{Bool, true, false, not, _&&_}
 use native.Mathlib.Omega.{arith}
-use borrow.Author.Tests.{lt-ltb}
 use denote.Ref.{now}
-use lib.Dec.{ltb}
 use lib.ListN.{length, length-replicate}
 use Rattle.engine.specs.Inner.Guess.{OfListed}
 use Rattle.engine.specs.Inner.List.{Held}
 use Rattle.engine.specs.declared.list.Vectors.{Vectors}
-use Rattle.engine.proofs.Laws.Choice.{not-both}
 use Rattle.engine.proofs.Laws.Guess.{ListsTo, zeros-listed, lists-start, lists-skip, lists-stuck, lists-all}
 use Rattle.engine.proofs.Laws.Search.{WalkTo, block-range, walk-start, walk-here, walk-block, walk-skip, walk-end}
 use Rattle.engine.proofs.guess.list_of_inputs.Statement.{statement}
@@ -22,7 +18,6 @@ use Rattle.engine.proofs.guess.list_of_inputs.Tie as tie
 -- the list, the table and the trust between two blocks
 record Trusted (v : Vectors) (t : List ℕ) (n : ℕ) : Type 0 where
   held : Held v
-  free : v .stuck ≡ false
   few : n ≤ 64
   table : 0 < n → OfListed v t
 
@@ -50,7 +45,7 @@ loop-holds c =
     let s = t .before .before .before .before in (
       length-replicate {A = ℕ} 16384 0,
       length-replicate {A = ℕ} 1024 4294967295,
-      record { held = f .ensures .0; free = f .ensures .2; few = t .first-trust .ensures; table = λ l. zeros-listed (f .result) },
+      record { held = f .ensures .0; few = t .first-trust .ensures; table = λ l. zeros-listed (f .result) },
       walk-start (ListsTo (s .args .plan) (now (s .args .gates)) (f .result)) (s .pre .inputs) (lists-start (f .result) (f .ensures .1)),
       c .first-tries .ensures,
     )
@@ -68,7 +63,7 @@ list-inputs-requires c κs =
     let l = c .before .before .before .before .before .before .before in
     let i = l .loop .inv in
     let t = i .2 in
-    ((start l .pre, omega (arith, i .3 .inputs), t .held, t .free), (t .table, i .1, i .0))
+    ((start l .pre, omega (arith, i .3 .inputs), t .held), (t .table, i .1, i .0, t .few))
 
 -- past the loop's test, and at it
 abbrev inside : tie.After-list-inputs Inv-loop μ-loop → tie.In-loop Inv-loop μ-loop
@@ -93,36 +88,28 @@ returns c =
     let r = block-range (start l .args .plan .inputs) (l .loop .b) (omega (arith, l .loop .inv .3 .inputs, inside w .loop-test .taken)) in
     (w .list-inputs .ensures .0 .0 .held, lists-all v (lists-stuck v (r .within) (c .if2 .taken) (listed w)))
 
--- a table that is trusted and not made anew was kept
-not-anew : (kept : Bool) (n : ℕ) → (not kept && ltb 0 n) ≡ false → 0 < n → kept ≡ true
-not-anew true n e l = refl
-not-anew false n e l = absurd (not-both (lt-ltb 0 n l) e)
+-- the block, from where the table is made anew or not
+abbrev before : tie.Joined3 Inv-loop μ-loop → tie.After-list-inputs Inv-loop μ-loop
+before c = c .before .before .before
 
 -- the table after it
-table-after : (c : tie.Joined3 Inv-loop μ-loop) → 0 < c .before .before .next-trust .result
-    → OfListed (c .before .before .before .before .before .list-inputs .result .list) (c .if3 .table)
+table-after : (c : tie.Joined3 Inv-loop μ-loop) → (let i = before c .list-inputs in
+    0 < i .result .trust → OfListed (i .result .list) (c .if3 .table))
 table-after c h =
-    let n = c .before .before in
-    let w = n .before .before .before in
-    let i = w .list-inputs in
-    let l = at w .loop in
+    let i = before c .list-inputs in
     ⊎-elim
     (λ u. subst (OfListed (i .result .list)) (sym (u .2)) (u .1 .ensures))
-    (λ u.
-    let k = not-anew (i .result .kept) (n .next-trust .result) (u .0 .left) h in
-    subst (OfListed (i .result .list)) (sym (u .1))
-    (subst (λ (v : Vectors). OfListed v (l .table)) (sym (i .ensures .0 .0 .same k)) (l .inv .2 .table (i .ensures .0 .1 k))))
+    (λ u. subst (OfListed (i .result .list)) (sym (u .1)) (i .ensures .0 .2 (u .0 .left) h))
     (c .if3 .came)
 
 loop-again : tie.Need-loop-again Inv-loop μ-loop
 loop-again c =
-    let n = c .before .before in
-    let w = n .before .before .before in
+    let w = before c in
     let i = at w .loop .inv .3 in
     let e = w .list-inputs .ensures in (
       e .1 .1,
       e .1 .0,
-      record { held = e .0 .0 .held; free = n .before .if2 .left; few = n .next-trust .ensures; table = table-after c },
+      record { held = e .0 .0 .held; few = e .0 .1; table = table-after c },
       walk-block i (omega (arith, inside w .loop-test .taken)) (omega (arith, i .inputs))
           (ListsTo _ _ (w .list-inputs .result .list)) (listed w),
       w .before .before .before .before .before .next-tries .ensures,
@@ -153,6 +140,6 @@ pub list-of-inputs-spec : {M : Type 1} → statement M
 list-of-inputs-spec =
     tie.close
     (tie.spec Inv-loop μ-loop (λ c. omega arith) (λ c κs. tt) first-trust-requires first-tries-requires loop-holds (λ c. omega arith) settled-from-requires
-    (λ c κs. c .before .before .loop .inv .4) list-inputs-requires returns (λ c κs. at (c .before .before) .loop .inv .2 .few)
-    (λ c κs. c .before .before .before .before .before .list-inputs .ensures .0 .0 .held) (λ c. omega arith) (λ c. omega arith) loop-again
+    (λ c κs. c .before .before .loop .inv .4) list-inputs-requires returns
+    (λ c κs. c .before .before .before .list-inputs .ensures .0 .0 .held) (λ c. omega arith) (λ c. omega arith) loop-again
     add-b-2 (λ c. omega arith) loop-again-2 returns-2)

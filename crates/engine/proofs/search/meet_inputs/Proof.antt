@@ -43,14 +43,14 @@ words-long : (c : tie.Joined1) → length (c .if1 .words) ≡ 16384
 words-long c =
     ⊎-elim (λ w. ap length (w .4) ∙ w .2 .ensures .0 .1) (λ w. ap length (w .1) ∙ c .before .read-block .ensures .long) (c .if1 .came)
 
-zero-block-requires : tie.Need-zero-block-requires
-zero-block-requires c κs = let u = c .before in (start (u .before) .pre .0 .0, words-long u)
+vector-block-requires : tie.Need-vector-block-requires
+vector-block-requires c κs = let u = c .before in (start (u .before) .pre .0 .0, words-long u)
 
 masks-of-requires : tie.Need-masks-of-requires
 masks-of-requires c κs =
     let z = c .before in
     let u = z .before .before in
-    (start (u .before) .pre .0 .0, z .zero-block .ensures .long ∙ words-long u)
+    (start (u .before) .pre .0 .0, z .vector-block .ensures .long ∙ words-long u)
 
 returns-2 : tie.Need-returns-2
 returns-2 c =
@@ -63,7 +63,7 @@ returns-2 c =
       (
         block-met (p .0) (s .args .b) (s .args .count) (r .read-block .ensures) (p .1)
             (⊎-elim (λ w. rw (w .4) (w .2 .ensures .0 .0)) (λ w. rw (w .1) (λ j is q b f. f)) (u .if1 .came))
-            (z .zero-block .ensures)
+            (z .vector-block .ensures)
             (m .masks-of .ensures .0)
             (c .meet-block .ensures),
         m .masks-of .ensures .1,
@@ -74,5 +74,5 @@ returns-2 c =
 pub meet-inputs-spec : {M : Type 1} → statement M
 meet-inputs-spec =
     tie.close
-    (tie.spec read-block-requires (λ c κs. search needs) returns zero-block-requires masks-of-requires (λ c. search needs)
+    (tie.spec read-block-requires (λ c κs. search needs) returns vector-block-requires masks-of-requires (λ c. search needs)
     (λ c κs. search needs) returns-2)
