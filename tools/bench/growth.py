@@ -4,8 +4,9 @@
     growth < LINES | python3 tools/bench/growth.py PLOT.svg
 
 A line is what growth.c prints. The law is t = start + step * work, where work is the number of words of 64 inputs that are
-computed: 2^n / 64 * (gates + (2^m - 1) * fanout + 2^m * outputs + noting). start, step and noting are fitted, with equal
-weight on each row's relative error, to all rows but those of the candidates, of which it does not speak.
+computed: 2^n / 64 * (evaluated + (2^m - 1) * fanout + 2^m * compared + noting), of gates that are evaluated, those of them in
+the targets' fanout and outputs that are compared. start, step and noting are fitted, with equal weight on each row's relative
+error. The law does not speak of candidates, nor of a job with no output to compare, which is settled before any block.
 """
 
 import math
@@ -22,9 +23,10 @@ class Row:
     inputs: int
     targets: int
     gates: int
-    fanout: int
-    outputs: int
     candidates: int
+    evaluated: int
+    fanout: int
+    compared: int
     us: float
 
     def words(self):
@@ -32,7 +34,7 @@ class Row:
 
     def gate_words(self):
         vectors = 2**self.targets
-        return self.words() * (self.gates + (vectors - 1) * self.fanout + vectors * self.outputs)
+        return self.words() * (self.evaluated + (vectors - 1) * self.fanout + vectors * self.compared)
 
 
 @dataclass
@@ -73,16 +75,17 @@ def fitted(rows):
 
 
 def print_table(rows, law):
-    print(f"{'varied':<11} inputs targets gates fanout outputs candidates  microseconds  law / measured")
+    print(f"{'varied':<11} inputs targets gates candidates  evaluated fanout compared  microseconds  law / measured")
     for row in rows:
-        share = law.us(law.work(row)) / row.us
-        numbers = f"{row.inputs:6} {row.targets:7} {row.gates:5} {row.fanout:6} {row.outputs:7} {row.candidates:10}"
-        print(f"{row.series:<11} {numbers} {row.us:13.1f} {share:15.2f}")
+        share = f"{law.us(law.work(row)) / row.us:.2f}" if row.compared > 0 else "-"
+        given = f"{row.inputs:6} {row.targets:7} {row.gates:5} {row.candidates:10}"
+        left = f"{row.evaluated:10} {row.fanout:6} {row.compared:8}"
+        print(f"{row.series:<11} {given} {left} {row.us:13.1f} {share:>15}")
     print(f"law: {law_text(law)}")
 
 
 def law_text(law):
-    words = f"2^n / 64 * (gates + (2^m - 1) * fanout + 2^m * outputs + {law.noting:.0f})"
+    words = f"2^n / 64 * (evaluated + (2^m - 1) * fanout + 2^m * compared + {law.noting:.0f})"
     return f"{law.start:.1f} us + {1000 * law.step:.2f} ns * {words}"
 
 
@@ -145,7 +148,7 @@ def plot(rows, law):
     for row in rows:
         x, y = across.at(law.work(row)), up.at(row.us)
         yield f'<circle cx="{x}" cy="{y}" r="4" fill="{COLOURS[row.series]}" fill-opacity="0.7"/>'
-    words = f"words of 64 inputs: 2ⁿ / 64 · (gates + (2ᵐ − 1) · fanout + 2ᵐ · outputs + {law.noting:.0f})"
+    words = f"words of 64 inputs: 2ⁿ / 64 · (evaluated + (2ᵐ − 1) · fanout + 2ᵐ · compared + {law.noting:.0f})"
     yield text(middle, HEIGHT - 16, words, 'text-anchor="middle"')
     yield text(20, (TOP + HEIGHT - BOTTOM) / 2, "microseconds a call", TURNED)
     for i, (name, colour) in enumerate(COLOURS.items()):
@@ -170,7 +173,7 @@ def read_row(line):
 def main():
     rows = [read_row(line) for line in sys.stdin]
     rows.sort(key=lambda row: list(COLOURS).index(row.series))
-    law = fitted([row for row in rows if row.series != "candidates"])
+    law = fitted([row for row in rows if row.series != "candidates" and row.compared > 0])
     print_table(rows, law)
     with open(sys.argv[1], "w", encoding="utf-8") as file:
         file.write("\n".join(plot(rows, law)) + "\n")
