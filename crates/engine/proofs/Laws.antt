@@ -26,6 +26,7 @@ pub mod Loop
 pub mod Marks
 pub mod Merge
 pub mod Miter
+pub mod Narrow
 pub mod Needed
 pub mod Note
 pub mod Notes

@@ -23,3 +23,4 @@ pub mod Renumber
 pub mod Netlist
 pub mod Fitting
 pub mod Merge
+pub mod Narrow

@@ -279,7 +279,7 @@ pub(super) fn list_of_inputs(gates: &[u64], plan: Plan) -> Vectors
 }
 
 // Vector 0 alone, with which the loop begins.
-fn first_list() -> Vectors
+pub(super) fn first_list() -> Vectors
     ensures { λ r. ⌜ Held r × (listedOf r ≡ startList) × (r .stuck ≡ false) ⌝ }
 {
     Vectors {

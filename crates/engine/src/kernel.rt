@@ -17,7 +17,7 @@ use super::packed::SLOTS_AT;
 use super::word::broadcast;
 
 // An operation on two words: 2 is and, 3 is or, any other is parity. A fourth arm would cost a jump table.
-fn apply(op: u64, a: u64, b: u64) -> u64
+pub(super) fn apply(op: u64, a: u64, b: u64) -> u64
     ensures { λ r. ⌜ r ≡ applied op a b ⌝ }
 {
     match op {

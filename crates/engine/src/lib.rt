@@ -17,6 +17,7 @@ mod list;
 mod masks;
 mod merge;
 mod miter;
+mod narrow;
 mod netlist;
 mod note;
 mod packed;

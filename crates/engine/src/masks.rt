@@ -31,7 +31,7 @@ fn turned_at(u: usize, step: usize) -> usize
 }
 
 // The vector at step s: a Gray code with the bits of targets 0 and u exchanged.
-fn vector_at(u: usize, step: usize) -> usize
+pub(super) fn vector_at(u: usize, step: usize) -> usize
     requires { ⌜ (u < 4) × (step < 16) ⌝ }
     ensures { λ r. ⌜ r ≡ ordered u step ⌝ }
 {

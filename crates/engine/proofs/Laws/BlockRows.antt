@@ -54,15 +54,41 @@ numberOf-short h n k z = short-from h 0 n k (λ i l. z i (omega arith))
 
 -- ---- what a block's words say of live nets
 
-module _ (j : Job) (good : PartsGood j) (live : ℕ → Bool) (x v y : ℕ) (words : List ℕ) (at : Agrees j live x v (column words y)) where
-  live-value : (i : ℕ) → i < miterNets j → live i ≡ true → valueIn words y i ≡ netAt (miterValues j x v) i
-  live-value i l e = sym (netAt-column words y i (omega (arith, miter-nets j good))) ∙ at i l e
+-- values of live nets that agree with the miter's
+pub agree-values : (j : Job) (live : ℕ → Bool) (x v : ℕ) (vs : List ℕ) → Agrees j live x v vs → (os : List ℕ)
+    → all (λ i. ltb i (miterNets j)) os ≡ true → all live os ≡ true → map (netAt vs) os ≡ map (netAt (miterValues j x v)) os
+agree-values j live x v vs at os l e =
+    map-agree (netAt vs) (netAt (miterValues j x v)) os
+    (λ i m. at i (ltb-true i (miterNets j) (all-true (λ i. ltb i (miterNets j)) os l i m)) (all-true live os e i m))
 
-  live-values : (os : List ℕ) → all (λ i. ltb i (miterNets j)) os ≡ true → all live os ≡ true
-      → map (valueIn words y) os ≡ map (netAt (miterValues j x v)) os
-  live-values os l e =
-      map-agree (valueIn words y) (netAt (miterValues j x v)) os
-      (λ i m. live-value i (ltb-true i (miterNets j) (all-true (λ i. ltb i (miterNets j)) os l i m)) (all-true live os e i m))
+module _ (j : Job) (good : PartsGood j) where
+  -- nets of the miter have their values in the column
+  column-values : (words : List ℕ) (y : ℕ) (os : List ℕ) → all (λ i. ltb i (miterNets j)) os ≡ true
+      → map (valueIn words y) os ≡ map (netAt (column words y)) os
+  column-values words y os l =
+      map-agree (valueIn words y) (netAt (column words y)) os
+      (λ i m.
+      let h = ltb-true i (miterNets j) (all-true (λ i. ltb i (miterNets j)) os l i m) in
+      sym (netAt-column words y i (omega (arith, miter-nets j good))))
+
+  module _ (is : List ℕ) (f : all (candidateGood j) is ≡ true) where
+    free : (i : ℕ) → Mem i is → (i < oldNets j) × (netAt (fanMarks j) i ≡ 0)
+    free i m = candidate-free j i (all-true (candidateGood j) is f i m)
+
+    olds : all (λ i. ltb i (oldNets j)) is ≡ true
+    olds = all-of-members (λ i. ltb i (oldNets j)) is (λ i m. lt-ltb i (oldNets j) (free i m .0))
+
+    nets : all (λ i. ltb i (miterNets j)) is ≡ true
+    nets = all-below-more (oldNets j) (miterNets j) (oldNets-le j good) is olds
+
+    -- read nets that no target leads to are the reading
+    pub agree-reading : (live : ℕ → Bool) (x : ℕ) (vs : List ℕ) → Agrees j (freeOf j live) x 0 vs → all live is ≡ true
+        → numberOf (map (netAt vs) is) ≡ reading j is x
+    agree-reading live x vs a l =
+        ap numberOf
+        (agree-values j (freeOf j live) x 0 vs a is nets
+        (all-of-members (freeOf j live) is (λ i m. zero-free j live i (all-true live is l i m) (free i m .1))))
+        ∙ sym (reading-miter j is x olds)
 
 module _ {j : Job} {is : List ℕ} {plan : Plan} {gates : List ℕ} where
   -- equal outputs say that the vector rectifies the input
@@ -73,7 +99,9 @@ module _ {j : Job} {is : List ℕ} {plan : Plan} {gates : List ℕ} where
   equal-rectifies p {b} {v} {words} at y h =
       let good = p .good in
       let x = 1024 * b + y in
-      let values = live-values j good (p .live) x (v y) y words (at .agrees y h) in
+      let values : (os : List ℕ) → all (λ i. ltb i (miterNets j)) os ≡ true → all (p .live) os ≡ true
+      → map (valueIn words y) os ≡ map (netAt (miterValues j x (v y))) os =
+      λ os l e. column-values j good words y os l ∙ agree-values j (p .live) x (v y) (column words y) (at .agrees y h) os l e in
       let pairs = p .pairs in
       rw (
         values (take (plan .outs) (plan .outputs)) (pairs .olds) (p .live-outputs),
@@ -86,17 +114,8 @@ module _ {j : Job} {is : List ℕ} {plan : Plan} {gates : List ℕ} where
       → all (candidateGood j) is ≡ true → (y : ℕ) → y < 1024
       → numberOf (map (valueIn words y) is) ≡ reading j is (1024 * b + y)
   read-values p {b} {words} at f y h =
-      let good = p .good in
-      let x = 1024 * b + y in
-      let free : (i : ℕ) → Mem i is → (i < oldNets j) × (netAt (fanMarks j) i ≡ 0) =
-      λ i m. candidate-free j i (all-true (candidateGood j) is f i m) in
-      let old : all (λ i. ltb i (oldNets j)) is ≡ true =
-      all-of-members (λ i. ltb i (oldNets j)) is (λ i m. lt-ltb i (oldNets j) (free i m .0)) in
-      ap numberOf
-      (live-values j good (freeOf j (p .live)) x 0 y words (at .agrees y 0 h) is
-      (all-below-more (oldNets j) (miterNets j) (oldNets-le j good) is old)
-      (all-of-members (freeOf j (p .live)) is (λ i m. zero-free j (p .live) i (all-true (p .live) is (p .live-nets) i m) (free i m .1))))
-      ∙ sym (reading-miter j is x old)
+      ap numberOf (column-values j (p .good) words y is (nets j (p .good) is f))
+      ∙ agree-reading j (p .good) is f (p .live) (1024 * b + y) (column words y) (at .agrees y 0 h) (p .live-nets)
 
 -- ---- the rows of the vectors taken so far
 

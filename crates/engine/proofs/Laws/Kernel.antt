@@ -71,7 +71,7 @@ unfolding left folded joined
 left-all op [] = refl
 left-all op (v ∷ vs) = rw zero-max (left-from op v vs)
 
-left-next : (f : ℕ → ℕ) (first op x n rest : ℕ) → 0 < n
+pub left-next : (f : ℕ → ℕ) (first op x n rest : ℕ) → 0 < n
     → left op op (joined first x (f (rest % 1024))) (map f (fields (n - 1) (rest / 1024))) ≡ left first op x (map f (fields n rest))
 unfolding left fields
 left-next f first op x zero rest h = let z : ⊥ = omega arith in absurd z

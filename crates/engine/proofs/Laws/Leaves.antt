@@ -107,14 +107,15 @@ pub valueIn-zero : (n y i : ℕ) → valueIn (replicate n 0) y i ≡ 0
 unfolding valueIn
 valueIn-zero n y i = ap (bit (y % 64)) (getD-zeros n (16 * i + y / 64)) ∙ bit-zero (y % 64)
 
-pub gathered-nets : (nets words rows : List ℕ) (count : ℕ) → count ≤ length nets → count ≤ 16
-    → NetsSet 0 count (λ y k. valueIn words y (getD nets k 0)) (replicate 256 0) rows → (y : ℕ) → y < 1024
-    → gathered rows y ≡ numberOf (map (valueIn words y) (take count nets))
+-- f says the value of a net in a scenario
+pub gathered-nets : (f : ℕ → ℕ → ℕ) (nets rows : List ℕ) (count : ℕ) → count ≤ length nets → count ≤ 16
+    → NetsSet 0 count (λ y k. f y (getD nets k 0)) (replicate 256 0) rows → (y : ℕ) → y < 1024
+    → gathered rows y ≡ numberOf (map (f y) (take count nets))
 unfolding gathered tabulate
-gathered-nets nets words rows count h l s y k =
+gathered-nets f nets rows count h l s y k =
     let n = length-take-le count nets h in
-    numberOf-padded (valueIn rows y) (valueIn words y) 0 16 (take count nets) (omega arith)
-    (λ i o. let p : i < count = omega arith in s .put y i k p ∙ ap (valueIn words y) (sym (getD-take count nets i 0 p)))
+    numberOf-padded (valueIn rows y) (f y) 0 16 (take count nets) (omega arith)
+    (λ i o. let p : i < count = omega arith in s .put y i k p ∙ ap (f y) (sym (getD-take count nets i 0 p)))
     (λ i o. s .kept y (0 + i) k (inr (omega arith)) ∙ valueIn-zero 256 y (0 + i))
 
 -- ---- equal outputs
@@ -133,7 +134,7 @@ kept-bit x true h = omega arith
 kept-bit x false h = omega arith
 
 -- a word, with 0 where two words differ
-bit-kept : (j x p q : ℕ) → j < 64
+pub bit-kept : (j x p q : ℕ) → j < 64
     → bit j (bitAnd x (bitXor (bitXor p q) (2 ^ 64 - 1))) ≡ cond (eqb (bit j p) (bit j q)) (bit j x) 0
 bit-kept j x p q h =
     bit-and j x (bitXor (bitXor p q) (2 ^ 64 - 1))

@@ -55,22 +55,22 @@ column-binary w y i =
 
 -- ---- leaves
 
-abbrev leavesOf : Job → ℕ → ℕ → List ℕ
+abbrev pub leavesOf : Job → ℕ → ℕ → List ℕ
 leavesOf j x v = bits (j .inputs) x ++ bits (j .targets) v
 
 module _ (j : Job) (x v : ℕ) where
-  length-leaves : length (leavesOf j x v) ≡ j .inputs + j .targets
+  pub length-leaves : length (leavesOf j x v) ≡ j .inputs + j .targets
   length-leaves =
       length-append (bits (j .inputs) x) (bits (j .targets) v)
       ∙ omega (arith, length-bits (j .inputs) x, length-bits (j .targets) v)
 
-  leaf-input : (i : ℕ) → i < j .inputs → getD (leavesOf j x v) i 0 ≡ bit i x
+  pub leaf-input : (i : ℕ) → i < j .inputs → getD (leavesOf j x v) i 0 ≡ bit i x
   unfolding bits
   leaf-input i h =
       List·getD-append (bits (j .inputs) x) (bits (j .targets) v) 0 i (omega (arith, length-bits (j .inputs) x))
       ∙ getD-tabulate (j .inputs) (λ k. bit k x) i 0 h
 
-  leaf-target : (k : ℕ) → k < j .targets → getD (leavesOf j x v) (j .inputs + k) 0 ≡ bit k v
+  pub leaf-target : (k : ℕ) → k < j .targets → getD (leavesOf j x v) (j .inputs + k) 0 ≡ bit k v
   unfolding bits
   leaf-target k h =
       ap (λ (n : ℕ). getD (leavesOf j x v) (n + k) 0) (sym (length-bits (j .inputs) x))
@@ -78,13 +78,13 @@ module _ (j : Job) (x v : ℕ) where
       ∙ getD-tabulate (j .targets) (λ k. bit k v) k 0 h
 
   -- the first nets of the miter
-  leaf-value : (i : ℕ) → i < j .inputs + j .targets → netAt (miterValues j x v) i ≡ getD (leavesOf j x v) i 0
+  pub leaf-value : (i : ℕ) → i < j .inputs + j .targets → netAt (miterValues j x v) i ≡ getD (leavesOf j x v) i 0
   unfolding miterValues values netAt
   leaf-value i h = netAt-extended valueOf (leavesOf j x v) (miterGates j) i (omega (arith, length-leaves))
 
 -- ---- nets that no target leads to
 
-abbrev base : Job → ℕ
+abbrev pub base : Job → ℕ
 base j = j .inputs + j .targets
 
 abbrev pub fanMarks : Job → List ℕ
@@ -142,32 +142,39 @@ module _ (j : Job) {merged : List Gate} (s : SameGates (base j) (miterGates j) m
 
 -- ---- runs of a list
 
-room : (j : Job) → PartsGood j → base j + length (miterGates j) ≤ 1024
+pub room : (j : Job) → PartsGood j → base j + length (miterGates j) ≤ 1024
 unfolding miterNets
 room j g = omega (arith, miter-nets j g)
 
 module _ {j : Job} {merged : List Gate} (good : PartsGood j) (s : SameGates (base j) (miterGates j) merged) where
   -- the live gates that are changed, run where all other live nets have their values
-  run-agrees : (live changed : ℕ → Bool) → Closed live (base j) merged → (cs w w′ : List ℕ)
-      → cs ≡ partOf live changed (base j) merged → Ran cs w w′
-      → (y x v : ℕ) → y < 1024 → Known live changed (base j) (miterNets j) (column w y) (miterValues j x v)
-      → Agrees j live x v (column w′ y)
+  pub values-agree : (live changed : ℕ → Bool) → Closed live (base j) merged → (vs vs′ : List ℕ) → length vs ≡ 1024 → Binary vs
+      → vs′ ≡ evaluated codeValue vs (partOf live changed (base j) merged)
+      → (x v : ℕ) → Known live changed (base j) (miterNets j) vs (miterValues j x v) → Agrees j live x v vs′
   unfolding miterValues miterNets values
-  run-agrees live changed closed cs w w′ e r y x v h k i l m =
+  values-agree live changed closed vs vs′ long binary e x v k i l m =
       let same = same-values s (leavesOf j x v) (length-leaves j x v) in
-      ap (λ (vs : List ℕ). netAt vs i)
-      (r .values y h ∙ ap (evaluated codeValue (column w y)) e)
-      ∙ run-part values-follow live changed (base j) merged (leavesOf j x v) (column w y) (s .good) (s .forms)
+      ap (λ (us : List ℕ). netAt us i) e
+      ∙ run-part values-follow live changed (base j) merged (leavesOf j x v) vs (s .good) (s .forms)
       (omega (arith, room j good, s .long))
-      (omega (arith, length-column w y))
+      (omega arith)
       (length-leaves j x v)
       closed
-      (column-binary w y)
+      binary
       (λ n o p q. k n (omega (arith, s .long)) p q ∙ ap (λ (vs : List ℕ). netAt vs n) (sym same))
       i
       (omega (arith, s .long))
       m
-      ∙ ap (λ (vs : List ℕ). netAt vs i) same
+      ∙ ap (λ (us : List ℕ). netAt us i) same
+
+  -- .. in a scenario of a block
+  run-agrees : (live changed : ℕ → Bool) → Closed live (base j) merged → (cs w w′ : List ℕ)
+      → cs ≡ partOf live changed (base j) merged → Ran cs w w′
+      → (y x v : ℕ) → y < 1024 → Known live changed (base j) (miterNets j) (column w y) (miterValues j x v)
+      → Agrees j live x v (column w′ y)
+  run-agrees live changed closed cs w w′ e r y x v h k =
+      values-agree live changed closed (column w y) (column w′ y) (length-column w y) (column-binary w y)
+      (r .values y h ∙ ap (evaluated codeValue (column w y)) e) x v k
 
 -- a block whose inputs are loaded
 module _ {j : Job} {is : List ℕ} {p : Plan} {gates : List ℕ} (q : ReadsOf j is p gates) where
@@ -324,20 +331,19 @@ module _ {j : Job} {is : List ℕ} {p : Plan} {gates : List ℕ} (q : PlannedOf 
           (true-or-false (ltb i (j .inputs)))
 
 -- the vectors have no say on the nets that no target leads to
-pub block-free : {j : Job} {live : ℕ → Bool} {b : ℕ} {u : ℕ → ℕ} {w : List ℕ} → BlockAt j live b u w → BlockFree j live b w
+pub free-agrees : (j : Job) (live : ℕ → Bool) (x u v : ℕ) (vs : List ℕ) → Agrees j live x u vs → Agrees j (freeOf j live) x v vs
 unfolding miterValues
-block-free {j} {live} {b} {u} a =
-    record {
-      agrees =
-          λ y v h i l m.
-          let x = 1024 * b + y in
-          a .agrees y h i l (and-left (live i) (not (fanned j i)) m)
-          ∙ marks-agree (base j) (j .inputs) (j .targets) (miterGates j) (leavesOf j x (u y)) (leavesOf j x v)
-          (λ k g o.
-          let n : k < j .inputs = ⊎-elim (λ z. z) (λ (z : base j ≤ k). let f : ⊥ = omega arith in absurd f) o in
-          leaf-input j x (u y) k n ∙ sym (leaf-input j x v k n))
-          (length-leaves j x (u y))
-          (length-leaves j x v)
-          i
-          (free-zero j live i m);
-    }
+free-agrees j live x u v vs a i l m =
+    a i l (and-left (live i) (not (fanned j i)) m)
+    ∙ marks-agree (base j) (j .inputs) (j .targets) (miterGates j) (leavesOf j x u) (leavesOf j x v)
+    (λ k g o.
+    let n : k < j .inputs = ⊎-elim (λ z. z) (λ (z : base j ≤ k). let f : ⊥ = omega arith in absurd f) o in
+    leaf-input j x u k n ∙ sym (leaf-input j x v k n))
+    (length-leaves j x u)
+    (length-leaves j x v)
+    i
+    (free-zero j live i m)
+
+pub block-free : {j : Job} {live : ℕ → Bool} {b : ℕ} {u : ℕ → ℕ} {w : List ℕ} → BlockAt j live b u w → BlockFree j live b w
+block-free {j} {live} {b} {u} {w} a =
+    record { agrees = λ y v h. free-agrees j live (1024 * b + y) (u y) v (column w y) (a .agrees y h) }

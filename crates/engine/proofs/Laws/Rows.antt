@@ -77,7 +77,7 @@ module _ (x r : List ℕ) (at : ℕ) (h : at ≤ 12) (c : Filled (λ k. getD x (
   unfolding bits tabulate upFrom
   gathered-four y l =
       let q = gathered x y / 2 ^ at in
-      gathered-nets four x r 4 (omega arith) (omega arith) four-set y l
+      gathered-nets (valueIn x) four r 4 (omega arith) (omega arith) four-set y l
       ∙ ap numberOf
       (tabulate-ext 4 (λ k. valueIn x y (at + k)) (λ k. bit k q)
       (λ k m. sym (bit-shr k at (gathered x y) ∙ bit-gathered x y (at + k) (omega arith))))

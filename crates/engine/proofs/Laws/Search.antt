@@ -36,17 +36,21 @@ use Rattle.engine.specs.declared.plan.Plan.{Plan}
 
 -- ---- the inputs of a block
 
--- the vectors and the reading of an input depend on its lowest n bits alone
-module _ (j : Job) (x : ℕ) where
-  bits-low : bits (j .inputs) (x % 2 ^ j .inputs) ≡ bits (j .inputs) x
+-- the vectors and the reading of an input depend on its lowest bits alone, n for n inputs
+module _ (j : Job) (n x : ℕ) (l : j .inputs ≤ n) where
+  bits-low : bits (j .inputs) (x % 2 ^ n) ≡ bits (j .inputs) x
   unfolding bits
-  bits-low = tabulate-ext (j .inputs) (λ i. bit i (x % 2 ^ j .inputs)) (λ i. bit i x) (λ i h. bit-mod (j .inputs) i x h)
+  bits-low = tabulate-ext (j .inputs) (λ i. bit i (x % 2 ^ n)) (λ i. bit i x) (λ i h. bit-mod n i x (omega arith))
 
-  rectifiers-low : rectifiers j x ≡ rectifiers j (x % 2 ^ j .inputs)
+  pub rectifies-low : (v : ℕ) → rectifies j x v ≡ rectifies j (x % 2 ^ n) v
+  unfolding rectifies oldOutputs goldenOutputs oldValues
+  rectifies-low v = rw bits-low
+
+  pub rectifiers-low : rectifiers j x ≡ rectifiers j (x % 2 ^ n)
   unfolding rectifiers rectifies oldOutputs goldenOutputs oldValues
   rectifiers-low = rw bits-low
 
-  reading-low : (is : List ℕ) → reading j is x ≡ reading j is (x % 2 ^ j .inputs)
+  pub reading-low : (is : List ℕ) → reading j is x ≡ reading j is (x % 2 ^ n)
   unfolding reading oldValues
   reading-low is = rw bits-low
 
@@ -71,7 +75,7 @@ module _ (j : Job) (is : List ℕ) (f : ℕ → ℕ) (low : (x : ℕ) → f x �
       let few : c ≤ n = omega (arith, e .1) in
       whole
       ∙ ap (λ (x : ℕ). setsFrom f h ss x n) z
-      ∙ setsFrom-agree f h (λ y. f (y % c)) (λ y. h (y % c)) ss 0 0 n (λ i u. (low (0 + i), reading-low j (0 + i) is))
+      ∙ setsFrom-agree f h (λ y. f (y % c)) (λ y. h (y % c)) ss 0 0 n (λ i u. (low (0 + i), reading-low j (j .inputs) (0 + i) (omega arith) is))
       ∙ setsFrom-repeats f h ss c n (pow-pos (j .inputs)) few
       ∙ ap (λ (x : ℕ). setsFrom f h ss x c) (sym z)
       ∙ ap (setsFrom f h ss (1024 * b)) (sym (e .1)))
@@ -149,7 +153,7 @@ module _ {p : Plan} {gates : List ℕ} (h : PlanHeld p gates) (b count : ℕ) {w
             let q = t .planned in
             sets-more j (omega (arith, h .targets, q .targets)) (1024 * b) count
             (n
-            ∙ noted-sets j is (rectifiers j) (rectifiers-low j) b count masks readings ss
+            ∙ noted-sets j is (rectifiers j) (λ x. rectifiers-low j (j .inputs) x (omega arith)) b count masks readings ss
             (subst (λ (i : ℕ). BlockRange i b count) (q .inputs) r)
             (m .sets j is t b (z .values j is q b (k j is q b (e .free j is (reads-of q)))))
             (e .readings j is (reads-of q) (candidates-good j (q .good)))
