@@ -44,19 +44,20 @@ fn look_four(readings: u64, table: &[u16; READINGS]) -> u64
 }
 
 // The rows of the vectors that a table gives for the readings of a block's inputs.
-pub(super) fn table_rows(readings: [u64; ROWS], table: &[u16; READINGS]) -> [u64; ROWS]
+pub(super) fn table_rows(mut readings: [u64; ROWS], table: &[u16; READINGS]) -> [u64; ROWS]
     requires { ⌜ length readings ≡ 256 ⌝ }
     ensures { λ r. ⌜ (length r ≡ 256)
         × ((y : ℕ) → y < 1024 → gathered r y ≡ getD (now (table .entry)) (gathered readings y % 1024) 0) ⌝ }
 {
-    let read = transpose(readings, ROW);
+    transpose(&mut readings, ROW);
     let mut found = [0u64; ROWS];
     let mut i = 0usize;
     while i < 256 {
-        found[i] = look_four(read[i], table);
+        found[i] = look_four(readings[i], table);
         i += 1;
     }
-    transpose(found, ROW)
+    transpose(&mut found, ROW);
+    found
 }
 
 // Row i of 16 rows.

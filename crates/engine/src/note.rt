@@ -54,8 +54,8 @@ fn meet_column(masks: &[u64; ROWS], readings: &[u64; ROWS], w: usize, sets: &mut
 
 // The sets after the scenarios of a block's first columns.
 pub(super) fn meet_block(
-    masks: [u64; ROWS],
-    readings: [u64; ROWS],
+    mut masks: [u64; ROWS],
+    mut readings: [u64; ROWS],
     columns: usize,
     sets: &mut [u32; READINGS],
 )
@@ -63,11 +63,11 @@ pub(super) fn meet_block(
     ensures { λ r. ⌜ now (sets .exit)
         ≡ setsFrom (gathered masks) (λ y. gathered readings y % 1024) (now (sets .entry)) 0 (64 * columns) ⌝ }
 {
-    let turned = transpose(masks, columns);
-    let read = transpose(readings, columns);
+    transpose(&mut masks, columns);
+    transpose(&mut readings, columns);
     let mut w = 0usize;
     while w < columns {
-        meet_column(&turned, &read, w, sets);
+        meet_column(&masks, &readings, w, sets);
         w += 1;
     }
 }
@@ -102,19 +102,19 @@ fn sort_column(masks: &[u64; ROWS], readings: &[u64; ROWS], w: usize, sets: &mut
 
 // .. for the scenarios of a block's first columns
 pub(super) fn sort_block(
-    masks: [u64; ROWS],
-    readings: [u64; ROWS],
+    mut masks: [u64; ROWS],
+    mut readings: [u64; ROWS],
     columns: usize,
     sets: &mut [u32; READINGS],
 )
     requires { ⌜ (length masks ≡ 256) × (length readings ≡ 256) × (columns ≤ 16) ⌝ }
     ensures { λ _. ⌜ length (now (sets .exit)) ≡ length (now (sets .entry)) ⌝ }
 {
-    let turned = transpose(masks, columns);
-    let read = transpose(readings, columns);
+    transpose(&mut masks, columns);
+    transpose(&mut readings, columns);
     let mut w = 0usize;
     while w < columns {
-        sort_column(&turned, &read, w, sets);
+        sort_column(&masks, &readings, w, sets);
         w += 1;
     }
 }

@@ -81,16 +81,15 @@ fn put_column(w: usize, c: [u64; ROW], x: &mut [u64; ROWS])
     }
 }
 
-// The block's first columns: bit 16 k + i of word w of row j is bit 16 k + j of word w of row i.
-pub(super) fn transpose(x: [u64; ROWS], columns: usize) -> [u64; ROWS]
-    requires { ⌜ (length x ≡ 256) × (columns ≤ 16) ⌝ }
-    ensures { λ r. ⌜ (length r ≡ 256) × ColumnsTurned columns x r ⌝ }
+// Turns the block's first columns in place: bit 16 k + i of word w of row j is then what bit 16 k + j of word w of row i was.
+pub(super) fn transpose(x: &mut [u64; ROWS], columns: usize)
+    requires { ⌜ (length (now x) ≡ 256) × (columns ≤ 16) ⌝ }
+    ensures { λ _. ⌜ (length (now (x .exit)) ≡ 256) × ColumnsTurned columns (now (x .entry)) (now (x .exit)) ⌝ }
 {
-    let mut y = x;
     let mut w = 0usize;
     while w < columns {
-        put_column(w, turn(column(&y, w)), &mut y);
+        let c = turn(column(x, w));
+        put_column(w, c, x);
         w += 1;
     }
-    y
 }

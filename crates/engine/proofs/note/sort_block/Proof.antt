@@ -7,16 +7,16 @@ use Rattle.engine.proofs.note.sort_block.Statement.{statement}
 use Rattle.engine.proofs.note.sort_block.Tie as tie
 
 abbrev Inv-loop : tie.InvT-loop
-Inv-loop columns sets₀ turned read w₀ sets w = (w ≤ columns) × (length sets ≡ length sets₀)
+Inv-loop columns sets₀ masks readings w₀ sets w = (w ≤ columns) × (length sets ≡ length sets₀)
 
 abbrev μ-loop : tie.MeasureT-loop
-μ-loop columns sets₀ turned read w₀ sets w = columns - w
+μ-loop columns sets₀ masks readings w₀ sets w = columns - w
 
 transpose-requires : tie.Need-transpose-requires Inv-loop μ-loop
-transpose-requires c κs = (c .pre .0, c .pre .2)
+transpose-requires c κs = let p = c .before .pre in (p .0, p .2)
 
 transpose-requires-2 : tie.Need-transpose-requires-2 Inv-loop μ-loop
-transpose-requires-2 c κs = let p = c .before .pre in (p .1, p .2)
+transpose-requires-2 c κs = let p = c .before .before .before .pre in (p .1, p .2)
 
 loop-again : tie.Need-loop-again Inv-loop μ-loop
 loop-again c = (omega arith, c .sort-column .ensures ∙ c .before .before .before .before .before .loop .inv .1)
