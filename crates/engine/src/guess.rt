@@ -51,6 +51,13 @@ pub struct Listing {
     pub anew: bool,
 }
 
+// How it is shown that a block leaves the list as it is: by the listed vectors themselves, by the tables, or not at all.
+enum Shown {
+    Listed,
+    Tables,
+    Not,
+}
+
 // The first len vectors of a list, as a set.
 fn listed_set(list: [u8; VECTORS], len: usize) -> u16
     requires { ⌜ (len ≤ 16) × ((i : ℕ) → getD list i 0 < 16) ⌝ }
@@ -160,7 +167,7 @@ fn few_listed(plan: Plan, len: usize, trust: usize) -> bool
     len == 1
 }
 
-// How it is shown that a block leaves the list as it is: 1 by the listed vectors themselves, 2 by the tables, 0 not at all.
+// How it is shown that a block leaves the list as it is: that way is tried which costs less.
 fn shown_by(
     gates: &[u64],
     plan: Plan,
@@ -170,25 +177,26 @@ fn shown_by(
     table: &[u16; READINGS],
     count: usize,
     words: &mut [u64; WORDS],
-) -> u8
+) -> Shown
     requires { ⌜ PlanHeld plan (now gates) × (length readings ≡ 256) × Held list × (length (now words) ≡ 16384) ⌝ }
     ensures { λ _. ⌜ FreeKept plan (now (gates .entry)) (now (words .entry)) (now (words .exit)) × (length (now (words .exit)) ≡ 16384) ⌝ }
-    ensures { λ r. ⌜ (r ≡ 1 → BlockShown plan (now (gates .entry)) (now (words .entry)) list count)
-        × (r ≡ 2 → (0 < trust) × BlockGuessed plan (now (gates .entry)) (now (words .entry)) readings (now (table .entry)) count) ⌝ }
+    ensures { λ r. ⌜ (r ≡ Shown.Listed → BlockShown plan (now (gates .entry)) (now (words .entry)) list count)
+        × (r ≡ Shown.Tables → (0 < trust)
+        × BlockGuessed plan (now (gates .entry)) (now (words .entry)) readings (now (table .entry)) count) ⌝ }
 {
     if few_listed(plan, list.len, trust) {
         if try_listed(gates, plan, list, count, words) {
-            return 1;
+            return Shown::Listed;
         }
-        return 0;
+        return Shown::Not;
     }
     if trust == 0 {
-        return 0;
+        return Shown::Not;
     }
     if guess_block(gates, plan, readings, table, count, words) {
-        return 2;
+        return Shown::Tables;
     }
-    0
+    Shown::Not
 }
 
 // The list after the inputs of block b, and what the sets of the tables become where all vectors are evaluated, as they are on the first
@@ -214,19 +222,22 @@ fn list_inputs(
     let readings = read_block(gates, plan, b, words);
     if 0 < b {
         let by = shown_by(gates, plan, readings, list, trust, table, count, words);
-        if by == 1 {
-            return Listing {
-                list,
-                trust,
-                anew: false,
-            };
-        }
-        if by == 2 {
-            return Listing {
-                list,
-                trust: more(trust),
-                anew: false,
-            };
+        match by {
+            Shown::Listed => {
+                return Listing {
+                    list,
+                    trust,
+                    anew: false,
+                };
+            }
+            Shown::Tables => {
+                return Listing {
+                    list,
+                    trust: more(trust),
+                    anew: false,
+                };
+            }
+            Shown::Not => {}
         }
     }
     vector_block(gates, plan, 0, words);

@@ -1,4 +1,4 @@
--- `engine::guess::list_inputs` meets its contract: the tables do, or all vectors are evaluated. Assumes nothing.
+-- `engine::guess::list_inputs` meets its contract: listed vectors or the tables do, or all vectors are evaluated. Assumes nothing.
 use Prim.Native.Nat.{ℕ, _-_, _*_, _^_, min, _≤_}
 use mathlib.Core.Path.{_≡_, sym, _∙_, ap, subst}
 use mathlib.Core.Logic.{⊎-elim}
@@ -51,11 +51,11 @@ tried g = g .before .before .before
 
 returns : tie.Need-returns
 returns c =
-    let g = c .before in
+    let g = c .before .before in
     let r = tried g in
     let p = start r .pre in
     let e = g .shown-by .ensures in
-    ((block-shown (r .read-block .ensures) (counted r) (p .0 .2) (e .1 .0 (c .if2 .taken)), p .1 .3, λ k. p .1 .0), (p .1 .1, e .0 .1))
+    ((block-shown (r .read-block .ensures) (counted r) (p .0 .2) (e .1 .0 (c .enum-told .given .1)), p .1 .3, λ k. p .1 .0), (p .1 .1, e .0 .1))
 
 returns-2 : tie.Need-returns-2
 returns-2 c =
@@ -64,7 +64,7 @@ returns-2 c =
     let r = tried g in
     let p = start r .pre in
     let e = g .shown-by .ensures in
-    let z = e .1 .1 (t .if3 .taken) in (
+    let z = e .1 .1 (t .enum-told2 .given .1) in (
       (block-guessed (r .read-block .ensures) (counted r) (p .0 .2) (p .1 .0 (z .0)) (z .1), c .more .ensures .1, λ k h. p .1 .0 (z .0)),
       (p .1 .1, e .0 .1),
     )
@@ -116,10 +116,10 @@ sort-block-requires c κs =
     (m .masks-of .ensures .0 .long, r .read-block .ensures .many, omega (arith, counted r))
 
 -- the sets keep their number
-sets-kept : (c : tie.Joined4) → length (c .if4 .sets) ≡ 1024
+sets-kept : (c : tie.Joined2) → length (c .if2 .sets) ≡ 1024
 sets-kept c =
     let h = start (read-before (masked (c .before))) .pre .1 .1 in
-    ⊎-elim (λ w. ap length (w .3) ∙ w .2 .ensures ∙ h) (λ w. ap length (w .1) ∙ h) (c .if4 .came)
+    ⊎-elim (λ w. ap length (w .3) ∙ w .2 .ensures ∙ h) (λ w. ap length (w .1) ∙ h) (c .if2 .came)
 
 mul-list-block : tie.Need-mul-list-block
 mul-list-block c = let s = start (read-before (masked (c .before))) in omega (arith, few s, s .pre .0 .1)
@@ -148,6 +148,8 @@ returns-3 c =
 pub list-inputs-spec : {M : Type 1} → statement M
 list-inputs-spec =
     tie.close
-    (tie.spec (λ c. search needs) mul-block-inputs sub-block-inputs (λ c κs. tt) read-block-requires shown-by-requires returns
-    (λ c κs. start (tried (c .before .before)) .pre .1 .3) returns-2 vector-block-requires masks-of-requires
+    (tie.spec (λ c. search needs) mul-block-inputs sub-block-inputs (λ c κs. tt) read-block-requires shown-by-requires
+    (λ c. search needs) returns
+    (λ c. search needs) (λ c κs. start (tried (c .before .before)) .pre .1 .3) returns-2
+    (λ c. search needs) vector-block-requires masks-of-requires
     (λ c κs. start (read-before c) .pre .1 .3) add-sort-block sort-block-requires mul-list-block list-block-requires returns-3)
