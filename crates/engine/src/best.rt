@@ -14,6 +14,7 @@ ghost use Rattle.engine.specs.Inner.Plan.{NetsRead};
 ghost use Rattle.engine.specs.Inner.Best.{picked, total, lowFirst, before, PickedNets, FirstEmpty, SetsOf, GivenBits, SameTo, Kept, ArenaRoom, LeftOut, OpenPick, PricedRoom, PricedOf, PickOf, CountedOf, OpenOf, BestFrom, HeldSupport, Choosable, ChosenOf};
 use super::limits::ARENA;
 use super::limits::READINGS;
+use super::limits::UNSEEN;
 use super::table::fill_table;
 use super::table::reading_count;
 use super::tree::trees_size;
@@ -49,7 +50,7 @@ pub(super) fn first_empty(sets: &[u32; READINGS], count: usize) -> usize
 {
     let mut r = 0usize;
     while r < count {
-        if sets[r] % 65536 == 0 {
+        if sets[r] % UNSEEN == 0 {
             return r;
         }
         r += 1;
@@ -102,7 +103,7 @@ fn leave_out(at: usize, len: usize, place: usize, arena: &mut [u32; ARENA]) -> b
     while q < count {
         let r = at + (q + ((q >> place) << place));
         let both = arena[r] & arena[r + other];
-        if both % 65536 == 0 {
+        if both % UNSEEN == 0 {
             return false;
         }
         arena[to + q] = both;
@@ -169,7 +170,7 @@ fn low_first(a: usize, b: usize) -> bool
     ensures { λ r. ⌜ r ≡ lowFirst 10 a b ⌝ }
 {
     let mut i = 0usize;
-    while i < 10 {
+    while i < CANDIDATES {
         let x = (a >> i) % 2;
         if x != (b >> i) % 2 {
             return x == 1;

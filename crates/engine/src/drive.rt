@@ -11,6 +11,7 @@ ghost use Rattle.engine.specs.Inner.Turn.{Looked};
 use super::kernel::run;
 use super::leaves::equal_row;
 use super::leaves::set_row;
+use super::limits::READING;
 use super::limits::READINGS;
 use super::limits::ROW;
 use super::limits::ROWS;
@@ -29,7 +30,7 @@ fn wide(entry: u16) -> u64
 fn look(reading: u64, table: &[u16; READINGS]) -> u64
     ensures { λ r. ⌜ (r ≡ getD (now (table .entry)) (reading % 1024) 0) × (r < 65536) ⌝ }
 {
-    wide(table[(reading % 1024) as usize])
+    wide(table[(reading % READING) as usize])
 }
 
 // .. at the four readings that a word holds
@@ -52,7 +53,7 @@ pub(super) fn table_rows(mut readings: [u64; ROWS], table: &[u16; READINGS]) -> 
     transpose(&mut readings, ROW);
     let mut found = [0u64; ROWS];
     let mut i = 0usize;
-    while i < 256 {
+    while i < ROWS {
         found[i] = look_four(readings[i], table);
         i += 1;
     }
@@ -74,6 +75,8 @@ pub(super) fn row_at(rows: [u64; ROWS], i: usize) -> [u64; ROW]
     r
 }
 
+const FOUR_ROWS: usize = 4 * ROW;
+
 // The four rows from row at on, 0 behind them.
 pub(super) fn four_rows(rows: [u64; ROWS], at: usize) -> [u64; ROWS]
     requires { ⌜ (at ≤ 12) × (length rows ≡ 256) ⌝ }
@@ -81,7 +84,7 @@ pub(super) fn four_rows(rows: [u64; ROWS], at: usize) -> [u64; ROWS]
 {
     let mut r = [0u64; ROWS];
     let mut i = 0usize;
-    while i < 64 {
+    while i < FOUR_ROWS {
         r[i] = rows[ROW * at + i];
         i += 1;
     }

@@ -18,6 +18,7 @@ use super::limits::LISTED;
 use super::limits::RANGE;
 use super::limits::READINGS;
 use super::limits::ROWS;
+use super::limits::UNSEEN;
 use super::limits::WORDS;
 use super::miter::Miter;
 use super::note::meet_block;
@@ -36,7 +37,7 @@ fn unmet_of(sets: &[u32; READINGS], len: usize) -> [u32; READINGS]
     let mut unseen = [0u32; READINGS];
     let mut r = 0usize;
     while r < count {
-        unseen[r] = sets[r] / 65536 % 2;
+        unseen[r] = sets[r] / UNSEEN % 2;
         r += 1;
     }
     unseen

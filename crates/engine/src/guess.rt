@@ -85,7 +85,7 @@ fn listed_table(sets: [u32; READINGS], list: Vectors) -> [u16; READINGS]
         let both = sets[r] as usize;
         let first = lowest_of(both & listed);
         let second = lowest_of((both >> 16) & listed);
-        table[r] = (first + 16 * second) as u16;
+        table[r] = (first + VECTORS * second) as u16;
         r += 1;
     }
     table

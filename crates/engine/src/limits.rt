@@ -1,15 +1,19 @@
-// The sizes of the engine's arrays, and of the buffers that its services ask for (specs/Verdict.antt, specs/Fit.antt).
+// The sizes of the engine's arrays and of what they hold, and of the buffers that its services ask for (specs/Verdict.antt, specs/Fit.antt).
 use records::GATES;
 
 // Nets of ten bits each.
 pub const NETS: usize = 1024;
-// The words of a net: 64 scenarios each.
+// The scenarios of a word.
+pub const WORD: usize = 64;
+// The words of a net.
 pub const ROW: usize = 16;
 
 // The scenarios of a row: a block of inputs.
-pub const BLOCK: usize = 64 * ROW;
-// The blocks that partial evaluation speaks for at once: 2 ^ 15 inputs.
+pub const BLOCK: usize = WORD * ROW;
+// The blocks that partial evaluation speaks for at once, and how many low inputs it leaves open: 2 ^ 15 inputs in all.
 pub const RANGE: usize = 32;
+
+pub const RANGE_INPUTS: usize = 15;
 
 pub const WORDS: usize = ROW * NETS;
 // The settings of four targets (vectors), and a row for each.
@@ -24,10 +28,19 @@ pub const TRIES: usize = 8;
 pub const READINGS: usize = 1024;
 // .. and of nine, and so on down to none (src/best.rt).
 pub const ARENA: usize = 2 * READINGS;
+// A quarter of a transposed word holds a reading, below READING, or a set of vectors, a bit for each, below SET.
+pub const READING: u64 = READINGS as u64;
+
+pub const SET: u64 = 65536;
+// The bit behind those of the vectors in the set of a reading: 1 where no input that was looked at gives it.
+pub const UNSEEN: u32 = 65536;
 // The gates of both netlists, and those with a list for each target.
 pub const MITER_GATES: usize = GATES + GATES;
 
 pub const LISTED: usize = MITER_GATES + 4 * GATES;
+
+// The lists of gates of a plan: two, and one for each target (src/plan.rt).
+pub const LISTS: usize = 6;
 
 pub const LONGEST_JUDGE: usize = 26;
 

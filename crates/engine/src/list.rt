@@ -21,7 +21,7 @@ pub(super) fn lowest_of(set: usize) -> usize
     ensures { λ r. ⌜ r ≡ orZero (lowest set) ⌝ }
 {
     let mut v = 0usize;
-    while v < 16 {
+    while v < VECTORS {
         if (set >> v) % 2 == 1 {
             return v;
         }
@@ -82,7 +82,7 @@ pub(super) fn list_step(v: Vectors, set: usize, input: usize) -> Vectors
             input,
         };
     }
-    if 16 <= v.len {
+    if VECTORS <= v.len {
         return v;
     }
     append(v, lowest_of(set))

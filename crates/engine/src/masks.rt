@@ -10,6 +10,7 @@ use super::kernel::run;
 use super::leaves::equal_row;
 use super::leaves::put_row;
 use super::leaves::set_net;
+use super::limits::LISTS;
 use super::limits::ROWS;
 use super::limits::VECTORS;
 use super::limits::WORDS;
@@ -44,7 +45,7 @@ pub(super) fn vector_at(u: usize, step: usize) -> usize
 }
 
 // A target whose list of gates is the shortest; 0 where there is no target.
-fn shortest_list(ends: [usize; 6], targets: usize) -> usize
+fn shortest_list(ends: [usize; LISTS], targets: usize) -> usize
     requires { ⌜ (targets ≤ 4) × (length ends ≡ 6) × ((t : ℕ) → getD ends t 0 ≤ 2400) ⌝ }
     ensures { λ r. ⌜ (r < 4) × Among targets r ⌝ }
 {

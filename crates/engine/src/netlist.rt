@@ -51,11 +51,11 @@ fn gates_bytes(gates: [u64; GATES], count: usize) -> [u8; GATE_SIZE * GATES]
 }
 
 // The first count nets, two bytes each, at the start.
-fn pair_bytes(nets: [u16; OUTPUTS], count: usize) -> [u8; 64]
+fn pair_bytes(nets: [u16; OUTPUTS], count: usize) -> [u8; 2 * OUTPUTS]
     requires { ⌜ count ≤ 32 ⌝ }
     ensures { λ r. ⌜ take (2 * count) r ≡ flat bytePair (take count nets) ⌝ }
 {
-    let mut bytes = [0u8; 64];
+    let mut bytes = [0u8; 2 * OUTPUTS];
     let mut i = 0usize;
     while i < count {
         let pair = two_bytes(nets[i]);

@@ -7,10 +7,13 @@ ghost use lib.Bits.{bitOr};
 ghost use lib.ListN.{length, getD, take};
 ghost use Rattle.engine.specs.Inner.Note.{narrowed, setsFrom, gathered, ColumnMet, Joined, CoveredTo, ListNoted};
 ghost use Rattle.engine.specs.Inner.List.{Held};
+use super::limits::READING;
 use super::limits::READINGS;
 use super::limits::ROW;
 use super::limits::ROWS;
+use super::limits::SET;
 use super::limits::VECTORS;
+use super::limits::WORD;
 use super::list::Vectors;
 use super::list::list_step;
 use super::turn::transpose;
@@ -20,9 +23,9 @@ use super::word::first_zero;
 fn meet(reading: u64, set: u64, sets: &mut [u32; READINGS])
     ensures { λ r. ⌜ now (sets .exit) ≡ narrowed (now (sets .entry)) (reading % 1024) (set % 65536) ⌝ }
 {
-    let at = (reading % 1024) as usize;
+    let at = (reading % READING) as usize;
     let was = sets[at];
-    let now = was & ((set % 65536) as u32);
+    let now = was & ((set % SET) as u32);
     if now != was {
         sets[at] = now;
     }
@@ -76,8 +79,8 @@ pub(super) fn meet_block(
 fn sort(reading: u64, set: u64, sets: &mut [u32; READINGS])
     ensures { λ _. ⌜ length (now (sets .exit)) ≡ length (now (sets .entry)) ⌝ }
 {
-    let at = (reading % 1024) as usize;
-    let mask = (set % 65536) as u32;
+    let at = (reading % READING) as usize;
+    let mask = (set % SET) as u32;
     let both = sets[at];
     sets[at] = if both & mask != 0 {
         both & (mask | 0xffff_0000)
@@ -92,8 +95,8 @@ fn sort_column(masks: &[u64; ROWS], readings: &[u64; ROWS], w: usize, sets: &mut
     ensures { λ _. ⌜ length (now (sets .exit)) ≡ length (now (sets .entry)) ⌝ }
 {
     let mut i = 0usize;
-    while i < 64 {
-        let at = 16 * (i / 4) + w;
+    while i < WORD {
+        let at = ROW * (i / 4) + w;
         let by = 16 * (i % 4);
         sort(readings[at] >> by, masks[at] >> by, sets);
         i += 1;
@@ -124,10 +127,10 @@ fn gather_rows(masks: &[u64; ROWS], y: usize) -> usize
     requires { ⌜ y < 1024 ⌝ }
     ensures { λ r. ⌜ (r ≡ gathered (now (masks .entry)) y) × (r < 65536) ⌝ }
 {
-    let w = y / 64;
-    let b = y % 64;
+    let w = y / WORD;
+    let b = y % WORD;
     let mut r = 0usize;
-    let mut i = 16usize;
+    let mut i = VECTORS;
     while 0 < i {
         i -= 1;
         r = 2 * r + ((masks[ROW * i + w] >> b) % 2) as usize;

@@ -17,11 +17,18 @@ pub(super) const NET: u64 = 1024;
 
 pub(super) const SLOTS_AT: u64 = 131072;
 
+// .. the slots behind the first
+const SECOND_AT: u64 = NET * SLOTS_AT;
+
+const THIRD_AT: u64 = NET * SECOND_AT;
+
+const FOURTH_AT: u64 = NET * THIRD_AT;
+
 pub(super) fn pack(kind: u8, count: u8, own: usize, slots: [u16; SLOTS]) -> u64
     requires { ⌜ (kind < 16) × (count < 8) × (own < 1024) × Below 1024 slots ⌝ }
     ensures { λ r. ⌜ r ≡ packed own (gateWith kind count slots) ⌝ }
 {
-    let low = kind as u64 + 16 * count as u64 + 128 * own as u64;
-    let first = 131072 * slots[0] as u64 + 134217728 * slots[1] as u64;
-    low + first + 137438953472 * slots[2] as u64 + 140737488355328 * slots[3] as u64
+    let low = kind as u64 + COUNT_AT * count as u64 + NET_AT * own as u64;
+    let first = SLOTS_AT * slots[0] as u64 + SECOND_AT * slots[1] as u64;
+    low + first + THIRD_AT * slots[2] as u64 + FOURTH_AT * slots[3] as u64
 }

@@ -13,6 +13,7 @@ ghost use Rattle.engine.specs.Inner.Miter.{MiterRoom, MergedOf};
 ghost use Rattle.engine.specs.Inner.Plan.{codeMark, markedAll, liveFrom, liveMarks, leavesFrom, marksFrom, picked};
 ghost use Rattle.engine.specs.Inner.Plan.{ListPut, ListsUpTo, NetsRead, PlanHeld, ReadsOf, PlannedOf, TurnsOf};
 use super::limits::LISTED;
+use super::limits::LISTS;
 use super::limits::NETS;
 use super::miter::Miter;
 use super::packed::COUNT_AT;
@@ -34,7 +35,7 @@ pub struct Plan {
     pub goldens: [u16; OUTPUTS],
     pub reads: usize,
     pub nets: [u16; CANDIDATES],
-    pub ends: [usize; 6],
+    pub ends: [usize; LISTS],
 }
 
 fn greater(a: u8, b: u8) -> u8
@@ -174,12 +175,12 @@ fn lists_of(
     targets: usize,
     turns: usize,
     out: &mut [u64; LISTED],
-) -> [usize; 6]
+) -> [usize; LISTS]
     requires { ⌜ (count ≤ length (now gates)) × (inputs ≤ 20) × (targets ≤ 4) × (turns ≤ targets) × (length (now out) ≡ 2400) ⌝ }
     ensures { λ r. ⌜ ListsUpTo (turns + 2) inputs targets live (take count (now (gates .entry))) r (now (out .exit)) ⌝ }
 {
     let fan = mark_from(gates, count, inputs, targets);
-    let mut ends = [0usize; 6];
+    let mut ends = [0usize; LISTS];
     ends[0] = pick(gates, count, &live, &fan, false, 0, out);
     ends[1] = pick(gates, count, &live, &fan, true, ends[0], out);
     let mut t = 0usize;
@@ -283,6 +284,6 @@ pub(super) fn reads_of(
         goldens,
         reads,
         nets,
-        ends: [end; 6],
+        ends: [end; LISTS],
     }
 }

@@ -15,15 +15,18 @@ use super::leaves::read_rows;
 use super::leaves::set_vector;
 use super::limits::BLOCK;
 use super::limits::RANGE;
+use super::limits::RANGE_INPUTS;
 use super::limits::READINGS;
 use super::limits::ROWS;
 use super::limits::TRIES;
 use super::limits::TRUST;
+use super::limits::UNSEEN;
 use super::limits::WORDS;
 use super::masks::masks_of;
 use super::note::meet_block;
 use super::plan::Plan;
 use super::ranges::settled;
+use super::sole::NOT_SOLE;
 use super::sole::keep_block;
 use super::sole::sole_table;
 use super::trust::first_trust;
@@ -64,10 +67,10 @@ pub(super) fn first_tries(gates: &[u64], plan: Plan) -> usize
     requires { ⌜ PlanHeld plan (now gates) ⌝ }
     ensures { λ r. ⌜ r ≤ 64 ⌝ }
 {
-    if plan.inputs < 15 {
+    if plan.inputs < RANGE_INPUTS {
         return 0;
     }
-    if settled(gates, plan, 15, 31 >> (20 - plan.inputs)) {
+    if settled(gates, plan, RANGE_INPUTS, 31 >> (20 - plan.inputs)) {
         return TRUST;
     }
     TRIES
@@ -82,13 +85,13 @@ pub(super) fn settled_from(gates: &[u64], plan: Plan, b: usize, tries: usize) ->
     if tries == 0 {
         return 0;
     }
-    if plan.inputs < 15 {
+    if plan.inputs < RANGE_INPUTS {
         return 0;
     }
     if b % RANGE != 0 {
         return 0;
     }
-    if settled(gates, plan, 15, b / RANGE) {
+    if settled(gates, plan, RANGE_INPUTS, b / RANGE) {
         return RANGE;
     }
     0
@@ -152,9 +155,9 @@ pub(super) fn sets_of_inputs(gates: &[u64], plan: Plan) -> Met
 {
     let size = 1usize << plan.inputs;
     let mut words = [0u64; WORDS];
-    let mut sets = [65536 + all_vectors(plan.targets) as u32; READINGS];
+    let mut sets = [UNSEEN + all_vectors(plan.targets) as u32; READINGS];
     let mut trust = first_trust(plan.inputs, 17);
-    let mut table = [32u16; READINGS];
+    let mut table = [NOT_SOLE; READINGS];
     let mut tries = first_tries(gates, plan);
     let mut skipped = 0usize;
     let mut b = 0usize;

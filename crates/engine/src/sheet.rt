@@ -7,6 +7,7 @@ ghost use Rattle.records.specs.Bytes.{flat, bytePair, field};
 ghost use Rattle.engine.specs.Verdict.{fourBytes};
 ghost use Rattle.engine.specs.Inner.Sheet.{BytesPut, patchBytes};
 use super::limits::VECTORS;
+use records::CANDIDATES;
 use records::Support;
 use records::put_field;
 
@@ -31,14 +32,14 @@ fn four_bytes(x: u32) -> [u8; 4]
     ]
 }
 
-// The nets of a support, two bytes each, at the start of twenty places.
-fn net_bytes(support: Support) -> [u8; 20]
+// The nets of a support, two bytes each, at the start.
+fn net_bytes(support: Support) -> [u8; 2 * CANDIDATES]
     requires { ⌜ support .len ≤ 10 ⌝ }
     ensures { λ r. ⌜ take (2 * support .len) r ≡ flat bytePair (take (support .len) (support .nets)) ⌝ }
 {
     let nets = support.nets;
     let len = support.len;
-    let mut bytes = [0u8; 20];
+    let mut bytes = [0u8; 2 * CANDIDATES];
     let mut i = 0usize;
     while i < len {
         let pair = two_bytes(nets[i]);

@@ -13,6 +13,7 @@ use super::drive::table_rows;
 use super::limits::BLOCK;
 use super::limits::READINGS;
 use super::limits::ROWS;
+use super::limits::UNSEEN;
 use super::limits::WORDS;
 use super::list::lowest_of;
 use super::plan::Plan;
@@ -20,18 +21,23 @@ use super::word::first_zero;
 use super::word::join_rows;
 use super::word::zero_row;
 
+// What the table has where there is no only vector: the set is empty; it has several, or no input gave its reading.
+const NO_VECTOR: u16 = 16;
+
+pub(super) const NOT_SOLE: u16 = 32;
+
 // The only vector of a set; 16 where it has none, 32 where it has several, or no input gave its reading.
 fn sole_of(set: u32) -> u16
     ensures { λ r. ⌜ r ≡ soleOf set ⌝ }
 {
     if set == 0 {
-        return 16;
+        return NO_VECTOR;
     }
-    if 65536 <= set {
-        return 32;
+    if UNSEEN <= set {
+        return NOT_SOLE;
     }
     if set & (set - 1) != 0 {
-        return 32;
+        return NOT_SOLE;
     }
     lowest_of(set as usize) as u16
 }

@@ -6,6 +6,7 @@ ghost use Rattle.engine.specs.Choice.{orZero};
 ghost use Rattle.engine.specs.Inner.List.{lowest};
 ghost use Rattle.engine.specs.Inner.Table.{TableFilled, noteFrom, NotesFilled};
 use super::limits::READINGS;
+use super::limits::UNSEEN;
 use super::list::lowest_of;
 
 // How many readings k nets have.
@@ -47,7 +48,7 @@ fn note_of(set: u32, unseen: u32) -> u8
     if unseen != 0 {
         return 0;
     }
-    if (set % 65536) as usize == 1 << lowest_of(set as usize) {
+    if (set % UNSEEN) as usize == 1 << lowest_of(set as usize) {
         return 1;
     }
     2

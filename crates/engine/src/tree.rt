@@ -11,6 +11,7 @@ ghost use Rattle.records.specs.Gate.{gateOf};
 ghost use Rattle.engine.specs.Tree.{column, joinOf, buildsLow, buildsHigh, joinGates, tree, treeSize};
 ghost use Rattle.engine.specs.Inner.Tree.{Nets, GateRoom, GatesPut, columnPart, TablePart, treeStart, joinSize, JoinRoom, treesSize, TreesPut};
 ghost use Rattle.engine.specs.declared.tree.Join.the-variants.{Both};
+use super::limits::NETS;
 use super::packed::pack;
 use super::table::reading_count;
 use records::CANDIDATES;
@@ -373,7 +374,7 @@ pub(super) fn put_trees(
     support: [u16; CANDIDATES],
     base: usize,
     count: usize,
-    numbers: &mut [u16; 1024],
+    numbers: &mut [u16; NETS],
     gates: &mut [u64; GATES],
 ) -> usize
     requires { ⌜ (k ≤ 10) × (2 ^ k ≤ length (now table)) × (targets ≤ 4) × Nets k support ⌝ }

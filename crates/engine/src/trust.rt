@@ -1,7 +1,10 @@
 // How far a test that may save a block's work is trusted: a block on which it fails takes one, one on which it does not gives one back.
 ghost use Prim.Native.Nat.{_≤_};
+use super::limits::BLOCK;
 use super::limits::RANGE;
 use super::limits::TRUST;
+
+const SIXTEEN_BLOCKS: usize = 16 * BLOCK;
 
 // At first it may fail on one block of sixteen, and on none where there are fewer inputs than least, since what it learns costs more there.
 pub(super) fn first_trust(inputs: usize, least: usize) -> usize
@@ -11,7 +14,7 @@ pub(super) fn first_trust(inputs: usize, least: usize) -> usize
     if inputs < least {
         return 0;
     }
-    (1usize << inputs) / 16384
+    (1usize << inputs) / SIXTEEN_BLOCKS
 }
 
 // One less, down to 0.

@@ -6,6 +6,7 @@ ghost use Rattle.engine.specs.Eval.{bit};
 ghost use Rattle.engine.specs.Inner.Kernel.{rowValue, LowestBit, FirstZero};
 use super::limits::BLOCK;
 use super::limits::ROW;
+use super::limits::WORD;
 
 // The word of a value that is the same in every scenario: the lowest bit of x.
 pub(super) fn broadcast(x: usize) -> u64
@@ -56,9 +57,9 @@ pub(super) fn first_zero(row: [u64; ROW]) -> usize
 {
     let mut w = 0usize;
     while w < ROW {
-        let i = lowest_bit(row[w] ^ !0, 64);
-        if i < 64 {
-            return 64 * w + i;
+        let i = lowest_bit(row[w] ^ !0, WORD);
+        if i < WORD {
+            return WORD * w + i;
         }
         w += 1;
     }
