@@ -1,15 +1,17 @@
 // The service choose.
 ghost use mathlib.Core.Path.{_≡_};
 ghost use mathlib.Core.Bool.{true, false};
-ghost use Prim.Native.Nat.{_≤_, _<_};
-ghost use lib.ListN.{length};
+ghost use Prim.Native.Nat.{_^_, _≤_, _<_};
+ghost use lib.ListN.{length, take};
 ghost use Rattle.records.specs.Job.{Job};
 ghost use Rattle.records.specs.Claims.{Below};
 ghost use Rattle.records.specs.Parts.{PartsOf};
 ghost use Rattle.engine.specs.Support.{sound, candidateNets, chosen};
 ghost use Rattle.engine.specs.Verdict.{blindReading, chosenBytes};
 ghost use Rattle.engine.specs.Reply.{declinedChoose, chooseReply};
-ghost use Rattle.engine.specs.Inner.Miter.{SomeParts};
+ghost use Rattle.engine.specs.Inner.Miter.{SomeParts, MiterRoom, MergedOf};
+ghost use Rattle.engine.specs.Inner.Plan.{NetsRead};
+ghost use Rattle.engine.specs.Inner.Search.{SetsTo};
 ghost use Rattle.engine.specs.Inner.Best.{HeldSupport, ChosenOf};
 ghost use Rattle.engine.specs.Inner.Given.{Unseen};
 ghost use Rattle.engine.specs.Inner.Choosing.{ChosenJob};
@@ -20,14 +22,19 @@ use super::given::unseen_readings;
 use super::limits::LISTED;
 use super::limits::LONGEST_CHOOSE;
 use super::limits::READINGS;
+use super::limits::WORD_INPUTS;
 use super::merge::merged_miter;
+use super::miter::Miter;
+use super::narrow::sets_of_words;
 use super::plan::plan_of;
+use super::search::Met;
 use super::search::sets_of_inputs;
 use super::sheet::put_blind;
 use super::sheet::put_patch;
 use super::table::fill_notes;
 use super::table::fill_table;
 use super::table::reading_count;
+use records::CANDIDATES;
 use records::Check;
 use records::JobParts;
 use records::Support;
@@ -104,6 +111,19 @@ fn rule_patch(
     }
 }
 
+// The sets of all readings of the first reads nets, over all inputs of a miter.
+fn reading_sets(miter: Miter, nets: [u16; CANDIDATES], reads: usize) -> Met
+    requires { ⌜ MiterRoom miter × NetsRead nets reads ⌝ }
+    ensures { λ r. ⌜ ((j : Job) → MergedOf j miter → take reads nets ≡ candidateNets j → SetsTo j (2 ^ j .inputs) (r .skipped) (r .sets)) ⌝ }
+{
+    if miter.inputs <= WORD_INPUTS {
+        return sets_of_words(miter, nets, reads);
+    }
+    let mut gates = [0u64; LISTED];
+    let plan = plan_of(miter, nets, reads, miter.targets, &mut gates);
+    sets_of_inputs(&gates, plan)
+}
+
 // The choice on a good job's parts, and its sheet.
 fn choose_job(job: JobParts, reply: &mut [u8]) -> ChooseReply
     requires { ⌜ SomeParts job × Below 1024 (job .nets) × (2084 ≤ length (now reply)) ⌝ }
@@ -113,9 +133,7 @@ fn choose_job(job: JobParts, reply: &mut [u8]) -> ChooseReply
     let nets = job.nets;
     let weights = job.weights;
     let miter = merged_miter(job);
-    let mut gates = [0u64; LISTED];
-    let plan = plan_of(miter, nets, candidates, miter.targets, &mut gates);
-    let met = sets_of_inputs(&gates, plan);
+    let met = reading_sets(miter, nets, candidates);
     let count = reading_count(candidates);
     let reading = first_empty(&met.sets, count);
     if reading < count {

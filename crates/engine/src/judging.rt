@@ -1,8 +1,8 @@
 // The service judge.
 ghost use mathlib.Core.Path.{_≡_};
 ghost use mathlib.Core.Bool.{true};
-ghost use Prim.Native.Nat.{_≤_, _<_};
-ghost use lib.ListN.{length};
+ghost use Prim.Native.Nat.{_^_, _≤_, _<_};
+ghost use lib.ListN.{length, take};
 ghost use Rattle.records.specs.Job.{Job};
 ghost use Rattle.records.specs.Claims.{Below};
 ghost use Rattle.records.specs.Parts.{PartsOf};
@@ -10,16 +10,23 @@ ghost use Rattle.engine.specs.Verdict.{judgedBytes};
 ghost use Rattle.engine.specs.Reply.{declinedJudge, judgeReply};
 ghost use Rattle.engine.specs.Rectify.{vectorLoop};
 ghost use Rattle.engine.specs.Inner.List.{Held, listedOf};
-ghost use Rattle.engine.specs.Inner.Miter.{SomeParts};
+ghost use Rattle.engine.specs.Support.{candidateNets};
+ghost use Rattle.engine.specs.Inner.Guess.{ListTo};
+ghost use Rattle.engine.specs.Inner.Miter.{SomeParts, MiterRoom, MergedOf};
+ghost use Rattle.engine.specs.Inner.Plan.{NetsRead};
 ghost use Rattle.engine.specs.Inner.Judging.{JudgedJob};
 use super::guess::list_of_inputs;
 use super::limits::LISTED;
 use super::limits::LONGEST_JUDGE;
+use super::limits::WORD_INPUTS;
 use super::list::Vectors;
 use super::merge::merged_miter;
+use super::miter::Miter;
+use super::narrow::list_of_words;
 use super::plan::plan_of;
 use super::sheet::put_unfixable;
 use super::sheet::put_vectors;
+use records::CANDIDATES;
 use records::Check;
 use records::JobParts;
 use records::load;
@@ -76,6 +83,19 @@ fn rule_list(list: Vectors, reply: &mut [u8]) -> JudgeReply
     }
 }
 
+// The vector list over all inputs of a miter; of the first reads nets the tables are made (see guess.rt).
+fn vector_list(miter: Miter, nets: [u16; CANDIDATES], reads: usize) -> Vectors
+    requires { ⌜ MiterRoom miter × NetsRead nets reads ⌝ }
+    ensures { λ r. ⌜ Held r × ((j : Job) → MergedOf j miter → take reads nets ≡ candidateNets j → ListTo j (2 ^ j .inputs) r) ⌝ }
+{
+    if miter.inputs <= WORD_INPUTS {
+        return list_of_words(miter);
+    }
+    let mut gates = [0u64; LISTED];
+    let plan = plan_of(miter, nets, reads, miter.targets, &mut gates);
+    list_of_inputs(&gates, plan)
+}
+
 // The judgement on a good job's parts, and its sheet.
 fn judge_job(job: JobParts, reply: &mut [u8]) -> JudgeReply
     requires { ⌜ SomeParts job × Below 1024 (job .nets) × (26 ≤ length (now reply)) ⌝ }
@@ -83,10 +103,7 @@ fn judge_job(job: JobParts, reply: &mut [u8]) -> JudgeReply
 {
     let candidates = job.counts.candidates;
     let nets = job.nets;
-    let mut gates = [0u64; LISTED];
-    let miter = merged_miter(job);
-    let plan = plan_of(miter, nets, candidates, miter.targets, &mut gates);
-    let list = list_of_inputs(&gates, plan);
+    let list = vector_list(merged_miter(job), nets, candidates);
     rule_list(list, reply)
 }
 

@@ -26,6 +26,7 @@ use super::limits::NETS;
 use super::limits::READINGS;
 use super::limits::ROW;
 use super::limits::ROWS;
+use super::limits::UNSEEN;
 use super::list::Vectors;
 use super::masks::vector_at;
 use super::miter::Miter;
@@ -200,7 +201,7 @@ pub(super) fn sets_of_words(miter: Miter, nets: [u16; CANDIDATES], reads: usize)
     let mut words = [0u64; NETS];
     let masks = word_masks(miter, &mut words);
     let readings = read_words(nets, reads, &words);
-    let mut sets = [65536 + all_vectors(miter.targets) as u32; READINGS];
+    let mut sets = [UNSEEN + all_vectors(miter.targets) as u32; READINGS];
     meet_block(masks, readings, 1, &mut sets);
     Met { sets, skipped: 0 }
 }

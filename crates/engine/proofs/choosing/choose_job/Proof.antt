@@ -1,44 +1,33 @@
--- `engine::choosing::choose_job` meets its contract: the miter, its lists of gates and the sets of all readings; blind where some
+-- `engine::choosing::choose_job` meets its contract: the miter, and the sets of all readings; blind where some
 -- reading's set is empty, and else the chosen support has a patch. Assumes nothing.
 use Prim.Native.Nat.{_^_}
-use mathlib.Core.Path.{refl}
 use native.Mathlib.Omega.{arith}
 use borrow.Author.Needs.{needs}
 use Rattle.records.specs.Job.{Job}
 use Rattle.records.specs.Parts.{PartsOf}
-use Rattle.engine.specs.Support.{candidateNets, chosen}
+use Rattle.engine.specs.Support.{chosen}
 use Rattle.engine.specs.Inner.Search.{SetsTo}
-use Rattle.engine.proofs.Laws.Miter.{candidates-good}
 use Rattle.engine.proofs.Laws.Rule.{readings-many, parts-few, parts-nets, chosen-good, rule-given, rule-blind, rule-sound}
 use Rattle.engine.proofs.choosing.choose_job.Statement.{statement}
 use Rattle.engine.proofs.choosing.choose_job.Tie as tie
 
-plan-of-requires : tie.Need-plan-of-requires
-plan-of-requires c κs =
-    let s = c .before .before .before .before .before in
+abbrev mitered : tie.After-reading-sets → tie.After-merged-miter
+mitered u = u .before
+
+abbrev start : tie.After-reading-sets → tie.Start
+start u = mitered u .before .before .before .before
+
+reading-sets-requires : tie.Need-reading-sets-requires
+reading-sets-requires c κs =
+    let s = c .before .before .before .before in
     let p = s .pre .0 .parts in
-    (c .before .merged-miter .ensures .0, record { long = p .nets-long; below = s .pre .1; few = parts-few p }, omega arith, refl)
+    (c .merged-miter .ensures .0, record { long = p .nets-long; below = s .pre .1; few = parts-few p })
 
 -- ---- the sets of all readings
 
-abbrev planned : tie.After-sets-of-inputs → tie.After-plan-of
-planned u = u .before .before
-
-abbrev mitered : tie.After-sets-of-inputs → tie.After-merged-miter
-mitered u = planned u .before .before
-
-abbrev start : tie.After-sets-of-inputs → tie.Start
-start u = mitered u .before .before .before .before
-
--- the plan is the job's, so the sets are of its inputs
-met : (u : tie.After-sets-of-inputs) (j : Job) → PartsOf j (start u .args .job)
-    → SetsTo j (2 ^ j .inputs) (u .sets-of-inputs .result .skipped) (u .sets-of-inputs .result .sets)
-met u j p =
-    u .sets-of-inputs .ensures j
-    (planned u .plan-of .ensures .1 j (candidateNets j) (mitered u .merged-miter .ensures .1 j p) (parts-nets p)
-    (candidates-good j (p .good))
-    .1
-    refl)
+met : (u : tie.After-reading-sets) (j : Job) → PartsOf j (start u .args .job)
+    → SetsTo j (2 ^ j .inputs) (u .reading-sets .result .skipped) (u .reading-sets .result .sets)
+met u j p = u .reading-sets .ensures j (mitered u .merged-miter .ensures .1 j p) (parts-nets p)
 
 reading-count-requires : tie.Need-reading-count-requires
 reading-count-requires c κs = parts-few (start c .pre .0 .parts)
@@ -70,7 +59,7 @@ returns c =
 
 -- ---- the chosen support
 
-abbrev sets : tie.After-best-support → tie.After-sets-of-inputs
+abbrev sets : tie.After-best-support → tie.After-reading-sets
 sets b = counted (b .before .before .before .before) .before
 
 best-support-requires : tie.Need-best-support-requires
@@ -114,9 +103,7 @@ choose-job-spec =
     tie.close
     (tie.spec
     (λ c κs. search needs)
-    plan-of-requires
-    (λ c. search needs)
-    (λ c κs. search needs)
+    reading-sets-requires
     reading-count-requires
     first-empty-requires
     rule-blind-requires
