@@ -236,7 +236,7 @@ fn counted(priced: Priced, all: &[u32; READINGS], pick: Pick) -> Pick
 }
 
 // The one that is chosen of best and a support that has its sets in the arena from place at on. It costs no more here, and gates are
-// counted only where both cost the same. All are the sets of all priced nets.
+// counted only where both cost the same and are not one. All are the sets of all priced nets.
 fn better_of(
     priced: Priced,
     all: &[u32; READINGS],
@@ -252,6 +252,9 @@ fn better_of(
 {
     if from.cost < best.cost {
         return from;
+    }
+    if from.set == best.set {
+        return best;
     }
     let was = counted(priced, all, best);
     let places = &arena[..];

@@ -112,7 +112,7 @@ fn judge_job(job: JobParts, reply: &mut [u8]) -> JudgeReply
 // the first block of 1,024 inputs that has an unfixable one. For each block before, it costs one gate evaluation a gate of both netlists
 // where the first listed vector does, or a table of listed vectors, one more for each gate that a target leads to and each further vector or
 // table that is tried (see guess.rt), and where these do not, that and those of all vectors, as choose. The tables are given up where they
-// fail too often. An evaluation takes 16 words. From 12 inputs on gates that do what others do are left out, and outputs that are one net in
+// fail too often. An evaluation takes 16 words. From 13 inputs on gates that do what others do are left out, and outputs that are one net in
 // both circuits with what leads to them alone (see merge.rt). Partial evaluation is tried on each 2 ^ 15 inputs: one gate evaluation a gate
 // on 0, 1 and not yet known, which may spare all their blocks. It is given up where it settles too little: after eight such ranges where it
 // settles none.

@@ -44,6 +44,9 @@ pub const LISTED: usize = MITER_GATES + 4 * GATES;
 // The lists of gates of a plan: two, and one for each target (src/plan.rt).
 pub const LISTS: usize = 6;
 
+// From how many inputs on merging gates saves more than it costs (src/merge.rt).
+pub const LEAST_TO_MERGE: usize = 13;
+
 pub const LONGEST_JUDGE: usize = 26;
 
 pub const LONGEST_CHOOSE: usize = 2084;

@@ -10,6 +10,7 @@ ghost use Rattle.engine.specs.Inner.Renumber.{gateIn};
 ghost use Rattle.records.specs.Parts.{PartsOf};
 ghost use Rattle.engine.specs.Inner.Miter.{SomeParts, MiterRoom, MiterOf, MergedOf};
 ghost use Rattle.engine.specs.Inner.Merge.{Backward, GatesMerged, PairsKept};
+use super::limits::LEAST_TO_MERGE;
 use super::limits::MITER_GATES;
 use super::limits::NETS;
 use super::miter::Miter;
@@ -157,7 +158,7 @@ pub(super) fn merged_miter(job: JobParts) -> Miter
     ensures { λ r. ⌜ MiterRoom r ⌝ }
     ensures { λ r. ⌜ ((j : Job) → PartsOf j job → MergedOf j r) ⌝ }
 {
-    if job.counts.inputs < 12 {
+    if job.counts.inputs < LEAST_TO_MERGE {
         return miter_of(job);
     }
     merged(miter_of(job))

@@ -178,6 +178,15 @@ module _ (j : Job) where
           least = λ t e s. rw (sym (div-one t) ∙ e) (better-irrefl j (at (p .set)));
         }
 
+    -- .. or it is the best so far
+    pub best-itself : (s : ℕ) {b : Pick} → PickOf j b → s ≡ b .set → BestFrom j 0 s b b
+    best-itself s {b} g same =
+        record {
+          pick = g;
+          kept = better-irrefl j (at (b .set));
+          least = λ t e o. rw (sym (div-one t) ∙ e ∙ same) (better-irrefl j (at (b .set)));
+        }
+
     -- .. or the gates of both are counted, those of the best so far in c
     module _ {p b c : Pick} (f : CountedOf j p) (g : CountedOf j c) (same : c .set ≡ b .set) where
       pub best-before : before p c ≡ true → BestFrom j 0 (p .set) b p
