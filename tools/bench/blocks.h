@@ -61,7 +61,7 @@ static inline void add_gates(struct gates *to, const struct netlist *l, size_t b
 /* ---- merging: the net of a gate that does what an earlier gate does is stood for by the earlier one's */
 
 /* With fewer inputs than these, evaluating the gates costs less. */
-enum { LEAST_TO_MERGE = 12, PLACES = 1024 };
+enum { LEAST_TO_MERGE = 13, PLACES = 1024 };
 
 /* What is asked for. */
 enum { UNMERGED, MERGED };
