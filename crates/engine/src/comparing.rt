@@ -57,7 +57,7 @@ fn first_difference(gates: &[u64], plan: Plan, table: &[u16; READINGS]) -> Compa
     while BLOCK * b < size {
         let readings = read_block(gates, plan, b, &mut words);
         let vectors = table_rows(readings, table);
-        let row = driven_row(gates, plan, vectors, &mut words);
+        let row = driven_row(gates, plan, &vectors, 0, &mut words);
         let count = block_inputs(size - BLOCK * b);
         let y = first_zero(row);
         if y < count {

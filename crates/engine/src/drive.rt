@@ -1,12 +1,12 @@
 // The targets of a block driven by a table: each scenario's reading gives the vector to which its targets are set. Transposed, a word
 // of the readings' rows has four readings, and the entries at them are the word of four vectors.
 ghost use mathlib.Core.Path.{_≡_};
-ghost use Prim.Native.Nat.{ℕ, _+_, _/_, _%_, _^_, _≤_, _<_};
+ghost use Prim.Native.Nat.{ℕ, _+_, _%_, _≤_, _<_};
 ghost use lib.ListN.{length, getD};
 ghost use Rattle.engine.specs.Inner.Kernel.{rowValue, valueIn, NetsSet};
 ghost use Rattle.engine.specs.Inner.Note.{gathered};
 ghost use Rattle.engine.specs.Inner.Plan.{PlanHeld};
-ghost use Rattle.engine.specs.Inner.Search.{DrivenRow};
+ghost use Rattle.engine.specs.Inner.Search.{RowsSay, DrivenRow};
 ghost use Rattle.engine.specs.Inner.Turn.{Looked};
 use super::kernel::run;
 use super::leaves::equal_row;
@@ -62,9 +62,9 @@ pub(super) fn table_rows(mut readings: [u64; ROWS], table: &[u16; READINGS]) -> 
 }
 
 // Row i of 16 rows.
-pub(super) fn row_at(rows: [u64; ROWS], i: usize) -> [u64; ROW]
+pub(super) fn row_at(rows: &[u64; ROWS], i: usize) -> [u64; ROW]
     requires { ⌜ i < 16 ⌝ }
-    ensures { λ r. ⌜ ((y : ℕ) → y < 1024 → rowValue r y ≡ valueIn rows y i) ⌝ }
+    ensures { λ r. ⌜ ((y : ℕ) → y < 1024 → rowValue r y ≡ valueIn (now (rows .entry)) y i) ⌝ }
 {
     let mut r = [0u64; ROW];
     let mut w = 0usize;
@@ -75,47 +75,39 @@ pub(super) fn row_at(rows: [u64; ROWS], i: usize) -> [u64; ROW]
     r
 }
 
-const FOUR_ROWS: usize = 4 * ROW;
-
-// The four rows from row at on, 0 behind them.
-pub(super) fn four_rows(rows: [u64; ROWS], at: usize) -> [u64; ROWS]
-    requires { ⌜ (at ≤ 12) × (length rows ≡ 256) ⌝ }
-    ensures { λ r. ⌜ (length r ≡ 256) × ((y : ℕ) → y < 1024 → gathered r y ≡ gathered rows y / 2 ^ at % 16) ⌝ }
-{
-    let mut r = [0u64; ROWS];
-    let mut i = 0usize;
-    while i < FOUR_ROWS {
-        r[i] = rows[ROW * at + i];
-        i += 1;
-    }
-    r
-}
-
-// The first rows become those of the targets, from net at on.
-fn set_targets(at: usize, targets: usize, rows: [u64; ROWS], words: &mut [u64; WORDS])
-    requires { ⌜ (at + targets ≤ 1024) × (targets ≤ 16) × (length (now words) ≡ 16384) ⌝ }
-    ensures { λ _. ⌜ NetsSet at targets (valueIn rows) (now (words .entry)) (now (words .exit)) ⌝ }
+// The rows from row first on become those of the targets, from net at on.
+fn set_targets(
+    at: usize,
+    targets: usize,
+    rows: &[u64; ROWS],
+    first: usize,
+    words: &mut [u64; WORDS],
+)
+    requires { ⌜ (at + targets ≤ 1024) × (first + targets ≤ 16) × (length (now words) ≡ 16384) ⌝ }
+    ensures { λ _. ⌜ NetsSet at targets (λ y k. valueIn (now (rows .entry)) y (first + k)) (now (words .entry)) (now (words .exit)) ⌝ }
 {
     let mut i = 0usize;
     while i < targets {
-        set_row(at + i, row_at(rows, i), words);
+        set_row(at + i, row_at(rows, first + i), words);
         i += 1;
     }
 }
 
-// The targets of a block set to the vectors of the rows, and what they lead to evaluated: bit y of the row is 1 exactly when vector y rectifies
-// the block's input y. Nets that no target leads to have their values already, and keep them. It costs one gate evaluation a gate that a
-// target leads to.
+// The targets of a block set to the vectors of the rows from row first on, and what they lead to evaluated: bit y of the row is 1 exactly when
+// vector y rectifies the block's input y. Nets that no target leads to have their values already, and keep them. It costs one gate
+// evaluation a gate that a target leads to.
 pub(super) fn driven_row(
     gates: &[u64],
     plan: Plan,
-    vectors: [u64; ROWS],
+    rows: &[u64; ROWS],
+    first: usize,
     words: &mut [u64; WORDS],
 ) -> [u64; ROW]
-    requires { ⌜ PlanHeld plan (now gates) × (length vectors ≡ 256) × (length (now words) ≡ 16384) ⌝ }
-    ensures { λ r. ⌜ DrivenRow plan (now (gates .entry)) vectors (now (words .entry)) r (now (words .exit)) ⌝ }
+    requires { ⌜ PlanHeld plan (now gates) × (first ≤ 12) × (length (now words) ≡ 16384) ⌝ }
+    ensures { λ r. ⌜ ((u : ℕ → ℕ) → RowsSay (now (rows .entry)) first (plan .targets) u
+        → DrivenRow plan (now (gates .entry)) u (now (words .entry)) r (now (words .exit))) ⌝ }
 {
-    set_targets(plan.inputs, plan.targets, vectors, words);
+    set_targets(plan.inputs, plan.targets, rows, first, words);
     let ends = plan.ends;
     run(gates, ends[0], ends[1], words);
     let outputs = plan.outputs;

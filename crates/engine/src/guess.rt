@@ -17,7 +17,6 @@ ghost use Rattle.engine.specs.Inner.Search.{FreeKept};
 ghost use Rattle.engine.specs.Inner.Plan.{PlanHeld, TurnsOf};
 ghost use Rattle.engine.specs.Inner.Guess.{ListTo, OfListed, BlockGuessed, BlockShown, BlockListed};
 use super::drive::driven_row;
-use super::drive::four_rows;
 use super::drive::table_rows;
 use super::leaves::block_inputs;
 use super::leaves::equal_row;
@@ -106,11 +105,11 @@ fn guess_block(
     ensures { λ r. ⌜ (r ≡ true → BlockGuessed plan (now (gates .entry)) (now (words .entry)) readings (now (table .entry)) count) ⌝ }
 {
     let vectors = table_rows(readings, table);
-    let one = driven_row(gates, plan, four_rows(vectors, 0), words);
+    let one = driven_row(gates, plan, &vectors, 0, words);
     if count <= first_zero(one) {
         return true;
     }
-    let two = driven_row(gates, plan, four_rows(vectors, 4), words);
+    let two = driven_row(gates, plan, &vectors, 4, words);
     count <= first_zero(join_rows(one, two))
 }
 

@@ -70,9 +70,9 @@ pub(super) fn keep_block(
         → BlockKept plan (now (gates .entry)) readings (now (words .entry)) ss) ⌝ }
 {
     let vectors = table_rows(readings, table);
-    if !zero_row(row_at(vectors, 5)) {
+    if !zero_row(row_at(&vectors, 5)) {
         return false;
     }
-    let row = driven_row(gates, plan, vectors, words);
-    BLOCK <= first_zero(join_rows(row, row_at(vectors, 4)))
+    let row = driven_row(gates, plan, &vectors, 0, words);
+    BLOCK <= first_zero(join_rows(row, row_at(&vectors, 4)))
 }

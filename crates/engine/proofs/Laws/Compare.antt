@@ -69,8 +69,8 @@ RowCompared p gates table b row =
     (j : Job) (is : List ℕ) → PlanReads j is p gates → (y : ℕ) → y < 1024
     → rowValue row y ≡ cond (rectifies j (1024 * b + y) (drivenBy j is table (1024 * b + y))) 1 0
 
-module _ {p : Plan} {gates : List ℕ} (table : List ℕ) {b : ℕ} {words readings vectors row after : List ℕ} (held : PlanHeld p gates)
-    (read : BlockRead p gates b words readings) (looked : LookedUp readings table vectors) (driven : DrivenRow p gates vectors words row after) where
+module _ {p : Plan} {gates : List ℕ} (table vectors : List ℕ) {b : ℕ} {words readings row after : List ℕ} (held : PlanHeld p gates)
+    (read : BlockRead p gates b words readings) (looked : LookedUp readings table vectors) (driven : DrivenRow p gates (gathered vectors) words row after) where
   -- the vector of scenario y
   vector-driven : (j : Job) (is : List ℕ) → PlanReads j is p gates → (y : ℕ) → y < 1024
       → gathered vectors y ≡ drivenBy j is table (1024 * b + y)

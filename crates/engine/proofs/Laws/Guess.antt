@@ -178,21 +178,21 @@ list-guessed readings {table} b count {j} {is} {v} g q f o =
 -- ---- a block driven by a table
 
 -- where the driven row says 1, the vector rectifies the input
-one-rectifies : {p : Plan} {gates vectors words row after : List ℕ} → DrivenRow p gates vectors words row after
+one-rectifies : {p : Plan} {gates : List ℕ} {u : ℕ → ℕ} {words row after : List ℕ} → DrivenRow p gates u words row after
     → {j : Job} {is : List ℕ} (q : PlannedOf j is p gates) {b : ℕ} → BlockFree j (q .live) b words → (y : ℕ) → y < 1024 → rowValue row y ≡ 1
-    → {u : ℕ} → gathered vectors y ≡ u → rectifies j (1024 * b + y) u ≡ true
-one-rectifies d {j} {is} q {b} f y h e {u} l =
-    one-true (rectifies j (1024 * b + y) u) (rw (← l) (sym (d .values j is q b f y h) ∙ e))
+    → {v : ℕ} → u y ≡ v → rectifies j (1024 * b + y) v ≡ true
+one-rectifies d {j} {is} q {b} f y h e {v} l =
+    one-true (rectifies j (1024 * b + y) v) (rw (← l) (sym (d .values j is q b f y h) ∙ e))
 
--- the rows of one of the vectors in each entry
-abbrev RowsOf : List ℕ → ℕ → List ℕ → Type 0
-RowsOf entries at vectors = (y : ℕ) → y < 1024 → gathered vectors y ≡ gathered entries y / 2 ^ at % 16
+-- one of the two vectors in each entry
+abbrev pub vectorsAt : List ℕ → ℕ → ℕ → ℕ
+vectorsAt entries at y = gathered entries y / 2 ^ at % 16
 
 module _ {p : Plan} {gates : List ℕ} (readings table entries : List ℕ) (l : LookedUp readings table entries)
-    {vectors words row after : List ℕ} (n : RowsOf entries 0 vectors) (d : DrivenRow p gates vectors words row after) where
+    {words row after : List ℕ} (d : DrivenRow p gates (vectorsAt entries 0) words row after) where
   first-rectifies : {j : Job} {is : List ℕ} (q : PlannedOf j is p gates) {b : ℕ} → BlockFree j (q .live) b words → (y : ℕ) → y < 1024
       → rowValue row y ≡ 1 → rectifies j (1024 * b + y) (getD table (gathered readings y % 1024) 0 % 16) ≡ true
-  first-rectifies q f y h e = one-rectifies d q f y h e (n y h ∙ ap (λ (k : ℕ). k % 16) (div-one (gathered entries y) ∙ l y h))
+  first-rectifies q f y h e = one-rectifies d q f y h e (ap (λ (k : ℕ). k % 16) (div-one (gathered entries y) ∙ l y h))
 
   -- the first vectors do
   pub guessed-first : {count r : ℕ} → FirstZero row r → count ≤ r → BlockGuessed p gates words readings table count
@@ -201,16 +201,16 @@ module _ {p : Plan} {gates : List ℕ} (readings table entries : List ℕ) (l : 
       inl (first-rectifies q f y (omega arith) (z .ones y (omega arith)))
 
   -- .. or the second do where they do not
-  pub guessed-either : {vectors₂ row₂ after₂ both : List ℕ} {count r : ℕ} → RowsOf entries 4 vectors₂ → DrivenRow p gates vectors₂ after row₂ after₂
+  pub guessed-either : {row₂ after₂ both : List ℕ} {count r : ℕ} → DrivenRow p gates (vectorsAt entries 4) after row₂ after₂
       → ((y : ℕ) → y < 1024 → rowValue both y ≡ max (rowValue row y) (rowValue row₂ y)) → FirstZero both r → count ≤ r
       → BlockGuessed p gates words readings table count
-  guessed-either {row₂ = row₂} n₂ d₂ e z h j is q b f y k =
+  guessed-either {row₂ = row₂} d₂ e z h j is q b f y k =
       let m = z .most in
       let u : y < 1024 = omega arith in
       ⊎-elim
       (λ (a : rowValue row y ≡ 1). inl (first-rectifies q f y u a))
       (λ (a : rowValue row₂ y ≡ 1).
-      inr (one-rectifies d₂ q (d .free j is q b f) y u a (n₂ y u ∙ ap (λ (k : ℕ). k / 16 % 16) (l y u))))
+      inr (one-rectifies d₂ q (d .free j is q b f) y u a (ap (λ (k : ℕ). k / 16 % 16) (l y u))))
       (either-one (rowValue row y) (rowValue row₂ y) (rowValue-lt row y) (rowValue-lt row₂ y) (sym (e y u) ∙ z .ones y (omega arith)))
 
 -- ---- a block at listed vectors, one after the other

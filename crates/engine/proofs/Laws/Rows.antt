@@ -1,4 +1,4 @@
--- Laws of the rows of a block (specs/Inner/Note): what the rows say of a scenario, also four of them alone and once they are transposed;
+-- Laws of the rows of a block (specs/Inner/Note): what the rows say of a scenario, also once they are transposed;
 -- and the sets of vectors after a block's inputs, which may come in any order and more than once. Assumes nothing.
 use Prim.Native.Nat.{ℕ, zero, suc, _+_, _*_, _/_, _%_, _^_, _≤_, _<_}
 use mathlib.Core.Path.{_≡_, refl, sym, _∙_, ap}
@@ -14,14 +14,13 @@ use Rattle.records.specs.Bytes.{upFrom, tabulate}
 use Rattle.records.proofs.Laws.Bytes.{getD-tabulate, tabulate-ext}
 use Rattle.engine.specs.Eval.{bit, bits, numberOf}
 use Rattle.engine.specs.Inner.Note.{narrowed, setsFrom, gathered, ColumnMet}
-use Rattle.engine.specs.Inner.Kernel.{Filled, valueIn, NetsSet}
+use Rattle.engine.specs.Inner.Kernel.{valueIn}
+use Rattle.engine.specs.Inner.Search.{RowsSay}
 use Rattle.engine.specs.Inner.Turn.{TurnedAt, ColumnsTurned}
 use Rattle.engine.proofs.Laws.AnyOrder.{met, under, setsFrom-met, met-along, met-order}
 use Rattle.engine.proofs.Laws.Eval.{bit-lt}
-use Rattle.engine.proofs.Laws.Fill.{fill-at}
-use Rattle.engine.proofs.Laws.Leaves.{gathered-nets}
 use Rattle.engine.proofs.Laws.Picked.{bit-first, bit-suc, bits-suc}
-use Rattle.engine.proofs.Laws.Shift.{bit-shr}
+use Rattle.engine.proofs.Laws.Shift.{bit-shr, bit-mod}
 use Rattle.engine.proofs.Laws.VectorSets.{bit-tabulate, tabulate-lt}
 use Rattle.engine.proofs.Laws.List.{narrowing, setsFrom-append}
 use Rattle.engine.proofs.Laws.Word.{bit-zero}
@@ -54,34 +53,16 @@ numberOf-bits (suc k) x =
     let m : x % 2 ^ suc k ≡ x / 2 % 2 ^ k * 2 + x % 2 = rw (add-one k) at (mod-pow-add x k 1) in
     ap numberOf (bits-suc k x) ∙ omega (arith, numberOf-bits k (x / 2))
 
--- four rows, from row at on, copied to the front of zeros: four bits of what the rows say of a scenario
-module _ (x r : List ℕ) (at : ℕ) (h : at ≤ 12) (c : Filled (λ k. getD x (16 * at + k) 0) 0 64 (replicate 256 0) r) where
-  abbrev four : List ℕ
-  four = tabulate 4 (λ k. at + k)
+-- rows have the bits of what they say of a scenario: all of them, and four from row first on
+pub rows-whole : (x : List ℕ) (n : ℕ) → n ≤ 16 → RowsSay x 0 n (gathered x)
+rows-whole x n h y k l m = rw (zero-add k) (sym (bit-gathered x y k (omega arith)))
 
-  four-set : NetsSet 0 4 (λ y k. valueIn x y (getD four k 0)) (replicate 256 0) r
-  unfolding valueIn
-  four-set =
-      record {
-        long = c .long;
-        put = λ y k l m.
-            let e : 16 * at + (16 * k + y / 64) ≡ 16 * (at + k) + y / 64 = omega arith in
-            rw (zero-add k, getD-tabulate 4 (λ k. at + k) k 0 m)
-            (ap (bit (y % 64)) (fill-at c (16 * k + y / 64) (omega arith) ∙ ap (λ (i : ℕ). getD x i 0) e));
-        kept = λ y k l o.
-            let m : 4 ≤ k = ⊎-elim (λ (z : k < 0). omega arith) (λ (z : 0 + 4 ≤ k). omega arith) o in
-            ap (bit (y % 64)) (c .kept (16 * k + y / 64) (inr (omega arith)));
-      }
-
-  pub gathered-four : (y : ℕ) → y < 1024 → gathered r y ≡ gathered x y / 2 ^ at % 16
-  unfolding bits tabulate upFrom
-  gathered-four y l =
-      let q = gathered x y / 2 ^ at in
-      gathered-nets (valueIn x) four r 4 (omega arith) (omega arith) four-set y l
-      ∙ ap numberOf
-      (tabulate-ext 4 (λ k. valueIn x y (at + k)) (λ k. bit k q)
-      (λ k m. sym (bit-shr k at (gathered x y) ∙ bit-gathered x y (at + k) (omega arith))))
-      ∙ numberOf-bits 4 q
+pub rows-four : (x : List ℕ) (first n : ℕ) → first ≤ 12 → n ≤ 4 → RowsSay x first n (λ y. gathered x y / 2 ^ first % 16)
+rows-four x first n h l y k m o =
+    sym
+    (bit-mod 4 k (gathered x y / 2 ^ first) (omega arith)
+    ∙ bit-shr k first (gathered x y)
+    ∙ bit-gathered x y (first + k) (omega arith))
 
 -- two values that are below 2, and 1 alike
 bit-alike : (a b : ℕ) → a < 2 → b < 2 → (a ≡ 1) ↔ (b ≡ 1) → a ≡ b

@@ -16,14 +16,13 @@ use Rattle.engine.specs.Rectify.{rectifies}
 use Rattle.engine.specs.Inner.Kernel.{Ran, NetSet, NetsSet, valueIn, rowValue}
 use Rattle.engine.specs.Inner.Masks.{ordered, turns, Among}
 use Rattle.engine.specs.Inner.Plan.{BlockAt, BlockFree, ReadsOf, PlannedOf, TurnsOf}
-use Rattle.engine.specs.Inner.Search.{BlockRead, BlockVector, DrivenRow, TargetTurned, BlockMasks, BlockRange, SettledFrom}
+use Rattle.engine.specs.Inner.Search.{BlockRead, BlockVector, RowsSay, DrivenRow, TargetTurned, BlockMasks, BlockRange, SettledFrom}
 use Rattle.engine.specs.Inner.Note.{gathered}
 use Rattle.engine.specs.Inner.Ranges.{InRange}
 use Rattle.engine.specs.declared.plan.Plan.{Plan}
 use Rattle.engine.proofs.Laws.BlockRows.{equal-rectifies, read-values, MasksTo, masks-none, masks-next, masks-gathered}
 use Rattle.engine.proofs.Laws.Gray.{ordered-none, turns-among, ordered-kept}
 use Rattle.engine.proofs.Laws.Plan.{block-read, block-driven, block-target, block-free}
-use Rattle.engine.proofs.Laws.Rows.{bit-gathered}
 use Rattle.engine.proofs.Laws.Shift.{bit-shifted}
 
 -- ---- the words of a block
@@ -80,16 +79,17 @@ module _ (p : Plan) (gates : List ℕ) where
       }
 
   -- .. to the vectors of the rows
-  pub row-driven : {w w₁ w₂ : List ℕ} (vectors row : List ℕ) → p .targets ≤ 4 → NetsSet (p .inputs) (p .targets) (valueIn vectors) w w₁
-      → Ran (slice (getD (p .ends) 0 0) (getD (p .ends) 1 0) gates) w₁ w₂ → RowEqual p w₂ row → DrivenRow p gates vectors w row w₂
-  row-driven {w} {w₁} {w₂} vectors row few s r e =
-      let at : (j : Job) (is : List ℕ) (q : PlannedOf j is p gates) (b : ℕ) → BlockFree j (q .live) b w
-      → BlockAt j (q .live) b (gathered vectors) w₂ =
-      λ j is q b a. block-set s r (gathered vectors) (λ y k h l. sym (bit-gathered vectors y k (omega arith))) q b a in
+  pub row-driven : {w w₁ w₂ : List ℕ} (rows : List ℕ) (first : ℕ) (row : List ℕ)
+      → NetsSet (p .inputs) (p .targets) (λ y k. valueIn rows y (first + k)) w w₁
+      → Ran (slice (getD (p .ends) 0 0) (getD (p .ends) 1 0) gates) w₁ w₂ → RowEqual p w₂ row
+      → (u : ℕ → ℕ) → RowsSay rows first (p .targets) u → DrivenRow p gates u w row w₂
+  row-driven {w} {w₁} {w₂} rows first row s r e u n =
+      let at : (j : Job) (is : List ℕ) (q : PlannedOf j is p gates) (b : ℕ) → BlockFree j (q .live) b w → BlockAt j (q .live) b u w₂ =
+      λ j is q b a. block-set s r u n q b a in
       record {
         long = r .long ∙ s .long;
         free = λ j is q b a. block-free (at j is q b a);
-        values = λ j is q b a. row-rectifies q b (gathered vectors) row (at j is q b a) e;
+        values = λ j is q b a. row-rectifies q b u row (at j is q b a) e;
       }
 
   -- one target set, and the gates that it leads to run

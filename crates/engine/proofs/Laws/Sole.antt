@@ -134,7 +134,7 @@ sole-start o r h =
 pub sole-kept : {p : Plan} {gates : List ℕ} (readings table vectors row : List ℕ) {before after : List ℕ}
     → ((y : ℕ) → y < 1024 → gathered vectors y ≡ getD table (gathered readings y % 1024) 0)
     → ((y : ℕ) → y < 1024 → valueIn vectors y 5 ≡ 0) → ((y : ℕ) → y < 1024 → max (rowValue row y) (valueIn vectors y 4) ≡ 1)
-    → DrivenRow p gates vectors before row after → (ss : List ℕ) → SoleTable ss table → BlockKept p gates readings before ss
+    → DrivenRow p gates (gathered vectors) before row after → (ss : List ℕ) → SoleTable ss table → BlockKept p gates readings before ss
 sole-kept readings table vectors row t five four d ss h j is q b f y l =
     let r : ℕ = gathered readings y % 1024 in
     let k : gathered vectors y ≡ soleOf (getD ss r 0) = t y l ∙ h r (omega arith) in

@@ -5,7 +5,8 @@
 --                       it is 1, none does but in ranges of 2 ^ 15 inputs that were skipped, bit i of k for range i
 --   BlockRead ..        the words of a block on the nets that no target leads to, and the rows of the nets read
 --   BlockVector ..      the words of a block at a vector, from those
---   DrivenRow ..        where the vectors of a block's rows rectify its inputs
+--   RowsSay ..          rows from some row on have the bits of vectors
+--   DrivenRow ..        where vectors rectify a block's inputs
 --   soleOf s            the only vector of the set s
 --   SoleTable ss t      the table t of the readings' only vectors
 --   BlockKept ..        the sets stay as they are in a block
@@ -28,7 +29,7 @@ use Rattle.engine.specs.Eval.{bit}
 use Rattle.engine.specs.Support.{candidateNets, reading}
 use Rattle.engine.specs.Inner.Masks.{rectifiers}
 use Rattle.engine.specs.Rectify.{rectifies}
-use Rattle.engine.specs.Inner.Kernel.{rowValue}
+use Rattle.engine.specs.Inner.Kernel.{valueIn, rowValue}
 use Rattle.engine.specs.Inner.List.{maxVectors, lowest}
 use Rattle.engine.specs.Inner.Plan.{BlockAt, BlockFree, ReadsOf, PlannedOf, TurnsOf}
 use Rattle.engine.specs.Inner.Note.{gathered, maxReadings}
@@ -63,12 +64,16 @@ abbrev pub FreeKept : Plan → List ℕ → List ℕ → List ℕ → Type 0
 FreeKept p gates before after =
     (j : Job) (is : List ℕ) (q : PlannedOf j is p gates) (b : ℕ) → BlockFree j (q .live) b before → BlockFree j (q .live) b after
 
--- bit y of the row is 1 exactly when vector y of the rows rectifies input y of the block
-pub record DrivenRow (p : Plan) (gates vectors before row after : List ℕ) : Type 0 where
+-- the n rows from row first on have the bits of the vectors u
+abbrev pub RowsSay : List ℕ → ℕ → ℕ → (ℕ → ℕ) → Type 0
+RowsSay rows first n u = (y k : ℕ) → y < 1024 → k < n → valueIn rows y (first + k) ≡ bit k (u y)
+
+-- bit y of the row is 1 exactly when vector u y rectifies input y of the block
+pub record DrivenRow (p : Plan) (gates : List ℕ) (u : ℕ → ℕ) (before row after : List ℕ) : Type 0 where
   pub long : length after ≡ length before
   pub free : FreeKept p gates before after
   pub values : (j : Job) (is : List ℕ) (q : PlannedOf j is p gates) (b : ℕ) → BlockFree j (q .live) b before
-      → (y : ℕ) → y < 1024 → rowValue row y ≡ cond (rectifies j (1024 * b + y) (gathered vectors y)) 1 0
+      → (y : ℕ) → y < 1024 → rowValue row y ≡ cond (rectifies j (1024 * b + y) (u y)) 1 0
 
 -- 16 where the set is 0, 32 where it has two or more vectors, or no input gave the reading
 unfoldable pub soleOf : ℕ → ℕ

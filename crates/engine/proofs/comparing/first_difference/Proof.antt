@@ -4,8 +4,12 @@ use Prim.Native.Nat.{_-_, _*_}
 use mathlib.Core.Path.{_≡_, refl, _∙_}
 use native.Mathlib.Omega.{arith}
 use denote.Ref.{now}
+use lib.Dec.{lit≤}
 use lib.ListN.{length}
+use Rattle.engine.specs.Inner.Note.{gathered}
+use Rattle.engine.specs.Inner.Search.{DrivenRow}
 use Rattle.engine.proofs.Laws.Compare.{RowCompared, row-compared, Scanning, scanning-none, scanning-next, scanned-differs, scanned-equal}
+use Rattle.engine.proofs.Laws.Rows.{rows-whole}
 use Rattle.engine.proofs.comparing.first_difference.Statement.{statement}
 use Rattle.engine.proofs.comparing.first_difference.Tie as tie
 
@@ -25,22 +29,29 @@ read-block-requires c κs =
 
 driven-row-requires : tie.Need-driven-row-requires Inv-loop μ-loop
 driven-row-requires c κs =
-    let t = c .before in
-    let r = t .before in
-    (r .before .before .before .before .before .before .pre, t .table-rows .ensures .0, r .read-block .ensures .long)
+    let r = c .before .before .before in
+    (r .before .before .before .before .before .before .pre, lit≤ tt, r .read-block .ensures .long)
 
 abbrev at-loop : tie.After-driven-row Inv-loop μ-loop → tie.At-loop Inv-loop μ-loop
-at-loop c = c .before .before .before .before .before .before
+at-loop c = c .before .before .before .before .before .before .before
 
--- the block's row, by the table's entries at its readings
+-- the block's row, by the vectors looked up
+row : (c : tie.After-driven-row Inv-loop μ-loop)
+    → (let a = at-loop c .before .before .before .args in
+    DrivenRow (a .plan) (now (a .gates)) (gathered (c .before .before .before .table-rows .result)) (c .before .before .before .before .read-block .last .1 .1 .1 .0) (c .driven-row .result) (c .driven-row .last .1 .1 .1 .1 .0))
+row c =
+    let v = c .before .before .before .table-rows .result in
+    c .driven-row .ensures (gathered v) (rows-whole v _ (omega (arith, at-loop c .before .before .before .pre .targets)))
+
+-- .. by the table's entries at its readings
 driven : (c : tie.After-driven-row Inv-loop μ-loop)
     → (let l = at-loop c in
     let a = l .before .before .before .args in
     RowCompared (a .plan) (now (a .gates)) (now (a .table)) (l .loop .b) (c .driven-row .result))
 driven c =
-    let t = c .before .before in
+    let t = c .before .before .before in
     let s = at-loop c .before .before .before in
-    row-compared (now (s .args .table)) (s .pre) (t .before .read-block .ensures) (t .table-rows .ensures .1) (c .driven-row .ensures)
+    row-compared (now (s .args .table)) (t .table-rows .result) (s .pre) (t .before .read-block .ensures) (t .table-rows .ensures .1) (row c)
 
 returns : tie.Need-returns Inv-loop μ-loop
 returns c =
@@ -51,7 +62,7 @@ returns c =
 loop-again : tie.Need-loop-again Inv-loop μ-loop
 loop-again c =
     let d = c .before .before .before in (
-      d .driven-row .ensures .long ∙ d .before .before .before .read-block .ensures .long,
+      row d .long ∙ d .before .before .before .before .read-block .ensures .long,
       scanning-next (at-loop d .loop .inv .1) (driven d) (c .before .first-zero .ensures) (omega arith)
           (c .before .before .block-inputs .ensures)
           (c .if1 .left),

@@ -19,7 +19,7 @@ returns c =
     let r = c .before .before .before .before in
     let t = r .before .before .before in
     let s = t .before .before .before in
-    row-driven (s .args .plan) (now (s .args .gates)) (s .args .vectors) (c .equal-row .result) (s .pre .0 .targets) (t .set-targets .ensures)
+    row-driven (s .args .plan) (now (s .args .gates)) (now (s .args .rows)) (s .args .first) (c .equal-row .result) (t .set-targets .ensures)
     (r .run .ensures)
     (c .equal-row .ensures .1)
 

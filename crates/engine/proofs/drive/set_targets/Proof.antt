@@ -1,5 +1,5 @@
 -- `engine::drive::set_targets` meets its contract. The invariant: the first i targets have their rows. Assumes nothing.
-use Prim.Native.Nat.{_-_, _≤_}
+use Prim.Native.Nat.{_+_, _-_, _≤_}
 use mathlib.Core.Path.{_≡_, refl}
 use native.Mathlib.Omega.{arith}
 use Rattle.engine.specs.Inner.Kernel.{valueIn, NetsSet}
@@ -8,10 +8,10 @@ use Rattle.engine.proofs.drive.set_targets.Statement.{statement}
 use Rattle.engine.proofs.drive.set_targets.Tie as tie
 
 abbrev Inv-loop : tie.InvT-loop
-Inv-loop at targets rows words₀ i₀ words i = (i ≤ targets) × NetsSet at i (valueIn rows) words₀ words
+Inv-loop at targets rows first words₀ i₀ words i = (i ≤ targets) × NetsSet at i (λ y k. valueIn rows y (first + k)) words₀ words
 
 abbrev μ-loop : tie.MeasureT-loop
-μ-loop at targets rows words₀ i₀ words i = targets - i
+μ-loop at targets rows first words₀ i₀ words i = targets - i
 
 loop-holds : tie.Need-loop-holds Inv-loop μ-loop
 loop-holds c = (omega arith, nets-none _ _ _)
@@ -34,5 +34,5 @@ returns c = let l = c .before .loop in let e : l .i ≡ c .before .before .args 
 pub set-targets-spec : {M : Type 1} → statement M
 set-targets-spec =
     tie.close
-    (tie.spec Inv-loop μ-loop loop-holds (λ c. omega arith) (λ c κs. omega arith) set-row-requires (λ c. omega arith)
+    (tie.spec Inv-loop μ-loop loop-holds (λ c. omega arith) (λ c. omega arith) (λ c κs. omega arith) set-row-requires (λ c. omega arith)
     (λ c. omega arith) loop-again returns)
