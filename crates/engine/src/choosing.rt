@@ -158,7 +158,8 @@ fn choose_job(job: JobParts, reply: &mut [u8]) -> ChooseReply
 // evaluation takes 16 words. Gates and outputs are left out, and partial evaluation is tried, as in judge. The choice among the sets of k
 // candidates leaves out one net after the other and stops at unsound and at too dear sets: at most 3 ^ k steps, whatever the gates are, and
 // as many more where supports cost the same and the gates of their patches are counted. The notes cost, for each block that was spared until
-// all readings of the support are seen, one gate evaluation a gate that leads to it, and nothing where none was. Jobs of at most six inputs as in judge.
+// all readings of the support are seen, one gate evaluation a gate that leads to it, and nothing where none was. A job of at most six inputs
+// costs as in judge.
 pub fn choose(job: &[u8], reply: &mut [u8]) -> ChooseReply
     ensures reply { λ r. ⌜ r ≡ chooseReply (now (reply .entry)) (now (job .entry)) ⌝ }
     ensures lent { λ _. ⌜ now (reply .exit) ≡ chosenBytes (now (reply .entry)) (now (job .entry)) ⌝ }

@@ -1,5 +1,7 @@
 // The sizes of the engine's arrays and of what they hold, and of the buffers that its services ask for (specs/Verdict.antt, specs/Fit.antt).
 use records::GATES;
+use records::INPUTS;
+use records::TARGETS;
 
 // Nets of ten bits each.
 pub const NETS: usize = 1024;
@@ -16,6 +18,8 @@ pub const BLOCK: usize = WORD * ROW;
 pub const RANGE: usize = 32;
 
 pub const RANGE_INPUTS: usize = 15;
+// The last range of a job with the most inputs.
+pub const LAST_RANGE: usize = (1 << (INPUTS - RANGE_INPUTS)) - 1;
 
 pub const WORDS: usize = ROW * NETS;
 // The settings of four targets (vectors), and a row for each.
@@ -39,10 +43,10 @@ pub const UNSEEN: u32 = 65536;
 // The gates of both netlists, and those with a list for each target.
 pub const MITER_GATES: usize = GATES + GATES;
 
-pub const LISTED: usize = MITER_GATES + 4 * GATES;
+pub const LISTED: usize = MITER_GATES + TARGETS * GATES;
 
 // The lists of gates of a plan: two, and one for each target (src/plan.rt).
-pub const LISTS: usize = 6;
+pub const LISTS: usize = 2 + TARGETS;
 
 // From how many inputs on merging gates saves more than it costs (src/merge.rt).
 pub const LEAST_TO_MERGE: usize = 13;

@@ -14,6 +14,7 @@ use super::leaves::load_inputs;
 use super::leaves::read_rows;
 use super::leaves::set_vector;
 use super::limits::BLOCK;
+use super::limits::LAST_RANGE;
 use super::limits::RANGE;
 use super::limits::RANGE_INPUTS;
 use super::limits::READINGS;
@@ -32,6 +33,7 @@ use super::sole::sole_table;
 use super::trust::first_trust;
 use super::trust::next_tries;
 use super::trust::next_trust;
+use records::INPUTS;
 
 // The words of block b on the nets that no target leads to, and the rows of the nets read. It costs one gate evaluation a gate of these, for
 // 1,024 inputs.
@@ -70,7 +72,12 @@ pub(super) fn first_tries(gates: &[u64], plan: Plan) -> usize
     if plan.inputs < RANGE_INPUTS {
         return 0;
     }
-    if settled(gates, plan, RANGE_INPUTS, 31 >> (20 - plan.inputs)) {
+    if settled(
+        gates,
+        plan,
+        RANGE_INPUTS,
+        LAST_RANGE >> (INPUTS - plan.inputs),
+    ) {
         return TRUST;
     }
     TRIES

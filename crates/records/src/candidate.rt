@@ -5,6 +5,7 @@ ghost use Rattle.records.specs.Job.{candidatesOf};
 ghost use Rattle.records.specs.Inner.{checkOf, unmarkedAscending};
 use super::field::Check;
 use super::field::word_at;
+use super::limits::CANDIDATE_SIZE;
 use super::limits::NETS;
 
 // Whether the candidates ascend, are below nets and have no mark.
@@ -12,11 +13,11 @@ pub(super) fn check_candidates(s: &[u8], nets: usize, marks: &[u8; NETS]) -> Che
     requires { ⌜ nets ≤ 424 ⌝ }
     ensures { λ r. ⌜ r ≡ checkOf (unmarkedAscending nets (now (marks .entry)) (candidatesOf (now (s .entry)))) ⌝ }
 {
-    let count = s.len() / 4;
+    let count = s.len() / CANDIDATE_SIZE;
     let mut least = 0usize;
     let mut i = 0usize;
     while i < count {
-        let net = word_at(s, 4 * i);
+        let net = word_at(s, CANDIDATE_SIZE * i);
         if net < least {
             return Check::Failed;
         }

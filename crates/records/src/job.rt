@@ -9,6 +9,7 @@ use super::candidate::check_candidates;
 use super::field::Check;
 use super::field::walked;
 use super::field::wide;
+use super::limits::CANDIDATE_SIZE;
 use super::limits::CANDIDATES;
 use super::limits::GATE_SIZE;
 use super::limits::GATES;
@@ -85,7 +86,7 @@ fn counted(lens: [usize; 6], inputs: usize, targets: usize) -> Shape
     let goldens = lens[4];
     let candidates = lens[5];
     let first = (lens[0] == 2) & (old % GATE_SIZE == 0) & (outputs % 2 == 0);
-    if first & (golden % GATE_SIZE == 0) & (goldens % 2 == 0) & (candidates % 4 == 0) {
+    if first & (golden % GATE_SIZE == 0) & (goldens % 2 == 0) & (candidates % CANDIDATE_SIZE == 0) {
         return Shape::Whole(Counts {
             inputs,
             targets,
@@ -97,7 +98,7 @@ fn counted(lens: [usize; 6], inputs: usize, targets: usize) -> Shape
                 gates: golden / GATE_SIZE,
                 outputs: goldens / 2,
             },
-            candidates: candidates / 4,
+            candidates: candidates / CANDIDATE_SIZE,
         });
     }
     Shape::Broken
@@ -147,7 +148,7 @@ pub(super) fn starts_of(c: Counts) -> Starts
         golden: third,
         goldens,
         candidates,
-        end: candidates + 4 * c.candidates,
+        end: candidates + CANDIDATE_SIZE * c.candidates,
     }
 }
 

@@ -11,7 +11,10 @@ pub const GATE_SIZE: usize = 10;
 
 pub const OUTPUTS: usize = 32;
 
+// The candidates, and the bytes that each takes: net and weight.
 pub const CANDIDATES: usize = 10;
+
+pub const CANDIDATE_SIZE: usize = 4;
 // The nets of an old netlist.
 pub const NETS: usize = INPUTS + TARGETS + GATES;
 

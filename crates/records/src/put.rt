@@ -12,6 +12,7 @@ ghost use Rattle.records.specs.declared.gate.Gate.{Gate as GateStruct};
 use super::fill::copy;
 use super::job::Counts;
 use super::job::SideCounts;
+use super::limits::CANDIDATE_SIZE;
 use super::limits::GATE_SIZE;
 use super::limits::LONGEST_JOB;
 
@@ -152,11 +153,11 @@ pub(super) fn put_rest(
     let sides = golden.bytes;
     let at = golden.len;
     let count = counts.candidates;
-    let second = headed(sides, at, 6, 4 * count);
-    let third = put_column(second, at + 3, 4, nets, count);
-    let fourth = put_column(third, at + 5, 4, weights, count);
+    let second = headed(sides, at, 6, CANDIDATE_SIZE * count);
+    let third = put_column(second, at + 3, CANDIDATE_SIZE, nets, count);
+    let fourth = put_column(third, at + 5, CANDIDATE_SIZE, weights, count);
     JobBytes {
         bytes: fourth,
-        len: at + 3 + 4 * count,
+        len: at + 3 + CANDIDATE_SIZE * count,
     }
 }

@@ -14,6 +14,7 @@ use super::job::Counts;
 use super::job::check_job;
 use super::job::no_counts;
 use super::job::starts_of;
+use super::limits::CANDIDATE_SIZE;
 use super::limits::CANDIDATES;
 use super::limits::GATES;
 use super::limits::OUTPUTS;
@@ -113,8 +114,8 @@ fn fill_rest(
     let priced = counts.candidates;
     fill_words(job, 2, at.outputs, old.outputs, old_outputs);
     fill_words(job, 2, at.goldens, golden.outputs, golden_outputs);
-    fill_words(job, 4, at.candidates, priced, nets);
-    fill_words(job, 4, at.candidates + 2, priced, weights);
+    fill_words(job, CANDIDATE_SIZE, at.candidates, priced, nets);
+    fill_words(job, CANDIDATE_SIZE, at.candidates + 2, priced, weights);
 }
 
 // The service read. Refused are too few places (1), then what is no whole job (2), counts (3), gates (4), outputs (5)

@@ -14,6 +14,7 @@ use super::field::walked;
 use super::field::wide;
 use super::field::word_at;
 use super::limits::CANDIDATES;
+use super::limits::TARGETS;
 
 // Candidate nets: the first len of ten places.
 pub struct Support {
@@ -72,7 +73,11 @@ fn refused(number: u8) -> SheetReply
 fn check_sheet_room(targets: usize, candidates: usize, nets: usize, weights: usize) -> Check
     ensures { λ r. ⌜ r ≡ checkOf (sheetRoom targets candidates nets weights) ⌝ }
 {
-    if (targets <= 4) & (candidates <= 10) & (candidates <= nets) & (candidates <= weights) {
+    if (targets <= TARGETS)
+        & (candidates <= CANDIDATES)
+        & (candidates <= nets)
+        & (candidates <= weights)
+    {
         return Check::Passed;
     }
     Check::Failed
