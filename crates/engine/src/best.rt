@@ -323,7 +323,8 @@ pub(super) fn best_support(
     sets: &[u32; READINGS],
 ) -> Chosen
     requires { ⌜ PricedRoom priced ⌝ }
-    ensures { λ r. ⌜ HeldSupport (r .support) × (Below 1024 nets → NetsRead (r .support .nets) (r .support .len)) ⌝ }
+    ensures { λ r. ⌜ HeldSupport (r .support) × (Below 1024 nets → NetsRead (r .support .nets) (r .support .len))
+        × (length (r .sets) ≡ 1024) ⌝ }
     ensures { λ r. ⌜ ((j : Job) → Choosable j nets priced (now (sets .entry)) → ChosenOf j (r .support) (r .cost) (r .sets)
         × ((k : ℕ) → GivenBits j (candidateNets j) (now (sets .entry)) k → GivenBits j (chosen j) (r .sets) k)) ⌝ }
 {

@@ -18,7 +18,7 @@ ghost use Rattle.engine.specs.Inner.Choosing.{ChosenJob};
 use super::best::Priced;
 use super::best::best_support;
 use super::best::first_empty;
-use super::given::unseen_readings;
+use super::given::see_skipped;
 use super::limits::LISTED;
 use super::limits::LONGEST_CHOOSE;
 use super::limits::READINGS;
@@ -88,21 +88,14 @@ fn rule_blind(reading: usize, reply: &mut [u8]) -> ChooseReply
     }
 }
 
-// The choice where all candidates together are sound: the chosen support with its table and notes, and its sheet; unseen is not 0 at its
-// readings that no input gives.
-fn rule_patch(
-    support: Support,
-    cost: u32,
-    sets: &[u32; READINGS],
-    unseen: &[u32; READINGS],
-    reply: &mut [u8],
-) -> ChooseReply
+// The choice where all candidates together are sound: the chosen support with its table and notes, and its sheet.
+fn rule_patch(support: Support, cost: u32, sets: &[u32; READINGS], reply: &mut [u8]) -> ChooseReply
     requires { ⌜ HeldSupport support × (2084 ≤ length (now reply)) ⌝ }
     ensures { λ r. ⌜ ((j : Job) → sound j (candidateNets j) ≡ true → ChosenOf j support cost (now (sets .entry))
-        → Unseen j (chosen j) (now (unseen .entry)) → ChosenJob j (now (reply .entry)) r (now (reply .exit))) ⌝ }
+        → Unseen j (chosen j) (now (sets .entry)) → ChosenJob j (now (reply .entry)) r (now (reply .exit))) ⌝ }
 {
     let table = fill_table(sets, support.len);
-    let notes = fill_notes(sets, unseen, support.len);
+    let notes = fill_notes(sets, support.len);
     let len = put_patch(reply, support, &table, cost, &notes);
     ChooseReply {
         number: 0,
@@ -146,8 +139,9 @@ fn choose_job(job: JobParts, reply: &mut [u8]) -> ChooseReply
     };
     let best = best_support(nets, priced, &met.sets);
     let support = best.support;
-    let unseen = unseen_readings(miter, support, &best.sets, met.skipped);
-    rule_patch(support, best.cost, &best.sets, &unseen, reply)
+    let mut sets = best.sets;
+    see_skipped(miter, support, met.skipped, &mut sets);
+    rule_patch(support, best.cost, &sets, reply)
 }
 
 // The service choose: the cheapest patch of a job, or the blind reading, and its sheet at the start of the reply buffer. Refused are a

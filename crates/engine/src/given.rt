@@ -1,4 +1,4 @@
-// Which readings of a support inputs give. A reading is unseen while no input looked at gives it: its place is not 0.
+// Which readings of a support inputs give. A reading is unseen while no input looked at gives it: bit 16 of its set is 1.
 ghost use mathlib.Core.Path.{_≡_};
 ghost use mathlib.Core.Bool.{true};
 ghost use mathlib.Core.List.{List};
@@ -11,7 +11,7 @@ ghost use Rattle.engine.specs.Inner.Miter.{MiterRoom, MergedOf};
 ghost use Rattle.engine.specs.Inner.Plan.{NetsRead, PlanHeld};
 ghost use Rattle.engine.specs.Inner.Search.{BlockRange};
 ghost use Rattle.engine.specs.Inner.Best.{GivenBits};
-ghost use Rattle.engine.specs.Inner.Given.{UnmetOf, NextUnseen, BlockSeen, Unseen, AllSeen};
+ghost use Rattle.engine.specs.Inner.Given.{NextUnseen, BlockSeen, Unseen, SameVectors, AllSeen};
 use super::leaves::block_inputs;
 use super::limits::BLOCK;
 use super::limits::LISTED;
@@ -28,29 +28,14 @@ use super::search::read_block;
 use super::table::reading_count;
 use records::Support;
 
-// A 1 for each reading of len nets that no input gave which was looked at: bit 16 of its set.
-fn unmet_of(sets: &[u32; READINGS], len: usize) -> [u32; READINGS]
-    requires { ⌜ len ≤ 10 ⌝ }
-    ensures { λ r. ⌜ UnmetOf (now (sets .entry)) len r ⌝ }
-{
-    let count = reading_count(len);
-    let mut unseen = [0u32; READINGS];
-    let mut r = 0usize;
-    while r < count {
-        unseen[r] = sets[r] / UNSEEN % 2;
-        r += 1;
-    }
-    unseen
-}
-
 // The first unseen reading from at on, below count; count where there is none.
-fn next_unseen(unseen: &[u32; READINGS], at: usize, count: usize) -> usize
+fn next_unseen(sets: &[u32; READINGS], at: usize, count: usize) -> usize
     requires { ⌜ (at ≤ count) × (count ≤ 1024) ⌝ }
-    ensures { λ r. ⌜ NextUnseen (now (unseen .entry)) at count r ⌝ }
+    ensures { λ r. ⌜ NextUnseen (now (sets .entry)) at count r ⌝ }
 {
     let mut r = at;
     while r < count {
-        if unseen[r] != 0 {
+        if sets[r] / UNSEEN % 2 != 0 {
             return r;
         }
         r += 1;
@@ -58,39 +43,39 @@ fn next_unseen(unseen: &[u32; READINGS], at: usize, count: usize) -> usize
     r
 }
 
-// What stays unseen after the first count inputs of block b. It costs one gate evaluation a gate of the plan, and some 1,000 steps: an input
-// narrows its reading's place as by an empty set of vectors.
+// The sets after the first count inputs of block b: each clears the bit of its reading, as it would narrow its set by all vectors. It costs one
+// gate evaluation a gate of the plan, and some 1,000 steps.
 fn see_block(
     gates: &[u64],
     plan: Plan,
     b: usize,
     count: usize,
     words: &mut [u64; WORDS],
-    unseen: &mut [u32; READINGS],
+    sets: &mut [u32; READINGS],
 )
     requires { ⌜ PlanHeld plan (now gates) × BlockRange (plan .inputs) b count ⌝ }
-    requires { ⌜ (length (now words) ≡ 16384) × (length (now unseen) ≡ 1024) ⌝ }
-    ensures { λ _. ⌜ BlockSeen plan (now (gates .entry)) b count (now (unseen .entry)) (now (unseen .exit)) ⌝ }
+    requires { ⌜ (length (now words) ≡ 16384) × (length (now sets) ≡ 1024) ⌝ }
+    ensures { λ _. ⌜ BlockSeen plan (now (gates .entry)) b count (now (sets .entry)) (now (sets .exit)) ⌝ }
     ensures { λ _. ⌜ length (now (words .exit)) ≡ 16384 ⌝ }
 {
     let readings = read_block(gates, plan, b, words);
-    meet_block([0u64; ROWS], readings, (count + 63) / 64, unseen);
+    meet_block([!0u64; ROWS], readings, (count + 63) / 64, sets);
 }
 
-// What stays unseen after the inputs of the ranges that were skipped. It ends at the block after which no reading is.
-fn see_inputs(gates: &[u64], plan: Plan, skipped: usize, unseen: [u32; READINGS]) -> [u32; READINGS]
-    requires { ⌜ PlanHeld plan (now gates) × (length unseen ≡ 1024) ⌝ }
-    ensures { λ r. ⌜ AllSeen plan (now (gates .entry)) skipped unseen r ⌝ }
+// The sets after the inputs of the ranges that were skipped. It ends at the block after which no reading is unseen.
+fn see_inputs(gates: &[u64], plan: Plan, skipped: usize, sets: &mut [u32; READINGS])
+    requires { ⌜ PlanHeld plan (now gates) × (length (now sets) ≡ 1024) ⌝ }
+    ensures { λ _. ⌜ AllSeen plan (now (gates .entry)) skipped (now (sets .entry)) (now (sets .exit))
+        × SameVectors (now (sets .entry)) (now (sets .exit)) ⌝ }
 {
     let count = reading_count(plan.reads);
     let size = 1usize << plan.inputs;
-    let mut unseen = unseen;
     let mut words = [0u64; WORDS];
-    let mut next = next_unseen(&unseen, 0, count);
+    let mut next = next_unseen(sets, 0, count);
     let mut b = 0usize;
     while BLOCK * b < size {
         if next == count {
-            return unseen;
+            return;
         }
         if (skipped >> (b / RANGE)) % 2 == 1 {
             see_block(
@@ -99,38 +84,37 @@ fn see_inputs(gates: &[u64], plan: Plan, skipped: usize, unseen: [u32; READINGS]
                 b,
                 block_inputs(size - BLOCK * b),
                 &mut words,
-                &mut unseen,
+                sets,
             );
-            next = next_unseen(&unseen, next, count);
+            next = next_unseen(sets, next, count);
         }
         b += 1;
     }
-    unseen
 }
 
-// The readings of a support with these sets that no input gives: their places are not 0. Where no range was skipped, the sets tell, and none is
-// evaluated; else it costs, for each block of 1,024 inputs of these ranges until all readings are seen, one gate evaluation a gate that
-// leads to the support.
-pub(super) fn unseen_readings(
+// The sets of a support, with the bits of its readings that inputs of skipped ranges give cleared too. Where no range was skipped, the sets
+// tell already, and none is evaluated; else it costs, for each block of 1,024 inputs of these ranges until all readings are seen, one gate
+// evaluation a gate that leads to the support.
+pub(super) fn see_skipped(
     miter: Miter,
     support: Support,
-    sets: &[u32; READINGS],
     skipped: usize,
-) -> [u32; READINGS]
-    requires { ⌜ MiterRoom miter × NetsRead (support .nets) (support .len) ⌝ }
-    ensures { λ r. ⌜ ((j : Job) (is : List ℕ) → MergedOf j miter → take (support .len) (support .nets) ≡ is
-        → all′ (candidateGood j) is ≡ true → GivenBits j is (now (sets .entry)) skipped → Unseen j is r) ⌝ }
+    sets: &mut [u32; READINGS],
+)
+    requires { ⌜ MiterRoom miter × NetsRead (support .nets) (support .len) × (length (now sets) ≡ 1024) ⌝ }
+    ensures { λ _. ⌜ ((j : Job) (is : List ℕ) → MergedOf j miter → take (support .len) (support .nets) ≡ is
+        → all′ (candidateGood j) is ≡ true → GivenBits j is (now (sets .entry)) skipped → Unseen j is (now (sets .exit))) ⌝ }
+    ensures { λ _. ⌜ SameVectors (now (sets .entry)) (now (sets .exit)) ⌝ }
 {
-    let unseen = unmet_of(sets, support.len);
     if skipped == 0 {
-        return unseen;
+        return;
     }
     let count = reading_count(support.len);
-    if next_unseen(&unseen, 0, count) == count {
-        return unseen;
+    if next_unseen(sets, 0, count) == count {
+        return;
     }
     let mut gates = [0u64; LISTED];
     let nets = support.nets;
     let plan = reads_of(miter, nets, support.len, &mut gates);
-    see_inputs(&gates, plan, skipped, unseen)
+    see_inputs(&gates, plan, skipped, sets);
 }

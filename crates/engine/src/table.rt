@@ -41,11 +41,11 @@ pub(super) fn fill_table(sets: &[u32], len: usize) -> [u8; READINGS]
     table
 }
 
-// The note of a reading that these vectors share; unseen is not 0 where no input gives it.
-fn note_of(set: u32, unseen: u32) -> u8
-    ensures { λ r. ⌜ r ≡ noteFrom set unseen ⌝ }
+// The note of a reading with this set, whose bit above the vectors' is 1 where no input gives it.
+fn note_of(set: u32) -> u8
+    ensures { λ r. ⌜ r ≡ noteFrom set ⌝ }
 {
-    if unseen != 0 {
+    if set / UNSEEN % 2 != 0 {
         return 0;
     }
     if (set % UNSEEN) as usize == 1 << lowest_of(set as usize) {
@@ -54,21 +54,16 @@ fn note_of(set: u32, unseen: u32) -> u8
     2
 }
 
-// The notes of a support of len nets that has these sets: at each reading 0 where unseen is not 0, 1 where its set has one vector,
-// else 2. It takes 2 ^ len turns, and evaluates no gate.
-pub(super) fn fill_notes(
-    sets: &[u32; READINGS],
-    unseen: &[u32; READINGS],
-    len: usize,
-) -> [u8; READINGS]
+// The notes of a support of len nets that has these sets: at each reading 0 where no input gives it, 1 where its set has one vector, else 2. It takes 2 ^ len turns, and evaluates no gate.
+pub(super) fn fill_notes(sets: &[u32; READINGS], len: usize) -> [u8; READINGS]
     requires { ⌜ len ≤ 10 ⌝ }
-    ensures { λ r. ⌜ NotesFilled (now (sets .entry)) (now (unseen .entry)) len r ⌝ }
+    ensures { λ r. ⌜ NotesFilled (now (sets .entry)) len r ⌝ }
 {
     let count = reading_count(len);
     let mut notes = [0u8; READINGS];
     let mut r = 0usize;
     while r < count {
-        notes[r] = note_of(sets[r], unseen[r]);
+        notes[r] = note_of(sets[r]);
         r += 1;
     }
     notes

@@ -1,5 +1,4 @@
--- Laws of which readings inputs give (specs/Inner/Given): the places after some inputs, block by block, from those that the bits above the
--- vectors' tell. Assumes nothing.
+-- Laws of which readings inputs give (specs/Inner/Given): the bits above the vectors' after some inputs, block by block. Assumes nothing.
 use Prim.Native.Nat.{ℕ, zero, suc, _+_, _-_, _*_, _/_, _%_, _^_, min, _≤_, _<_}
 use mathlib.Core.Path.{_≡_, refl, sym, _∙_, ap, subst}
 use mathlib.Core.Logic.{_↔_, _⊎_, inl, inr, ⊎-elim}
@@ -8,73 +7,107 @@ use mathlib.Core.Bool.{true, false}
 use native.Mathlib.Nat.{eq-or-lt-of-le, eq-zero-or-pos}
 use native.Mathlib.Omega.{arith}
 use borrow.Author.Tests.{eqb-true, eqb-false, ltb-true, ltb-false}
-use lib.Bits.{bitAnd, and-zero-r}
+use lib.Bits.{bitAnd}
 use lib.Dec.{eqb, ltb}
-use lib.ListN.{length, getD, set, replicate, length-set, length-take}
+use lib.ListN.{length, getD, set, replicate, length-set, length-take, getD-replicate, List·getD-eq-default}
 use lib.Pow.{pow-pos, pow-mono}
 use lib.Seq.{getD-set-same, getD-set-other}
 use Rattle.records.specs.Bytes.{upFrom, tabulate, all}
+use Rattle.records.proofs.Laws.Bytes.{tabulate-ext}
 use Rattle.records.specs.Job.{Job}
 use Rattle.records.specs.Refusal.{candidateGood}
 use Rattle.engine.specs.Claims.{SomeGives}
 use Rattle.engine.specs.Eval.{bit, numberOf}
 use Rattle.engine.specs.Support.{reading}
 use Rattle.engine.specs.Inner.Best.{GivenBits}
-use Rattle.engine.specs.Inner.Given.{UnmetOf, NextUnseen, BlockSeen, Unseen, AllSeen}
+use Rattle.engine.specs.Inner.Given.{NextUnseen, allOnes, BlockSeen, Unseen, SameVectors, AllSeen}
 use Rattle.engine.specs.Inner.Kernel.{valueIn}
 use Rattle.engine.specs.Inner.Note.{narrowed, setsFrom, gathered, filled}
 use Rattle.engine.specs.Inner.Plan.{ReadsOf}
 use Rattle.engine.specs.Inner.Search.{BlockRange, BlockRead}
 use Rattle.engine.specs.declared.plan.Plan.{Plan}
-use Rattle.engine.proofs.Laws.BlockRows.{numberOf-short}
 use Rattle.engine.proofs.Laws.Choice.{true-or-false}
 use Rattle.engine.proofs.Laws.Eval.{bit-lt}
-use Rattle.engine.proofs.Laws.Leaves.{valueIn-zero}
+use Rattle.engine.proofs.Laws.Rows.{setsFrom-agree}
 use Rattle.engine.proofs.Laws.Search.{noted-sets, reading-small, met-long, block-range}
-use Rattle.engine.proofs.Laws.Word.{bit-zero}
+use Rattle.engine.proofs.Laws.VectorSets.{bit-ones}
+use Rattle.engine.proofs.Laws.Word.{bit-zero, bit-and, bit-ones as word-ones}
 
--- ---- the places after some inputs
+-- ---- the sets after some inputs
 
-narrowed-zero : (os : List ℕ) (q r : ℕ) → r < length os → (getD (narrowed os q 0) r 0 ≡ 0) ↔ ((getD os r 0 ≡ 0) ⊎ (q ≡ r))
+-- narrowed by all vectors, a set keeps them and loses the bit above them
+ones-below : (v x : ℕ) → v < 16 → bit v (bitAnd x allOnes) ≡ bit v x
+ones-below v x h = bit-and v x allOnes ∙ omega (arith, bit-ones 16 v .1 h, bit-lt v x)
+
+ones-above : (x : ℕ) → bit 16 (bitAnd x allOnes) ≡ 0
+unfolding bit
+ones-above x = let z : bit 16 allOnes ≡ 0 = refl in bit-and 16 x allOnes ∙ omega arith
+
+narrowed-ones : (ss : List ℕ) (q r : ℕ) → r < length ss
+    → (bit 16 (getD (narrowed ss q allOnes) r 0) ≡ 0) ↔ ((bit 16 (getD ss r 0) ≡ 0) ⊎ (q ≡ r))
 unfolding narrowed
-narrowed-zero os q r l =
-    let v : ℕ = bitAnd (getD os q 0) 0 in
+narrowed-ones ss q r l =
+    let v : ℕ = bitAnd (getD ss q 0) allOnes in
     ⊎-elim
     (λ (t : eqb r q ≡ true).
     let e : r ≡ q = eqb-true r q t in
-    (λ z. inr (sym e), λ z. rw e (getD-set-same os q v 0 (rw e at l)) ∙ and-zero-r (getD os q 0)))
+    (λ z. inr (sym e), λ z. rw e (ap (bit 16) (getD-set-same ss q v 0 (rw e at l)) ∙ ones-above (getD ss q 0))))
     (λ (t : eqb r q ≡ false).
     let n = eqb-false r q t in
-    let e : getD (set os q v) r 0 ≡ getD os r 0 = getD-set-other os q r v 0 n in
-    (λ z. inl (sym e ∙ z), λ z. ⊎-elim (λ (a : getD os r 0 ≡ 0). e ∙ a) (λ (a : q ≡ r). absurd (n (sym a))) z))
+    let e : bit 16 (getD (set ss q v) r 0) ≡ bit 16 (getD ss r 0) = ap (bit 16) (getD-set-other ss q r v 0 n) in
+    (λ z. inl (sym e ∙ z), λ z. ⊎-elim (λ (a : bit 16 (getD ss r 0) ≡ 0). e ∙ a) (λ (a : q ≡ r). absurd (n (sym a))) z))
     (true-or-false (eqb r q))
+
+-- .. and all sets keep their vectors
+narrowed-same : (ss : List ℕ) (q : ℕ) → SameVectors ss (narrowed ss q allOnes)
+unfolding narrowed
+narrowed-same ss q r v h =
+    let w : ℕ = bitAnd (getD ss q 0) allOnes in
+    ⊎-elim
+    (λ (t : eqb r q ≡ true).
+    let e : r ≡ q = eqb-true r q t in
+    ⊎-elim
+    (λ (l : ltb r (length ss) ≡ true).
+    rw e (ap (bit v) (getD-set-same ss q w 0 (rw e at (ltb-true r (length ss) l))) ∙ ones-below v (getD ss q 0) h))
+    (λ (l : ltb r (length ss) ≡ false).
+    let m = ltb-false r (length ss) l in
+    ap (bit v)
+    (List·getD-eq-default (set ss q w) 0 (omega (arith, length-set ss q w)) ∙ sym (List·getD-eq-default ss 0 m)))
+    (true-or-false (ltb r (length ss))))
+    (λ (t : eqb r q ≡ false). ap (bit v) (getD-set-other ss q r w 0 (eqb-false r q t)))
+    (true-or-false (eqb r q))
+
+same-from : (g : ℕ → ℕ) (ss : List ℕ) (x k : ℕ) → SameVectors ss (setsFrom (λ y. allOnes) g ss x k)
+unfolding setsFrom
+same-from g ss x zero r v h = refl
+same-from g ss x (suc k) r v h = same-from g (narrowed ss (g x) allOnes) (suc x) k r v h ∙ narrowed-same ss (g x) r v h
 
 -- one of the k inputs from x on gives reading r
 abbrev SomeOf : (ℕ → ℕ) → ℕ → ℕ → ℕ → Type 0
 SomeOf g x k r = (y : ℕ) × (x ≤ y) × (y < x + k) × (g y ≡ r)
 
--- a place is 0 after the k inputs from x on exactly when it was before, or one of them gives its reading
+-- a bit is 0 after the k inputs from x on exactly when it was before, or one of them gives its reading
 seen-iff : (g : ℕ → ℕ) (os : List ℕ) (x k r : ℕ) → r < length os
-    → (getD (setsFrom (λ y. 0) g os x k) r 0 ≡ 0) ↔ ((getD os r 0 ≡ 0) ⊎ SomeOf g x k r)
+    → (bit 16 (getD (setsFrom (λ y. allOnes) g os x k) r 0) ≡ 0) ↔ ((bit 16 (getD os r 0) ≡ 0) ⊎ SomeOf g x k r)
 unfolding setsFrom narrowed
 seen-iff g os x zero r l = (
   inl,
-  λ z. ⊎-elim (λ (a : getD os r 0 ≡ 0). a) (λ (a : SomeOf g x 0 r). let f : ⊥ = omega (arith, a .1, a .2) in absurd f) z,
+  λ z. ⊎-elim (λ (a : bit 16 (getD os r 0) ≡ 0). a) (λ (a : SomeOf g x 0 r). let f : ⊥ = omega (arith, a .1, a .2) in absurd f) z,
 )
 seen-iff g os x (suc k) r l =
-    let ps = narrowed os (g x) 0 in
-    let turn = narrowed-zero os (g x) r l in
-    let rest = seen-iff g ps (suc x) k r (omega (arith, length-set os (g x) (bitAnd (getD os (g x) 0) 0))) in (
+    let ps = narrowed os (g x) allOnes in
+    let turn = narrowed-ones os (g x) r l in
+    let rest = seen-iff g ps (suc x) k r (omega (arith, length-set os (g x) (bitAnd (getD os (g x) 0) allOnes))) in (
       λ z.
           ⊎-elim
-          (λ (a : getD ps r 0 ≡ 0).
-          ⊎-elim (λ (b : getD os r 0 ≡ 0). inl b) (λ (b : g x ≡ r). inr (x, omega arith, omega arith, b)) (turn .0 a))
+          (λ (a : bit 16 (getD ps r 0) ≡ 0).
+          ⊎-elim (λ (b : bit 16 (getD os r 0) ≡ 0). inl b) (λ (b : g x ≡ r). inr (x, omega arith, omega arith, b)) (turn .0 a))
           (λ (a : SomeOf g (suc x) k r). inr (a .0, omega (arith, a .1), omega (arith, a .2), a .3))
           (rest .0 z),
       λ z.
           rest .1
           (⊎-elim
-          (λ (a : getD os r 0 ≡ 0). inl (turn .1 (inl a)))
+          (λ (a : bit 16 (getD os r 0) ≡ 0). inl (turn .1 (inl a)))
           (λ (a : SomeOf g x (suc k) r).
           ⊎-elim
           (λ (e : x ≡ a .0). inl (turn .1 (inr (ap g e ∙ a .3))))
@@ -85,26 +118,41 @@ seen-iff g os x (suc k) r l =
 
 -- ---- a block
 
--- rows of 0 say 0
-gathered-zeros : (y : ℕ) → gathered (replicate 256 0) y ≡ 0
-unfolding gathered tabulate upFrom numberOf
-gathered-zeros y = numberOf-short (valueIn (replicate 256 0) y) 0 16 (λ i l. valueIn-zero 256 y i)
+-- rows of ones say all vectors
+abbrev onesRows : List ℕ
+onesRows = replicate 256 18446744073709551615
+
+ones-number : numberOf (tabulate 16 (λ i. 1)) ≡ allOnes
+unfolding numberOf tabulate upFrom
+ones-number = refl
+
+gathered-ones : (y : ℕ) → y < 1024 → gathered onesRows y ≡ allOnes
+unfolding gathered valueIn
+gathered-ones y h =
+    ap numberOf
+    (tabulate-ext 16 (valueIn onesRows y) (λ i. 1)
+    (λ i l.
+    ap (bit (y % 64)) (getD-replicate {A = ℕ} 256 (16 * i + y / 64) 18446744073709551615 0 (omega arith)) ∙ word-ones (y % 64) (omega arith)))
+    ∙ ones-number
 
 pub block-seen : {p : Plan} {gates : List ℕ} (b count : ℕ) (readings words before after : List ℕ) → p .reads ≤ 10
     → BlockRange (p .inputs) b count → BlockRead p gates b words readings
-    → after ≡ setsFrom (gathered (replicate 256 0)) (λ y. gathered readings y % 1024) before 0 (filled count)
+    → after ≡ setsFrom (gathered onesRows) (λ y. gathered readings y % 1024) before 0 (filled count)
     → BlockSeen p gates b count before after
 block-seen b count readings words before after k r e n =
+    let ones = n ∙ setsFrom-agree (gathered onesRows) (λ y. gathered readings y % 1024) (λ y. allOnes) (λ y. gathered readings y % 1024) before 0 0
+    (filled count) (λ i u. (gathered-ones (0 + i) (omega (arith, r .few)), refl)) in
     record {
-      long = met-long (replicate 256 0) readings before count n;
+      long = met-long onesRows readings before count n;
       seen =
           λ j is q good.
           n
-          ∙ noted-sets j is (λ x. 0) (λ x. refl) b count (replicate 256 0) readings before
+          ∙ noted-sets j is (λ x. allOnes) (λ x. refl) b count onesRows readings before
           (subst (λ (i : ℕ). BlockRange i b count) (q .inputs) r)
-          (λ y l. gathered-zeros y)
+          (λ y l. gathered-ones y l)
           (e .readings j is q good)
           (reading-small k q);
+      same = λ i v h. ap (λ (ss : List ℕ). bit v (getD ss i 0)) ones ∙ same-from (λ y. gathered readings y % 1024) before 0 (filled count) i v h;
     }
 
 -- ---- block after block
@@ -113,12 +161,13 @@ block-seen b count readings words before after k r e n =
 abbrev SkippedTo : Job → List ℕ → ℕ → ℕ → ℕ → Type 0
 SkippedTo j is k x r = (y : ℕ) × (y < x) × (bit (y / 32768) k ≡ 1) × (reading j is y ≡ r)
 
--- a place is 0 after these inputs exactly when it was before, or one of them gives its reading
-abbrev PlacesTo : Job → List ℕ → ℕ → ℕ → List ℕ → List ℕ → Type 0
-PlacesTo j is k x before after = (r : ℕ) → r < 1024 → (getD after r 0 ≡ 0) ↔ ((getD before r 0 ≡ 0) ⊎ SkippedTo j is k x r)
+-- a bit is 0 after these inputs exactly when it was before, or one of them gives its reading
+abbrev BitsTo : Job → List ℕ → ℕ → ℕ → List ℕ → List ℕ → Type 0
+BitsTo j is k x before after =
+    (r : ℕ) → r < 1024 → (bit 16 (getD after r 0) ≡ 0) ↔ ((bit 16 (getD before r 0) ≡ 0) ⊎ SkippedTo j is k x r)
 
--- how far the look at a plan's inputs has come, before block b: the places after those passed, from the places before; of the count
--- readings those before next are 0
+-- how far the look at a plan's inputs has come, before block b: the sets after those passed, from the sets before; of the count readings
+-- those before next are seen
 pub record Seeing (p : Plan) (gates : List ℕ) (k : ℕ) (before : List ℕ) (count size b next : ℕ) (after : List ℕ) : Type 0 where
   pub inputs : size ≡ 2 ^ p .inputs
   pub few : size ≤ 1048576
@@ -128,7 +177,8 @@ pub record Seeing (p : Plan) (gates : List ℕ) (k : ℕ) (before : List ℕ) (c
   pub most : next ≤ count
   pub long : length after ≡ 1024
   pub seen : (j : Job) (is : List ℕ) → ReadsOf j is p gates → all (candidateGood j) is ≡ true
-      → PlacesTo j is k (min (1024 * b) size) before after × ((q : ℕ) → q < next → getD after q 0 ≡ 0)
+      → BitsTo j is k (min (1024 * b) size) before after × ((q : ℕ) → q < next → bit 16 (getD after q 0) ≡ 0)
+  pub same : SameVectors before after
 
 pub seeing-none : (p : Plan) (gates : List ℕ) (k : ℕ) {before : List ℕ} {count next : ℕ} → p .inputs ≤ 20 → p .reads ≤ 10
     → length before ≡ 1024 → count ≡ 2 ^ p .reads → NextUnseen before 0 count next
@@ -153,6 +203,7 @@ seeing-none p gates k {before} {count} {next} a b l c o =
             ),
             λ r h. o .seen r (omega arith) h,
           );
+      same = λ r v h. refl;
     }
 
 -- an input of block b is of range b / 32
@@ -187,11 +238,11 @@ module _ {p : Plan} {gates before mid : List ℕ} {k count size b next n : ℕ} 
         (y .0, omega (arith, y .2), rw (range-of b (y .0) (y .1) (omega (arith, y .2))) (a .0), y .3)),
   )
 
-  seeing-more : {after : List ℕ} {later : ℕ} → length after ≡ length mid → NextUnseen after next count later
+  seeing-more : {after : List ℕ} {later : ℕ} → length after ≡ length mid → SameVectors mid after → NextUnseen after next count later
       → ((j : Job) (is : List ℕ) → ReadsOf j is p gates → all (candidateGood j) is ≡ true → (r : ℕ) → r < 1024
-      → (getD after r 0 ≡ 0) ↔ ((getD mid r 0 ≡ 0) ⊎ SkippedHere j is r))
+      → (bit 16 (getD after r 0) ≡ 0) ↔ ((bit 16 (getD mid r 0) ≡ 0) ⊎ SkippedHere j is r))
       → Seeing p gates k before count size (b + 1) later after
-  seeing-more {after} {later} g o t =
+  seeing-more {after} {later} g same o t =
       record {
         inputs = s .inputs;
         few = s .few;
@@ -225,13 +276,14 @@ module _ {p : Plan} {gates before mid : List ℕ} {k count size b next n : ℕ} 
                   (λ a. o .seen r (ltb-false r next a) l)
                   (true-or-false (ltb r next)),
             );
+        same = λ r v u. same r v u ∙ s .same r v u;
       }
 
   -- it is looked at
   pub seeing-next : {after : List ℕ} {later : ℕ} → bit (b / 32) k ≡ 1 → BlockSeen p gates b n mid after
       → NextUnseen after next count later → Seeing p gates k before count size (b + 1) later after
   seeing-next i t o =
-      seeing-more (t .long) o
+      seeing-more (t .long) (t .same) o
       (λ j is q good r l.
       let g = seen-iff (reading j is) mid (1024 * b) n r (omega (arith, s .long)) in
       rw (t .seen j is q good)
@@ -240,14 +292,14 @@ module _ {p : Plan} {gates before mid : List ℕ} {k count size b next n : ℕ} 
   -- .. or passed, since its range was not skipped
   pub seeing-pass : (bit (b / 32) k ≡ 1 → ⊥) → Seeing p gates k before count size (b + 1) next mid
   seeing-pass i =
-      seeing-more refl
+      seeing-more refl (λ r v u. refl)
       record { past = omega arith; most = s .most; seen = λ q u v. let f : ⊥ = omega arith in absurd f }
       (λ j is q good r l. (inl, ⊎-elim (λ z. z) (λ y. absurd (i (y .0)))))
 
--- .. after all inputs, or once the places of all readings are 0
+-- .. after all inputs, or once all readings are seen
 pub seeing-all : {p : Plan} {gates before after : List ℕ} {k count size b next : ℕ} → Seeing p gates k before count size b next after
     → (size ≤ 1024 * b) ⊎ (next ≡ count) → AllSeen p gates k before after
-seeing-all {p} {gates} {before} {after} {k} {count} {size} {b} {next} s d j is q good given unmet r h =
+seeing-all {p} {gates} {before} {after} {k} {count} {size} {b} {next} s d j is q good g r h =
     let n : length is ≤ p .reads = omega (arith, ap length (sym (q .nets)), length-take (p .reads) (p .nets)) in
     let m : 2 ^ length is ≤ count = rw (s .readings) (pow-mono n) in
     let i : size ≡ 2 ^ j .inputs = s .inputs ∙ ap (λ (t : ℕ). 2 ^ t) (q .inputs) in
@@ -255,7 +307,7 @@ seeing-all {p} {gates} {before} {after} {k} {count} {size} {b} {next} s d j is q
     let seen = w .0 r (omega (arith, s .places)) in (
       λ z.
           ⊎-elim
-          (λ (a : getD before r 0 ≡ 0). given r h a)
+          (λ (a : bit 16 (getD before r 0) ≡ 0). g .given r h a)
           (λ (y : SkippedTo j is k (min (1024 * b) size) r). (y .0, omega (arith, y .1), y .3))
           (seen .0 z),
       λ y.
@@ -264,42 +316,32 @@ seeing-all {p} {gates} {before} {after} {k} {count} {size} {b} {next} s d j is q
           seen .1
           (⊎-elim
           inl
-          (λ (a : 0 < getD before r 0).
+          (λ (a : 0 < bit 16 (getD before r 0)).
+          let o : bit 16 (getD before r 0) ≡ 1 = omega (arith, bit-lt 16 (getD before r 0)) in
           let u : bit (y .0 / 32768) k ≡ 1 =
-          let z : (bit (y .0 / 32768) k ≡ 0 → ⊥) =
-          λ o. unmet r h (λ e. let f : ⊥ = omega arith in f) (y .0) (y .1) o (y .2) in
+          let z : (bit (y .0 / 32768) k ≡ 0 → ⊥) = λ e. g .unmet r h o (y .0) (y .1) e (y .2) in
           omega (arith, bit-lt (y .0 / 32768) k) in
           inr (y .0, omega (arith, y .1), u, y .2))
-          (eq-zero-or-pos (getD before r 0))))
+          (eq-zero-or-pos (bit 16 (getD before r 0)))))
           (λ (f : next ≡ count). w .1 r (omega arith))
           d,
     )
 
 -- ---- before the look at the ranges that were skipped
 
-module _ (j : Job) (is ss os : List ℕ) {k n : ℕ} (few : length is ≤ n) (g : GivenBits j is ss k) (o : UnmetOf ss n os) where
-  bit-at : (r : ℕ) → r < 2 ^ length is → getD os r 0 ≡ bit 16 (getD ss r 0)
-  bit-at r h = o .bits r (omega (arith, pow-mono few))
-
-  pub unmet-given : (r : ℕ) → r < 2 ^ length is → getD os r 0 ≡ 0 → SomeGives j is r
-  unmet-given r h z = g .given r h (sym (bit-at r h) ∙ z)
-
-  pub unmet-none : (r : ℕ) → r < 2 ^ length is → (getD os r 0 ≡ 0 → ⊥)
-      → (x : ℕ) → x < 2 ^ j .inputs → bit (x / 32768) k ≡ 0 → reading j is x ≡ r → ⊥
-  unmet-none r h z = g .unmet r h (omega (arith, bit-at r h, bit-lt 16 (getD ss r 0)))
-
-  -- where none was, the places are those after all inputs
-  pub none-skipped : k ≡ 0 → Unseen j is os
+module _ {j : Job} {is ss : List ℕ} {k : ℕ} (g : GivenBits j is ss k) where
+  -- where none was, the bits are those after all inputs
+  pub none-skipped : k ≡ 0 → Unseen j is ss
   none-skipped e r h = (
-    unmet-given r h,
+    g .given r h,
     λ y.
         ⊎-elim
         (λ z. z)
-        (λ (a : 0 < getD os r 0).
-        absurd (unmet-none r h (λ z. let f : ⊥ = omega arith in f) (y .0) (y .1) (rw e (bit-zero (y .0 / 32768))) (y .2)))
-        (eq-zero-or-pos (getD os r 0)),
+        (λ (a : 0 < bit 16 (getD ss r 0)).
+        absurd (g .unmet r h (omega (arith, bit-lt 16 (getD ss r 0))) (y .0) (y .1) (rw e (bit-zero (y .0 / 32768))) (y .2)))
+        (eq-zero-or-pos (bit 16 (getD ss r 0))),
   )
 
-  -- .. and so they are where no place is open
-  pub all-seen : {count next : ℕ} → count ≡ 2 ^ n → NextUnseen os 0 count next → next ≡ count → Unseen j is os
-  all-seen c t d r h = (unmet-given r h, λ a. t .seen r (omega arith) (omega (arith, pow-mono few)))
+  -- .. and so they are where all readings are seen
+  pub all-seen : {n count next : ℕ} → length is ≤ n → count ≡ 2 ^ n → NextUnseen ss 0 count next → next ≡ count → Unseen j is ss
+  all-seen few c t d r h = (g .given r h, λ a. t .seen r (omega arith) (omega (arith, pow-mono few)))

@@ -194,12 +194,12 @@ module _ (j : Job) (is : List ℕ) (r s : ℕ) (few : j .targets ≤ 4)
       ∙ sym (ne-eqb k 1 (c .0))))
       (sharing-cases j is r)
 
-module _ (j : Job) (is ss os : List ℕ) (h : SetsOf j is ss) (g : Unseen j is os) where
-  note-of-set : (r : ℕ) → r < 2 ^ length is → noteFrom (getD ss r 0) (getD os r 0) ≡ noteOf j is r
+module _ (j : Job) (is ss : List ℕ) (h : SetsOf j is ss) (g : Unseen j is ss) where
+  note-of-set : (r : ℕ) → r < 2 ^ length is → noteFrom (getD ss r 0) ≡ noteOf j is r
   unfolding noteFrom noteOf
   note-of-set r l =
-      let o = getD os r 0 in
       let t = getD ss r 0 in
+      let o = bit 16 t in
       let n = length (giving j is r) in
       ⊎-elim
       (λ (c : (n ≡ 0) × (SomeGives j is r → ⊥)). rw (eq-eqb n 0 (c .0), ne-eqb o 0 (λ e. c .1 (g r l .0 e))))
@@ -210,7 +210,7 @@ module _ (j : Job) (is ss os : List ℕ) (h : SetsOf j is ss) (g : Unseen j is o
 
   -- the places that hold the notes of the sets
   pub notes-sets : (ts : List ℕ) → 2 ^ length is ≤ length ts
-      → ((r : ℕ) → r < 2 ^ length is → getD ts r 0 ≡ noteFrom (getD ss r 0) (getD os r 0)) → take (2 ^ length is) ts ≡ notesOf j is
+      → ((r : ℕ) → r < 2 ^ length is → getD ts r 0 ≡ noteFrom (getD ss r 0)) → take (2 ^ length is) ts ≡ notesOf j is
   unfolding notesOf
   notes-sets ts l f =
       sym (tabulate-take 0 ts (2 ^ length is) l)

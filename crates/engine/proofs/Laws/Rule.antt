@@ -29,7 +29,7 @@ use Rattle.engine.specs.Inner.List.{listedOf}
 use Rattle.engine.specs.Inner.Guess.{ListTo}
 use Rattle.engine.specs.Inner.Search.{SetsTo}
 use Rattle.engine.specs.Inner.Best.{ReadingSets, SetsOf, GivenBits, FirstEmpty, Choosable, ChosenOf}
-use Rattle.engine.specs.Inner.Given.{Unseen}
+use Rattle.engine.specs.Inner.Given.{Unseen, SameVectors}
 use Rattle.engine.specs.Inner.Table.{TableFilled, NotesFilled}
 use Rattle.engine.specs.Inner.Judging.{JudgedJob}
 use Rattle.engine.specs.Inner.Choosing.{ChosenJob}
@@ -119,11 +119,21 @@ module _ {j : Job} {s : Support} {c : ℕ} {ss : List ℕ} (h : ChosenOf j s c s
   pub table-of-chosen : {t : List ℕ} → TableFilled ss (s .len) t → take (2 ^ s .len) t ≡ tableOf j nets
   table-of-chosen f = f .table j (chosen j) (h .sets) (sym (h .len)) ∙ ap (tableOf j) (sym (h .support))
 
-  pub notes-of-chosen : {os t : List ℕ} → Unseen j (chosen j) os → NotesFilled ss os (s .len) t → take (2 ^ s .len) t ≡ notesOf j nets
+  pub notes-of-chosen : {t : List ℕ} → Unseen j (chosen j) ss → NotesFilled ss (s .len) t → take (2 ^ s .len) t ≡ notesOf j nets
   notes-of-chosen u f = f .notes j (chosen j) (h .sets) u (sym (h .len)) ∙ ap (notesOf j) (sym (h .support))
 
   pub cost-of-chosen : c ≡ cost j nets
   cost-of-chosen = h .cost ∙ ap (cost j) (sym (h .support))
+
+-- sets with the same vectors serve as well
+pub chosen-same : {j : Job} {s : Support} {c : ℕ} {ss ts : List ℕ} → SameVectors ss ts → ChosenOf j s c ss → ChosenOf j s c ts
+chosen-same {ss = ss} {ts = ts} e h =
+    record {
+      len = h .len;
+      support = h .support;
+      cost = h .cost;
+      sets = record { targets = h .sets .targets; sets = λ r v l m. rw (e r v m) (h .sets .sets r v l m) };
+    }
 
 -- ---- a job's parts
 

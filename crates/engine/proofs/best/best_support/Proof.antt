@@ -58,7 +58,7 @@ returns c =
     let n = s .args .priced .count in
     let same = o .arena-of .ensures .1 in
     let still = same-more {m = 2 ^ n} (now (s .args .sets)) (omega arith) same (b .best-from .ensures .0 .1) in (
-      (picked-held n (s .args .nets) (s .pre .few) (p .0), p .1),
+      (picked-held n (s .args .nets) (s .pre .few) (p .0), p .1, c .before .sets-of .ensures .0),
       λ j q.
           let all = all-pick (s .pre) ni nw q (m .before .reading-count .ensures) (m .sum-weights .ensures) in
           let g = b .best-from .ensures .1 j (all-priced (s .pre) ni nw q) all (open-same _ same (all-open (s .pre) ni nw q)) in

@@ -7,7 +7,7 @@ use Rattle.records.specs.Job.{Job}
 use Rattle.records.specs.Parts.{PartsOf}
 use Rattle.engine.specs.Support.{chosen}
 use Rattle.engine.specs.Inner.Search.{SetsTo}
-use Rattle.engine.proofs.Laws.Rule.{readings-many, parts-few, parts-nets, chosen-good, rule-given, rule-blind, rule-sound}
+use Rattle.engine.proofs.Laws.Rule.{readings-many, parts-few, parts-nets, chosen-good, chosen-same, rule-given, rule-blind, rule-sound}
 use Rattle.engine.proofs.choosing.choose_job.Statement.{statement}
 use Rattle.engine.proofs.choosing.choose_job.Tie as tie
 
@@ -67,25 +67,25 @@ best-support-requires c κs =
     let u = counted (c .before .before .before) .before in
     record { few = parts-few (start u .pre .0 .parts); targets = mitered u .merged-miter .ensures .0 .targets }
 
-unseen-readings-requires : tie.Need-unseen-readings-requires
-unseen-readings-requires c κs =
+abbrev supported : tie.After-see-skipped → tie.After-best-support
+supported x = x .before .before .before .before
+
+see-skipped-requires : tie.Need-see-skipped-requires
+see-skipped-requires c κs =
     let b = c .before .before .before in
     let u = sets b in
-    (mitered u .merged-miter .ensures .0, b .best-support .ensures .0 .1 (start u .pre .1))
-
-abbrev supported : tie.After-unseen-readings → tie.After-best-support
-supported x = x .before .before .before .before
+    (mitered u .merged-miter .ensures .0, b .best-support .ensures .0 .1 (start u .pre .1), b .best-support .ensures .0 .2)
 
 rule-patch-requires : tie.Need-rule-patch-requires
 rule-patch-requires c κs =
-    let b = supported (c .before .before .before .before) in
+    let b = supported (c .before .before) in
     (b .best-support .ensures .0 .0, start (sets b) .pre .2)
 
 returns-2 : tie.Need-returns-2
 returns-2 c =
     λ j p.
     let w = c .before .before in
-    let x = w .before .before .before .before .before in
+    let x = w .before .before .before in
     let b = supported x in
     let t = b .before .before .before in
     let e = t .before in
@@ -94,8 +94,8 @@ returns-2 c =
     let m = mitered u .merged-miter .ensures .1 j p in
     let q = rule-sound p (met u j p) (n .reading-count .ensures) (e .first-empty .ensures) (m .targets) (t .if1 .left) in
     let best = b .best-support .ensures .1 j q in
-    w .rule-patch .ensures j (q .sound) (best .0)
-    (x .unseen-readings .ensures j (chosen j) m (best .0 .support) (chosen-good (p .good) (q .sound))
+    w .rule-patch .ensures j (q .sound) (chosen-same (x .see-skipped .ensures .1) (best .0))
+    (x .see-skipped .ensures .0 j (chosen j) m (best .0 .support) (chosen-good (p .good) (q .sound))
     (best .1 _ (rule-given p (met u j p) (n .reading-count .ensures) (e .first-empty .ensures))))
 
 pub choose-job-spec : {M : Type 1} → statement M
@@ -110,7 +110,7 @@ choose-job-spec =
     (λ c. search needs)
     returns
     best-support-requires
-    unseen-readings-requires
+    see-skipped-requires
     rule-patch-requires
     (λ c. search needs)
     returns-2)

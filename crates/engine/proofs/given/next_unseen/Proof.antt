@@ -1,18 +1,19 @@
--- `engine::given::next_unseen` meets its contract. The invariant: every place from at on before r is 0. Assumes nothing.
+-- `engine::given::next_unseen` meets its contract. The invariant: every reading from at on before r is seen. Assumes nothing.
 use Prim.Native.Nat.{_-_, _<_}
 use mathlib.Core.Path.{_≡_}
 use mathlib.Core.Logic.{⊎-elim}
 use native.Mathlib.Nat.{eq-or-lt-of-le}
 use native.Mathlib.Omega.{arith}
+use Rattle.engine.specs.Eval.{bit}
 use Rattle.engine.specs.Inner.Given.{NextUnseen}
 use Rattle.engine.proofs.given.next_unseen.Statement.{statement}
 use Rattle.engine.proofs.given.next_unseen.Tie as tie
 
 abbrev Inv-loop : tie.InvT-loop
-Inv-loop unseen at count r₀ r = NextUnseen unseen at count r
+Inv-loop sets at count r₀ r = NextUnseen sets at count r
 
 abbrev μ-loop : tie.MeasureT-loop
-μ-loop unseen at count r₀ r = count - r
+μ-loop sets at count r₀ r = count - r
 
 loop-holds : tie.Need-loop-holds Inv-loop μ-loop
 loop-holds c = record { past = omega arith; most = omega arith; seen = λ q h l. let f : ⊥ = omega arith in absurd f }
@@ -21,6 +22,7 @@ returns : tie.Need-returns Inv-loop μ-loop
 returns c = c .before .before .before .loop .inv
 
 loop-again : tie.Need-loop-again Inv-loop μ-loop
+unfolding bit
 loop-again c =
     let l = c .before .before .before .loop in
     record {

@@ -1,4 +1,4 @@
--- `engine::given::see_inputs` meets its contract. The invariant: the places after the blocks passed, all 0 before the first open reading.
+-- `engine::given::see_inputs` meets its contract. The invariant: the sets after the blocks passed, all readings seen before the first that is not.
 -- Assumes nothing.
 use Prim.Native.Nat.{ℕ, _-_, _*_}
 use mathlib.Core.Path.{_≡_, refl}
@@ -13,11 +13,11 @@ use Rattle.engine.proofs.given.see_inputs.Statement.{statement}
 use Rattle.engine.proofs.given.see_inputs.Tie as tie
 
 abbrev Inv-loop : tie.InvT-loop
-Inv-loop gates plan skipped count size unseen₀ words₀ next₀ b₀ unseen words next b =
-    (length words ≡ 16384) × Seeing plan gates skipped unseen₀ count size b next unseen
+Inv-loop gates plan skipped sets₀ count size words₀ next₀ b₀ sets words next b =
+    (length words ≡ 16384) × Seeing plan gates skipped sets₀ count size b next sets
 
 abbrev μ-loop : tie.MeasureT-loop
-μ-loop gates plan skipped count size unseen₀ words₀ next₀ b₀ unseen words next b = size - 1024 * b
+μ-loop gates plan skipped sets₀ count size words₀ next₀ b₀ sets words next b = size - 1024 * b
 
 reading-count-requires : tie.Need-reading-count-requires Inv-loop μ-loop
 reading-count-requires c κs = c .before .pre .0 .reads
@@ -38,7 +38,7 @@ loop-holds c =
     )
 
 returns : tie.Need-returns Inv-loop μ-loop
-returns c = seeing-all (c .before .before .loop .inv .1) (inr (c .if1 .taken))
+returns c = let i = c .before .before .loop .inv .1 in (seeing-all i (inr (c .if1 .taken)), i .same)
 
 shr-if2 : tie.Need-shr-if2 Inv-loop μ-loop
 shr-if2 c = omega (arith, c .before .before .loop .inv .1 .few)
@@ -66,7 +66,7 @@ loop-again c =
     (c .if2 .came)
 
 returns-2 : tie.Need-returns-2 Inv-loop μ-loop
-returns-2 c = seeing-all (c .before .loop .inv .1) (inl (omega arith))
+returns-2 c = let i = c .before .loop .inv .1 in (seeing-all i (inl (omega arith)), i .same)
 
 pub see-inputs-spec : {M : Type 1} → statement M
 see-inputs-spec =

@@ -13,11 +13,11 @@ use Rattle.engine.proofs.table.fill_notes.Statement.{statement}
 use Rattle.engine.proofs.table.fill_notes.Tie as tie
 
 abbrev Inv-loop : tie.InvT-loop
-Inv-loop sets unseen len count notes₀ r₀ notes r =
-    (r ≤ count) × Filled (λ q. noteFrom (getD sets q 0) (getD unseen q 0)) 0 r notes₀ notes
+Inv-loop sets len count notes₀ r₀ notes r =
+    (r ≤ count) × Filled (λ q. noteFrom (getD sets q 0)) 0 r notes₀ notes
 
 abbrev μ-loop : tie.MeasureT-loop
-μ-loop sets unseen len count notes₀ r₀ notes r = count - r
+μ-loop sets len count notes₀ r₀ notes r = count - r
 
 loop-holds : tie.Need-loop-holds Inv-loop μ-loop
 loop-holds c = (omega arith, fill-none _ 0 _)
@@ -33,7 +33,7 @@ mul-note-of c = let l = place-lt c in omega arith
 
 loop-again : tie.Need-loop-again Inv-loop μ-loop
 loop-again c =
-    let i = c .before .before .before in
+    let i = c .before .before in
     let l = i .before .loop in
     let n = place-lt i in
     (omega arith, fill-next _ 0 _ _ _ (l .inv .1) (l .r) _ (omega arith) (omega (arith, l .inv .1 .long)) (c .note-of .ensures))
@@ -49,12 +49,12 @@ returns c =
       notes =
           λ j is h g e.
           rw (← e)
-          (notes-sets j is (now (s .args .sets)) (now (s .args .unseen)) h g (l .notes) (rw e (omega (arith, l .inv .1 .long)))
+          (notes-sets j is (now (s .args .sets)) h g (l .notes) (rw e (omega (arith, l .inv .1 .long)))
           (λ r i. fill-at (l .inv .1) r (omega (arith, rw e at i))));
     }
 
 pub fill-notes-spec : {M : Type 1} → statement M
 fill-notes-spec =
     tie.close
-    (tie.spec Inv-loop μ-loop (λ c κs. search needs) loop-holds mul-note-of place-lt (λ c. mul-note-of (c .before))
-    (λ c. place-lt (c .before)) (λ c κs. tt) (λ c. place-lt (c .before .before .before)) (λ c. omega arith) (λ c. omega arith) loop-again returns)
+    (tie.spec Inv-loop μ-loop (λ c κs. search needs) loop-holds mul-note-of place-lt (λ c κs. tt) (λ c. place-lt (c .before .before)) (λ c. omega arith)
+    (λ c. omega arith) loop-again returns)

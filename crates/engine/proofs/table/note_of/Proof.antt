@@ -6,6 +6,7 @@ use borrow.Author.Needs.{needs}
 use borrow.Author.Tests.{eq-eqb, ne-eqb}
 use lib.Pow.{pow-mono}
 use Rattle.engine.specs.Choice.{orZero}
+use Rattle.engine.specs.Eval.{bit}
 use Rattle.engine.specs.Inner.List.{lowest}
 use Rattle.engine.specs.Inner.Table.{noteFrom}
 use Rattle.engine.proofs.Laws.VectorSets.{lowest-lt}
@@ -13,8 +14,8 @@ use Rattle.engine.proofs.table.note_of.Statement.{statement}
 use Rattle.engine.proofs.table.note_of.Tie as tie
 
 returns : tie.Need-returns
-unfolding noteFrom
-returns c = rw (ne-eqb (c .before .args .unseen) 0 (c .if1 .taken))
+unfolding noteFrom bit
+returns c = rw (ne-eqb (bit 16 (c .before .args .set)) 0 (c .if1 .taken))
 
 shl-if2 : tie.Need-shl-if2
 shl-if2 c = omega (arith, c .lowest-of .ensures, lowest-lt (c .before .before .args .set))
@@ -29,20 +30,20 @@ power c =
     e ∙ ap (λ (k : ℕ). 2 ^ k) (c .lowest-of .ensures)
 
 returns-2 : tie.Need-returns-2
-unfolding noteFrom
+unfolding noteFrom bit
 returns-2 c =
     let a = c .before .before .before .args in
     rw (
-      eq-eqb (a .unseen) 0 (c .before .before .if1 .left),
+      eq-eqb (bit 16 (a .set)) 0 (c .before .before .if1 .left),
       eq-eqb (a .set % 65536) (2 ^ orZero (lowest (a .set))) (c .if2 .taken ∙ power (c .before)),
     )
 
 returns-3 : tie.Need-returns-3
-unfolding noteFrom
+unfolding noteFrom bit
 returns-3 c =
     let a = c .before .before .before .args in
     rw (
-      eq-eqb (a .unseen) 0 (c .before .before .if1 .left),
+      eq-eqb (bit 16 (a .set)) 0 (c .before .before .if1 .left),
       ne-eqb (a .set % 65536) (2 ^ orZero (lowest (a .set))) (λ e. c .if2 .left (e ∙ sym (power (c .before)))),
     )
 
