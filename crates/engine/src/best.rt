@@ -58,19 +58,17 @@ pub(super) fn first_empty(sets: &[u32; READINGS], count: usize) -> usize
     r
 }
 
-// The arena with the sets of len nets from its first place on.
-fn arena_of(sets: &[u32; READINGS], len: usize) -> [u32; ARENA]
-    requires { ⌜ len ≤ 10 ⌝ }
-    ensures { λ r. ⌜ (length r ≡ 2048) × SameTo (2 ^ len) (now (sets .entry)) r ⌝ }
+// The sets of len nets put into the arena, from its first place on.
+fn fill_arena(sets: &[u32; READINGS], len: usize, arena: &mut [u32; ARENA])
+    requires { ⌜ (len ≤ 10) × (length (now arena) ≡ 2048) ⌝ }
+    ensures { λ _. ⌜ (length (now (arena .exit)) ≡ 2048) × SameTo (2 ^ len) (now (sets .entry)) (now (arena .exit)) ⌝ }
 {
     let count = reading_count(len);
-    let mut arena = [0u32; ARENA];
     let mut r = 0usize;
     while r < count {
         arena[r] = sets[r];
         r += 1;
     }
-    arena
 }
 
 // The sets of len nets from place at on.
@@ -225,7 +223,8 @@ fn counted(priced: Priced, all: &[u32; READINGS], pick: Pick) -> Pick
     if 0 < pick.gates {
         return pick;
     }
-    let mut arena = arena_of(all, priced.count);
+    let mut arena = [0u32; ARENA];
+    fill_arena(all, priced.count, &mut arena);
     let sets = sets_of(priced.count, pick.set, &mut arena);
     Pick {
         set: pick.set,
@@ -342,7 +341,8 @@ pub(super) fn best_support(
         len: count,
         gates: 0,
     };
-    let mut arena = arena_of(sets, count);
+    let mut arena = [0u32; ARENA];
+    fill_arena(sets, count, &mut arena);
     let best = best_from(priced, sets, all, none, count, 0, &mut arena);
     let found = sets_of(count, best.set, &mut arena);
     Chosen {

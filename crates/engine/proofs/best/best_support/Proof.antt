@@ -1,6 +1,6 @@
 -- `engine::best::best_support` meets its contract: the search starts from all candidates, which are sound together. Assumes nothing.
 use Prim.Native.Nat.{_-_, _^_}
-use mathlib.Core.Path.{_≡_, sym, _∙_}
+use mathlib.Core.Path.{_≡_, refl, sym, _∙_}
 use native.Mathlib.Omega.{arith}
 use lib.Pow.{pow-pos}
 use lib.ListN.{length}
@@ -20,27 +20,27 @@ sub-t12 c = omega (arith, c .reading-count .ensures, pow-pos (c .before .before 
 sum-weights-requires : tie.Need-sum-weights-requires
 sum-weights-requires c κs = c .before .before .pre .few
 
-arena-of-requires : tie.Need-arena-of-requires
-arena-of-requires c κs = c .before .before .before .pre .few
+fill-arena-requires : tie.Need-fill-arena-requires
+fill-arena-requires c κs = (c .before .before .before .before .pre .few, refl)
 
 best-from-requires : tie.Need-best-from-requires
 best-from-requires c κs =
-    let s = c .before .before .before .before .before in
+    let s = c .before .before .before .before .before .before in
     let few = s .pre .few in (
       s .pre,
       record { places = omega arith; few = few; set = pow-pos (10 - s .args .priced .count); cost = omega arith },
       few,
-      room-start few (c .before .arena-of .ensures .0),
+      room-start few (c .before .fill-arena .ensures .0),
     )
 
 sets-of-requires : tie.Need-sets-of-requires
 sets-of-requires c κs =
     let b = c .before in
     let a = b .before .before in
-    (a .before .before .before .before .pre .few, b .best-from .ensures .0 .1 .long ∙ a .arena-of .ensures .0)
+    (a .before .before .before .before .before .pre .few, b .best-from .ensures .0 .1 .long ∙ a .fill-arena .ensures .0)
 
 pick-support-requires : tie.Need-pick-support-requires
-pick-support-requires c κs = c .before .before .before .before .before .before .before .before .pre .few
+pick-support-requires c κs = c .before .before .before .before .before .before .before .before .before .pre .few
 
 -- ten weights stand in the struct
 long : (s : tie.Start) → length (s .args .priced .weights) ≡ 10
@@ -50,13 +50,13 @@ returns : tie.Need-returns
 returns c =
     let b = c .before .before .before in
     let o = b .before .before in
-    let m = o .before in
+    let m = o .before .before in
     let s = m .before .before .before in
     let ni = s .good .0 .1 .0 .1 in
     let nw = long s in
     let p = c .pick-support .ensures in
     let n = s .args .priced .count in
-    let same = o .arena-of .ensures .1 in
+    let same = o .fill-arena .ensures .1 in
     let still = same-more {m = 2 ^ n} (now (s .args .sets)) (omega arith) same (b .best-from .ensures .0 .1) in (
       (picked-held n (s .args .nets) (s .pre .few) (p .0), p .1, c .before .sets-of .ensures .0),
       λ j q.
@@ -75,7 +75,7 @@ best-support-spec =
     reading-count-requires
     sub-t12
     sum-weights-requires
-    arena-of-requires
+    fill-arena-requires
     best-from-requires
     sets-of-requires
     pick-support-requires

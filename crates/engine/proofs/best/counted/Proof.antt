@@ -13,17 +13,17 @@ returns : tie.Need-returns
 returns c = ((refl, refl), λ j w h. counted-before j h (c .if1 .taken))
 
 sets-of-requires : tie.Need-sets-of-requires
-sets-of-requires c κs = (c .before .before .before .before .pre .0 .few, c .before .arena-of .ensures .0)
+sets-of-requires c κs = (c .before .before .before .before .before .pre .0 .few, c .before .fill-arena .ensures .0)
 
 patch-gates-requires : tie.Need-patch-gates-requires
 patch-gates-requires c κs =
-    let p = c .before .before .before .before .before .before .pre in
+    let p = c .before .before .before .before .before .before .before .pre in
     (p .1, omega (arith, readings-many (p .1), c .before .sets-of .ensures .0), p .0 .targets)
 
 returns-2 : tie.Need-returns-2
 returns-2 c =
     let o = c .before .before in
-    let a = o .before .before .arena-of .ensures .1 in (
+    let a = o .before .before .fill-arena .ensures .1 in (
       (refl, refl),
       λ j w h.
           counted-now j h
