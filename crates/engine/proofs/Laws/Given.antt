@@ -16,7 +16,6 @@ use Rattle.records.specs.Bytes.{upFrom, tabulate, all}
 use Rattle.records.proofs.Laws.Bytes.{tabulate-ext}
 use Rattle.records.specs.Job.{Job}
 use Rattle.records.specs.Refusal.{candidateGood}
-use Rattle.engine.specs.Claims.{SomeGives}
 use Rattle.engine.specs.Eval.{bit, numberOf}
 use Rattle.engine.specs.Support.{reading}
 use Rattle.engine.specs.Inner.Best.{GivenBits}

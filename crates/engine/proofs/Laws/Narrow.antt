@@ -3,7 +3,7 @@
 use Prim.Native.Nat.{ℕ, zero, suc, _+_, _-_, _*_, _/_, _%_, _^_, _≤_, _<_}
 use mathlib.Core.Path.{_≡_, refl, sym, _∙_, ap, subst}
 use mathlib.Core.Logic.{_⊎_, inl, inr, ⊎-elim}
-use mathlib.Core.List.{List, [], _∷_, map, List·Memᴰ as Mem}
+use mathlib.Core.List.{List, [], _∷_, map}
 use mathlib.Core.Bool.{Bool, true, false, cond, _&&_}
 use native.Mathlib.Nat.{eq-zero-or-pos}
 use native.Mathlib.Omega.{arith}
@@ -25,13 +25,12 @@ use Rattle.engine.specs.Support.{reading, candidateNets}
 use Rattle.engine.specs.Inner.Packed.{fields, own, operandsOf, operation, inverts, folded, packedFrom, codeValue, evaluated}
 use Rattle.engine.specs.Inner.Kernel.{applied, rowValue, NetSet}
 use Rattle.engine.specs.Inner.Masks.{rectifiers, ordered}
-use Rattle.engine.specs.Inner.Miter.{miterNets, miterValues, miterGates, MergedOf}
+use Rattle.engine.specs.Inner.Miter.{MergedOf}
 use Rattle.engine.specs.Inner.List.{listedOf, listedFrom, startList}
 use Rattle.engine.specs.Inner.Note.{setsFrom, gathered, filled, ListNoted}
 use Rattle.engine.specs.Inner.Search.{SetsTo, BlockRange}
 use Rattle.engine.specs.Inner.Guess.{ListTo}
 use Rattle.engine.specs.declared.list.Vectors.{Vectors}
-use Rattle.engine.specs.Inner.Plan.{Agrees}
 use Rattle.engine.specs.Inner.Narrow.{valuesAt, leafAt, LeavesLoaded, WordsRan, NarrowOf, ValuesOf, MasksOf}
 use Rattle.engine.specs.declared.miter.Miter.{Miter}
 use Rattle.engine.proofs.Laws.BlockRows.{agree-values, agree-reading, MasksTo, masks-none, masks-next, masks-gathered}

@@ -2,16 +2,16 @@
 -- and the sets of vectors after a block's inputs, which may come in any order and more than once. Assumes nothing.
 use Prim.Native.Nat.{ℕ, zero, suc, _+_, _*_, _/_, _%_, _^_, _≤_, _<_}
 use mathlib.Core.Path.{_≡_, refl, sym, _∙_, ap}
-use mathlib.Core.Logic.{_↔_, inr, ⊎-elim}
+use mathlib.Core.Logic.{_↔_}
 use mathlib.Core.List.{List}
 use native.Mathlib.Nat.{add-zero, zero-add, mod-lt, mod-eq-of-lt, mod-one, div-one, pow-suc}
 use native.Mathlib.Numerals.{add-one}
 use native.Mathlib.Omega.{arith}
 use lib.Bits.{bitAnd}
-use lib.ListN.{length, getD, replicate, length-set}
+use lib.ListN.{length, getD, length-set}
 use lib.Pow.{mod-pow-add}
 use Rattle.records.specs.Bytes.{upFrom, tabulate}
-use Rattle.records.proofs.Laws.Bytes.{getD-tabulate, tabulate-ext}
+use Rattle.records.proofs.Laws.Bytes.{tabulate-ext}
 use Rattle.engine.specs.Eval.{bit, bits, numberOf}
 use Rattle.engine.specs.Inner.Note.{narrowed, setsFrom, gathered, ColumnMet}
 use Rattle.engine.specs.Inner.Kernel.{valueIn}

@@ -4,7 +4,6 @@ use mathlib.Core.Path.{_≡_, refl, sym, ap}
 use mathlib.Core.List.{List}
 use native.Mathlib.Omega.{arith}
 use borrow.Author.Needs.{needs}
-use denote.Ref.{now}
 use lib.ListN.{length, take, length-take}
 use Rattle.engine.proofs.Laws.Given.{none-skipped, all-seen}
 use Rattle.engine.proofs.Laws.Rule.{readings-many}

@@ -1,6 +1,5 @@
 -- `engine::judging::judge_job` meets its contract: the miter, and the vector list of all inputs. Assumes nothing.
 use Prim.Native.Nat.{_^_}
-use native.Mathlib.Omega.{arith}
 use borrow.Author.Needs.{needs}
 use Rattle.records.specs.Job.{Job}
 use Rattle.records.specs.Parts.{PartsOf}

@@ -1,6 +1,6 @@
 -- `engine::narrow::equal_word` meets its contract. The invariant: the word says where the first k outputs are equal. Assumes nothing.
 use Prim.Native.Nat.{ℕ, _-_, _≤_, _<_}
-use mathlib.Core.Path.{_≡_, refl, _∙_}
+use mathlib.Core.Path.{_≡_}
 use mathlib.Core.List.{map}
 use mathlib.Core.Bool.{cond}
 use native.Mathlib.Omega.{arith}

@@ -1,6 +1,5 @@
 -- `engine::narrow::eval_vector` meets its contract: the leaves loaded, and all gates run. Assumes nothing.
 use mathlib.Core.Path.{_∙_}
-use native.Mathlib.Omega.{arith}
 use borrow.Author.Needs.{needs}
 use Rattle.engine.proofs.Laws.Narrow.{values-run}
 use Rattle.engine.proofs.narrow.eval_vector.Statement.{statement}

@@ -1,6 +1,6 @@
 -- `engine::narrow::read_words` meets its contract. The invariant: the first k rows are those of their nets, the others 0.
 -- Assumes nothing.
-use Prim.Native.Nat.{ℕ, _-_, _%_, _≤_}
+use Prim.Native.Nat.{_-_, _%_, _≤_}
 use mathlib.Core.Path.{_≡_, sym, _∙_}
 use native.Mathlib.Omega.{arith}
 use denote.Ref.{now}

@@ -1,6 +1,6 @@
 -- `engine::narrow::sets_of_words` meets its contract: all inputs are in the first column of the first block. Assumes nothing.
 use Prim.Native.Nat.{ℕ, _-_, _%_, _^_, _≤_}
-use mathlib.Core.Path.{_≡_, sym, _∙_, ap}
+use mathlib.Core.Path.{sym, _∙_, ap}
 use mathlib.Core.List.{List, map}
 use native.Mathlib.Omega.{arith}
 use borrow.Author.Needs.{needs}
