@@ -6,7 +6,8 @@
 A line is what growth.c prints. The law is t = start + step * work, where work is the number of words of 64 inputs that are
 computed: 2^n / 64 * (evaluated + (2^m - 1) * fanout + 2^m * compared + noting), of gates that are evaluated, those of them in
 the targets' fanout and outputs that are compared. start, step and noting are fitted, with equal weight on each row's relative
-error. The law does not speak of candidates, nor of a job with no output to compare, which is settled before any block.
+error. The law does not speak of candidates, nor of a job with no output to compare, which is settled before any block, nor of
+one of at most six inputs, which has no block.
 """
 
 import math
@@ -31,6 +32,10 @@ class Row:
 
     def words(self):
         return 2**self.inputs / 64
+
+    def blocks(self):
+        """Whether blocks of inputs are evaluated."""
+        return self.compared > 0 and self.inputs > 6
 
     def gate_words(self):
         vectors = 2**self.targets
@@ -77,7 +82,7 @@ def fitted(rows):
 def print_table(rows, law):
     print(f"{'varied':<11} inputs targets gates candidates  evaluated fanout compared  microseconds  law / measured")
     for row in rows:
-        share = f"{law.us(law.work(row)) / row.us:.2f}" if row.compared > 0 else "-"
+        share = f"{law.us(law.work(row)) / row.us:.2f}" if row.blocks() else "-"
         given = f"{row.inputs:6} {row.targets:7} {row.gates:5} {row.candidates:10}"
         left = f"{row.evaluated:10} {row.fanout:6} {row.compared:8}"
         print(f"{row.series:<11} {given} {left} {row.us:13.1f} {share:>15}")
@@ -173,7 +178,7 @@ def read_row(line):
 def main():
     rows = [read_row(line) for line in sys.stdin]
     rows.sort(key=lambda row: list(COLOURS).index(row.series))
-    law = fitted([row for row in rows if row.series != "candidates" and row.compared > 0])
+    law = fitted([row for row in rows if row.series != "candidates" and row.blocks()])
     print_table(rows, law)
     with open(sys.argv[1], "w", encoding="utf-8") as file:
         file.write("\n".join(plot(rows, law)) + "\n")
