@@ -5,6 +5,7 @@ pub mod Best
 pub mod Block
 pub mod Choice
 pub mod Compare
+pub mod Cover
 pub mod Reply
 pub mod Eval
 pub mod EvalWords
@@ -18,6 +19,7 @@ pub mod FitSheet
 pub mod FitTree
 pub mod Fitted
 pub mod Given
+pub mod Imply
 pub mod Guess
 pub mod Join
 pub mod Kernel

@@ -2,7 +2,7 @@
 ghost use mathlib.Core.Path.{_≡_};
 ghost use mathlib.Core.Bool.{true};
 ghost use mathlib.Core.List.{List};
-ghost use Prim.Native.Nat.{ℕ, _≤_};
+ghost use Prim.Native.Nat.{ℕ};
 ghost use lib.ListN.{length, take};
 ghost use Rattle.records.specs.Bytes.{all as all′};
 ghost use Rattle.records.specs.Job.{Job};
@@ -11,58 +11,82 @@ ghost use Rattle.engine.specs.Inner.Miter.{MiterRoom, MergedOf};
 ghost use Rattle.engine.specs.Inner.Plan.{NetsRead, PlanHeld};
 ghost use Rattle.engine.specs.Inner.Search.{BlockRange};
 ghost use Rattle.engine.specs.Inner.Best.{GivenBits};
-ghost use Rattle.engine.specs.Inner.Given.{NextUnseen, BlockSeen, Unseen, SameVectors, AllSeen};
+ghost use Rattle.engine.specs.Inner.Given.{GivenCover, BlockSeen, Unseen, SameVectors, AllSeen};
+use super::cover::Cover;
+use super::cover::all_readings;
+use super::cover::cover_of;
+use super::cover::meets_cover;
+use super::cover::next_unseen;
+use super::imply::possible;
 use super::leaves::block_inputs;
+use super::leaves::read_rows;
 use super::limits::BLOCK;
 use super::limits::LISTED;
 use super::limits::RANGE;
 use super::limits::READINGS;
 use super::limits::ROWS;
-use super::limits::UNSEEN;
+use super::limits::TESTED;
 use super::limits::WORDS;
 use super::miter::Miter;
 use super::note::meet_block;
 use super::plan::Plan;
 use super::plan::reads_of;
-use super::search::read_block;
+use super::search::free_block;
 use super::table::reading_count;
 use records::Support;
 
-// The first unseen reading from at on, below count; count where there is none.
-fn next_unseen(sets: &[u32; READINGS], at: usize, count: usize) -> usize
-    requires { ⌜ (at ≤ count) × (count ≤ 1024) ⌝ }
-    ensures { λ r. ⌜ NextUnseen (now (sets .entry)) at count r ⌝ }
-{
-    let mut r = at;
-    while r < count {
-        if sets[r] / UNSEEN % 2 != 0 {
-            return r;
-        }
-        r += 1;
-    }
-    r
-}
-
-// The sets after the first count inputs of block b: each clears the bit of its reading, as it would narrow its set by all vectors. It costs one
-// gate evaluation a gate of the plan, and some 1,000 steps.
+// The sets after the first count inputs of block b: each clears the bit of its reading, as it would narrow its set by all vectors; and whether an
+// input gives a reading of the cover, without which they stay as they are. It costs one gate evaluation a gate of the plan, one a net of each
+// cube of the cover, and some 1,000 steps where it is met.
 fn see_block(
     gates: &[u64],
     plan: Plan,
     b: usize,
     count: usize,
+    cover: Cover,
     words: &mut [u64; WORDS],
     sets: &mut [u32; READINGS],
-)
-    requires { ⌜ PlanHeld plan (now gates) × BlockRange (plan .inputs) b count ⌝ }
+) -> bool
+    requires { ⌜ PlanHeld plan (now gates) × BlockRange (plan .inputs) b count × GivenCover plan (now gates) (now sets) cover ⌝ }
     requires { ⌜ (length (now words) ≡ 16384) × (length (now sets) ≡ 1024) ⌝ }
     ensures { λ _. ⌜ BlockSeen plan (now (gates .entry)) b count (now (sets .entry)) (now (sets .exit)) ⌝ }
     ensures { λ _. ⌜ length (now (words .exit)) ≡ 16384 ⌝ }
 {
-    let readings = read_block(gates, plan, b, words);
+    free_block(gates, plan, b, words);
+    let nets = plan.nets;
+    if !meets_cover(nets, plan.reads, cover, words) {
+        return false;
+    }
+    let readings = read_rows(nets, plan.reads, words);
     meet_block([!0u64; ROWS], readings, (count + 63) / 64, sets);
+    true
 }
 
-// The sets after the inputs of the ranges that were skipped. It ends at the block after which no reading is unseen.
+// A cover of the unseen readings that an input may still give.
+fn given_cover(gates: &[u64], plan: Plan, sets: &[u32; READINGS]) -> Cover
+    requires { ⌜ PlanHeld plan (now gates) ⌝ }
+    ensures { λ r. ⌜ GivenCover plan (now (gates .entry)) (now (sets .entry)) r ⌝ }
+{
+    let left = possible(gates, plan, cover_of(sets, plan.reads));
+    if TESTED < left.count {
+        return all_readings();
+    }
+    left
+}
+
+// .. where a new one is wanted; else the one of before
+fn renewed(gates: &[u64], plan: Plan, sets: &[u32; READINGS], cover: Cover, wanted: bool) -> Cover
+    requires { ⌜ PlanHeld plan (now gates) × GivenCover plan (now gates) (now sets) cover ⌝ }
+    ensures { λ r. ⌜ GivenCover plan (now (gates .entry)) (now (sets .entry)) r ⌝ }
+{
+    if wanted {
+        return given_cover(gates, plan, sets);
+    }
+    cover
+}
+
+// The sets after the inputs of the ranges that were skipped. It ends where no reading is unseen, or none of those that are can be given. A range
+// gets a new cover where blocks before it met the old one.
 fn see_inputs(gates: &[u64], plan: Plan, skipped: usize, sets: &mut [u32; READINGS])
     requires { ⌜ PlanHeld plan (now gates) × (length (now sets) ≡ 1024) ⌝ }
     ensures { λ _. ⌜ AllSeen plan (now (gates .entry)) skipped (now (sets .entry)) (now (sets .exit))
@@ -71,21 +95,29 @@ fn see_inputs(gates: &[u64], plan: Plan, skipped: usize, sets: &mut [u32; READIN
     let count = reading_count(plan.reads);
     let size = 1usize << plan.inputs;
     let mut words = [0u64; WORDS];
+    let mut cover = given_cover(gates, plan, sets);
+    let mut stale = false;
     let mut next = next_unseen(sets, 0, count);
     let mut b = 0usize;
     while BLOCK * b < size {
         if next == count {
             return;
         }
+        if cover.count == 0 {
+            return;
+        }
         if (skipped >> (b / RANGE)) % 2 == 1 {
-            see_block(
+            cover = renewed(gates, plan, sets, cover, stale & (b % RANGE == 0));
+            let met = see_block(
                 gates,
                 plan,
                 b,
                 block_inputs(size - BLOCK * b),
+                cover,
                 &mut words,
                 sets,
             );
+            stale = met | (stale & (b % RANGE != 0));
             next = next_unseen(sets, next, count);
         }
         b += 1;
@@ -93,7 +125,8 @@ fn see_inputs(gates: &[u64], plan: Plan, skipped: usize, sets: &mut [u32; READIN
 }
 
 // The sets of a support, with the bits of its readings that inputs of skipped ranges give cleared too. Where no range was skipped, the sets
-// tell already, and none is evaluated; else it costs, for each block of 1,024 inputs of these ranges until all readings are seen, one gate
+// tell already, and none is evaluated; else a cover of the unseen readings costs a step a cube and gate that leads to the support, and where
+// that does not show that no input gives them, each block of 1,024 inputs of these ranges, until all readings are seen, costs one gate
 // evaluation a gate that leads to the support.
 pub(super) fn see_skipped(
     miter: Miter,

@@ -40,6 +40,10 @@ pub const READING: u64 = READINGS as u64;
 pub const SET: u64 = 65536;
 // The bit behind those of the vectors in the set of a reading: 1 where no input that was looked at gives it.
 pub const UNSEEN: u32 = 65536;
+// The cubes of a cover, and how many of them may be tested on a block: more would cost as much as a look at each of its inputs (src/cover.rt).
+pub const CUBES: usize = 64;
+
+pub const TESTED: usize = 16;
 // The gates of both netlists, and those with a list for each target.
 pub const MITER_GATES: usize = GATES + GATES;
 

@@ -1,0 +1,16 @@
+-- `engine::given::given_cover` meets its contract. Assumes nothing.
+use borrow.Author.Needs.{needs}
+use Rattle.engine.proofs.Laws.Imply.{cover-given, all-given}
+use Rattle.engine.proofs.given.given_cover.Statement.{statement}
+use Rattle.engine.proofs.given.given_cover.Tie as tie
+
+returns : tie.Need-returns
+returns c = let a = c .all-readings .ensures in all-given (a .0) (a .1)
+
+returns-2 : tie.Need-returns-2
+returns-2 c =
+    let p = c .before .before in
+    cover-given (p .before .before .before .pre) (p .before .cover-of .ensures) (p .possible .ensures)
+
+pub given-cover-spec : {M : Type 1} → statement M
+given-cover-spec = tie.close (tie.spec (λ c κs. search needs) (λ c κs. search needs) (λ c κs. search needs) returns returns-2)

@@ -1,0 +1,24 @@
+-- `engine::imply::learn_gate` meets its contract. Assumes nothing.
+use native.Mathlib.Omega.{arith}
+use borrow.Author.Needs.{needs}
+use Rattle.engine.specs.Inner.Packed.{own}
+use Rattle.engine.proofs.Laws.Imply.{gate-plain}
+use Rattle.engine.proofs.imply.learn_gate.Statement.{statement}
+use Rattle.engine.proofs.imply.learn_gate.Tie as tie
+
+returns-2 : tie.Need-returns-2
+returns-2 c =
+    let s = c .before .before .before .before .before .before in
+    let e = c .learn-operands .ensures in (
+      e .0,
+      λ vs m g.
+          e .1 vs m
+          (c .before .before .before .forces .ensures (c .before .before .if2 .taken) vs (g .0)
+          (gate-plain (s .args .c) _ vs g (m (own (s .args .c)) (omega arith) (omega arith)))),
+    )
+
+pub learn-gate-spec : {M : Type 1} → statement M
+learn-gate-spec =
+    tie.close
+    (tie.spec (λ c. search needs) (λ c. search needs) (λ c. search needs) (λ c. search needs) (λ c κs. search needs) (λ c κs. search needs)
+    returns-2 (λ c. search needs))

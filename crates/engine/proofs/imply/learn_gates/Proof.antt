@@ -1,0 +1,55 @@
+-- `engine::imply::learn_gates` meets its contract. The invariant: what is known so far is of the values. Assumes nothing.
+use Prim.Native.Nat.{ℕ, _-_, _≤_}
+use mathlib.Core.Path.{_≡_, refl, sym, _∙_}
+use mathlib.Core.List.{List}
+use mathlib.Core.Bool.{true≢false}
+use native.Mathlib.Omega.{arith}
+use borrow.Author.Tests.{not-true}
+use lib.ListN.{length}
+use Rattle.engine.specs.Inner.Imply.{Implied, ValuesOf}
+use Rattle.engine.proofs.imply.learn_gates.Statement.{statement}
+use Rattle.engine.proofs.imply.learn_gates.Tie as tie
+
+abbrev Inv-loop : tie.InvT-loop
+Inv-loop gates count known₀ i₀ known i =
+    (i ≤ count) × (length known ≡ 1024) × ((vs : List ℕ) → Implied known₀ vs → ValuesOf gates count vs → Implied known vs)
+
+abbrev μ-loop : tie.MeasureT-loop
+μ-loop gates count known₀ i₀ known i = i
+
+loop-holds : tie.Need-loop-holds Inv-loop μ-loop
+loop-holds c = (omega arith, c .before .pre .1, λ vs m a. m)
+
+shared-slice-read-learn-gate : tie.Need-shared-slice-read-learn-gate Inv-loop μ-loop
+shared-slice-read-learn-gate c = omega (arith, c .before .before .before .before .pre .0, c .before .before .loop .inv .0)
+
+learn-gate-requires : tie.Need-learn-gate-requires Inv-loop μ-loop
+learn-gate-requires c κs = c .before .before .before .loop .inv .1
+
+returns : tie.Need-returns Inv-loop μ-loop
+returns c =
+    let l = c .before .before .before .before .before in
+    let e = c .before .learn-gate .ensures in (
+      e .0,
+      λ vs m a.
+          let o = e .1 vs (l .loop .inv .2 vs m a) (a .0, a .1 (l .loop .i - 1) (omega (arith, l .loop .inv .0))) in
+          absurd (true≢false (sym (o .0) ∙ not-true _ (c .if1 .taken))),
+    )
+
+loop-again : tie.Need-loop-again Inv-loop μ-loop
+loop-again c =
+    let l = c .before .before .before .before .before in
+    let e = c .before .learn-gate .ensures in (
+      omega (arith, l .loop .inv .0),
+      e .0,
+      λ vs m a. e .1 vs (l .loop .inv .2 vs m a) (a .0, a .1 (l .loop .i - 1) (omega (arith, l .loop .inv .0))) .1,
+    )
+
+returns-2 : tie.Need-returns-2 Inv-loop μ-loop
+returns-2 c = let i = c .before .loop .inv in (i .1, λ vs m a. (refl, i .2 vs m a))
+
+pub learn-gates-spec : {M : Type 1} → statement M
+learn-gates-spec =
+    tie.close
+    (tie.spec Inv-loop μ-loop loop-holds (λ c. omega arith) (λ c. omega arith) shared-slice-read-learn-gate learn-gate-requires returns
+    (λ c. omega arith) loop-again returns-2)

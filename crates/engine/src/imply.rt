@@ -1,0 +1,160 @@
+// What the values of some nets imply of the nets that lead to them. Where the values of a cube imply both values of a net, no input gives a
+// reading of the cube, and that is known without evaluating one. The gates are gone through once, from the last to the first; from operands to
+// a gate nothing is concluded.
+ghost use mathlib.Core.Path.{_≡_};
+ghost use mathlib.Core.Bool.{true};
+ghost use mathlib.Core.List.{List};
+ghost use Prim.Native.Nat.{ℕ, _≤_, _<_};
+ghost use lib.ListN.{length, getD};
+ghost use Rattle.records.specs.Netlist.{netAt};
+ghost use Rattle.engine.specs.Inner.Cover.{CoverHeld};
+ghost use Rattle.engine.specs.Inner.Imply.{Learns, AllHave, Forces, GateHas, ValuesOf, CubeHas, Possible};
+ghost use Rattle.engine.specs.Inner.Packed.{operandsOf};
+ghost use Rattle.engine.specs.Inner.Plan.{PlanHeld};
+use super::cover::Cover;
+use super::cover::no_cubes;
+use super::cover::with_cube;
+use super::limits::NETS;
+use super::packed::COUNT_AT;
+use super::packed::COUNTS;
+use super::packed::NET;
+use super::packed::NET_AT;
+use super::packed::SLOTS_AT;
+use super::plan::Plan;
+use records::CANDIDATES;
+
+// Not known yet.
+const OPEN: u8 = 2;
+
+// Notes that net i is v; whether it was not known to be the other value.
+fn learn(i: usize, v: u8, known: &mut [u8; NETS]) -> bool
+    requires { ⌜ (i < 1024) × (length (now known) ≡ 1024) ⌝ }
+    ensures { λ r. ⌜ (length (now (known .exit)) ≡ 1024) × Learns (λ vs. netAt vs i ≡ v) (now (known .entry)) r (now (known .exit)) ⌝ }
+{
+    let was = known[i];
+    if was < OPEN {
+        return was == v;
+    }
+    known[i] = v;
+    true
+}
+
+// .. that each operand of gate c is v
+fn learn_operands(c: u64, v: u8, known: &mut [u8; NETS]) -> bool
+    requires { ⌜ length (now known) ≡ 1024 ⌝ }
+    ensures { λ r. ⌜ (length (now (known .exit)) ≡ 1024) × Learns (AllHave v (operandsOf c)) (now (known .entry)) r (now (known .exit)) ⌝ }
+{
+    let mut rest = c / SLOTS_AT;
+    let mut i = c / COUNT_AT % COUNTS;
+    while 0 < i {
+        if !learn((rest % NET) as usize, v, known) {
+            return false;
+        }
+        rest = rest / NET;
+        i -= 1;
+    }
+    true
+}
+
+// Whether gate c, before its inversion, is v only where each operand is: it has one operand, it is and and v is 1, or it is or and v is 0.
+fn forces(c: u64, v: u8) -> bool
+    ensures { λ r. ⌜ (r ≡ true → Forces c v) ⌝ }
+{
+    if c / COUNT_AT % COUNTS == 1 {
+        return true;
+    }
+    match c / 2 % 8 {
+        2 => v == 1,
+        3 => v == 0,
+        _ => false,
+    }
+}
+
+// Notes what the value of gate c's net says of its operands.
+fn learn_gate(c: u64, known: &mut [u8; NETS]) -> bool
+    requires { ⌜ length (now known) ≡ 1024 ⌝ }
+    ensures { λ r. ⌜ (length (now (known .exit)) ≡ 1024) × Learns (GateHas c) (now (known .entry)) r (now (known .exit)) ⌝ }
+{
+    let own = known[(c / NET_AT % NET) as usize];
+    if OPEN <= own {
+        return true;
+    }
+    let v = (own + (c % 2) as u8) % 2;
+    if forces(c, v) {
+        return learn_operands(c, v, known);
+    }
+    true
+}
+
+// .. for the first count gates, from the last to the first
+fn learn_gates(gates: &[u64], count: usize, known: &mut [u8; NETS]) -> bool
+    requires { ⌜ (count ≤ length (now gates)) × (length (now known) ≡ 1024) ⌝ }
+    ensures { λ r. ⌜ (length (now (known .exit)) ≡ 1024) × Learns (ValuesOf (now (gates .entry)) count) (now (known .entry)) r (now (known .exit)) ⌝ }
+{
+    let mut i = count;
+    while 0 < i {
+        i -= 1;
+        if !learn_gate(gates[i], known) {
+            return false;
+        }
+    }
+    true
+}
+
+// Notes the values of a cube's nets.
+fn learn_cube(
+    nets: [u16; CANDIDATES],
+    reads: usize,
+    value: usize,
+    care: usize,
+    known: &mut [u8; NETS],
+) -> bool
+    requires { ⌜ (reads ≤ 10) × (length nets ≡ 10) × ((i : ℕ) → getD nets i 0 < 1024) × (length (now known) ≡ 1024) ⌝ }
+    ensures { λ r. ⌜ (length (now (known .exit)) ≡ 1024) × Learns (CubeHas nets reads value care) (now (known .entry)) r (now (known .exit)) ⌝ }
+{
+    let mut k = 0usize;
+    while k < reads {
+        if (care >> k) % 2 == 1 {
+            if !learn(nets[k] as usize, ((value >> k) % 2) as u8, known) {
+                return false;
+            }
+        }
+        k += 1;
+    }
+    true
+}
+
+// Whether a cube's values imply both values of a net.
+fn refuted(gates: &[u64], plan: Plan, value: usize, care: usize) -> bool
+    requires { ⌜ PlanHeld plan (now gates) ⌝ }
+    ensures { λ r. ⌜ (r ≡ true → (vs : List ℕ) → ValuesOf (now (gates .entry)) (getD (plan .ends) 0 0) vs
+        → CubeHas (plan .nets) (plan .reads) value care vs → ⊥) ⌝ }
+{
+    let mut known = [OPEN; NETS];
+    let nets = plan.nets;
+    let ends = plan.ends;
+    if !learn_cube(nets, plan.reads, value, care, &mut known) {
+        return true;
+    }
+    !learn_gates(gates, ends[0], &mut known)
+}
+
+// The cubes of a cover that are not refuted. It costs a step a cube and gate of the plan.
+pub(super) fn possible(gates: &[u64], plan: Plan, cover: Cover) -> Cover
+    requires { ⌜ PlanHeld plan (now gates) × CoverHeld cover ⌝ }
+    ensures { λ r. ⌜ Possible plan (now (gates .entry)) cover r ⌝ }
+{
+    let values = cover.values;
+    let cares = cover.cares;
+    let mut left = no_cubes();
+    let mut i = 0usize;
+    while i < cover.count {
+        let value = values[i] as usize;
+        let care = cares[i] as usize;
+        if !refuted(gates, plan, value, care) {
+            left = with_cube(left, value, care);
+        }
+        i += 1;
+    }
+    left
+}
