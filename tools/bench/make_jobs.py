@@ -9,6 +9,8 @@
     unseen_wide.job          the same with 50, and a support behind most gates of which many readings do not occur
     unseen_gated.job         such a job whose outputs are all 0 wherever the last input is, so that half the inputs are settled;
                              in unseen_mirror.job they are 0 wherever it is 1, so that the other half is
+    unseen_decoded.job       the same as gated, with a support of which at most one net is 1; in unseen_hidden.job no gate alone
+                             says of two nets that they cannot have some values
     revised_DESIGN.job       20 inputs, 300 to 400 gates a side: the golden netlist is the old one but for two to four gates, whose
                              nets are cut open, and the targets lead to some of the outputs
     CIRCUIT_SIZE.job         typical cuts: old and golden netlist are two designs of one circuit, some old nets cut open
@@ -71,6 +73,11 @@ class Circuit:
 
     def differ(self, a, b):
         return self.gate(XOR, a, b)
+
+    def both_hidden(self, a, b):
+        """The and of two nets and, by the sum of that and of the nets' sum, the or."""
+        both = self.both(a, b)
+        return both, self.differ(self.differ(a, b), both)
 
     def differ_by_nands(self, a, b):
         both = self.gate(NAND, a, b)
@@ -388,21 +395,23 @@ def revisions(rng):
 # ---- jobs of a given size
 
 
-def walked_job(rng, n, m, gates, fanout, priced, outputs=32, split=False, operands=2, related=False, rare=None):
+def walked_job(rng, n, m, gates, fanout, priced, outputs=32, split=False, operands=2, related=False, hidden=False, rare=None):
     """A job that has a patch, so that every input is looked at, and where nearly every gate leads to an output. The golden
     netlist has a front over the inputs, of which some nets are priced, a function of priced nets for each target, and a back
     of that many gates: each is led to by all targets, or by one of them, in equal parts. Gates have so many operands. Related
-    priced nets are the and and the or of two late nets of the front, for each target the sum of such a pair. Where rare is a
-    number, so many of the functions are 1 where the priced nets are all 1, and the others 0."""
+    priced nets are the and and the or of two late nets of the front, for each target the sum of such a pair; hidden, the or is
+    the sum of the and and of the two nets' sum. Where rare is a number, so many of the functions are 1 where the priced nets
+    are all 1, and the others 0."""
     c = Circuit(n)
     unread = list(range(n))
-    while len(c.gates) < gates - (fanout + m if m else 0) - (priced if related else 0) - RARE_GATES * (rare or 0):
+    pairs_gates = (priced + (priced // 2 if hidden else 0)) if related else 0
+    while len(c.gates) < gates - (fanout + m if m else 0) - pairs_gates - RARE_GATES * (rare or 0):
         nets = range(n + len(c.gates))
         unread.append(c.gate(rng.choice(MIXED), unread.pop(0), *[rng.choice(nets) for _ in range(operands - 1)]))
     if related:
         late = range(n + len(c.gates) - 40, n + len(c.gates))
         pairs = [rng.sample(late, 2) for _ in range(priced // 2)]
-        named = [c.gate(kind, *pair) for pair in pairs for kind in (AND, OR)]
+        named = [net for pair in pairs for net in (c.both_hidden(*pair) if hidden else (c.both(*pair), c.either(*pair)))]
         unread += named
     front = range(n + len(c.gates))
     if related:
@@ -482,6 +491,39 @@ def settled(rng):
     made = walked_job(rng, 20, 4, 368, 50, 10, related=True)
     for name, kind in (("gated", AND), ("mirror", NOR)):
         job = gated(made, 19, kind)
+        assert choice_of(job).patch.notes.count(0) > 0
+        yield f"unseen_{name}", job
+
+
+def decoded_job(rng, n, m, gates, fanout, outputs=32):
+    """A job that has a patch. The golden netlist has a front over the inputs, the priced nets, each of which is 1 at one setting
+    of three late nets of the front, for each target the or of two or four of them, and a back of that many gates, each led to by
+    one target."""
+    c = Circuit(n)
+    unread = list(range(n))
+    settings = range(8)
+    while len(c.gates) < gates - fanout - 3 - len(settings) - m:
+        unread.append(c.gate(rng.choice(MIXED), unread.pop(0), rng.choice(range(n + len(c.gates)))))
+    late = rng.sample(range(n + len(c.gates) - 40, n + len(c.gates)), 3)
+    sides = [(c.gate(NOT, net), net) for net in late]
+    named = [c.gate(AND, *[sides[k][s >> k & 1] for k in range(3)]) for s in settings]
+    front = list(range(n + len(c.gates)))
+    roots = [c.gate(OR, *[named[s] for s in settings if (3 * s + 1) >> t & 1]) for t in range(m)]
+    last = []
+    for net in roots:
+        last += back(rng, c, [net], fanout // m, front, unread, outputs // m, 2)
+    last = (last + unread[::-1] + front[::-1])[:outputs]
+    old = cj.cut(n, m, c.gates, last, [net - n for net in roots], lambda: True)
+    candidates = [Candidate(net + m, rng.randrange(1, 1000)) for net in named]
+    return Job(n, m, old, Netlist(c.gates, last), candidates)
+
+
+def dependent(rng):
+    """As settled() does, with readings that do not occur for other reasons."""
+    decoded = decoded_job(rng, 20, 4, 368, 48)
+    hidden = walked_job(rng, 20, 4, 368, 50, 10, related=True, hidden=True)
+    for name, made in (("decoded", decoded), ("hidden", hidden)):
+        job = gated(made, 19, AND)
         assert choice_of(job).patch.notes.count(0) > 0
         yield f"unseen_{name}", job
 
@@ -674,7 +716,7 @@ def main():
     if what == "growth":
         put_jobs(folder, growth(rng))
         return
-    for made in (wide, cuts, tiny, pairs, unseen, rare, ties, settled, revisions):
+    for made in (wide, cuts, tiny, pairs, unseen, rare, ties, settled, revisions, dependent):
         put_jobs(folder, made(rng))
     put_sheets(folder)
 
