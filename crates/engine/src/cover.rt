@@ -9,7 +9,7 @@ ghost use lib.Dec.{eqb};
 ghost use lib.ListN.{length, getD, take};
 ghost use Rattle.engine.specs.Eval.{bit};
 ghost use Rattle.engine.specs.Inner.Kernel.{rowValue, valueIn};
-ghost use Rattle.engine.specs.Inner.Cover.{NextUnseen, InCube, CoverHeld, InCover, CubeAdded, CoverOf, readingIn, MeetsNone};
+ghost use Rattle.engine.specs.Inner.Cover.{NextUnseen, InCube, CoverHeld, InCover, CubeAdded, CoverOf, readingIn, GivesNone};
 use super::limits::CUBES;
 use super::limits::READINGS;
 use super::limits::ROW;
@@ -50,7 +50,7 @@ fn in_cube(reading: usize, value: usize, care: usize) -> bool
 }
 
 // .. in one of a cover
-fn covered(cover: Cover, reading: usize) -> bool
+fn in_cover(cover: Cover, reading: usize) -> bool
     requires { ⌜ CoverHeld cover ⌝ }
     ensures { λ r. ⌜ (r ≡ true → InCover cover reading) ⌝ }
 {
@@ -84,7 +84,7 @@ fn all_unseen(sets: &[u32; READINGS], value: usize, care: usize) -> bool {
 }
 
 // The nets of a cube of unseen readings around one: net after net is left open where the readings that differ there are unseen too.
-fn widest(sets: &[u32; READINGS], reading: usize, reads: usize) -> usize
+fn widened(sets: &[u32; READINGS], reading: usize, reads: usize) -> usize
     requires { ⌜ reads ≤ 10 ⌝ }
     ensures { λ r. ⌜ r < 1024 ⌝ }
 {
@@ -147,11 +147,11 @@ pub(super) fn cover_of(sets: &[u32; READINGS], reads: usize) -> Cover
     let mut cover = no_cubes();
     let mut r = next_unseen(sets, 0, count);
     while r < count {
-        if !covered(cover, r) {
+        if !in_cover(cover, r) {
             if cover.count == CUBES {
                 return all_readings();
             }
-            cover = with_cube(cover, r, widest(sets, r, reads));
+            cover = with_cube(cover, r, widened(sets, r, reads));
         }
         r = next_unseen(sets, r + 1, count);
     }
@@ -195,14 +195,14 @@ fn cube_row(
 }
 
 // Whether an input of a block gives a reading of the cover.
-pub(super) fn meets_cover(
+pub(super) fn gives_cover(
     nets: [u16; CANDIDATES],
     reads: usize,
     cover: Cover,
     words: &[u64; WORDS],
 ) -> bool
     requires { ⌜ (reads ≤ 10) × (length nets ≡ 10) × ((i : ℕ) → getD nets i 0 < 1024) × CoverHeld cover ⌝ }
-    ensures { λ r. ⌜ (r ≡ false → MeetsNone cover (now (words .entry)) (take reads nets)) ⌝ }
+    ensures { λ r. ⌜ (r ≡ false → GivesNone cover (now (words .entry)) (take reads nets)) ⌝ }
 {
     let values = cover.values;
     let cares = cover.cares;

@@ -15,9 +15,9 @@ ghost use Rattle.engine.specs.Inner.Given.{GivenCover, BlockSeen, Unseen
 use super::cover::Cover;
 use super::cover::all_readings;
 use super::cover::cover_of;
-use super::cover::meets_cover;
+use super::cover::gives_cover;
 use super::cover::next_unseen;
-use super::imply::possible;
+use super::imply::unrefuted;
 use super::leaves::block_inputs;
 use super::leaves::read_rows;
 use super::limits::BLOCK;
@@ -54,7 +54,7 @@ fn see_block(
 {
     free_block(gates, plan, b, words);
     let nets = plan.nets;
-    if !meets_cover(nets, plan.reads, cover, words) {
+    if !gives_cover(nets, plan.reads, cover, words) {
         return false;
     }
     let readings = read_rows(nets, plan.reads, words);
@@ -67,7 +67,7 @@ fn given_cover(gates: &[u64], plan: Plan, sets: &[u32; READINGS]) -> Cover
     requires { ⌜ PlanHeld plan (now gates) ⌝ }
     ensures { λ r. ⌜ GivenCover plan (now (gates .entry)) (now (sets .entry)) r ⌝ }
 {
-    let left = possible(gates, plan, cover_of(sets, plan.reads));
+    let left = unrefuted(gates, plan, cover_of(sets, plan.reads));
     if TESTED < left.count {
         return all_readings();
     }

@@ -8,7 +8,7 @@ ghost use Prim.Native.Nat.{ℕ, _≤_, _<_};
 ghost use lib.ListN.{length, getD};
 ghost use Rattle.records.specs.Netlist.{netAt};
 ghost use Rattle.engine.specs.Inner.Cover.{CoverHeld};
-ghost use Rattle.engine.specs.Inner.Imply.{Learns, AllHave, Forces, GateHas, ValuesOf, CubeHas, Possible};
+ghost use Rattle.engine.specs.Inner.Imply.{Learns, AllHave, Forces, GateHas, ValuesOf, CubeHas, Unrefuted};
 ghost use Rattle.engine.specs.Inner.Packed.{operandsOf};
 ghost use Rattle.engine.specs.Inner.Plan.{PlanHeld};
 use super::cover::Cover;
@@ -24,7 +24,7 @@ use super::plan::Plan;
 use records::CANDIDATES;
 
 // Not known yet.
-const OPEN: u8 = 2;
+const UNKNOWN: u8 = 2;
 
 // Notes that net i is v; whether it was not known to be the other value.
 fn learn(i: usize, v: u8, known: &mut [u8; NETS]) -> bool
@@ -32,7 +32,7 @@ fn learn(i: usize, v: u8, known: &mut [u8; NETS]) -> bool
     ensures { λ r. ⌜ (length (now (known .exit)) ≡ 1024) × Learns (λ vs. netAt vs i ≡ v) (now (known .entry)) r (now (known .exit)) ⌝ }
 {
     let was = known[i];
-    if was < OPEN {
+    if was < UNKNOWN {
         return was == v;
     }
     known[i] = v;
@@ -71,12 +71,12 @@ fn forces(c: u64, v: u8) -> bool
 }
 
 // Notes what the value of gate c's net says of its operands.
-fn learn_gate(c: u64, known: &mut [u8; NETS]) -> bool
+fn learn_from_net(c: u64, known: &mut [u8; NETS]) -> bool
     requires { ⌜ length (now known) ≡ 1024 ⌝ }
     ensures { λ r. ⌜ (length (now (known .exit)) ≡ 1024) × Learns (GateHas c) (now (known .entry)) r (now (known .exit)) ⌝ }
 {
     let own = known[(c / NET_AT % NET) as usize];
-    if OPEN <= own {
+    if UNKNOWN <= own {
         return true;
     }
     let v = (own + (c % 2) as u8) % 2;
@@ -87,14 +87,14 @@ fn learn_gate(c: u64, known: &mut [u8; NETS]) -> bool
 }
 
 // .. for the first count gates, from the last to the first
-fn learn_gates(gates: &[u64], count: usize, known: &mut [u8; NETS]) -> bool
+fn learn_backward(gates: &[u64], count: usize, known: &mut [u8; NETS]) -> bool
     requires { ⌜ (count ≤ length (now gates)) × (length (now known) ≡ 1024) ⌝ }
     ensures { λ r. ⌜ (length (now (known .exit)) ≡ 1024) × Learns (ValuesOf (now (gates .entry)) count) (now (known .entry)) r (now (known .exit)) ⌝ }
 {
     let mut i = count;
     while 0 < i {
         i -= 1;
-        if !learn_gate(gates[i], known) {
+        if !learn_from_net(gates[i], known) {
             return false;
         }
     }
@@ -130,19 +130,19 @@ fn refuted(gates: &[u64], plan: Plan, value: usize, care: usize) -> bool
     ensures { λ r. ⌜ (r ≡ true → (vs : List ℕ) → ValuesOf (now (gates .entry)) (getD (plan .ends) 0 0) vs
         → CubeHas (plan .nets) (plan .reads) value care vs → ⊥) ⌝ }
 {
-    let mut known = [OPEN; NETS];
+    let mut known = [UNKNOWN; NETS];
     let nets = plan.nets;
     let ends = plan.ends;
     if !learn_cube(nets, plan.reads, value, care, &mut known) {
         return true;
     }
-    !learn_gates(gates, ends[0], &mut known)
+    !learn_backward(gates, ends[0], &mut known)
 }
 
 // The cubes of a cover that are not refuted. It costs a step a cube and gate of the plan.
-pub(super) fn possible(gates: &[u64], plan: Plan, cover: Cover) -> Cover
+pub(super) fn unrefuted(gates: &[u64], plan: Plan, cover: Cover) -> Cover
     requires { ⌜ PlanHeld plan (now gates) × CoverHeld cover ⌝ }
-    ensures { λ r. ⌜ Possible plan (now (gates .entry)) cover r ⌝ }
+    ensures { λ r. ⌜ Unrefuted plan (now (gates .entry)) cover r ⌝ }
 {
     let values = cover.values;
     let cares = cover.cares;

@@ -19,7 +19,7 @@ use Rattle.records.specs.Refusal.{candidateGood}
 use Rattle.engine.specs.Eval.{bit, numberOf}
 use Rattle.engine.specs.Support.{reading}
 use Rattle.engine.specs.Inner.Best.{GivenBits}
-use Rattle.engine.specs.Inner.Cover.{NextUnseen, readingIn, MeetsNone}
+use Rattle.engine.specs.Inner.Cover.{NextUnseen, readingIn, GivesNone}
 use Rattle.engine.specs.Inner.Given.{GivenCover, GivenBy, BlockSeen, Unseen, SameVectors, AllSeen}
 use Rattle.engine.specs.Inner.Kernel.{valueIn}
 use Rattle.engine.specs.Inner.Note.{narrowed, setsFrom, gathered, filled}
@@ -160,7 +160,7 @@ block-seen b count readings words before after k r e n =
 
 -- where no input gives a reading of the cover, none gives one that is unseen
 pub block-passed : {p : Plan} {gates : List ℕ} {c : Cover} {words sets : List ℕ} (b count : ℕ) → BlockRange (p .inputs) b count
-    → BlockLoaded p gates b words → GivenCover p gates sets c → MeetsNone c words (take (p .reads) (p .nets))
+    → BlockLoaded p gates b words → GivenCover p gates sets c → GivesNone c words (take (p .reads) (p .nets))
     → BlockSeen p gates b count sets sets
 block-passed {p} {gates} {c} {words} {sets} b count range l o none =
     record {

@@ -22,7 +22,7 @@ use Rattle.engine.specs.Eval.{bit, bits, numberOf}
 use Rattle.engine.specs.Support.{reading}
 use Rattle.engine.specs.Inner.Cover.{InCube, CoverHeld, InCover, CoverOf}
 use Rattle.engine.specs.Inner.Given.{GivenCover}
-use Rattle.engine.specs.Inner.Imply.{Binary, Implied, AllHave, Forces, GateHas, ValuesOf, CubeHas, Possible}
+use Rattle.engine.specs.Inner.Imply.{Binary, Implied, AllHave, Forces, GateHas, ValuesOf, CubeHas, Unrefuted}
 use Rattle.engine.specs.Inner.Miter.{miterGates, miterNets, miterValues}
 use Rattle.engine.specs.Inner.Packed.{own, packed, packedFrom, formed, joined, folded, foldedFrom, operation, countOf, operandsOf, fields, codeValue}
 use Rattle.engine.specs.Inner.Plan.{fanned, PlanHeld, ReadsOf}
@@ -226,7 +226,7 @@ unfolding netAt
 cube-has nets reads value care vs h b m k l c = sym (number-bit (netAt vs) b nets reads k h l) ∙ m k c
 
 module _ {p : Plan} {gates ss : List ℕ} where
-  pub cover-given : {c d : Cover} → PlanHeld p gates → CoverOf ss (p .reads) c → Possible p gates c d → GivenCover p gates ss d
+  pub cover-given : {c d : Cover} → PlanHeld p gates → CoverOf ss (p .reads) c → Unrefuted p gates c d → GivenCover p gates ss d
   cover-given {c} {d} h o m =
       record {
         held = m .held;

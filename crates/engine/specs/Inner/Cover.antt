@@ -8,7 +8,7 @@
 --   CubeAdded c .. d         d has the cubes of c, and one more
 --   CoverOf ss k c           the unseen readings of k nets are in the cover
 --   readingIn words is y     the reading of the nets is in scenario y of a block
---   MeetsNone ..             .. is in no scenario in the cover
+--   GivesNone ..             .. is in no scenario in the cover
 use Prim.Native.Nat.{ℕ, _+_, _^_, _≤_, _<_}
 use mathlib.Core.Path.{_≡_}
 use mathlib.Core.List.{List, map}
@@ -51,5 +51,5 @@ pub record CoverOf (ss : List ℕ) (k : ℕ) (c : Cover) : Type 0 where
 abbrev pub readingIn : List ℕ → List ℕ → ℕ → ℕ
 readingIn words is y = numberOf (map (valueIn words y) is)
 
-abbrev pub MeetsNone : Cover → List ℕ → List ℕ → Type 0
-MeetsNone c words is = (y : ℕ) → y < 1024 → InCover c (readingIn words is y) → ⊥
+abbrev pub GivesNone : Cover → List ℕ → List ℕ → Type 0
+GivesNone c words is = (y : ℕ) → y < 1024 → InCover c (readingIn words is y) → ⊥

@@ -9,7 +9,7 @@
 --   GateHas c vs            the net of gate c has the value that its operands give
 --   ValuesOf cs n vs        .. as those of the first n gates of cs
 --   CubeHas ..              the nets of a cube have its values
---   Possible ..             the cubes that values of the gates may give are left
+--   Unrefuted ..             the cubes that values of the gates may give are left
 use Prim.Native.Nat.{ℕ, _<_}
 use mathlib.Core.Path.{_≡_}
 use mathlib.Core.List.{List, map}
@@ -48,7 +48,7 @@ ValuesOf cs n vs = Binary vs × ((i : ℕ) → i < n → netAt vs (own (getD cs 
 abbrev pub CubeHas : List ℕ → ℕ → ℕ → ℕ → List ℕ → Type 0
 CubeHas nets reads value care vs = (k : ℕ) → k < reads → bit k care ≡ 1 → netAt vs (getD nets k 0) ≡ bit k value
 
-pub record Possible (p : Plan) (gates : List ℕ) (c d : Cover) : Type 0 where
+pub record Unrefuted (p : Plan) (gates : List ℕ) (c d : Cover) : Type 0 where
   pub held : CoverHeld d
   pub left : (vs : List ℕ) → ValuesOf gates (getD (p .ends) 0 0) vs
       → InCover c (numberOf (map (netAt vs) (take (p .reads) (p .nets)))) → InCover d (numberOf (map (netAt vs) (take (p .reads) (p .nets))))

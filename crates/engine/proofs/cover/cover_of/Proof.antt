@@ -23,21 +23,21 @@ next-unseen-requires c κs = let n = c .before in (omega arith, omega (arith, n 
 loop-holds : tie.Need-loop-holds Inv-loop μ-loop
 loop-holds c = (c .before .no-cubes .ensures .0, c .next-unseen .ensures .most, cover-none _ (c .next-unseen .ensures))
 
-covered-requires : tie.Need-covered-requires Inv-loop μ-loop
-covered-requires c κs = c .before .loop .inv .0
+in-cover-requires : tie.Need-in-cover-requires Inv-loop μ-loop
+in-cover-requires c κs = c .before .loop .inv .0
 
 returns : tie.Need-returns Inv-loop μ-loop
 returns c = let a = c .all-readings .ensures in record { held = a .0; covers = λ q h o. a .1 q }
 
-widest-requires : tie.Need-widest-requires Inv-loop μ-loop
-widest-requires c κs = c .before .before .before .before .before .before .before .before .before .pre
+widened-requires : tie.Need-widened-requires Inv-loop μ-loop
+widened-requires c κs = c .before .before .before .before .before .before .before .before .before .pre
 
 with-cube-requires : tie.Need-with-cube-requires Inv-loop μ-loop
 with-cube-requires c κs =
     let l = c .before .before .before .before .before .before in
     let n = l .before .before .before in
     let i = l .loop .inv in
-    (i .0, omega (arith, i .0 .few), omega (arith, n .reading-count .ensures, readings-many (n .before .pre)), c .widest .ensures)
+    (i .0, omega (arith, i .0 .few), omega (arith, n .reading-count .ensures, readings-many (n .before .pre)), c .widened .ensures)
 
 next-unseen-requires-2 : tie.Need-next-unseen-requires-2 Inv-loop μ-loop
 next-unseen-requires-2 c κs =
@@ -55,7 +55,7 @@ loop-again c =
     let so : CoverHeld (c .before .if1 .cover) × CoverTo ss (l .loop .r) (c .before .if1 .cover) × InCover (c .before .if1 .cover) (l .loop .r) =
     ⊎-elim
     (λ w. let a = w .4 .ensures in rw (w .5) (a .held, cover-more ss (l .loop .inv .2) a, a .added (l .loop .r) (λ k h. refl)))
-    (λ w. rw (w .1) (l .loop .inv .0, l .loop .inv .2, c .before .before .covered .ensures (not-false _ (w .0 .left))))
+    (λ w. rw (w .1) (l .loop .inv .0, l .loop .inv .2, c .before .before .in-cover .ensures (not-false _ (w .0 .left))))
     (c .before .if1 .came) in
     (so .0, u .most, cover-next ss (so .1) (so .2) u)
 
@@ -68,5 +68,5 @@ returns-2 c =
 pub cover-of-spec : {M : Type 1} → statement M
 cover-of-spec =
     tie.close
-    (tie.spec Inv-loop μ-loop (λ c κs. c .pre) (λ c κs. tt) next-unseen-requires loop-holds covered-requires (λ c κs. tt) returns widest-requires
+    (tie.spec Inv-loop μ-loop (λ c κs. c .pre) (λ c κs. tt) next-unseen-requires loop-holds in-cover-requires (λ c κs. tt) returns widened-requires
     with-cube-requires (λ c. omega arith) next-unseen-requires-2 loop-less loop-again returns-2)

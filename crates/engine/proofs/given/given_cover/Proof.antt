@@ -10,7 +10,7 @@ returns c = let a = c .all-readings .ensures in all-given (a .0) (a .1)
 returns-2 : tie.Need-returns-2
 returns-2 c =
     let p = c .before .before in
-    cover-given (p .before .before .before .pre) (p .before .cover-of .ensures) (p .possible .ensures)
+    cover-given (p .before .before .before .pre) (p .before .cover-of .ensures) (p .unrefuted .ensures)
 
 pub given-cover-spec : {M : Type 1} → statement M
 given-cover-spec = tie.close (tie.spec (λ c κs. search needs) (λ c κs. search needs) (λ c κs. search needs) returns returns-2)

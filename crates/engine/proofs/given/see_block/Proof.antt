@@ -18,7 +18,7 @@ returns c =
     let f = c .before .before .before .before in
     let s = f .before .before .before in
     let l = f .free-block .ensures in (
-      block-passed (s .args .b) (s .args .count) (s .pre .0 .1) l (s .pre .0 .2) (c .before .meets-cover .ensures (not-true _ (c .if1 .taken))),
+      block-passed (s .args .b) (s .args .count) (s .pre .0 .1) l (s .pre .0 .2) (c .before .gives-cover .ensures (not-true _ (c .if1 .taken))),
       l .long,
     )
 

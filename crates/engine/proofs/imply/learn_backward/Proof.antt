@@ -1,4 +1,4 @@
--- `engine::imply::learn_gates` meets its contract. The invariant: what is known so far is of the values. Assumes nothing.
+-- `engine::imply::learn_backward` meets its contract. The invariant: what is known so far is of the values. Assumes nothing.
 use Prim.Native.Nat.{ℕ, _-_, _≤_}
 use mathlib.Core.Path.{_≡_, refl, sym, _∙_}
 use mathlib.Core.List.{List}
@@ -7,8 +7,8 @@ use native.Mathlib.Omega.{arith}
 use borrow.Author.Tests.{not-true}
 use lib.ListN.{length}
 use Rattle.engine.specs.Inner.Imply.{Implied, ValuesOf}
-use Rattle.engine.proofs.imply.learn_gates.Statement.{statement}
-use Rattle.engine.proofs.imply.learn_gates.Tie as tie
+use Rattle.engine.proofs.imply.learn_backward.Statement.{statement}
+use Rattle.engine.proofs.imply.learn_backward.Tie as tie
 
 abbrev Inv-loop : tie.InvT-loop
 Inv-loop gates count known₀ i₀ known i =
@@ -20,16 +20,16 @@ abbrev μ-loop : tie.MeasureT-loop
 loop-holds : tie.Need-loop-holds Inv-loop μ-loop
 loop-holds c = (omega arith, c .before .pre .1, λ vs m a. m)
 
-shared-slice-read-learn-gate : tie.Need-shared-slice-read-learn-gate Inv-loop μ-loop
-shared-slice-read-learn-gate c = omega (arith, c .before .before .before .before .pre .0, c .before .before .loop .inv .0)
+shared-slice-read-learn-from-net : tie.Need-shared-slice-read-learn-from-net Inv-loop μ-loop
+shared-slice-read-learn-from-net c = omega (arith, c .before .before .before .before .pre .0, c .before .before .loop .inv .0)
 
-learn-gate-requires : tie.Need-learn-gate-requires Inv-loop μ-loop
-learn-gate-requires c κs = c .before .before .before .loop .inv .1
+learn-from-net-requires : tie.Need-learn-from-net-requires Inv-loop μ-loop
+learn-from-net-requires c κs = c .before .before .before .loop .inv .1
 
 returns : tie.Need-returns Inv-loop μ-loop
 returns c =
     let l = c .before .before .before .before .before in
-    let e = c .before .learn-gate .ensures in (
+    let e = c .before .learn-from-net .ensures in (
       e .0,
       λ vs m a.
           let o = e .1 vs (l .loop .inv .2 vs m a) (a .0, a .1 (l .loop .i - 1) (omega (arith, l .loop .inv .0))) in
@@ -39,7 +39,7 @@ returns c =
 loop-again : tie.Need-loop-again Inv-loop μ-loop
 loop-again c =
     let l = c .before .before .before .before .before in
-    let e = c .before .learn-gate .ensures in (
+    let e = c .before .learn-from-net .ensures in (
       omega (arith, l .loop .inv .0),
       e .0,
       λ vs m a. e .1 vs (l .loop .inv .2 vs m a) (a .0, a .1 (l .loop .i - 1) (omega (arith, l .loop .inv .0))) .1,
@@ -48,8 +48,8 @@ loop-again c =
 returns-2 : tie.Need-returns-2 Inv-loop μ-loop
 returns-2 c = let i = c .before .loop .inv in (i .1, λ vs m a. (refl, i .2 vs m a))
 
-pub learn-gates-spec : {M : Type 1} → statement M
-learn-gates-spec =
+pub learn-backward-spec : {M : Type 1} → statement M
+learn-backward-spec =
     tie.close
-    (tie.spec Inv-loop μ-loop loop-holds (λ c. omega arith) (λ c. omega arith) shared-slice-read-learn-gate learn-gate-requires returns
+    (tie.spec Inv-loop μ-loop loop-holds (λ c. omega arith) (λ c. omega arith) shared-slice-read-learn-from-net learn-from-net-requires returns
     (λ c. omega arith) loop-again returns-2)

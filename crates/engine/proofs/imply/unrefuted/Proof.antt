@@ -1,4 +1,4 @@
--- `engine::imply::possible` meets its contract. The invariant: what may be given of the first i cubes is in the cubes left. Assumes nothing.
+-- `engine::imply::unrefuted` meets its contract. The invariant: what may be given of the first i cubes is in the cubes left. Assumes nothing.
 use Prim.Native.Nat.{ℕ, _-_, _≤_, _<_}
 use mathlib.Core.Path.{_≡_}
 use mathlib.Core.Logic.{⊎-elim}
@@ -12,8 +12,8 @@ use Rattle.engine.specs.Inner.Cover.{InCube, CoverHeld, InCover}
 use Rattle.engine.specs.Inner.Imply.{ValuesOf}
 use Rattle.engine.proofs.Laws.Imply.{cube-has}
 use Rattle.engine.proofs.Laws.List.{eq-or-below}
-use Rattle.engine.proofs.imply.possible.Statement.{statement}
-use Rattle.engine.proofs.imply.possible.Tie as tie
+use Rattle.engine.proofs.imply.unrefuted.Statement.{statement}
+use Rattle.engine.proofs.imply.unrefuted.Tie as tie
 
 abbrev Inv-loop : tie.InvT-loop
 Inv-loop gates plan cover values cares left₀ i₀ left i =
@@ -88,8 +88,8 @@ returns c =
     let i = c .before .before .loop .inv in
     record { held = i .0; left = λ vs v m. i .2 vs v (m .place) (omega (arith, m .within)) (m .cube) }
 
-pub possible-spec : {M : Type 1} → statement M
-possible-spec =
+pub unrefuted-spec : {M : Type 1} → statement M
+unrefuted-spec =
     tie.close
     (tie.spec Inv-loop μ-loop (λ c κs. tt) loop-holds (λ c. omega arith) array-read-value cast-value (λ c. omega arith) array-read-care cast-care
     refuted-requires with-cube-requires (λ c. omega arith) (λ c. omega arith) loop-again returns)

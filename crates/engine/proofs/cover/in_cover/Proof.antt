@@ -1,9 +1,9 @@
--- `engine::cover::covered` meets its contract. The invariant: i is a cube of the cover, or their count. Assumes nothing.
+-- `engine::cover::in_cover` meets its contract. The invariant: i is a cube of the cover, or their count. Assumes nothing.
 use Prim.Native.Nat.{_-_}
 use mathlib.Core.Bool.{false≢true}
 use native.Mathlib.Omega.{arith}
-use Rattle.engine.proofs.cover.covered.Statement.{statement}
-use Rattle.engine.proofs.cover.covered.Tie as tie
+use Rattle.engine.proofs.cover.in_cover.Statement.{statement}
+use Rattle.engine.proofs.cover.in_cover.Tie as tie
 
 abbrev Inv-loop : tie.InvT-loop
 Inv-loop cover reading values cares i₀ i = Unit {0}
@@ -31,8 +31,8 @@ returns c e =
       cube = c .before .in-cube .ensures (c .if2 .taken);
     }
 
-pub covered-spec : {M : Type 1} → statement M
-covered-spec =
+pub in-cover-spec : {M : Type 1} → statement M
+in-cover-spec =
     tie.close
     (tie.spec Inv-loop μ-loop (λ c. tt) (λ c. omega arith) array-read-in-cube cast-in-cube (λ c. omega arith) array-read-in-cube-2
     cast-in-cube-2 (λ c κs. tt) returns (λ c. omega arith) (λ c. omega arith) (λ c. tt) (λ c e. absurd (false≢true e)))

@@ -1,4 +1,4 @@
--- `engine::cover::meets_cover` meets its contract. The invariant: no reading of the block is in one of the first i cubes. Assumes nothing.
+-- `engine::cover::gives_cover` meets its contract. The invariant: no reading of the block is in one of the first i cubes. Assumes nothing.
 use Prim.Native.Nat.{ℕ, _-_, _<_}
 use mathlib.Core.Path.{_≡_}
 use mathlib.Core.Logic.{⊎-elim}
@@ -8,8 +8,8 @@ use borrow.Author.Tests.{not-false}
 use lib.ListN.{getD, take}
 use Rattle.engine.specs.Inner.Cover.{InCube, readingIn}
 use Rattle.engine.proofs.Laws.List.{eq-or-below}
-use Rattle.engine.proofs.cover.meets_cover.Statement.{statement}
-use Rattle.engine.proofs.cover.meets_cover.Tie as tie
+use Rattle.engine.proofs.cover.gives_cover.Statement.{statement}
+use Rattle.engine.proofs.cover.gives_cover.Tie as tie
 
 abbrev Inv-loop : tie.InvT-loop
 Inv-loop nets reads cover words values cares i₀ i =
@@ -53,8 +53,8 @@ loop-again c k y h l m =
 returns-2 : tie.Need-returns-2 Inv-loop μ-loop
 returns-2 c e y h m = let l = c .before .before .loop in l .inv (m .place) y (omega (arith, m .within)) h (m .cube)
 
-pub meets-cover-spec : {M : Type 1} → statement M
-meets-cover-spec =
+pub gives-cover-spec : {M : Type 1} → statement M
+gives-cover-spec =
     tie.close
     (tie.spec Inv-loop μ-loop loop-holds (λ c. omega arith) array-read-cube-row cast-cube-row (λ c. omega arith)
     array-read-cube-row-2 cast-cube-row-2 cube-row-requires (λ c κs. tt) returns (λ c. omega arith) (λ c. omega arith) loop-again returns-2)

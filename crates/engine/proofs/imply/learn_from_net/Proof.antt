@@ -1,10 +1,10 @@
--- `engine::imply::learn_gate` meets its contract. Assumes nothing.
+-- `engine::imply::learn_from_net` meets its contract. Assumes nothing.
 use native.Mathlib.Omega.{arith}
 use borrow.Author.Needs.{needs}
 use Rattle.engine.specs.Inner.Packed.{own}
 use Rattle.engine.proofs.Laws.Imply.{gate-plain}
-use Rattle.engine.proofs.imply.learn_gate.Statement.{statement}
-use Rattle.engine.proofs.imply.learn_gate.Tie as tie
+use Rattle.engine.proofs.imply.learn_from_net.Statement.{statement}
+use Rattle.engine.proofs.imply.learn_from_net.Tie as tie
 
 returns-2 : tie.Need-returns-2
 returns-2 c =
@@ -17,8 +17,8 @@ returns-2 c =
           (gate-plain (s .args .c) _ vs g (m (own (s .args .c)) (omega arith) (omega arith)))),
     )
 
-pub learn-gate-spec : {M : Type 1} → statement M
-learn-gate-spec =
+pub learn-from-net-spec : {M : Type 1} → statement M
+learn-from-net-spec =
     tie.close
     (tie.spec (λ c. search needs) (λ c. search needs) (λ c. search needs) (λ c. search needs) (λ c κs. search needs) (λ c κs. search needs)
     returns-2 (λ c. search needs))
