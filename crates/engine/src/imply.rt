@@ -1,6 +1,6 @@
-// What the values of some nets imply of the nets that lead to them. Where the values of a cube imply both values of a net, no input gives a
-// reading of the cube, and that is known without evaluating one. The gates are gone through once, from the last to the first; from operands to
-// a gate nothing is concluded.
+// What the values of some nets imply of others. Where the values of a cube imply both values of a net, no input gives a reading of the cube,
+// and that is known without evaluating one. The gates are gone through twice: from the last to the first, each gate's net says what it can of
+// its operands, and from the first to the last, what is known of its operands says what it can of its net.
 ghost use mathlib.Core.Path.{_≡_};
 ghost use mathlib.Core.Bool.{true};
 ghost use mathlib.Core.List.{List};
@@ -21,6 +21,7 @@ use super::packed::NET;
 use super::packed::NET_AT;
 use super::packed::SLOTS_AT;
 use super::plan::Plan;
+use super::ranges::ternary_gate;
 use records::CANDIDATES;
 
 // Not known yet.
@@ -101,6 +102,33 @@ fn learn_backward(gates: &[u64], count: usize, known: &mut [u8; NETS]) -> bool
     true
 }
 
+// Notes what is known of gate c's net by its operands.
+fn learn_from_operands(c: u64, known: &mut [u8; NETS]) -> bool
+    requires { ⌜ length (now known) ≡ 1024 ⌝ }
+    ensures { λ r. ⌜ (length (now (known .exit)) ≡ 1024) × Learns (GateHas c) (now (known .entry)) r (now (known .exit)) ⌝ }
+{
+    let v = ternary_gate(c, known);
+    if UNKNOWN <= v {
+        return true;
+    }
+    learn((c / NET_AT % NET) as usize, v, known)
+}
+
+// .. for the first count gates, from the first to the last
+fn learn_forward(gates: &[u64], count: usize, known: &mut [u8; NETS]) -> bool
+    requires { ⌜ (count ≤ length (now gates)) × (length (now known) ≡ 1024) ⌝ }
+    ensures { λ r. ⌜ (length (now (known .exit)) ≡ 1024) × Learns (ValuesOf (now (gates .entry)) count) (now (known .entry)) r (now (known .exit)) ⌝ }
+{
+    let mut i = 0usize;
+    while i < count {
+        if !learn_from_operands(gates[i], known) {
+            return false;
+        }
+        i += 1;
+    }
+    true
+}
+
 // Notes the values of a cube's nets.
 fn learn_cube(
     nets: [u16; CANDIDATES],
@@ -136,7 +164,10 @@ fn refuted(gates: &[u64], plan: Plan, value: usize, care: usize) -> bool
     if !learn_cube(nets, plan.reads, value, care, &mut known) {
         return true;
     }
-    !learn_backward(gates, ends[0], &mut known)
+    if !learn_backward(gates, ends[0], &mut known) {
+        return true;
+    }
+    !learn_forward(gates, ends[0], &mut known)
 }
 
 // The cubes of a cover that are not refuted. It costs a step a cube and gate of the plan.

@@ -46,7 +46,7 @@ fn known_operands(c: u64, known: &[u8; NETS]) -> [u8; SLOTS]
 }
 
 // What is known of a packed gate's net.
-fn ternary_gate(c: u64, known: &[u8; NETS]) -> u8
+pub(super) fn ternary_gate(c: u64, known: &[u8; NETS]) -> u8
     ensures { λ r. ⌜ r ≡ codeTernary (now (known .entry)) c ⌝ }
 {
     let operands = known_operands(c, known);

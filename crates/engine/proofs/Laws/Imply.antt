@@ -4,7 +4,7 @@ use Prim.Native.Nat.{ℕ, suc, _+_, _-_, _/_, _%_, _^_, _≤_, _<_}
 use mathlib.Core.Path.{_≡_, refl, sym, _∙_, ap, subst}
 use mathlib.Core.Logic.{⊎-elim}
 use mathlib.Core.List.{List, [], _∷_, _++_, map, List·Memᴰ as Mem, List·Memᴰ·not-nil as not-nil, List·Memᴰ·cases-cons as cases-cons}
-use mathlib.Core.Bool.{Bool, true, false, not, _&&_}
+use mathlib.Core.Bool.{Bool, true, false, true≢false, not, _&&_}
 use native.Mathlib.Nat.{add-zero}
 use native.Mathlib.Omega.{arith}
 use borrow.Author.Tests.{eqb-true, eqb-false, eq-eqb}
@@ -16,28 +16,32 @@ use Rattle.records.specs.Bytes.{all}
 use Rattle.records.specs.Gate.{Gate}
 use Rattle.records.specs.Netlist.{netAt, valueOf, values}
 use Rattle.records.specs.Job.{Job}
-use Rattle.records.specs.Refusal.{gatesGood, candidateGood}
+use Rattle.records.specs.Refusal.{gateGood, gatesGood, candidateGood}
 use Rattle.records.proofs.Laws.Bytes.{and-both, all-cons}
 use Rattle.engine.specs.Eval.{bit, bits, numberOf}
 use Rattle.engine.specs.Support.{reading}
 use Rattle.engine.specs.Inner.Cover.{InCube, CoverHeld, InCover, CoverOf}
 use Rattle.engine.specs.Inner.Given.{GivenCover}
-use Rattle.engine.specs.Inner.Imply.{Binary, Implied, AllHave, Forces, GateHas, ValuesOf, CubeHas, Unrefuted}
+use Rattle.engine.specs.Inner.Imply.{Binary, Implied, Learns, AllHave, Forces, GateHas, ValuesOf, CubeHas, Unrefuted}
 use Rattle.engine.specs.Inner.Miter.{miterGates, miterNets, miterValues}
 use Rattle.engine.specs.Inner.Packed.{own, packed, packedFrom, formed, joined, folded, foldedFrom, operation, countOf, operandsOf, fields, codeValue}
 use Rattle.engine.specs.Inner.Plan.{fanned, PlanHeld, ReadsOf}
+use Rattle.engine.specs.Inner.Ranges.{Completed}
 use Rattle.engine.specs.declared.cover.Cover.{Cover}
 use Rattle.engine.specs.declared.plan.Plan.{Plan}
 use Rattle.engine.proofs.Laws.BlockRows.{agree-reading}
 use Rattle.engine.proofs.Laws.Choice.{true-or-false, mem-keep}
 use Rattle.engine.proofs.Laws.Cover.{number-bit}
 use Rattle.engine.proofs.Laws.Eval.{bit-lt, getD-bits, bits-append, bits-bits, values-bits}
-use Rattle.engine.proofs.Laws.FitGates.{noGate, valueOf-local, Consistent, extended-consistent}
+use Rattle.engine.proofs.Laws.FitGates.{valueOf-local, Consistent, consistent-extended}
 use Rattle.engine.proofs.Laws.FitNets.{mem-at}
 use Rattle.engine.proofs.Laws.Fitted.{length-bits}
 use Rattle.engine.proofs.Laws.Miter.{miter-nets}
 use Rattle.engine.proofs.Laws.Packed.{packed-own, packed-value}
+use Rattle.engine.proofs.Laws.Partial.{gate-completes}
+use Rattle.engine.proofs.Laws.Plan.{leavesOf, base, length-leaves}
 use Rattle.engine.proofs.Laws.PlanCode.{fields-next}
+use Rattle.engine.proofs.Laws.Ranges.{ternary-follows}
 use Rattle.engine.proofs.Laws.Run.{good-first, good-rest, same-values}
 use Rattle.engine.proofs.Laws.Search.{reading-small}
 use Rattle.engine.proofs.Laws.Support.{reading-lt}
@@ -62,6 +66,24 @@ known-more known vs i v l m e k n h =
 -- at first nothing is known
 pub known-none : (vs : List ℕ) → Implied (replicate 1024 2) vs
 known-none vs i n h = let f : ⊥ = omega (arith, getD-replicate {A = ℕ} 1024 i 2 0 n) in absurd f
+
+-- ---- a step more
+
+pub learns-none : {Q : List ℕ → Type 0} (a : List ℕ) → Learns Q a true a
+learns-none a = record { well = λ vs m q. refl; more = λ vs m q. m }
+
+-- a step by P, behind steps that went well, of values of which Q and what is known say more than P
+pub learns-then : {Q P : List ℕ → Type 0} {a b d : List ℕ} {r s : Bool} → Learns Q a true b → ((vs : List ℕ) → Implied b vs → Q vs → P vs)
+    → Learns P b r d → r ≡ s → Learns Q a s d
+learns-then f i g e =
+    record {
+      well = λ vs m q. let k = f .more vs m q in sym e ∙ g .well vs k (i vs k q);
+      more = λ vs m q. let k = f .more vs m q in g .more vs k (i vs k q);
+    }
+
+-- where a step does not go well, there are no such values
+pub learns-never : {Q : List ℕ → Type 0} {a d : List ℕ} {r : Bool} → Learns Q a r d → r ≡ false → (vs : List ℕ) → Implied a vs → Q vs → ⊥
+learns-never f e vs m q = true≢false (sym (f .well vs m q) ∙ e)
 
 -- ---- operands
 
@@ -142,24 +164,38 @@ pub gate-plain : (c o : ℕ) (vs : List ℕ) → GateHas c vs → netAt vs (own 
 unfolding codeValue
 gate-plain c o vs g e =
     let f : ℕ = folded (operation c) (map (netAt vs) (operandsOf c)) in
-    let s : (f + c % 2) % 2 ≡ o = sym (g .1) ∙ e in
-    omega (arith, folded-lt (operation c) vs (g .0) (operandsOf c))
+    let s : (f + c % 2) % 2 ≡ o = sym (g .value) ∙ e in
+    omega (arith, folded-lt (operation c) vs (g .binary) (operandsOf c))
 
 -- ---- the values of a job's gates
 
+-- values complete what is known of them
+known-completed : (k : ℕ) (vs ks : List ℕ) → k ≤ 1024 → Binary vs → Implied ks vs → Completed k vs ks
+unfolding netAt
+known-completed k vs ks h b m i l = record { bit = b i; kept = λ n. m i (omega arith) n }
+
+packed-gate : (d : ℕ) (g : Gate) (ws : List ℕ) → gateGood d g ≡ true → formed g ≡ true → d < 1024 → Binary ws → netAt ws d ≡ valueOf ws g
+    → GateHas (packed d g) ws
+packed-gate d g ws good f h b e =
+    let o : netAt ws (own (packed d g)) ≡ valueOf ws g = ap (netAt ws) (packed-own d g good f h) ∙ e in
+    record {
+      binary = b;
+      value = o ∙ sym (packed-value d g good f h ws b);
+      known = λ ks m l.
+          let t = ternary-follows .packs ks d g tt good f h in
+          o ∙ gate-completes d ws ks (known-completed d ws ks (omega arith) b m) g good .kept (rw t at l) ∙ sym t;
+    }
+
 packed-gates : (d : ℕ) (gs : List Gate) (ws : List ℕ) → gatesGood d gs ≡ true → all formed gs ≡ true → d + length gs ≤ 1024 → Binary ws
-    → Consistent valueOf ws d gs → (c : ℕ) → Mem c (packedFrom d gs) → netAt ws (own c) ≡ codeValue ws c
-unfolding packedFrom netAt
+    → Consistent valueOf ws d gs → (c : ℕ) → Mem c (packedFrom d gs) → GateHas c ws
+unfolding packedFrom
 packed-gates d [] ws a f h b k c m = absurd (not-nil m)
 packed-gates d (g ∷ gs) ws a f h b k c m =
     let t = all-cons formed g gs f in
-    let good = good-first d g gs a in
     ⊎-elim
     (λ (e : c ≡ packed d g).
     rw e
-    (ap (netAt ws) (packed-own d g good (t .0) (omega arith) ∙ sym (add-zero d))
-    ∙ k .at 0 (omega arith)
-    ∙ sym (packed-value d g good (t .0) (omega arith) ws b)))
+    (packed-gate d g ws (good-first d g gs a) (t .0) (omega arith) b (ap (netAt ws) (sym (add-zero d)) ∙ k .at 0 (omega arith))))
     (λ n.
     packed-gates (suc d) gs ws (good-rest d g gs a) (t .1) (omega arith) b
     record { at = λ r l. let q : suc d + r ≡ d + suc r = omega arith in ap (netAt ws) q ∙ k .at (suc r) (omega arith) }
@@ -168,30 +204,15 @@ packed-gates d (g ∷ gs) ws a f h b k c m =
     (cases-cons m)
 
 module _ {j : Job} {is : List ℕ} {p : Plan} {gates : List ℕ} (h : PlanHeld p gates) (q : ReadsOf j is p gates) (x : ℕ) where
-  abbrev leaves : List ℕ
-  leaves = bits (j .inputs) x ++ bits (j .targets) 0
-
-  leaves-long : length leaves ≡ j .inputs + j .targets
-  leaves-long = length-append (bits (j .inputs) x) (bits (j .targets) 0) ∙ rw (length-bits (j .inputs) x, length-bits (j .targets) 0)
-
-  merged-values : values leaves (q .merged) ≡ miterValues j x 0
-  unfolding miterValues
-  merged-values = same-values (q .same) leaves leaves-long
-
   binary : Binary (miterValues j x 0)
   unfolding miterValues
-  binary i = getD-bits (values-bits leaves (bits-append (bits-bits (j .inputs) x) (bits-bits (j .targets) 0)) (miterGates j)) i
+  binary i = getD-bits (values-bits (leavesOf j x 0) (bits-append (bits-bits (j .inputs) x) (bits-bits (j .targets) 0)) (miterGates j)) i
 
-  consistent : Consistent valueOf (miterValues j x 0) (j .inputs + j .targets) (q .merged)
-  unfolding values
+  consistent : Consistent valueOf (miterValues j x 0) (base j) (q .merged)
+  unfolding values miterValues
   consistent =
-      record {
-        at = λ r l.
-            subst (λ (ws : List ℕ). netAt ws (j .inputs + j .targets + r) ≡ valueOf ws (getD (q .merged) r noGate)) merged-values
-            (subst (λ (n : ℕ). netAt (values leaves (q .merged)) (n + r) ≡ valueOf (values leaves (q .merged)) (getD (q .merged) r noGate))
-            leaves-long
-            (extended-consistent valueOf valueOf-local leaves (q .merged) (rw leaves-long (q .same .good)) r l));
-      }
+      subst (λ (ws : List ℕ). Consistent valueOf ws (base j) (q .merged)) (same-values (q .same) (leavesOf j x 0) (length-leaves j x 0))
+      (consistent-extended valueOf valueOf-local (leavesOf j x 0) (q .merged) (base j) (length-leaves j x 0) (q .same .good))
 
   pub job-values : ValuesOf gates (getD (p .ends) 0 0) (miterValues j x 0)
   unfolding miterNets

@@ -2,11 +2,11 @@
 --
 --   Binary vs               the values vs are 0 and 1
 --   Implied known vs        where something is known of a net, 0 or 1, it is the net's value in vs
---   Learns P b r a          a step from what is known before, b, to what is known after, a: of values of which P says something more it goes
---                           well, which r says, and what is known after is theirs too
+--   Learns P b r a          a step from what is known, b, to a: values that agree with b and of which P holds agree with a, and r is true, so
+--                           that there are none where r is false
 --   AllHave v is vs         the nets is have the value v
 --   Forces c v              gate c has, before its inversion, the value v only where all its operands have it
---   GateHas c vs            the net of gate c has the value that its operands give
+--   GateHas c vs            the net of gate c has the value that its operands give, and that what is known of them gives, if it gives one
 --   ValuesOf cs n vs        .. as those of the first n gates of cs
 --   CubeHas ..              the nets of a cube have its values
 --   Unrefuted ..             the cubes that values of the gates may give are left
@@ -21,6 +21,7 @@ use Rattle.records.specs.Netlist.{netAt}
 use Rattle.engine.specs.Eval.{bit, numberOf}
 use Rattle.engine.specs.Inner.Cover.{CoverHeld, InCover}
 use Rattle.engine.specs.Inner.Packed.{own, operation, operandsOf, folded, codeValue}
+use Rattle.engine.specs.Inner.Ranges.{codeTernary}
 use Rattle.engine.specs.declared.cover.Cover.{Cover}
 use Rattle.engine.specs.declared.plan.Plan.{Plan}
 
@@ -30,8 +31,9 @@ Binary vs = (i : ℕ) → getD vs i 0 < 2
 abbrev pub Implied : List ℕ → List ℕ → Type 0
 Implied known vs = (i : ℕ) → i < 1024 → getD known i 0 < 2 → netAt vs i ≡ getD known i 0
 
-abbrev pub Learns : (List ℕ → Type 0) → List ℕ → Bool → List ℕ → Type 0
-Learns P before r after = (vs : List ℕ) → Implied before vs → P vs → (r ≡ true) × Implied after vs
+pub record Learns (P : List ℕ → Type 0) (before : List ℕ) (r : Bool) (after : List ℕ) : Type 0 where
+  pub well : (vs : List ℕ) → Implied before vs → P vs → r ≡ true
+  pub more : (vs : List ℕ) → Implied before vs → P vs → Implied after vs
 
 abbrev pub AllHave : ℕ → List ℕ → List ℕ → Type 0
 AllHave v is vs = all (λ i. eqb (netAt vs i) v) is ≡ true
@@ -39,11 +41,13 @@ AllHave v is vs = all (λ i. eqb (netAt vs i) v) is ≡ true
 abbrev pub Forces : ℕ → ℕ → Type 0
 Forces c v = (vs : List ℕ) → Binary vs → folded (operation c) (map (netAt vs) (operandsOf c)) ≡ v → AllHave v (operandsOf c) vs
 
-abbrev pub GateHas : ℕ → List ℕ → Type 0
-GateHas c vs = Binary vs × (netAt vs (own c) ≡ codeValue vs c)
+pub record GateHas (c : ℕ) (vs : List ℕ) : Type 0 where
+  pub binary : Binary vs
+  pub value : netAt vs (own c) ≡ codeValue vs c
+  pub known : (ks : List ℕ) → Implied ks vs → codeTernary ks c < 2 → netAt vs (own c) ≡ codeTernary ks c
 
 abbrev pub ValuesOf : List ℕ → ℕ → List ℕ → Type 0
-ValuesOf cs n vs = Binary vs × ((i : ℕ) → i < n → netAt vs (own (getD cs i 0)) ≡ codeValue vs (getD cs i 0))
+ValuesOf cs n vs = Binary vs × ((i : ℕ) → i < n → GateHas (getD cs i 0) vs)
 
 abbrev pub CubeHas : List ℕ → ℕ → ℕ → ℕ → List ℕ → Type 0
 CubeHas nets reads value care vs = (k : ℕ) → k < reads → bit k care ≡ 1 → netAt vs (getD nets k 0) ≡ bit k value
