@@ -17,6 +17,7 @@ use super::cover::all_readings;
 use super::cover::cover_of;
 use super::cover::gives_cover;
 use super::cover::next_unseen;
+use super::cover::unseen_count;
 use super::imply::unrefuted;
 use super::leaves::block_inputs;
 use super::leaves::read_rows;
@@ -35,9 +36,9 @@ use super::search::free_block;
 use super::table::reading_count;
 use records::Support;
 
-// The sets after the first count inputs of block b: each clears the bit of its reading, as it would narrow its set by all vectors; and whether an
-// input gives a reading of the cover, without which they stay as they are. It costs one gate evaluation a gate of the plan, one a net of each
-// cube of the cover, and some 1,000 steps where it is met.
+// The sets after the first count inputs of block b: each clears the bit of its reading, as it would narrow its set by all vectors. Where no input
+// gives a reading of the cover they stay as they are. It costs one gate evaluation a gate of the plan, one a net of each cube of the cover, and,
+// where one is given, some 1,000 steps.
 fn see_block(
     gates: &[u64],
     plan: Plan,
@@ -46,7 +47,7 @@ fn see_block(
     cover: Cover,
     words: &mut [u64; WORDS],
     sets: &mut [u32; READINGS],
-) -> bool
+)
     requires { ⌜ PlanHeld plan (now gates) × BlockRange (plan .inputs) b count × GivenCover plan (now gates) (now sets) cover ⌝ }
     requires { ⌜ (length (now words) ≡ 16384) × (length (now sets) ≡ 1024) ⌝ }
     ensures { λ _. ⌜ BlockSeen plan (now (gates .entry)) b count (now (sets .entry)) (now (sets .exit)) ⌝ }
@@ -55,11 +56,10 @@ fn see_block(
     free_block(gates, plan, b, words);
     let nets = plan.nets;
     if !gives_cover(nets, plan.reads, cover, words) {
-        return false;
+        return;
     }
     let readings = read_rows(nets, plan.reads, words);
     meet_block([!0u64; ROWS], readings, (count + 63) / 64, sets);
-    true
 }
 
 // A cover of the unseen readings that an input may still give.
@@ -69,24 +69,26 @@ fn given_cover(gates: &[u64], plan: Plan, sets: &[u32; READINGS]) -> Cover
 {
     let left = unrefuted(gates, plan, cover_of(sets, plan.reads));
     if TESTED < left.count {
-        return all_readings();
+        return all_readings(left.unseen);
     }
     left
 }
 
-// .. where a new one is wanted; else the one of before
-fn renewed(gates: &[u64], plan: Plan, sets: &[u32; READINGS], cover: Cover, wanted: bool) -> Cover
+// .. made anew before the first block of a range, where fewer readings are unseen than when it was made
+fn renewed(gates: &[u64], plan: Plan, sets: &[u32; READINGS], cover: Cover, b: usize) -> Cover
     requires { ⌜ PlanHeld plan (now gates) × GivenCover plan (now gates) (now sets) cover ⌝ }
     ensures { λ r. ⌜ GivenCover plan (now (gates .entry)) (now (sets .entry)) r ⌝ }
 {
-    if wanted {
-        return given_cover(gates, plan, sets);
+    if b % RANGE != 0 {
+        return cover;
     }
-    cover
+    if unseen_count(sets) == cover.unseen {
+        return cover;
+    }
+    given_cover(gates, plan, sets)
 }
 
-// The sets after the inputs of the ranges that were skipped. It ends where no reading is unseen, or none of those that are can be given. A range
-// gets a new cover where blocks before it met the old one.
+// The sets after the inputs of the ranges that were skipped. It ends where no reading is unseen, or none of those that are can be given.
 fn see_inputs(gates: &[u64], plan: Plan, skipped: usize, sets: &mut [u32; READINGS])
     requires { ⌜ PlanHeld plan (now gates) × (length (now sets) ≡ 1024) ⌝ }
     ensures { λ _. ⌜ AllSeen plan (now (gates .entry)) skipped (now (sets .entry)) (now (sets .exit))
@@ -96,7 +98,6 @@ fn see_inputs(gates: &[u64], plan: Plan, skipped: usize, sets: &mut [u32; READIN
     let size = 1usize << plan.inputs;
     let mut words = [0u64; WORDS];
     let mut cover = given_cover(gates, plan, sets);
-    let mut stale = false;
     let mut next = next_unseen(sets, 0, count);
     let mut b = 0usize;
     while BLOCK * b < size {
@@ -107,8 +108,8 @@ fn see_inputs(gates: &[u64], plan: Plan, skipped: usize, sets: &mut [u32; READIN
             return;
         }
         if (skipped >> (b / RANGE)) % 2 == 1 {
-            cover = renewed(gates, plan, sets, cover, stale & (b % RANGE == 0));
-            let met = see_block(
+            cover = renewed(gates, plan, sets, cover, b);
+            see_block(
                 gates,
                 plan,
                 b,
@@ -117,7 +118,6 @@ fn see_inputs(gates: &[u64], plan: Plan, skipped: usize, sets: &mut [u32; READIN
                 &mut words,
                 sets,
             );
-            stale = met | (stale & (b % RANGE != 0));
             next = next_unseen(sets, next, count);
         }
         b += 1;
@@ -125,9 +125,9 @@ fn see_inputs(gates: &[u64], plan: Plan, skipped: usize, sets: &mut [u32; READIN
 }
 
 // The sets of a support, with the bits of its readings that inputs of skipped ranges give cleared too. Where no range was skipped, the sets
-// tell already, and none is evaluated; else a cover of the unseen readings costs a step a cube and gate that leads to the support, and where
-// that does not show that no input gives them, each block of 1,024 inputs of these ranges, until all readings are seen, costs one gate
-// evaluation a gate that leads to the support.
+// tell already, and nothing is evaluated. Else a cover of the unseen readings is made, in some ten steps a reading and two a cube and gate that
+// leads to the support. Where it does not show that no input gives them, each block of 1,024 inputs of these ranges, until all readings are
+// seen, costs one gate evaluation a gate that leads to the support and what see_block says; a range may cost one cover more.
 pub(super) fn see_skipped(
     miter: Miter,
     support: Support,

@@ -170,14 +170,14 @@ fn refuted(gates: &[u64], plan: Plan, value: usize, care: usize) -> bool
     !learn_forward(gates, ends[0], &mut known)
 }
 
-// The cubes of a cover that are not refuted. It costs a step a cube and gate of the plan.
+// The cubes of a cover that are not refuted. It costs two steps a cube and gate of the plan.
 pub(super) fn unrefuted(gates: &[u64], plan: Plan, cover: Cover) -> Cover
     requires { ⌜ PlanHeld plan (now gates) × CoverHeld cover ⌝ }
     ensures { λ r. ⌜ Unrefuted plan (now (gates .entry)) cover r ⌝ }
 {
     let values = cover.values;
     let cares = cover.cares;
-    let mut left = no_cubes();
+    let mut left = no_cubes(cover.unseen);
     let mut i = 0usize;
     while i < cover.count {
         let value = values[i] as usize;

@@ -40,7 +40,8 @@ pub const READING: u64 = READINGS as u64;
 pub const SET: u64 = 65536;
 // The bit behind those of the vectors in the set of a reading: 1 where no input that was looked at gives it.
 pub const UNSEEN: u32 = 65536;
-// The cubes of a cover, and how many of them may be tested on a block: more would cost as much as a look at each of its inputs (src/cover.rt).
+// The cubes of a cover, and how many of them may be tested on a block: of ten nets each, more would cost as much as a look at each of its inputs
+// (src/given.rt).
 pub const CUBES: usize = 64;
 
 pub const TESTED: usize = 16;

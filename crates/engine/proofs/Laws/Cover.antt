@@ -11,7 +11,7 @@ use lib.Dec.{eqb, ltb}
 use lib.ListN.{length, getD, take, set, replicate, length-set, length-replicate}
 use lib.Seq.{getD-set-same, getD-set-other, getD-take, length-take-le}
 use Rattle.engine.specs.Eval.{bit, numberOf}
-use Rattle.engine.specs.Inner.Cover.{NextUnseen, InCube, CoverHeld, InCover, CubeAdded, readingIn}
+use Rattle.engine.specs.Inner.Cover.{NextUnseen, InCube, CoverHeld, InCover, CubeAdded, CoverTo, readingIn}
 use Rattle.engine.specs.Inner.Kernel.{Filled, rowValue, valueIn}
 use Rattle.engine.specs.declared.cover.Cover.{Cover}
 use Rattle.engine.proofs.Laws.Choice.{true-or-false}
@@ -72,7 +72,7 @@ cube-next words nets reads value care y k {v} h l c m o =
 
 pub cube-added : (c : Cover) (value care : ℕ) → CoverHeld c → c .count < 64 → value < 1024 → care < 1024
     → CubeAdded c value care
-    (record { count = c .count + 1; values = set (c .values) (c .count) value; cares = set (c .cares) (c .count) care })
+    (record { count = c .count + 1; unseen = c .unseen; values = set (c .values) (c .count) value; cares = set (c .cares) (c .count) care })
 cube-added c value care h l v k =
     let n = c .count in
     let is : getD (set (c .values) n value) n 0 ≡ value = getD-set-same (c .values) n value 0 (omega (arith, h .values)) in
@@ -98,10 +98,6 @@ cube-added c value care h l v k =
           };
     }
 
--- the unseen readings below r are in the cover
-abbrev pub CoverTo : List ℕ → ℕ → Cover → Type 0
-CoverTo ss r c = (q : ℕ) → q < r → bit 16 (getD ss q 0) ≡ 1 → InCover c q
-
 module _ (ss : List ℕ) {r : ℕ} {c : Cover} where
   pub cover-none : {n : ℕ} → NextUnseen ss 0 n r → CoverTo ss r c
   cover-none u q l o = let f : ⊥ = omega (arith, u .seen q (omega arith) l) in absurd f
@@ -118,8 +114,8 @@ module _ (ss : List ℕ) {r : ℕ} {c : Cover} where
   pub cover-more : {k : ℕ} {d : Cover} → CoverTo ss r c → CubeAdded c r k d → CoverTo ss r d
   cover-more a m q l o = m .kept q (a q l o)
 
-pub zero-cubes : (n : ℕ) → n ≤ 64 → CoverHeld (record { count = n; values = replicate 64 0; cares = replicate 64 0 })
-zero-cubes n h =
+pub zero-cubes : (n unseen : ℕ) → n ≤ 64 → CoverHeld (record { count = n; unseen = unseen; values = replicate 64 0; cares = replicate 64 0 })
+zero-cubes n unseen h =
     record {
       few = h;
       values = length-replicate {A = ℕ} 64 0;
@@ -129,5 +125,5 @@ zero-cubes n h =
     }
 
 -- a cube that asks for nothing
-pub cover-all : (q : ℕ) → InCover (record { count = 1; values = replicate 64 0; cares = replicate 64 0 }) q
-cover-all q = record { place = 0; within = omega arith; cube = in-all 0 q }
+pub cover-all : (unseen q : ℕ) → InCover (record { count = 1; unseen = unseen; values = replicate 64 0; cares = replicate 64 0 }) q
+cover-all unseen q = record { place = 0; within = omega arith; cube = in-all 0 q }

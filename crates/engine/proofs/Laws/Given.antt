@@ -9,7 +9,7 @@ use native.Mathlib.Omega.{arith}
 use borrow.Author.Tests.{eqb-true, eqb-false, ltb-true, ltb-false}
 use lib.Bits.{bitAnd}
 use lib.Dec.{eqb, ltb}
-use lib.ListN.{length, getD, take, set, replicate, length-set, length-take, getD-replicate, List·getD-eq-default}
+use lib.ListN.{length, getD, take, set, replicate, length-set, getD-replicate, List·getD-eq-default}
 use lib.Pow.{pow-pos, pow-mono}
 use lib.Seq.{getD-set-same, getD-set-other}
 use Rattle.records.specs.Bytes.{upFrom, tabulate, all}
@@ -19,7 +19,7 @@ use Rattle.records.specs.Refusal.{candidateGood}
 use Rattle.engine.specs.Eval.{bit, numberOf}
 use Rattle.engine.specs.Support.{reading}
 use Rattle.engine.specs.Inner.Best.{GivenBits}
-use Rattle.engine.specs.Inner.Cover.{NextUnseen, readingIn, GivesNone}
+use Rattle.engine.specs.Inner.Cover.{NextUnseen, CoverHeld, InCover, readingIn, GivesNone}
 use Rattle.engine.specs.Inner.Given.{GivenCover, GivenBy, BlockSeen, Unseen, SameVectors, AllSeen}
 use Rattle.engine.specs.Inner.Kernel.{valueIn}
 use Rattle.engine.specs.Inner.Note.{narrowed, setsFrom, gathered, filled}
@@ -30,7 +30,7 @@ use Rattle.engine.specs.declared.plan.Plan.{Plan}
 use Rattle.engine.proofs.Laws.Choice.{true-or-false}
 use Rattle.engine.proofs.Laws.Eval.{bit-lt}
 use Rattle.engine.proofs.Laws.Rows.{setsFrom-agree}
-use Rattle.engine.proofs.Laws.Search.{noted-sets, reading-small, met-long, block-range}
+use Rattle.engine.proofs.Laws.Search.{first-few, noted-sets, reading-small, met-long, block-range}
 use Rattle.engine.proofs.Laws.VectorSets.{bit-ones}
 use Rattle.engine.proofs.Laws.Word.{bit-zero, bit-and, bit-ones as word-ones}
 
@@ -154,7 +154,6 @@ block-seen b count readings words before after k r e n =
           (e .readings j is q good)
           (reading-small k q))
           (seen-iff (reading j is) before (1024 * b) count i l);
-      fewer = λ i l z. rw ones (seen-iff (λ y. gathered readings y % 1024) before 0 (filled count) i l .1 (inl z));
       same = λ i v h. ap (λ (ss : List ℕ). bit v (getD ss i 0)) ones ∙ same-from (λ y. gathered readings y % 1024) before 0 (filled count) i v h;
     }
 
@@ -180,9 +179,25 @@ block-passed {p} {gates} {c} {words} {sets} b count range l o none =
                 λ u. none y i (rw e (o .covers j is q good (g .0) (rw (g .3) u))) in
                 omega (arith, bit-lt 16 (getD sets r 0))),
           );
-      fewer = λ r h z. z;
       same = λ r v h. refl;
     }
+
+module _ {p : Plan} {gates ss : List ℕ} {c : Cover} where
+  pub all-given : CoverHeld c → ((q : ℕ) → InCover c q) → GivenCover p gates ss c
+  all-given h a = record { held = h; covers = λ j is q good x u. a (reading j is x) }
+
+  -- a cover stays one after a block, since no more readings are unseen
+  pub given-kept : {b count : ℕ} {ts : List ℕ} → GivenCover p gates ss c → p .reads ≤ 10 → length ss ≡ 1024 → BlockSeen p gates b count ss ts
+      → GivenCover p gates ts c
+  given-kept {b} {count} {ts} g k l t =
+      record {
+        held = g .held;
+        covers = λ j is q good x u.
+            let r = reading j is x in
+            let z : bit 16 (getD ss r 0) ≡ 0 → ⊥ =
+            λ e. omega (arith, t .seen j is q good r (omega (arith, reading-small k q x)) .1 (inl e)) in
+            g .covers j is q good x (omega (arith, bit-lt 16 (getD ss r 0)));
+      }
 
 -- ---- block after block
 
@@ -324,11 +339,11 @@ module _ {p : Plan} {gates before mid : List ℕ} {k count size b next n : ℕ} 
       record { past = omega arith; most = s .most; seen = λ q u v. let f : ⊥ = omega arith in absurd f }
       (λ j is q good r l. (inl, ⊎-elim (λ z. z) (λ y. absurd (i (y .0)))))
 
--- .. after all inputs, or once all readings are seen
+-- .. after all inputs, once all readings are seen, or where the cover has no cube
 pub seeing-all : {p : Plan} {gates before after : List ℕ} {k count size b next : ℕ} {c : Cover} → Seeing p gates k before count size b next after
     → GivenCover p gates after c → (size ≤ 1024 * b) ⊎ (next ≡ count) ⊎ (c .count ≡ 0) → AllSeen p gates k before after
 seeing-all {p} {gates} {before} {after} {k} {count} {size} {b} {next} {c} s o d j is q good g r h =
-    let n : length is ≤ p .reads = omega (arith, ap length (sym (q .nets)), length-take (p .reads) (p .nets)) in
+    let n = first-few (p .reads) (p .nets) (q .nets) in
     let m : 2 ^ length is ≤ count = rw (s .readings) (pow-mono n) in
     let i : size ≡ 2 ^ j .inputs = s .inputs ∙ ap (λ (t : ℕ). 2 ^ t) (q .inputs) in
     let w = s .seen j is q good in

@@ -3,13 +3,13 @@
 use Prim.Native.Nat.{ℕ, suc, _+_, _-_, _/_, _%_, _^_, _≤_, _<_}
 use mathlib.Core.Path.{_≡_, refl, sym, _∙_, ap, subst}
 use mathlib.Core.Logic.{⊎-elim}
-use mathlib.Core.List.{List, [], _∷_, _++_, map, List·Memᴰ as Mem, List·Memᴰ·not-nil as not-nil, List·Memᴰ·cases-cons as cases-cons}
+use mathlib.Core.List.{List, [], _∷_, map, List·Memᴰ as Mem, List·Memᴰ·not-nil as not-nil, List·Memᴰ·cases-cons as cases-cons}
 use mathlib.Core.Bool.{Bool, true, false, true≢false, not, _&&_}
 use native.Mathlib.Nat.{add-zero}
 use native.Mathlib.Omega.{arith}
 use borrow.Author.Tests.{eqb-true, eqb-false, eq-eqb}
 use lib.Dec.{eqb}
-use lib.ListN.{length, getD, take, set, replicate, length-append, length-take, getD-replicate}
+use lib.ListN.{length, getD, take, set, replicate, getD-replicate}
 use lib.Pow.{pow-mono}
 use lib.Seq.{getD-set-same, getD-set-other, getD-take, length-take-le, slice}
 use Rattle.records.specs.Bytes.{all}
@@ -18,9 +18,9 @@ use Rattle.records.specs.Netlist.{netAt, valueOf, values}
 use Rattle.records.specs.Job.{Job}
 use Rattle.records.specs.Refusal.{gateGood, gatesGood, candidateGood}
 use Rattle.records.proofs.Laws.Bytes.{and-both, all-cons}
-use Rattle.engine.specs.Eval.{bit, bits, numberOf}
+use Rattle.engine.specs.Eval.{bit, numberOf}
 use Rattle.engine.specs.Support.{reading}
-use Rattle.engine.specs.Inner.Cover.{InCube, CoverHeld, InCover, CoverOf}
+use Rattle.engine.specs.Inner.Cover.{InCube, CoverOf}
 use Rattle.engine.specs.Inner.Given.{GivenCover}
 use Rattle.engine.specs.Inner.Imply.{Binary, Implied, Learns, AllHave, Forces, GateHas, ValuesOf, CubeHas, Unrefuted}
 use Rattle.engine.specs.Inner.Miter.{miterGates, miterNets, miterValues}
@@ -32,10 +32,9 @@ use Rattle.engine.specs.declared.plan.Plan.{Plan}
 use Rattle.engine.proofs.Laws.BlockRows.{agree-reading}
 use Rattle.engine.proofs.Laws.Choice.{true-or-false, mem-keep}
 use Rattle.engine.proofs.Laws.Cover.{number-bit}
-use Rattle.engine.proofs.Laws.Eval.{bit-lt, getD-bits, bits-append, bits-bits, values-bits}
+use Rattle.engine.proofs.Laws.Eval.{getD-bits, bits-append, bits-bits, values-bits}
 use Rattle.engine.proofs.Laws.FitGates.{valueOf-local, Consistent, consistent-extended}
 use Rattle.engine.proofs.Laws.FitNets.{mem-at}
-use Rattle.engine.proofs.Laws.Fitted.{length-bits}
 use Rattle.engine.proofs.Laws.Miter.{miter-nets}
 use Rattle.engine.proofs.Laws.Packed.{packed-own, packed-value}
 use Rattle.engine.proofs.Laws.Partial.{gate-completes}
@@ -43,7 +42,7 @@ use Rattle.engine.proofs.Laws.Plan.{leavesOf, base, length-leaves}
 use Rattle.engine.proofs.Laws.PlanCode.{fields-next}
 use Rattle.engine.proofs.Laws.Ranges.{ternary-follows}
 use Rattle.engine.proofs.Laws.Run.{good-first, good-rest, same-values}
-use Rattle.engine.proofs.Laws.Search.{reading-small}
+use Rattle.engine.proofs.Laws.Search.{first-few}
 use Rattle.engine.proofs.Laws.Support.{reading-lt}
 
 -- ---- one net more
@@ -102,13 +101,24 @@ module _ (v : ℕ) (vs : List ℕ) (n rest : ℕ) (h : 0 < n) (a : AllHave v (fi
 
 -- ---- what a gate's net says
 
-module _ (op v : ℕ) (both : (x y : ℕ) → x < 2 → y < 2 → joined op x y ≡ v → (x ≡ v) × (y ≡ v))
-    (two : (x y : ℕ) → x < 2 → y < 2 → joined op x y < 2) (vs : List ℕ) (b : Binary vs) where
+joined-lt : (op x y : ℕ) → x < 2 → y < 2 → joined op x y < 2
+unfolding joined
+joined-lt op x y h l =
+    ⊎-elim
+    (λ (a : eqb op 2 ≡ true). rw a (omega arith))
+    (λ (a : eqb op 2 ≡ false).
+    ⊎-elim
+    (λ (b : eqb op 3 ≡ true). rw (a, b) (omega arith))
+    (λ (b : eqb op 3 ≡ false). rw (a, b) (omega arith))
+    (true-or-false (eqb op 3)))
+    (true-or-false (eqb op 2))
+
+module _ (op v : ℕ) (both : (x y : ℕ) → x < 2 → y < 2 → joined op x y ≡ v → (x ≡ v) × (y ≡ v)) (vs : List ℕ) (b : Binary vs) where
   folds-from : (x : ℕ) (is : List ℕ) → x < 2 → foldedFrom op x (map (netAt vs) is) ≡ v → (x ≡ v) × AllHave v is vs
   unfolding foldedFrom all netAt
   folds-from x [] h e = (e, refl)
   folds-from x (i ∷ is) h e =
-      let r = folds-from (joined op x (netAt vs i)) is (two x (netAt vs i) h (b i)) e in
+      let r = folds-from (joined op x (netAt vs i)) is (joined-lt op x (netAt vs i) h (b i)) e in
       let p = both x (netAt vs i) h (b i) (r .0) in
       (p .0, and-both (eqb (netAt vs i) v) (all (λ k. eqb (netAt vs k) v) is) (eq-eqb (netAt vs i) v (p .1)) (r .1))
 
@@ -122,30 +132,18 @@ module _ (op v : ℕ) (both : (x y : ℕ) → x < 2 → y < 2 → joined op x y 
 pub and-forces : (c : ℕ) → operation c ≡ 2 → Forces c 1
 unfolding joined
 and-forces c o vs b e =
-    folds-all 2 1 (λ x y h l f. (omega arith, omega arith)) (λ x y h l. omega arith) vs b (operandsOf c) (rw o at e)
+    folds-all 2 1 (λ x y h l f. (omega arith, omega arith)) vs b (operandsOf c) (rw o at e)
 
 pub or-forces : (c : ℕ) → operation c ≡ 3 → Forces c 0
 unfolding joined
 or-forces c o vs b e =
-    folds-all 3 0 (λ x y h l f. (omega arith, omega arith)) (λ x y h l. omega arith) vs b (operandsOf c) (rw o at e)
+    folds-all 3 0 (λ x y h l f. (omega arith, omega arith)) vs b (operandsOf c) (rw o at e)
 
 pub one-forces : (c v : ℕ) → countOf c ≡ 1 → Forces c v
 unfolding folded foldedFrom fields all
 one-forces c v o vs b e =
     rw o
     (and-both (eqb (netAt vs (c / 131072 % 1024)) v) true (eq-eqb (netAt vs (c / 131072 % 1024)) v (rw o at e)) refl)
-
-joined-lt : (op x y : ℕ) → x < 2 → y < 2 → joined op x y < 2
-unfolding joined
-joined-lt op x y h l =
-    ⊎-elim
-    (λ (a : eqb op 2 ≡ true). rw a (omega arith))
-    (λ (a : eqb op 2 ≡ false).
-    ⊎-elim
-    (λ (b : eqb op 3 ≡ true). rw (a, b) (omega arith))
-    (λ (b : eqb op 3 ≡ false). rw (a, b) (omega arith))
-    (true-or-false (eqb op 3)))
-    (true-or-false (eqb op 2))
 
 module _ (op : ℕ) (vs : List ℕ) (b : Binary vs) where
   folded-from-lt : (x : ℕ) (is : List ℕ) → x < 2 → foldedFrom op x (map (netAt vs) is) < 2
@@ -252,23 +250,8 @@ module _ {p : Plan} {gates ss : List ℕ} where
       record {
         held = m .held;
         covers = λ j is q good x u.
-            let n : length is ≤ p .reads = omega (arith, ap length (sym (q .nets)), length-take (p .reads) (p .nets)) in
+            let n = first-few (p .reads) (p .nets) (q .nets) in
             let few : reading j is x < 2 ^ p .reads = omega (arith, reading-lt j is x, pow-mono n) in
             let e = job-reading h q x good in
             rw e at (m .left (miterValues j x 0) (job-values h q x) (rw (← e) at (o .covers (reading j is x) few u)));
-      }
-
-  pub all-given : {c : Cover} → CoverHeld c → ((q : ℕ) → InCover c q) → GivenCover p gates ss c
-  all-given h a = record { held = h; covers = λ j is q good x u. a (reading j is x) }
-
-  -- a cover stays one where fewer readings are unseen
-  pub given-kept : {ts : List ℕ} {c : Cover} → GivenCover p gates ss c → p .reads ≤ 10 → length ss ≡ 1024
-      → ((r : ℕ) → r < length ss → bit 16 (getD ss r 0) ≡ 0 → bit 16 (getD ts r 0) ≡ 0) → GivenCover p gates ts c
-  given-kept {ts} g k l f =
-      record {
-        held = g .held;
-        covers = λ j is q good x u.
-            let r = reading j is x in
-            let z : bit 16 (getD ss r 0) ≡ 0 → ⊥ = λ e. omega (arith, f r (omega (arith, reading-small k q x)) e) in
-            g .covers j is q good x (omega (arith, bit-lt 16 (getD ss r 0)));
       }

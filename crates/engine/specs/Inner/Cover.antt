@@ -6,7 +6,8 @@
 --   CoverHeld c              the lengths and bounds of a cover's struct
 --   InCover c q              q is in one of its cubes
 --   CubeAdded c .. d         d has the cubes of c, and one more
---   CoverOf ss k c           the unseen readings of k nets are in the cover
+--   CoverTo ss n c           the unseen ones of the first n readings are in the cover
+--   CoverOf ss k c           .. of the readings of k nets
 --   readingIn words is y     the reading of the nets is in scenario y of a block
 --   GivesNone ..             .. is in no scenario in the cover
 use Prim.Native.Nat.{ℕ, _+_, _^_, _≤_, _<_}
@@ -44,9 +45,12 @@ pub record CubeAdded (c : Cover) (value care : ℕ) (d : Cover) : Type 0 where
   pub added : (q : ℕ) → InCube value care q → InCover d q
   pub kept : (r : ℕ) → InCover c r → InCover d r
 
+abbrev pub CoverTo : List ℕ → ℕ → Cover → Type 0
+CoverTo ss n c = (q : ℕ) → q < n → bit maxVectors (getD ss q 0) ≡ 1 → InCover c q
+
 pub record CoverOf (ss : List ℕ) (k : ℕ) (c : Cover) : Type 0 where
   pub held : CoverHeld c
-  pub covers : (q : ℕ) → q < 2 ^ k → bit maxVectors (getD ss q 0) ≡ 1 → InCover c q
+  pub covers : CoverTo ss (2 ^ k) c
 
 abbrev pub readingIn : List ℕ → List ℕ → ℕ → ℕ
 readingIn words is y = numberOf (map (valueIn words y) is)

@@ -42,7 +42,6 @@ pub record BlockSeen (p : Plan) (gates : List ℕ) (b count : ℕ) (before after
   pub long : length after ≡ length before
   pub seen : (j : Job) (is : List ℕ) → ReadsOf j is p gates → all′ (candidateGood j) is ≡ true → (r : ℕ) → r < length before
       → (bit maxVectors (getD after r 0) ≡ 0) ↔ ((bit maxVectors (getD before r 0) ≡ 0) ⊎ GivenBy (reading j is) (1024 * b) count r)
-  pub fewer : (r : ℕ) → r < length before → bit maxVectors (getD before r 0) ≡ 0 → bit maxVectors (getD after r 0) ≡ 0
   pub same : SameVectors before after
 
 abbrev pub Unseen : Job → List ℕ → List ℕ → Type 0

@@ -1,4 +1,4 @@
--- `engine::cover::in_cover` meets its contract. The invariant: i is a cube of the cover, or their count. Assumes nothing.
+-- `engine::cover::in_cover` meets its contract. The loop needs no invariant. Assumes nothing.
 use Prim.Native.Nat.{_-_}
 use mathlib.Core.Bool.{false≢true}
 use native.Mathlib.Omega.{arith}

@@ -1,6 +1,7 @@
 -- `engine::given::given_cover` meets its contract. Assumes nothing.
 use borrow.Author.Needs.{needs}
-use Rattle.engine.proofs.Laws.Imply.{cover-given, all-given}
+use Rattle.engine.proofs.Laws.Given.{all-given}
+use Rattle.engine.proofs.Laws.Imply.{cover-given}
 use Rattle.engine.proofs.given.given_cover.Statement.{statement}
 use Rattle.engine.proofs.given.given_cover.Tie as tie
 

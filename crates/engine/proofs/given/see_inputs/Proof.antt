@@ -8,18 +8,17 @@ use denote.Ref.{now}
 use lib.ListN.{length, length-replicate}
 use Rattle.engine.specs.Eval.{bit}
 use Rattle.engine.specs.Inner.Given.{GivenCover}
-use Rattle.engine.proofs.Laws.Given.{Seeing, seeing-none, seeing-range, seeing-next, seeing-pass, seeing-all}
-use Rattle.engine.proofs.Laws.Imply.{given-kept}
+use Rattle.engine.proofs.Laws.Given.{Seeing, seeing-none, seeing-range, seeing-next, seeing-pass, seeing-all, given-kept}
 use Rattle.engine.proofs.Laws.Rule.{readings-many}
 use Rattle.engine.proofs.given.see_inputs.Statement.{statement}
 use Rattle.engine.proofs.given.see_inputs.Tie as tie
 
 abbrev Inv-loop : tie.InvT-loop
-Inv-loop gates plan skipped sets₀ count size words₀ cover₀ stale₀ next₀ b₀ sets words cover stale next b =
+Inv-loop gates plan skipped sets₀ count size words₀ cover₀ next₀ b₀ sets words cover next b =
     (length words ≡ 16384) × Seeing plan gates skipped sets₀ count size b next sets × GivenCover plan gates sets cover
 
 abbrev μ-loop : tie.MeasureT-loop
-μ-loop gates plan skipped sets₀ count size words₀ cover₀ stale₀ next₀ b₀ sets words cover stale next b = size - 1024 * b
+μ-loop gates plan skipped sets₀ count size words₀ cover₀ next₀ b₀ sets words cover next b = size - 1024 * b
 
 reading-count-requires : tie.Need-reading-count-requires Inv-loop μ-loop
 reading-count-requires c κs = c .before .pre .0 .reads
@@ -80,9 +79,9 @@ loop-again c =
     ⊎-elim
     (λ w.
     let e = w .6 .ensures in
-    rw (w .9, w .10, w .11, w .13)
-    (e .1, seeing-next (i .1) (omega arith) (w .3 .ensures) (w .0 .taken) (e .0) (w .8 .ensures), given-kept (w .2 .ensures) few (i .1 .long) (e .0 .fewer)))
-    (λ w. rw (w .1, w .2, w .3, w .5) (i .0, seeing-pass (i .1) (omega arith) refl (w .0 .left), i .2))
+    rw (w .9, w .10, w .11, w .12)
+    (e .1, seeing-next (i .1) (omega arith) (w .3 .ensures) (w .0 .taken) (e .0) (w .8 .ensures), given-kept (w .2 .ensures) few (i .1 .long) (e .0)))
+    (λ w. rw (w .1, w .2, w .3, w .4) (i .0, seeing-pass (i .1) (omega arith) refl (w .0 .left), i .2))
     (c .if3 .came)
 
 returns-3 : tie.Need-returns-3 Inv-loop μ-loop

@@ -4,7 +4,6 @@ use mathlib.Core.Path.{_≡_}
 use mathlib.Core.Bool.{true}
 use native.Mathlib.Omega.{arith}
 use borrow.Author.Tests.{not-true, not-false}
-use denote.Ref.{now}
 use lib.ListN.{length}
 use Rattle.engine.specs.Inner.Imply.{Learns, ValuesOf}
 use Rattle.engine.proofs.Laws.Imply.{learns-none, learns-then}
