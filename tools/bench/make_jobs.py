@@ -10,7 +10,10 @@
     unseen_gated.job         such a job whose outputs are all 0 wherever the last input is, so that half the inputs are settled;
                              in unseen_mirror.job they are 0 wherever it is 1, so that the other half is
     unseen_decoded.job       the same as gated, with a support of which at most one net is 1; in unseen_hidden.job no gate alone
-                             says of two nets that they cannot have some values
+                             says of two nets that they cannot have some values, and in unseen_cases.job two cases show it, not
+                             one of them alone
+    unseen_held.job          as unseen_cases.job, but the outputs are 0 unless the last five inputs are 1: all inputs but one of 32
+                             are settled
     revised_DESIGN.job       20 inputs, 300 to 400 gates a side: the golden netlist is the old one but for two to four gates, whose
                              nets are cut open, and the targets lead to some of the outputs
     CIRCUIT_SIZE.job         typical cuts: old and golden netlist are two designs of one circuit, some old nets cut open
@@ -78,6 +81,11 @@ class Circuit:
         """The and of two nets and, by the sum of that and of the nets' sum, the or."""
         both = self.both(a, b)
         return both, self.differ(self.differ(a, b), both)
+
+    def both_by_cases(self, a, b, c):
+        """The and of two nets and the or, once where a third is 1 and once where it is 0."""
+        some = self.either(a, b)
+        return self.both(a, b), self.either(self.both(some, c), self.both(some, self.gate(NOT, c)))
 
     def differ_by_nands(self, a, b):
         both = self.gate(NAND, a, b)
@@ -395,23 +403,26 @@ def revisions(rng):
 # ---- jobs of a given size
 
 
-def walked_job(rng, n, m, gates, fanout, priced, outputs=32, split=False, operands=2, related=False, hidden=False, rare=None):
+def walked_job(rng, n, m, gates, fanout, priced, outputs=32, split=False, operands=2, related=False, hidden=False, cases=False, rare=None):
     """A job that has a patch, so that every input is looked at, and where nearly every gate leads to an output. The golden
     netlist has a front over the inputs, of which some nets are priced, a function of priced nets for each target, and a back
     of that many gates: each is led to by all targets, or by one of them, in equal parts. Gates have so many operands. Related
     priced nets are the and and the or of two late nets of the front, for each target the sum of such a pair; hidden, the or is
-    the sum of the and and of the two nets' sum. Where rare is a number, so many of the functions are 1 where the priced nets
+    the sum of the and and of the two nets' sum; by cases, it is told apart by a third net. Where rare is a number, so many of the functions are 1 where the priced nets
     are all 1, and the others 0."""
     c = Circuit(n)
     unread = list(range(n))
-    pairs_gates = (priced + (priced // 2 if hidden else 0)) if related else 0
+    pairs_gates = priced // 2 * (3 if hidden else 6 if cases else 2) if related else 0
     while len(c.gates) < gates - (fanout + m if m else 0) - pairs_gates - RARE_GATES * (rare or 0):
         nets = range(n + len(c.gates))
         unread.append(c.gate(rng.choice(MIXED), unread.pop(0), *[rng.choice(nets) for _ in range(operands - 1)]))
     if related:
         late = range(n + len(c.gates) - 40, n + len(c.gates))
-        pairs = [rng.sample(late, 2) for _ in range(priced // 2)]
-        named = [net for pair in pairs for net in (c.both_hidden(*pair) if hidden else (c.both(*pair), c.either(*pair)))]
+        pairs = [rng.sample(late, 3 if cases else 2) for _ in range(priced // 2)]
+        if cases:
+            named = [net for nets in pairs for net in c.both_by_cases(*nets)]
+        else:
+            named = [net for pair in pairs for net in (c.both_hidden(*pair) if hidden else (c.both(*pair), c.either(*pair)))]
         unread += named
     front = range(n + len(c.gates))
     if related:
@@ -486,6 +497,17 @@ def gated(job, net, kind):
     return replace(job, old=behind(job.old), golden=behind(job.golden))
 
 
+def held(job, nets):
+    """The job with each output joined by and with these five inputs."""
+
+    def behind(side):
+        first = job.net_count(side)
+        gates = side.gates + [Gate.of(AND, *nets[:4])] + [Gate.of(AND, o, first, nets[4]) for o in side.outputs]
+        return Netlist(gates, list(range(first + 1, first + 1 + len(side.outputs))))
+
+    return replace(job, old=behind(job.old), golden=behind(job.golden))
+
+
 def settled(rng):
     """All outputs are 0 where the last input is 0, then where it is 1."""
     made = walked_job(rng, 20, 4, 368, 50, 10, related=True)
@@ -522,10 +544,14 @@ def dependent(rng):
     """As settled() does, with readings that do not occur for other reasons."""
     decoded = decoded_job(rng, 20, 4, 368, 48)
     hidden = walked_job(rng, 20, 4, 368, 50, 10, related=True, hidden=True)
-    for name, made in (("decoded", decoded), ("hidden", hidden)):
+    cases = walked_job(rng, 20, 4, 366, 50, 10, related=True, cases=True)
+    for name, made in (("decoded", decoded), ("hidden", hidden), ("cases", cases)):
         job = gated(made, 19, AND)
         assert choice_of(job).patch.notes.count(0) > 0
         yield f"unseen_{name}", job
+    job = held(cases, range(15, 20))
+    assert choice_of(job).patch.notes.count(0) > 0
+    yield "unseen_held", job
 
 
 def rare(rng):
