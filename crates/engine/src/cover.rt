@@ -20,10 +20,9 @@ use super::word::broadcast;
 use super::word::zero_row;
 use records::CANDIDATES;
 
-// The first count cubes: the readings that have the bits of a value at the nets that care says. How many readings were unseen when it was made.
+// The first count cubes: the readings that have the bits of a value at the nets that care says.
 pub struct Cover {
     pub count: usize,
-    pub unseen: usize,
     pub values: [u16; CUBES],
     pub cares: [u16; CUBES],
 }
@@ -123,31 +122,28 @@ pub(super) fn with_cube(cover: Cover, value: usize, care: usize) -> Cover
     cares[at] = care as u16;
     Cover {
         count: at + 1,
-        unseen: cover.unseen,
         values,
         cares,
     }
 }
 
 // The cover that has no cube.
-pub(super) fn no_cubes(unseen: usize) -> Cover
+pub(super) fn no_cubes() -> Cover
     ensures { λ r. ⌜ CoverHeld r × (r .count ≡ 0) ⌝ }
 {
     Cover {
         count: 0,
-        unseen,
         values: [0; CUBES],
         cares: [0; CUBES],
     }
 }
 
 // The cover of all readings: one cube that asks for nothing.
-pub(super) fn all_readings(unseen: usize) -> Cover
+pub(super) fn all_readings() -> Cover
     ensures { λ r. ⌜ CoverHeld r × ((q : ℕ) → InCover r q) ⌝ }
 {
     Cover {
         count: 1,
-        unseen,
         values: [0; CUBES],
         cares: [0; CUBES],
     }
@@ -159,13 +155,12 @@ pub(super) fn cover_of(sets: &[u32; READINGS], reads: usize) -> Cover
     ensures { λ r. ⌜ CoverOf (now (sets .entry)) reads r ⌝ }
 {
     let count = reading_count(reads);
-    let unseen = unseen_count(sets);
-    let mut cover = no_cubes(unseen);
+    let mut cover = no_cubes();
     let mut r = next_unseen(sets, 0, count);
     while r < count {
         if !in_cover(cover, r) {
             if cover.count == CUBES {
-                return all_readings(unseen);
+                return all_readings();
             }
             cover = with_cube(cover, r, widened(sets, r, reads));
         }

@@ -25,7 +25,9 @@ use super::limits::BLOCK;
 use super::limits::LISTED;
 use super::limits::RANGE;
 use super::limits::READINGS;
+use super::limits::RENEWALS;
 use super::limits::ROWS;
+use super::limits::SPLITS;
 use super::limits::TESTED;
 use super::limits::WORDS;
 use super::miter::Miter;
@@ -62,30 +64,52 @@ fn see_block(
     meet_block([!0u64; ROWS], readings, (count + 63) / 64, sets);
 }
 
-// A cover of the unseen readings that an input may still give.
+// A cover of the unseen readings that an input may still give. Few cubes that are not refuted at once are worth a longer look.
 fn given_cover(gates: &[u64], plan: Plan, sets: &[u32; READINGS]) -> Cover
     requires { ⌜ PlanHeld plan (now gates) ⌝ }
     ensures { λ r. ⌜ GivenCover plan (now (gates .entry)) (now (sets .entry)) r ⌝ }
 {
-    let left = unrefuted(gates, plan, cover_of(sets, plan.reads));
+    let left = unrefuted(gates, plan, cover_of(sets, plan.reads), 1);
     if TESTED < left.count {
-        return all_readings(left.unseen);
+        return all_readings();
     }
-    left
+    unrefuted(gates, plan, left, SPLITS)
 }
 
-// .. made anew before the first block of a range, where fewer readings are unseen than when it was made
-fn renewed(gates: &[u64], plan: Plan, sets: &[u32; READINGS], cover: Cover, b: usize) -> Cover
-    requires { ⌜ PlanHeld plan (now gates) × GivenCover plan (now gates) (now sets) cover ⌝ }
-    ensures { λ r. ⌜ GivenCover plan (now (gates .entry)) (now (sets .entry)) r ⌝ }
+// A cover, how many readings were unseen when it was made, and how often it may be made anew.
+struct Covering {
+    cover: Cover,
+    unseen: usize,
+    renewals: usize,
+}
+
+fn covering_of(gates: &[u64], plan: Plan, sets: &[u32; READINGS], renewals: usize) -> Covering
+    requires { ⌜ PlanHeld plan (now gates) ⌝ }
+    ensures { λ r. ⌜ GivenCover plan (now (gates .entry)) (now (sets .entry)) (r .cover) ⌝ }
 {
-    if b % RANGE != 0 {
-        return cover;
+    Covering {
+        cover: given_cover(gates, plan, sets),
+        unseen: unseen_count(sets),
+        renewals,
     }
-    if unseen_count(sets) == cover.unseen {
-        return cover;
+}
+
+// .. made anew, where fewer readings are unseen than when it was made, before a range's block 0, 1, 2, 4, 8 or 16
+fn renewed(gates: &[u64], plan: Plan, sets: &[u32; READINGS], old: Covering, b: usize) -> Covering
+    requires { ⌜ PlanHeld plan (now gates) × GivenCover plan (now gates) (now sets) (old .cover) ⌝ }
+    ensures { λ r. ⌜ GivenCover plan (now (gates .entry)) (now (sets .entry)) (r .cover) ⌝ }
+{
+    let r = b % RANGE;
+    if r & (r + RANGE - 1) != 0 {
+        return old;
     }
-    given_cover(gates, plan, sets)
+    if old.renewals == 0 {
+        return old;
+    }
+    if unseen_count(sets) == old.unseen {
+        return old;
+    }
+    covering_of(gates, plan, sets, old.renewals - 1)
 }
 
 // The sets after the inputs of the ranges that were skipped. It ends where no reading is unseen, or none of those that are can be given.
@@ -97,24 +121,24 @@ fn see_inputs(gates: &[u64], plan: Plan, skipped: usize, sets: &mut [u32; READIN
     let count = reading_count(plan.reads);
     let size = 1usize << plan.inputs;
     let mut words = [0u64; WORDS];
-    let mut cover = given_cover(gates, plan, sets);
+    let mut covering = covering_of(gates, plan, sets, RENEWALS);
     let mut next = next_unseen(sets, 0, count);
     let mut b = 0usize;
     while BLOCK * b < size {
         if next == count {
             return;
         }
-        if cover.count == 0 {
+        if covering.cover.count == 0 {
             return;
         }
         if (skipped >> (b / RANGE)) % 2 == 1 {
-            cover = renewed(gates, plan, sets, cover, b);
+            covering = renewed(gates, plan, sets, covering, b);
             see_block(
                 gates,
                 plan,
                 b,
                 block_inputs(size - BLOCK * b),
-                cover,
+                covering.cover,
                 &mut words,
                 sets,
             );

@@ -1,6 +1,7 @@
 // What the values of some nets imply of others. Where the values of a cube imply both values of a net, no input gives a reading of the cube,
 // and that is known without evaluating one. The gates are gone through twice: from the last to the first, each gate's net says what it can of
-// its operands, and from the first to the last, what is known of its operands says what it can of its net.
+// its operands, and from the first to the last, what is known of its operands says what it can of its net. Where that is not enough, both values
+// of a net are tried, an open operand of a gate that is not justified: its own value is known, and what is known of its operands does not give it.
 ghost use mathlib.Core.Path.{_≡_};
 ghost use mathlib.Core.Bool.{true};
 ghost use mathlib.Core.List.{List};
@@ -8,7 +9,7 @@ ghost use Prim.Native.Nat.{ℕ, _≤_, _<_};
 ghost use lib.ListN.{length, getD};
 ghost use Rattle.records.specs.Netlist.{netAt};
 ghost use Rattle.engine.specs.Inner.Cover.{CoverHeld};
-ghost use Rattle.engine.specs.Inner.Imply.{Learns, AllHave, Forces, GateHas, ValuesOf, CubeHas, Unrefuted};
+ghost use Rattle.engine.specs.Inner.Imply.{Implied, Learns, AllHave, Forces, GateHas, ValuesOf, CubeHas, Unrefuted};
 ghost use Rattle.engine.specs.Inner.Packed.{operandsOf};
 ghost use Rattle.engine.specs.Inner.Plan.{PlanHeld};
 use super::cover::Cover;
@@ -152,8 +153,69 @@ fn learn_cube(
     true
 }
 
-// Whether a cube's values imply both values of a net.
-fn refuted(gates: &[u64], plan: Plan, value: usize, care: usize) -> bool
+// The first open operand of gate c, or its last.
+fn open_operand(c: u64, known: &[u8; NETS]) -> usize
+    ensures { λ r. ⌜ r < 1024 ⌝ }
+{
+    let mut rest = c / SLOTS_AT;
+    let mut i = c / COUNT_AT % COUNTS;
+    while 1 < i {
+        if UNKNOWN <= known[(rest % NET) as usize] {
+            return (rest % NET) as usize;
+        }
+        rest = rest / NET;
+        i -= 1;
+    }
+    (rest % NET) as usize
+}
+
+// An open operand of the last of the first count gates that is not justified, or NETS.
+fn open_net(gates: &[u64], count: usize, known: &[u8; NETS]) -> usize
+    requires { ⌜ count ≤ length (now gates) ⌝ }
+    ensures { λ r. ⌜ r ≤ 1024 ⌝ }
+{
+    let mut i = count;
+    while 0 < i {
+        i -= 1;
+        let c = gates[i];
+        if known[(c / NET_AT % NET) as usize] < UNKNOWN {
+            if UNKNOWN <= ternary_gate(c, known) {
+                return open_operand(c, known);
+            }
+        }
+    }
+    NETS
+}
+
+// Whether what is known implies both values of a net, or does so in both cases of an open net, and so on, so many nets deep.
+fn contradicts(gates: &[u64], count: usize, known: [u8; NETS], splits: usize) -> bool
+    requires { ⌜ (count ≤ length (now gates)) × (length known ≡ 1024) ⌝ }
+    ensures { λ r. ⌜ (r ≡ true → (vs : List ℕ) → ValuesOf (now (gates .entry)) count vs → Implied known vs → ⊥) ⌝ }
+{
+    let mut more = known;
+    if !learn_backward(gates, count, &mut more) {
+        return true;
+    }
+    if !learn_forward(gates, count, &mut more) {
+        return true;
+    }
+    if splits == 0 {
+        return false;
+    }
+    let i = open_net(gates, count, &more);
+    if i == NETS {
+        return false;
+    }
+    more[i] = 0;
+    if !contradicts(gates, count, more, splits - 1) {
+        return false;
+    }
+    more[i] = 1;
+    contradicts(gates, count, more, splits - 1)
+}
+
+// Whether a cube's values contradict each other.
+fn refuted(gates: &[u64], plan: Plan, value: usize, care: usize, splits: usize) -> bool
     requires { ⌜ PlanHeld plan (now gates) ⌝ }
     ensures { λ r. ⌜ (r ≡ true → (vs : List ℕ) → ValuesOf (now (gates .entry)) (getD (plan .ends) 0 0) vs
         → CubeHas (plan .nets) (plan .reads) value care vs → ⊥) ⌝ }
@@ -164,25 +226,22 @@ fn refuted(gates: &[u64], plan: Plan, value: usize, care: usize) -> bool
     if !learn_cube(nets, plan.reads, value, care, &mut known) {
         return true;
     }
-    if !learn_backward(gates, ends[0], &mut known) {
-        return true;
-    }
-    !learn_forward(gates, ends[0], &mut known)
+    contradicts(gates, ends[0], known, splits)
 }
 
-// The cubes of a cover that are not refuted. It costs two steps a cube and gate of the plan.
-pub(super) fn unrefuted(gates: &[u64], plan: Plan, cover: Cover) -> Cover
+// The cubes of a cover that are not refuted. A cube costs two steps a gate of the plan, and where nets are split, as much for each value tried.
+pub(super) fn unrefuted(gates: &[u64], plan: Plan, cover: Cover, splits: usize) -> Cover
     requires { ⌜ PlanHeld plan (now gates) × CoverHeld cover ⌝ }
     ensures { λ r. ⌜ Unrefuted plan (now (gates .entry)) cover r ⌝ }
 {
     let values = cover.values;
     let cares = cover.cares;
-    let mut left = no_cubes(cover.unseen);
+    let mut left = no_cubes();
     let mut i = 0usize;
     while i < cover.count {
         let value = values[i] as usize;
         let care = cares[i] as usize;
-        if !refuted(gates, plan, value, care) {
+        if !refuted(gates, plan, value, care, splits) {
             left = with_cube(left, value, care);
         }
         i += 1;

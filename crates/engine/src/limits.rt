@@ -45,6 +45,10 @@ pub const UNSEEN: u32 = 65536;
 pub const CUBES: usize = 64;
 
 pub const TESTED: usize = 16;
+// How many nets deep both cases are tried to refute a cube (src/imply.rt), and how often a cover is made anew.
+pub const SPLITS: usize = 4;
+
+pub const RENEWALS: usize = 8;
 // The gates of both netlists, and those with a list for each target.
 pub const MITER_GATES: usize = GATES + GATES;
 

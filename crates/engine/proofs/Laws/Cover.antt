@@ -72,7 +72,7 @@ cube-next words nets reads value care y k {v} h l c m o =
 
 pub cube-added : (c : Cover) (value care : ℕ) → CoverHeld c → c .count < 64 → value < 1024 → care < 1024
     → CubeAdded c value care
-    (record { count = c .count + 1; unseen = c .unseen; values = set (c .values) (c .count) value; cares = set (c .cares) (c .count) care })
+    (record { count = c .count + 1; values = set (c .values) (c .count) value; cares = set (c .cares) (c .count) care })
 cube-added c value care h l v k =
     let n = c .count in
     let is : getD (set (c .values) n value) n 0 ≡ value = getD-set-same (c .values) n value 0 (omega (arith, h .values)) in
@@ -114,8 +114,8 @@ module _ (ss : List ℕ) {r : ℕ} {c : Cover} where
   pub cover-more : {k : ℕ} {d : Cover} → CoverTo ss r c → CubeAdded c r k d → CoverTo ss r d
   cover-more a m q l o = m .kept q (a q l o)
 
-pub zero-cubes : (n unseen : ℕ) → n ≤ 64 → CoverHeld (record { count = n; unseen = unseen; values = replicate 64 0; cares = replicate 64 0 })
-zero-cubes n unseen h =
+pub zero-cubes : (n : ℕ) → n ≤ 64 → CoverHeld (record { count = n; values = replicate 64 0; cares = replicate 64 0 })
+zero-cubes n h =
     record {
       few = h;
       values = length-replicate {A = ℕ} 64 0;
@@ -125,5 +125,5 @@ zero-cubes n unseen h =
     }
 
 -- a cube that asks for nothing
-pub cover-all : (unseen q : ℕ) → InCover (record { count = 1; unseen = unseen; values = replicate 64 0; cares = replicate 64 0 }) q
-cover-all unseen q = record { place = 0; within = omega arith; cube = in-all 0 q }
+pub cover-all : (q : ℕ) → InCover (record { count = 1; values = replicate 64 0; cares = replicate 64 0 }) q
+cover-all q = record { place = 0; within = omega arith; cube = in-all 0 q }

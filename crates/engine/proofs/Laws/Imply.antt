@@ -5,13 +5,13 @@ use mathlib.Core.Path.{_≡_, refl, sym, _∙_, ap, subst}
 use mathlib.Core.Logic.{⊎-elim}
 use mathlib.Core.List.{List, [], _∷_, map, List·Memᴰ as Mem, List·Memᴰ·not-nil as not-nil, List·Memᴰ·cases-cons as cases-cons}
 use mathlib.Core.Bool.{Bool, true, false, true≢false, not, _&&_}
-use native.Mathlib.Nat.{add-zero}
+use native.Mathlib.Nat.{add-zero, eq-zero-or-pos}
 use native.Mathlib.Omega.{arith}
 use borrow.Author.Tests.{eqb-true, eqb-false, eq-eqb}
 use lib.Dec.{eqb}
 use lib.ListN.{length, getD, take, set, replicate, getD-replicate}
 use lib.Pow.{pow-mono}
-use lib.Seq.{getD-set-same, getD-set-other, getD-take, length-take-le, slice}
+use lib.Seq.{set-set, getD-set-same, getD-set-other, getD-take, length-take-le, slice}
 use Rattle.records.specs.Bytes.{all}
 use Rattle.records.specs.Gate.{Gate}
 use Rattle.records.specs.Netlist.{netAt, valueOf, values}
@@ -83,6 +83,21 @@ learns-then f i g e =
 -- where a step does not go well, there are no such values
 pub learns-never : {Q : List ℕ → Type 0} {a d : List ℕ} {r : Bool} → Learns Q a r d → r ≡ false → (vs : List ℕ) → Implied a vs → Q vs → ⊥
 learns-never f e vs m q = true≢false (sym (f .well vs m q) ∙ e)
+
+-- after two steps there are none in both cases of a net, so there are none
+pub both-never : {P : List ℕ → Type 0} {a b d : List ℕ} {r s : Bool} → Learns P a r b → Learns P b s d → ((vs : List ℕ) → P vs → Binary vs)
+    → length d ≡ 1024 → (i : ℕ) → i < 1024
+    → ((vs : List ℕ) → P vs → Implied (set d i 0) vs → ⊥)
+    → ((vs : List ℕ) → P vs → Implied (set (set d i 0) i 1) vs → ⊥)
+    → (vs : List ℕ) → P vs → Implied a vs → ⊥
+unfolding netAt
+both-never {d = d} f g b e i l low high vs v m =
+    let k = g .more vs (f .more vs m v) v in
+    let n : i < length d = omega arith in
+    ⊎-elim
+    (λ (o : getD vs i 0 ≡ 0). low vs v (known-more d vs i 0 n k o))
+    (λ (o : 0 < getD vs i 0). high vs v (rw (set-set d i 0 1) (known-more d vs i 1 n k (omega (arith, b vs v i)))))
+    (eq-zero-or-pos (getD vs i 0))
 
 -- ---- operands
 
@@ -244,9 +259,13 @@ pub cube-has : (nets : List ℕ) (reads value care : ℕ) (vs : List ℕ) → re
 unfolding netAt
 cube-has nets reads value care vs h b m k l c = sym (number-bit (netAt vs) b nets reads k h l) ∙ m k c
 
-module _ {p : Plan} {gates ss : List ℕ} where
-  pub cover-given : {c d : Cover} → PlanHeld p gates → CoverOf ss (p .reads) c → Unrefuted p gates c d → GivenCover p gates ss d
-  cover-given {c} {d} h o m =
+module _ {p : Plan} {gates : List ℕ} where
+  -- .. of those that are left
+  pub unrefuted-then : {c d e : Cover} → Unrefuted p gates c d → Unrefuted p gates d e → Unrefuted p gates c e
+  unrefuted-then f g = record { held = g .held; left = λ vs v m. g .left vs v (f .left vs v m) }
+
+  pub cover-given : {ss : List ℕ} {c d : Cover} → PlanHeld p gates → CoverOf ss (p .reads) c → Unrefuted p gates c d → GivenCover p gates ss d
+  cover-given h o m =
       record {
         held = m .held;
         covers = λ j is q good x u.

@@ -5,4 +5,4 @@ use Rattle.engine.proofs.cover.all_readings.Statement.{statement}
 use Rattle.engine.proofs.cover.all_readings.Tie as tie
 
 pub all-readings-spec : {M : Type 1} → statement M
-all-readings-spec = tie.close (tie.spec (λ c. (zero-cubes 1 _ (omega arith), cover-all _)))
+all-readings-spec = tie.close (tie.spec (λ c. (zero-cubes 1 (omega arith), cover-all)))

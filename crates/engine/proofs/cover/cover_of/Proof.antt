@@ -12,13 +12,13 @@ use Rattle.engine.proofs.cover.cover_of.Statement.{statement}
 use Rattle.engine.proofs.cover.cover_of.Tie as tie
 
 abbrev Inv-loop : tie.InvT-loop
-Inv-loop sets reads count unseen cover₀ r₀ cover r = CoverHeld cover × (r ≤ count) × CoverTo sets r cover
+Inv-loop sets reads count cover₀ r₀ cover r = CoverHeld cover × (r ≤ count) × CoverTo sets r cover
 
 abbrev μ-loop : tie.MeasureT-loop
-μ-loop sets reads count unseen cover₀ r₀ cover r = count - r
+μ-loop sets reads count cover₀ r₀ cover r = count - r
 
 next-unseen-requires : tie.Need-next-unseen-requires Inv-loop μ-loop
-next-unseen-requires c κs = let n = c .before .before in (omega arith, omega (arith, n .reading-count .ensures, readings-many (n .before .pre)))
+next-unseen-requires c κs = let n = c .before in (omega arith, omega (arith, n .reading-count .ensures, readings-many (n .before .pre)))
 
 loop-holds : tie.Need-loop-holds Inv-loop μ-loop
 loop-holds c = (c .before .no-cubes .ensures .0, c .next-unseen .ensures .most, cover-none _ (c .next-unseen .ensures))
@@ -30,18 +30,18 @@ returns : tie.Need-returns Inv-loop μ-loop
 returns c = let a = c .all-readings .ensures in record { held = a .0; covers = λ q h o. a .1 q }
 
 widened-requires : tie.Need-widened-requires Inv-loop μ-loop
-widened-requires c κs = c .before .before .before .before .before .before .before .before .before .before .pre
+widened-requires c κs = c .before .before .before .before .before .before .before .before .before .pre
 
 with-cube-requires : tie.Need-with-cube-requires Inv-loop μ-loop
 with-cube-requires c κs =
     let l = c .before .before .before .before .before .before in
-    let n = l .before .before .before .before in
+    let n = l .before .before .before in
     let i = l .loop .inv in
     (i .0, omega (arith, i .0 .few), omega (arith, n .reading-count .ensures, readings-many (n .before .pre)), c .widened .ensures)
 
 next-unseen-requires-2 : tie.Need-next-unseen-requires-2 Inv-loop μ-loop
 next-unseen-requires-2 c κs =
-    let n = c .before .before .before .before .before .before .before in
+    let n = c .before .before .before .before .before .before in
     (omega arith, omega (arith, n .reading-count .ensures, readings-many (n .before .pre)))
 
 loop-less : tie.Need-loop-less Inv-loop μ-loop
@@ -50,7 +50,7 @@ loop-less c = omega (arith, c .next-unseen2 .ensures .past)
 loop-again : tie.Need-loop-again Inv-loop μ-loop
 loop-again c =
     let l = c .before .before .before .before in
-    let ss = now (l .before .before .before .before .before .args .sets) in
+    let ss = now (l .before .before .before .before .args .sets) in
     let u = c .next-unseen2 .ensures in
     let so : CoverHeld (c .before .if1 .cover) × CoverTo ss (l .loop .r) (c .before .if1 .cover) × InCover (c .before .if1 .cover) (l .loop .r) =
     ⊎-elim
@@ -62,11 +62,11 @@ loop-again c =
 returns-2 : tie.Need-returns-2 Inv-loop μ-loop
 returns-2 c =
     let l = c .before .loop in
-    let n = c .before .before .before .before .before in
+    let n = c .before .before .before .before in
     record { held = l .inv .0; covers = λ q h o. l .inv .2 q (omega (arith, n .reading-count .ensures)) o }
 
 pub cover-of-spec : {M : Type 1} → statement M
 cover-of-spec =
     tie.close
-    (tie.spec Inv-loop μ-loop (λ c κs. c .pre) (λ c κs. tt) (λ c κs. tt) next-unseen-requires loop-holds in-cover-requires (λ c κs. tt) returns widened-requires
+    (tie.spec Inv-loop μ-loop (λ c κs. c .pre) (λ c κs. tt) next-unseen-requires loop-holds in-cover-requires (λ c κs. tt) returns widened-requires
     with-cube-requires (λ c. omega arith) next-unseen-requires-2 loop-less loop-again returns-2)

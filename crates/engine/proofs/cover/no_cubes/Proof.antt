@@ -6,4 +6,4 @@ use Rattle.engine.proofs.cover.no_cubes.Statement.{statement}
 use Rattle.engine.proofs.cover.no_cubes.Tie as tie
 
 pub no-cubes-spec : {M : Type 1} → statement M
-no-cubes-spec = tie.close (tie.spec (λ c. (zero-cubes 0 _ (omega arith), refl)))
+no-cubes-spec = tie.close (tie.spec (λ c. (zero-cubes 0 (omega arith), refl)))

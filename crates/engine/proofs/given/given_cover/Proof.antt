@@ -1,7 +1,7 @@
--- `engine::given::given_cover` meets its contract. Assumes nothing.
+-- `engine::given::given_cover` meets its contract: cubes that are refuted at once are left out, and then others. Assumes nothing.
 use borrow.Author.Needs.{needs}
 use Rattle.engine.proofs.Laws.Given.{all-given}
-use Rattle.engine.proofs.Laws.Imply.{cover-given}
+use Rattle.engine.proofs.Laws.Imply.{unrefuted-then, cover-given}
 use Rattle.engine.proofs.given.given_cover.Statement.{statement}
 use Rattle.engine.proofs.given.given_cover.Tie as tie
 
@@ -10,8 +10,10 @@ returns c = let a = c .all-readings .ensures in all-given (a .0) (a .1)
 
 returns-2 : tie.Need-returns-2
 returns-2 c =
-    let p = c .before .before in
-    cover-given (p .before .before .before .pre) (p .before .cover-of .ensures) (p .unrefuted .ensures)
+    let u = c .before .before .before in
+    cover-given (u .before .before .before .pre) (u .before .cover-of .ensures) (unrefuted-then (u .unrefuted .ensures) (c .unrefuted2 .ensures))
 
 pub given-cover-spec : {M : Type 1} → statement M
-given-cover-spec = tie.close (tie.spec (λ c κs. search needs) (λ c κs. search needs) (λ c κs. search needs) returns returns-2)
+given-cover-spec =
+    tie.close
+    (tie.spec (λ c κs. search needs) (λ c κs. search needs) (λ c κs. search needs) returns (λ c κs. search needs) returns-2)

@@ -14,17 +14,17 @@ use Rattle.engine.proofs.given.see_inputs.Statement.{statement}
 use Rattle.engine.proofs.given.see_inputs.Tie as tie
 
 abbrev Inv-loop : tie.InvT-loop
-Inv-loop gates plan skipped sets₀ count size words₀ cover₀ next₀ b₀ sets words cover next b =
-    (length words ≡ 16384) × Seeing plan gates skipped sets₀ count size b next sets × GivenCover plan gates sets cover
+Inv-loop gates plan skipped sets₀ count size words₀ covering₀ next₀ b₀ sets words covering next b =
+    (length words ≡ 16384) × Seeing plan gates skipped sets₀ count size b next sets × GivenCover plan gates sets (covering .cover)
 
 abbrev μ-loop : tie.MeasureT-loop
-μ-loop gates plan skipped sets₀ count size words₀ cover₀ next₀ b₀ sets words cover next b = size - 1024 * b
+μ-loop gates plan skipped sets₀ count size words₀ covering₀ next₀ b₀ sets words covering next b = size - 1024 * b
 
 reading-count-requires : tie.Need-reading-count-requires Inv-loop μ-loop
 reading-count-requires c κs = c .before .pre .0 .reads
 
-given-cover-requires : tie.Need-given-cover-requires Inv-loop μ-loop
-given-cover-requires c κs = c .before .before .before .before .pre .0
+covering-of-requires : tie.Need-covering-of-requires Inv-loop μ-loop
+covering-of-requires c κs = c .before .before .before .before .pre .0
 
 next-unseen-requires : tie.Need-next-unseen-requires Inv-loop μ-loop
 next-unseen-requires c κs =
@@ -40,7 +40,7 @@ loop-holds c =
       length-replicate {A = ℕ} 16384 0,
       seeing-none (s .args .plan) (now (s .args .gates)) (s .args .skipped) (p .0 .inputs) (p .0 .reads) (p .1) (r .reading-count .ensures)
           (c .next-unseen .ensures),
-      c .before .before .given-cover .ensures,
+      c .before .before .covering-of .ensures,
     )
 
 returns : tie.Need-returns Inv-loop μ-loop
@@ -90,6 +90,6 @@ returns-3 c = let i = c .before .loop .inv in (seeing-all (i .1) (i .2) (inl (om
 pub see-inputs-spec : {M : Type 1} → statement M
 see-inputs-spec =
     tie.close
-    (tie.spec Inv-loop μ-loop reading-count-requires (λ c. omega arith) given-cover-requires next-unseen-requires loop-holds (λ c. omega arith)
+    (tie.spec Inv-loop μ-loop reading-count-requires (λ c. omega arith) covering-of-requires next-unseen-requires loop-holds (λ c. omega arith)
     returns returns-2 shr-if3 renewed-requires (λ c. omega arith) (λ c. omega arith) (λ c κs. tt) see-block-requires next-unseen-requires-2
     (λ c. omega arith) (λ c. omega arith) loop-again returns-3)

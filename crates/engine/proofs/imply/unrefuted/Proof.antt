@@ -16,7 +16,7 @@ use Rattle.engine.proofs.imply.unrefuted.Statement.{statement}
 use Rattle.engine.proofs.imply.unrefuted.Tie as tie
 
 abbrev Inv-loop : tie.InvT-loop
-Inv-loop gates plan cover values cares left₀ i₀ left i =
+Inv-loop gates plan cover splits values cares left₀ i₀ left i =
     CoverHeld left
     × (left .count ≤ i)
     × ((vs : List ℕ) → ValuesOf gates (getD (plan .ends) 0 0) vs → (k : ℕ) → k < i
@@ -24,7 +24,7 @@ Inv-loop gates plan cover values cares left₀ i₀ left i =
     → InCover left (numberOf (map (netAt vs) (take (plan .reads) (plan .nets)))))
 
 abbrev μ-loop : tie.MeasureT-loop
-μ-loop gates plan cover values cares left₀ i₀ left i = cover .count - i
+μ-loop gates plan cover splits values cares left₀ i₀ left i = cover .count - i
 
 loop-holds : tie.Need-loop-holds Inv-loop μ-loop
 loop-holds c =
