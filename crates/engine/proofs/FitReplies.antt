@@ -15,7 +15,7 @@ use Rattle.records.specs.Sheet.{notesTag, patchOf, sheetTests}
 use Rattle.records.specs.Claims.{PartsGood}
 use Rattle.records.proofs.Laws.Bytes.{all-cons}
 use Rattle.records.proofs.Laws.Job.{length-field, length-flat, length-bytePair}
-use Rattle.records.proofs.Laws.Notes.{notes-support, notes-table, notes-tests, vectors-seven as vectors-number, notes-seven as notes-number}
+use Rattle.records.proofs.Laws.Notes.{notes-support, notes-table, notes-tests, vectors-seven as vectors-number, notes-seven as notes-number, left-over-seven as left-over-number}
 use Rattle.records.proofs.Laws.RoundTrip.{All, Four, gateFormat, read-flat, length-records, joined, whole-joined, nth-joined, netsOf-flat}
 use Rattle.records.proofs.Laws.Accepted.{passes-of-none, none-of-passes, four-jobOf}
 use Rattle.records.proofs.Laws.Counts.{countsWithin-facts, countsWithin-countsOf}
@@ -24,8 +24,8 @@ use Rattle.engine.specs.Compare.{pairTests}
 use Rattle.engine.specs.Inner.Packed.{formed}
 use Rattle.engine.specs.Fit.{fitted, fittedBytes, fits, longestFit}
 use Rattle.engine.specs.Reply.{fitTests, fitNumber, fitReply, fittedBuffer}
-use Rattle.engine.specs.Claims.{FitAccepts, FitRefuses, FitKeeps, FitIndependent, LongestFit, FittedIn, FittedGiven, FitIgnoresNotes, VectorsSeven, NotesSeven}
-use Rattle.engine.proofs.Laws.Compare.{both-seven}
+use Rattle.engine.specs.Claims.{FitAccepts, FitRefuses, FitKeeps, FitIndependent, LongestFit, FittedIn, FittedGiven, FitIgnoresNotes, VectorsSeven, NotesSeven, LeftOverSeven, SevenExactly}
+use Rattle.engine.proofs.Laws.Compare.{both-seven, seven-exactly as exactly-seven}
 use Rattle.engine.proofs.Laws.Fitted.{sheet-entries, fitted-driven, fitted-netlist}
 use Rattle.engine.proofs.Laws.Unpacked.{fitted-formed}
 use Rattle.engine.proofs.Replies.{front-placed, kept-behind, compare-accepts}
@@ -230,3 +230,10 @@ vectors-seven s ts a b n w f = both-seven s (a ++ b) n (vectors-number 0 0 [] []
 pub notes-seven : NotesSeven
 unfolding sheetRoomy
 notes-seven s p ns n w h = both-seven s (p ++ field notesTag ns) n (notes-number 0 0 [] [] p ns refl w h)
+
+pub left-over-seven : LeftOverSeven
+unfolding sheetRoomy
+left-over-seven s p r n w some bad = both-seven s (p ++ r) n (left-over-number 0 0 [] [] p r refl w some bad)
+
+pub seven-exactly : SevenExactly
+seven-exactly = exactly-seven

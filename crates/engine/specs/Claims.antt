@@ -33,7 +33,8 @@
 --   GivesBlind, GivesBlindExactly, UnfixableBlind, BlindGiven         when it replies blind, on unfixable jobs too, and its sheet
 --   CompareAccepts, CompareRefuses, ComparesEqual, ComparesDiffers    what compare accepts and replies
 --   CompareIgnoresNotes, FitIgnoresNotes    a sheet with notes gets the replies that it gets without (card 1)
---   VectorsSeven, NotesSeven                a sheet with a vector list, or with wrong notes, gets 7 from both
+--   VectorsSeven, NotesSeven, LeftOverSeven a sheet with a vector list, with wrong notes, or with other bytes left over, gets 7 from both
+--   SevenExactly            beside an accepted job what is no whole sheet gets 7 from both, and nothing else does
 --   FitAccepts, FitRefuses, FitKeeps, FitIndependent        as for choose
 --   LongestFit, LongestFitMet               no result has more than 4,075 bytes, and one has as many
 --   FittedIn, FittedGiven                   what the netlist in the buffer is
@@ -573,6 +574,21 @@ NotesSeven =
     → ((length ns ≡ length (patchOf p .table)) × Below 3 ns → ⊥)
     → (compareNumber s (p ++ field notesTag ns) ≡ 7)
     × ((d : List ℕ) → longestFit ≤ length d → fitNumber d s (p ++ field notesTag ns) ≡ 7)
+
+-- .. and so are bytes r left over behind the three fields, if there are any and they are no whole field 22 with one byte for each entry
+-- of the table and none above 2.
+abbrev pub LeftOverSeven : Type 0
+LeftOverSeven =
+    (s p r : List ℕ) → jobRefusal s ≡ 0 → whole sheetTags p ≡ true → (length r ≡ 0 → ⊥)
+    → ((whole (notesTag ∷ []) r ≡ true) × (length (nth 0 r) ≡ length (patchOf p .table)) × Below 3 (nth 0 r) → ⊥)
+    → (compareNumber s (p ++ r) ≡ 7) × ((d : List ℕ) → longestFit ≤ length d → fitNumber d s (p ++ r) ≡ 7)
+
+-- Beside an accepted job both give 7 exactly to what is no whole sheet.
+abbrev pub SevenExactly : Type 0
+SevenExactly =
+    (s p : List ℕ) → jobRefusal s ≡ 0
+    → ((compareNumber s p ≡ 7) ↔ (sheetWhole p ≡ false))
+    × ((d : List ℕ) → longestFit ≤ length d → (fitNumber d s p ≡ 7) ↔ (sheetWhole p ≡ false))
 
 -- ---- choose, then compare or fit
 

@@ -1,6 +1,6 @@
 -- What specs/Claims.antt and specs/Parts.antt promise of the record library, each by one citation. Assumes nothing.
 use Rattle.records.specs.Parts.{LoadGiven}
-use Rattle.records.specs.Claims.{First, ReadAccepts, WriteAccepts, SheetAccepts, ReadRefuses, WriteRefuses, SheetRefuses, NumberGiven, ReadKeeps, WriteKeeps, ReadIndependent, WriteIndependent, SheetIndependent, TruthTable, OperandsFold, OddInverts, PlacesGiven, ReadWrite, WriteRead, LongestJob, LongestJobMet, SheetGiven, SheetNotes, NotesSeven, VectorsSeven, ColumnsRead, ColumnsAccepts, ColumnsRefuses, ColumnsGiven, ColumnsWithin, ColumnsWrite, ColumnsWriteAccepts, ColumnsWriteRefuses, ColumnsReadWrite, ColumnsWriteRead, ColumnsKeeps, ColumnsWriteKeeps, ColumnsIndependent, ColumnsWriteIndependent}
+use Rattle.records.specs.Claims.{First, ReadAccepts, WriteAccepts, SheetAccepts, ReadRefuses, WriteRefuses, SheetRefuses, NumberGiven, ReadKeeps, WriteKeeps, ReadIndependent, WriteIndependent, SheetIndependent, TruthTable, OperandsFold, OddInverts, PlacesGiven, ReadWrite, WriteRead, LongestJob, LongestJobMet, SheetGiven, SheetNotes, NotesSeven, LeftOverSeven, VectorsSeven, SevenExactly, ColumnsRead, ColumnsAccepts, ColumnsRefuses, ColumnsGiven, ColumnsWithin, ColumnsWrite, ColumnsWriteAccepts, ColumnsWriteRefuses, ColumnsReadWrite, ColumnsWriteRead, ColumnsKeeps, ColumnsWriteKeeps, ColumnsIndependent, ColumnsWriteIndependent}
 use Rattle.records.proofs.Laws.Accepted as accepted
 use Rattle.records.proofs.Laws.Gate as gate
 use Rattle.records.proofs.Laws.Independent as independent
@@ -81,8 +81,14 @@ sheet-notes = notes.sheet-notes
 pub notes-seven : NotesSeven
 notes-seven = notes.notes-seven
 
+pub left-over-seven : LeftOverSeven
+left-over-seven = notes.left-over-seven
+
 pub vectors-seven : VectorsSeven
 vectors-seven = notes.vectors-seven
+
+pub seven-exactly : SevenExactly
+seven-exactly = notes.seven-exactly
 
 pub columns-read : ColumnsRead
 columns-read = over-columns.columns-read

@@ -22,7 +22,9 @@
 --   LongestJob, LongestJobMet     no accepted job has more than 8,188 bytes, and one has as many
 --   SheetIn m k nets weights s, SheetGiven      an accepted sheet's support, table and cost are replied
 --   SheetNotes, NotesSeven        a sheet with notes gets the reply that it gets without, and one with wrong notes gets 7
+--   LeftOverSeven                 .. and so does one with any other bytes left over behind its three fields
 --   VectorsSeven                  .. and so does one with a vector list, wherever it stands
+--   SevenExactly                  what is no whole sheet gets 7, and nothing else does
 --   ColumnsRead       read_columns replies what read does
 --   ColumnsAccepts, ColumnsRefuses              what read_columns accepts; a refusal alters no column
 --   ColumnsGiven, ColumnsWithin   the columns of an accepted job hold it
@@ -40,7 +42,7 @@ use mathlib.Core.Logic.{_↔_}
 use mathlib.Core.List.{List, [], _∷_, _++_, map}
 use mathlib.Core.Bool.{true, false}
 use lib.ListN.{length, getD, take, drop, replicate}
-use Rattle.records.specs.Bytes.{upFrom, tabulate, all, placed, field, fits, whole}
+use Rattle.records.specs.Bytes.{upFrom, tabulate, all, placed, field, fits, whole, nth}
 use Rattle.records.specs.Gate.{slotCount, gateOf, kindCount, leastCount, mostCount, inverted, gateValue}
 use Rattle.records.specs.Netlist.{valueOf}
 use Rattle.records.specs.Job.{Job, jobWhole, jobOf}
@@ -290,11 +292,26 @@ NotesSeven =
     → ((length ns ≡ length (patchOf s .table)) × Below 3 ns → ⊥)
     → sheetNumber m k nets weights (s ++ field notesTag ns) ≡ 7
 
+-- .. and so are bytes r left over behind the three fields, if there are any and they are no whole field 22 with one byte for each entry
+-- of the table and none above 2.
+abbrev pub LeftOverSeven : Type 0
+LeftOverSeven =
+    (m k : ℕ) (nets weights s r : List ℕ) → sheetRoomy m k nets weights ≡ true → whole sheetTags s ≡ true
+    → (length r ≡ 0 → ⊥)
+    → ((whole (notesTag ∷ []) r ≡ true) × (length (nth 0 r) ≡ length (patchOf s .table)) × Below 3 (nth 0 r) → ⊥)
+    → sheetNumber m k nets weights (s ++ r) ≡ 7
+
 -- Card 7: "a field 19 is 7", wherever it stands: behind any whole fields, and whatever stands behind it.
 abbrev pub VectorsSeven : Type 0
 VectorsSeven =
     (m k : ℕ) (nets weights ts a b : List ℕ) → sheetRoomy m k nets weights ≡ true → whole ts a ≡ true → fits 19 b ≡ true
     → sheetNumber m k nets weights (a ++ b) ≡ 7
+
+-- Where the counts have room, 7 is given exactly to what is no whole sheet.
+abbrev pub SevenExactly : Type 0
+SevenExactly =
+    (m k : ℕ) (nets weights s : List ℕ) → sheetRoomy m k nets weights ≡ true
+    → (sheetNumber m k nets weights s ≡ 7) ↔ (sheetWhole s ≡ false)
 
 -- ---- the services over columns
 

@@ -30,6 +30,7 @@ pub use limits::CANDIDATES;
 pub use limits::GATE_SIZE;
 pub use limits::GATES;
 pub use limits::INPUTS;
+pub use limits::LONGEST_JOB;
 pub use limits::OUTPUTS;
 pub use limits::SLOTS;
 pub use limits::TARGETS;

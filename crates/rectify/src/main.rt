@@ -4,7 +4,7 @@
 
 // The text of the job's bytes, to standard output.
 fn print_verdict(job: &[u8]) {
-    let mut text = [0u8; 8366];
+    let mut text = [0u8; report::LONGEST_TEXT];
     let n = report::rectify_text(job, &mut text);
     cli::write_reply(&text[..n]);
 }

@@ -13,11 +13,12 @@
 --   longestText            no sheet of a verdict and no refusal has a longer text
 --   printedLength, printedBytes d s     the length of the text and the lent buffer d afterwards
 --   textA                  the lines that document 01 and card 1 give for job A
---   textCases, textCasesHold    further texts, and that each is what it must be
+--   jobNoted               a job whose patch has notes of every kind
+--   textCases, textCasesHold    texts, job A's first, and that each is what it must be
 use Prim.Native.Nat.{ℕ, zero, suc, _+_, _/_, _%_}
 use mathlib.Core.List.{List, [], _∷_, _++_}
 use mathlib.Core.Bool.{Bool, true, false, cond}
-use lib.ListN.{length}
+use lib.ListN.{length, replicate}
 use lib.Dec.{ltb, eqb}
 use Rattle.records.specs.Bytes.{all, flat, placed}
 use Rattle.records.specs.Job.{Job, jobOf}
@@ -26,7 +27,7 @@ use Rattle.engine.specs.Choice.{same}
 use Rattle.engine.specs.Rectify.{vectorLoop}
 use Rattle.engine.specs.Support.{tableOf, notesOf, cost}
 use Rattle.engine.specs.Verdict.{Ruling, patch, unfixable, blind, ruling}
-use Rattle.engine.specs.Cases.{Case}
+use Rattle.engine.specs.Cases.{jobA, jobWith, Case}
 
 -- ---- numbers
 
@@ -142,10 +143,32 @@ textA =
 abbrev is : List ℕ → List ℕ → Case
 is xs ys = record { given = xs; expected = ys }
 
+-- two inputs, whose and (net 4) and or (net 5) cost 3 and 4; the old outputs are target 1 and the and of both targets, the golden ones
+-- the or and the and of the inputs
+abbrev pub jobNoted : List ℕ
+jobNoted =
+    let both : ℕ → List ℕ = λ k. k ∷ 2 ∷ 0 ∷ 0 ∷ 0 ∷ 1 ∷ replicate 4 0 in
+    jobWith 2 2 (both 4 ++ both 6 ++ (4 ∷ 2 ∷ 0 ∷ 2 ∷ 0 ∷ 3 ∷ replicate 4 0)) (0 ∷ 3 ∷ 0 ∷ 6 ∷ []) (both 4 ++ both 6) (0 ∷ 3 ∷ 0 ∷ 2 ∷ [])
+    (0 ∷ 4 ∷ 0 ∷ 3 ∷ 0 ∷ 5 ∷ 0 ∷ 4 ∷ [])
+
 unfoldable pub textCases : List Case
 textCases =
+    -- job A
+    is (rectifyText jobA) textA
+    -- `patch cost 7`, `support 4 5`, `table 0 0 2 3`, `vectors 0 2 3`, `notes 2 0 1 1`
+    ∷ is (rectifyText jobNoted)
+    (patchWord
+    ++ (32 ∷ 55 ∷ 10 ∷ [])
+    ++ supportWord
+    ++ (32 ∷ 52 ∷ 32 ∷ 53 ∷ 10 ∷ [])
+    ++ tableWord
+    ++ (32 ∷ 48 ∷ 32 ∷ 48 ∷ 32 ∷ 50 ∷ 32 ∷ 51 ∷ 10 ∷ [])
+    ++ vectorsWord
+    ++ (32 ∷ 48 ∷ 32 ∷ 50 ∷ 32 ∷ 51 ∷ 10 ∷ [])
+    ++ notesWord
+    ++ (32 ∷ 50 ∷ 32 ∷ 48 ∷ 32 ∷ 49 ∷ 32 ∷ 49 ∷ 10 ∷ []))
     -- case 3: `blind 1`, `vectors 0 1`
-    is (valueText blindWord 1 (0 ∷ 1 ∷ []))
+    ∷ is (valueText blindWord 1 (0 ∷ 1 ∷ []))
     (blindWord ++ (32 ∷ 49 ∷ 10 ∷ []) ++ vectorsWord ++ (32 ∷ 48 ∷ 32 ∷ 49 ∷ 10 ∷ []))
     -- input 1,048,575, the highest: `unfixable 1048575`, `vectors 0`
     ∷ is (valueText unfixableWord 1048575 (0 ∷ []))

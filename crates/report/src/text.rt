@@ -8,9 +8,14 @@ ghost use Rattle.records.specs.Job.{netsOf};
 ghost use Rattle.records.specs.Sheet.{quad};
 ghost use Rattle.report.specs.Text.{digits, number, numbers, line, unfixableWord, blindWord, patchText, valueText, refusedText, longestText, printedLength, printedBytes};
 ghost use Rattle.report.specs.Inner.{PatchSheet, BlindSheet, UnfixableSheet, ChoiceSheet, patchSheetText, choiceText, Printed, Texted};
+use engine::LONGEST_CHOOSE;
+use engine::LONGEST_JUDGE;
 use engine::choose;
 use engine::judge;
 use records::wide;
+
+// The buffer that rectify_text asks for (specs/Text.antt).
+pub const LONGEST_TEXT: usize = 8366;
 
 // The two-byte number at a position.
 fn word_at(s: &[u8], at: usize) -> usize
@@ -228,13 +233,13 @@ pub fn rectify_text(job: &[u8], text: &mut [u8]) -> usize
     ensures { λ _. ⌜ now (text .exit) ≡ printedBytes (now (text .entry)) (now (job .entry)) ⌝ }
     ensures { λ r. ⌜ r ≤ length (now (text .entry)) ⌝ }
 {
-    if text.len() < 8366 {
+    if text.len() < LONGEST_TEXT {
         return 0;
     }
     if 65535 < job.len() {
         return refused_text(2, text);
     }
-    let mut first = [0u8; 26];
+    let mut first = [0u8; LONGEST_JUDGE];
     let judged = judge(job, &mut first);
     if judged.number != 0 {
         return refused_text(judged.number, text);
@@ -243,7 +248,7 @@ pub fn rectify_text(job: &[u8], text: &mut [u8]) -> usize
     if first[0] == 20 {
         return unfixable_text(&first[..m], text);
     }
-    let mut second = [0u8; 2084];
+    let mut second = [0u8; LONGEST_CHOOSE];
     let found = choose(job, &mut second);
     let n = found.len;
     choice_text(&second[..n], &first[3..m], text)

@@ -2,6 +2,8 @@
 use super::choose::chosen;
 use super::compare::print_compared;
 use super::verdict::print_hash;
+use engine::LONGEST_CHOOSE;
+use engine::LONGEST_FIT;
 use samples::least;
 use samples::print_number;
 use samples::wide;
@@ -43,10 +45,10 @@ pub(super) fn fit_call(s: &[u8]) -> bool {
 fn row(job: &[u8], buffers: Buffers) -> Buffers {
     let sheets = buffers.sheets;
     let netlists = buffers.netlists;
-    let a = chosen(job, sheets, 2084);
+    let a = chosen(job, sheets, LONGEST_CHOOSE);
     let sheets = a.buf;
     let k = samples::lent(a.len, sheets);
-    let netlists = fitted(job, &sheets[..k], netlists, 4075);
+    let netlists = fitted(job, &sheets[..k], netlists, LONGEST_FIT);
     print_compared(job, &sheets[..k]);
     Buffers { sheets, netlists }
 }

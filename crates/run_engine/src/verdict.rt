@@ -1,6 +1,8 @@
 // Calls of judge, then choose, on one job or on three in turn. The buffers have 2,200 bytes.
 use super::choose::chosen;
 use super::judge::judged;
+use engine::LONGEST_CHOOSE;
+use engine::LONGEST_JUDGE;
 use samples::least;
 use samples::print_number;
 use samples::word_at;
@@ -34,8 +36,8 @@ pub(super) fn judge_call(s: &[u8]) -> bool {
 fn both(job: &[u8], sheets: Sheets) -> Sheets {
     let first = sheets.judged;
     let second = sheets.chosen;
-    let judged = judged(job, first, 26);
-    let b = chosen(job, second, 2084);
+    let judged = judged(job, first, LONGEST_JUDGE);
+    let b = chosen(job, second, LONGEST_CHOOSE);
     let chosen = b.buf;
     Sheets { judged, chosen }
 }

@@ -48,6 +48,6 @@ pub(super) fn again_call(s: &[u8]) -> bool {
     let lists = read.lists;
     io::write_all(1, b"again");
     print_number(wide(reply.number));
-    print_written(write_lists(reply.counts, lists, 8188));
+    print_written(write_lists(reply.counts, lists, records::LONGEST_JOB));
     true
 }

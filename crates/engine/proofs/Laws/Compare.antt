@@ -1,8 +1,8 @@
 -- Laws of compare: where the driven old outputs differ from the golden ones, and the sheets that it and fit refuse with 7. Assumes nothing.
 use Prim.Native.Nat.{ℕ, _+_, _-_, _*_, _%_, _^_, min, _≤_, _<_}
 use mathlib.Core.Path.{_≡_, refl, sym, _∙_, ap, subst}
-use mathlib.Core.Logic.{inr, ⊎-elim}
-use mathlib.Core.List.{List, [], _∷_, _++_}
+use mathlib.Core.Logic.{_↔_, inr, ⊎-elim}
+use mathlib.Core.List.{List, [], _∷_, _++_, append-assoc, append-nil}
 use mathlib.Core.Bool.{Bool, true, false, cond, not}
 use native.Mathlib.Nat.{one-mul, mod-eq-of-lt}
 use native.Mathlib.Omega.{arith}
@@ -13,23 +13,24 @@ use lib.Pow.{pow-mono, shl-exact}
 use lib.Seq.{getD-take, getD-drop}
 use Rattle.records.specs.Job.{Job, jobOf}
 use Rattle.records.specs.Refusal.{Test, firstFailing, partTests, jobTests, jobRefusal}
-use Rattle.records.specs.Sheet.{patchOf, sheetWhole, patchGood, sheetTests}
-use Rattle.records.specs.Service.{candidatesFrom, checkOf, loaded, sheetRoomy, sheetNumber, sheetReply}
+use Rattle.records.specs.Sheet.{patchOf, sheetWhole, sheetTests}
+use Rattle.records.specs.Service.{checkOf, loaded, sheetRoomy, sheetNumber, sheetReply}
 use Rattle.records.specs.Parts.{PartsOf}
 use Rattle.records.specs.declared.field.Check.the-variants as Check
 use Rattle.records.specs.declared.loading.JobParts.{JobParts}
 use Rattle.records.specs.declared.sheet.SheetReply.{SheetReply}
 use Rattle.records.proofs.Laws.Accepted.{job-accepts}
-use Rattle.records.proofs.Laws.Bytes.{false-of}
 use Rattle.records.proofs.Laws.Counts.{passes, fails}
 use Rattle.records.proofs.Laws.Loading.{loaded-number, loaded-check, loaded-parts}
+use Rattle.records.proofs.Laws.Notes.{tests-seven, seven-exactly as sheet-seven}
 use Rattle.engine.specs.Choice.{first}
 use Rattle.engine.specs.Eval.{allInputs}
 use Rattle.engine.specs.Rectify.{rectifies}
 use Rattle.engine.specs.Support.{reading, drivenBy}
 use Rattle.engine.specs.Compare.{difference, pairTests}
-use Rattle.engine.specs.Fit.{longestFit}
+use Rattle.engine.specs.Fit.{fits, longestFit}
 use Rattle.engine.specs.Reply.{comparisonOf, compareNumber, compareReply, fitTests, fitNumber}
+use Rattle.engine.specs.Claims.{SevenExactly}
 use Rattle.engine.specs.Inner.Kernel.{Filled, rowValue, FirstZero}
 use Rattle.engine.specs.Inner.Note.{gathered}
 use Rattle.engine.specs.Inner.Plan.{PlanHeld}
@@ -259,26 +260,31 @@ module _ (s : List ℕ) {r : JobParts} (e : r ≡ loaded s) where
 
 -- ---- sheets that get 7
 
--- number 7 says nothing of the job: a sheet that gets it beside no targets and no candidates is not whole
-unwhole-of-seven : (p : List ℕ) → sheetNumber 0 0 [] [] p ≡ 7 → sheetWhole p ≡ false
-unfolding sheetNumber sheetRoomy sheetTests firstFailing
-unwhole-of-seven p e = false-of (sheetWhole p) (λ t. go (patchGood 0 (candidatesFrom 0 [] []) (patchOf p)) (rw t at e))
+-- beside an accepted job 7 is given exactly to what is no whole sheet, whatever tests follow, if none of them gives it
+seven-behind : (s p : List ℕ) (us : List Test) → jobRefusal s ≡ 0 → (firstFailing us ≡ 7 → ⊥)
+    → (firstFailing (pairTests s p ++ us) ≡ 7) ↔ (sheetWhole p ≡ false)
+unfolding pairTests
+seven-behind s p us n h =
+    let m = jobOf s .targets in
+    let cs = jobOf s .candidates in
+    rw (append-assoc (jobTests s) (sheetTests m cs p) us, passing-append s (sheetTests m cs p ++ us) n) (tests-seven m cs p us h)
+
+pub seven-exactly : SevenExactly
+unfolding compareNumber fitNumber fitTests firstFailing
+seven-exactly s p n = (
+  rw append-nil at (seven-behind s p [] n (λ e. let f : ⊥ = omega arith in f)),
+  λ d l. rw (le-leb longestFit (length d) l) (seven-behind s p _ n (nine (fits (jobOf s) (patchOf p .support) (patchOf p .table)))),
+)
   where
-    go : (b : Bool) → _≡_ {A = ℕ} (cond b 0 8) 7 → ⊥
-    go true z = omega arith
-    go false z = omega arith
+    nine : (b : Bool) → _≡_ {A = ℕ} (cond b 0 9) 7 → ⊥
+    nine true e = omega arith
+    nine false e = omega arith
 
--- .. so it gets 7 beside any accepted job, also from fit, given room
-module _ (s p : List ℕ) (n : jobRefusal s ≡ 0) (e : sheetNumber 0 0 [] [] p ≡ 7) where
-  compare-seven : compareNumber s p ≡ 7
-  unfolding compareNumber pairTests sheetTests firstFailing
-  compare-seven = passing-append s (sheetTests (jobOf s .targets) (jobOf s .candidates) p) n ∙ rw (unwhole-of-seven p e)
-
-  pub both-seven : (compareNumber s p ≡ 7) × ((d : List ℕ) → longestFit ≤ length d → fitNumber d s p ≡ 7)
-  unfolding compareNumber fitNumber fitTests firstFailing
-  both-seven = (
-    compare-seven,
-    λ d l.
-        rw (le-leb longestFit (length d) l)
-        (failing-append (pairTests s p) _ (λ z. let f : ⊥ = omega (arith, compare-seven) in f) ∙ compare-seven),
-  )
+-- a sheet that gets 7 from read_sheet, beside no targets and no candidates, gets it from both
+pub both-seven : (s p : List ℕ) → jobRefusal s ≡ 0 → sheetNumber 0 0 [] [] p ≡ 7
+    → (compareNumber s p ≡ 7) × ((d : List ℕ) → longestFit ≤ length d → fitNumber d s p ≡ 7)
+unfolding sheetRoomy
+both-seven s p n e =
+    let w = sheet-seven 0 0 [] [] p refl .0 e in
+    let b = seven-exactly s p n in
+    (b .0 .1 w, λ d l. b .1 d l .1 w)

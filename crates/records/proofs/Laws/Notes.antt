@@ -1,10 +1,11 @@
 -- Laws of a sheet's notes: a sheet is whole exactly when its first three fields are a whole sheet without notes and behind them stand
--- good notes or nothing; good notes leave what read_sheet replies as it is, and others get 7, as does a vector list. Assumes nothing.
+-- good notes or nothing; good notes leave what read_sheet replies as it is; what is no whole sheet gets 7, so other notes, other bytes
+-- left over and a vector list do. Assumes nothing.
 use Prim.Native.Nat.{ℕ, _+_, _-_, _≤_, _<_}
 use mathlib.Core.Path.{_≡_, refl, sym, _∙_, ap}
-use mathlib.Core.Logic.{⊎-elim}
+use mathlib.Core.Logic.{_↔_, ⊎-elim}
 use mathlib.Core.List.{List, [], _∷_, _++_, append-nil}
-use mathlib.Core.Bool.{Bool, true, false, true≢false, not, _&&_, _||_}
+use mathlib.Core.Bool.{Bool, true, false, true≢false, cond, not, _&&_, _||_}
 use native.Mathlib.Omega.{arith}
 use borrow.Author.Tests.{eq-eqb, ne-eqb, eqb-true}
 use lib.Dec.{ltb, eqb}
@@ -12,12 +13,12 @@ use lib.ListN.{length, take, drop, length-take, length-drop, take-append-drop}
 use lib.Seq.{length-take-le, drop-drop, take-append-seam, drop-append-seam}
 use Rattle.records.specs.Bytes.{all, field, bodyLength, body, rest, fits, whole, nth}
 use Rattle.records.specs.Job.{Candidate}
-use Rattle.records.specs.Refusal.{firstFailing}
+use Rattle.records.specs.Refusal.{Test, firstFailing}
 use Rattle.records.specs.Sheet.{sheetTags, notesTag, patchOf, notesWhole, sheetWhole, patchGood, sheetTests}
 use Rattle.records.specs.Inner.{startOf, fieldAt, endOf, bareWhole, notesAt}
 use Rattle.records.specs.declared.field.Field.the-variants.{Body, Missing}
-use Rattle.records.specs.Service.{candidatesFrom, sheetRoomy, sheetNumber, sheetReply}
-use Rattle.records.specs.Claims.{Below, SheetNotes, NotesSeven, VectorsSeven}
+use Rattle.records.specs.Service.{candidatesFrom, sheetNumber, sheetReply}
+use Rattle.records.specs.Claims.{Below, SheetNotes, NotesSeven, LeftOverSeven, VectorsSeven, SevenExactly}
 use Rattle.records.proofs.Laws.Accepted.{below-of-all}
 use Rattle.records.proofs.Laws.Bytes.{row, row-and, and-left, and-right, and-both, and-false-right, and-assoc, false-of, all-below}
 use Rattle.records.proofs.Laws.Field.{positionOf, startOf-position, whole-end, fits-room, length-body, fieldAt-body, fieldAt-missing, end-within}
@@ -147,23 +148,45 @@ sheet-notes m k nets weights s ns w n l =
     let p = notes-part s ns w n l in
     rw (notes-tests s ns w n l m (candidatesFrom k nets weights), p 0 (omega arith), p 2 (omega arith))
 
--- what is no whole sheet gets 7
-number-seven : (m k : ℕ) (nets weights s : List ℕ) → sheetRoomy m k nets weights ≡ true → sheetWhole s ≡ false
-    → sheetNumber m k nets weights s ≡ 7
-unfolding sheetNumber sheetTests firstFailing
-number-seven m k nets weights s r e = rw (r, e)
+-- ---- sheets that get 7
 
-pub notes-seven : NotesSeven
-unfolding patchOf
-notes-seven m k nets weights s ns r w h =
+-- 7 is given exactly to what is no whole sheet, whatever tests follow, if none of them gives it
+pub tests-seven : (m : ℕ) (cs : List Candidate) (s : List ℕ) (us : List Test) → (firstFailing us ≡ 7 → ⊥)
+    → (firstFailing (sheetTests m cs s ++ us) ≡ 7) ↔ (sheetWhole s ≡ false)
+unfolding sheetTests firstFailing
+tests-seven m cs s us h = go (sheetWhole s) (patchGood m cs (patchOf s)) (firstFailing us) h
+  where
+    go : (w g : Bool) (n : ℕ) → (n ≡ 7 → ⊥) → (_≡_ {A = ℕ} (cond w (cond g n 8) 7) 7) ↔ (w ≡ false)
+    go true true n h = (λ e. absurd (h e), λ e. absurd (true≢false e))
+    go true false n h = (λ e. let f : ⊥ = omega arith in absurd f, λ e. absurd (true≢false e))
+    go false g n h = (λ e. refl, λ e. refl)
+
+pub seven-exactly : SevenExactly
+unfolding sheetNumber sheetTests firstFailing
+seven-exactly m k nets weights s r =
+    rw r (tests-seven m (candidatesFrom k nets weights) s [] (λ e. let f : ⊥ = omega arith in f))
+
+pub left-over-seven : LeftOverSeven
+unfolding patchOf notesAt
+left-over-seven m k nets weights s r room w some bad =
     let n = length (nth 1 s) in
-    let f : notesAt n (field notesTag ns) ≡ false =
+    let a = whole (notesTag ∷ []) r in
+    let b = eqb (length (nth 0 r)) n in
+    let f : notesAt n r ≡ false =
     false-of _
     (λ t.
-    let u = sym (notes-field n ns) ∙ t in
-    h (eqb-true _ _ (and-left _ _ u), below-of-all 3 (omega arith) ns (and-right (eqb (length ns) n) _ u))) in
-    number-seven m k nets weights (s ++ field notesTag ns) r
-    (sheet-append s w (field notesTag ns) ∙ and-false-right (bareWhole s) _ f)
+    let u = rw (ne-eqb (length r) 0 some) at t in
+    let v = and-left (a && b) _ u in
+    bad (and-left a b v, eqb-true _ _ (and-right a b v), below-of-all 3 (omega arith) (nth 0 r) (and-right (a && b) _ u))) in
+    seven-exactly m k nets weights (s ++ r) room .1 (sheet-append s w r ∙ and-false-right (bareWhole s) _ f)
+
+pub notes-seven : NotesSeven
+unfolding nth
+notes-seven m k nets weights s ns room w h =
+    let b : nth 0 (field notesTag ns) ≡ ns = ap body (sym (append-nil (field notesTag ns))) ∙ body-field notesTag ns [] in
+    left-over-seven m k nets weights s (field notesTag ns) room w
+    (λ e. let f : ⊥ = omega (arith, e, length-field notesTag ns) in f)
+    (λ t. h (rw b at (t .1), rw b at (t .2)))
 
 -- a field behind whole ones is one of the sheet's, and a sheet has no vector list
 pub vectors-seven : VectorsSeven
@@ -172,7 +195,7 @@ vectors-seven m k nets weights ts a b r w f =
     let other : ℕ → Bool = λ t. not (eqb t 19) in
     let none : (us : List ℕ) → all other us ≡ true → whole us (a ++ b) ≡ true → ⊥ =
     λ us n u. true≢false (sym (whole-behind other 19 ts us a b w f u n)) in
-    number-seven m k nets weights (a ++ b) r
+    seven-exactly m k nets weights (a ++ b) r .1
     (false-of (sheetWhole (a ++ b))
     (λ t.
     ⊎-elim (λ v. none sheetTags refl v) (λ v. none (sheetTags ++ (notesTag ∷ [])) refl (v .0))
