@@ -151,10 +151,10 @@ fn choose_job(job: JobParts, reply: &mut [u8]) -> ChooseReply
 // the fewest leads to, for every fourth vector and each gate that another leads to, and so on, and some 1,000 steps to note the inputs. An
 // evaluation takes 16 words. Gates and outputs are left out, and partial evaluation is tried, as in judge. The choice among the sets of k
 // candidates leaves out one net after the other and stops at unsound and at too dear sets: at most 3 ^ k steps, whatever the gates are, and
-// as many more where supports cost the same and the gates of their patches are counted. The notes cost nothing where no block was spared, and two
-// steps a gate that leads to the support, for each of at most 64 cubes, where gates imply which of its readings no input gives (see imply.rt);
-// else, for each block that was spared until all readings are seen, one gate evaluation a gate that leads to it, and some 1,000 steps where the
-// block gives one of the cubes, which is about what it would have cost at most. A job of at most six inputs costs as in judge.
+// as many more where supports cost the same and the gates of their patches are counted. The notes cost nothing where no block was spared, and
+// some 100 us where gates show which readings of the support no input gives (see imply.rt); else, for each block that was spared until all
+// readings are seen, one gate evaluation a gate that leads to the support, and some 1,000 steps where the block may give an unseen reading, which
+// is about what it would have cost at most. A job of at most six inputs costs as in judge.
 pub fn choose(job: &[u8], reply: &mut [u8]) -> ChooseReply
     ensures reply { λ r. ⌜ r ≡ chooseReply (now (reply .entry)) (now (job .entry)) ⌝ }
     ensures lent { λ _. ⌜ now (reply .exit) ≡ chosenBytes (now (reply .entry)) (now (job .entry)) ⌝ }

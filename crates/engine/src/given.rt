@@ -149,9 +149,8 @@ fn see_inputs(gates: &[u64], plan: Plan, skipped: usize, sets: &mut [u32; READIN
 }
 
 // The sets of a support, with the bits of its readings that inputs of skipped ranges give cleared too. Where no range was skipped, the sets
-// tell already, and nothing is evaluated. Else a cover of the unseen readings is made, in some ten steps a reading and two a cube and gate that
-// leads to the support. Where it does not show that no input gives them, each block of 1,024 inputs of these ranges, until all readings are
-// seen, costs one gate evaluation a gate that leads to the support and what see_block says; a range may cost one cover more.
+// tell already, and nothing is evaluated. Else a cover of the unseen readings is made, at a cost that imply.rt says. Where cubes are left that an
+// input may give, each block of 1,024 inputs of these ranges, until all readings are seen, costs what see_block says.
 pub(super) fn see_skipped(
     miter: Miter,
     support: Support,

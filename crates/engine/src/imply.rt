@@ -229,7 +229,8 @@ fn refuted(gates: &[u64], plan: Plan, value: usize, care: usize, splits: usize) 
     contradicts(gates, ends[0], known, splits)
 }
 
-// The cubes of a cover that are not refuted. A cube costs two steps a gate of the plan, and where nets are split, as much for each value tried.
+// The cubes of a cover that are not refuted, with so many nets split for each. A cube costs two steps a gate of the plan, and as many for each
+// case tried.
 pub(super) fn unrefuted(gates: &[u64], plan: Plan, cover: Cover, splits: usize) -> Cover
     requires { ⌜ PlanHeld plan (now gates) × CoverHeld cover ⌝ }
     ensures { λ r. ⌜ Unrefuted plan (now (gates .entry)) cover r ⌝ }
