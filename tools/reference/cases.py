@@ -6,8 +6,9 @@ says; case 2 goes by card 2 of document 02, the notes by card 1, case 12, which 
 
 Then it tries the reference where a second way is at hand: the values of gates beside the simulator's table and, on sets of
 inputs, beside gates.py; on small random jobs the verdict beside every table over every set of priced nets, the fitted
-netlist beside the driven old one, and compare and the notes beside one input at a time; card 5's rule (ties.py); and card 8's
-sentences on judge's list and on the order of the outputs (vector_lists.py). Where something differs, it stops.
+netlist beside the driven old one, and compare and the notes beside one input at a time; the notes so on a few jobs of 16 inputs
+with held ranges (held.py); card 5's rule (ties.py); and card 8's sentences on judge's list and on the order of the outputs
+(vector_lists.py). Where something differs, it stops.
 """
 
 import copy
@@ -16,7 +17,9 @@ import random
 from itertools import combinations, product
 
 import compare
+import cut_jobs as cj
 import gates
+import held
 import job as jobs
 import random_jobs as rj
 import random_sheets as rs
@@ -194,6 +197,22 @@ def check_random(rng, count):
     return found
 
 
+HELD = ["held: unseen readings, more than 64", "held: readings that held inputs alone give", "held: both"]
+
+
+def check_held(rng, names):
+    """The notes of a job of each of these classes, with few gates: one input at a time takes some two seconds a job."""
+    left = set(names)
+    while left:
+        job = cj.held_job(rng, 16, 1)
+        patch = choose(jobs.encode(job)).patch
+        name = held.held_class(job, patch)
+        if name in left and len(job.old.gates) <= 15:
+            left.remove(name)
+            check_notes(job, patch)
+    return names
+
+
 def main():
     assert len(cases()) == len(WANTED)
     for k, (found, wanted) in enumerate(zip(cases(), WANTED), 1):
@@ -203,6 +222,7 @@ def main():
     check_gates()
     check_sheets()
     print("tried against every table over every set:", check_random(random.Random(1364), 100))
+    print("notes where ranges are held, one input at a time:", check_held(random.Random(1364), HELD))
     print("decided at each step, by hand:", ties.check_hand())
     print("tried against every set, one input at a time:", ties.check_random(random.Random(1364), 240))
     print("lists without waste, outputs in other orders:", vector_lists.check_random(random.Random(1364), 350))

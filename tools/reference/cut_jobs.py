@@ -4,9 +4,11 @@ the old one has a target in place of each cut gate. Every function takes the ran
     cut_job(rng, n, m, telling)      a job of up to some thirty gates, of any verdict
     crossed_job(rng)                 a job where sets {a, d} and {b, c} of priced nets a < b < c < d both do
     related_job(rng, n, m)           a patch over nets of which only some readings occur; at some of them several vectors do
+    held_job(rng, n, m)              the same with outputs that are 0 on whole ranges of 2^15 inputs, where the nets have other readings
     tied_job(rng, n, m)              the same with nets that tell it in other words, many at the same cost, in small trees and large
     masked_job(rng, n, m)            small trees over some nets, larger ones over as many others or fewer, at the same cost
     last_job(n, m, occurs)           a patch over two nets that are both 1 at the last input alone, where all vectors do, or nowhere
+    held_last_job(n, m, occurs)      the same with outputs that are 0 wherever the last of the inputs is 1
     full_job(rng, verdict, ..)       400 gates a side, 32 outputs, 4 targets, 10 priced nets: 8,188 bytes
 """
 
@@ -16,7 +18,8 @@ import random_jobs as rj
 from job import Candidate, Gate, Job, Netlist
 
 WIDE = range(4, 10)  # the kinds of two operands and more
-AND, OR, XOR, XNOR = 4, 6, 8, 9
+BUF, NOT, AND, NAND, OR, NOR, XOR, XNOR = range(2, 10)
+RANGE_INPUTS = 15  # the inputs below are any in a range of 2^15 inputs, the others the same
 
 
 def some_gate(rng, nets, kinds):
@@ -199,12 +202,12 @@ def related_nets(rng, golden, n, most):
     return found
 
 
-def related_circuit(rng, n, m):
+def related_circuit(rng, n, m, some_nets=related_nets):
     """Two inputs or more. Each cut net is a function of related nets; an output is the sum of a cut net and an input, of two
     cut nets, or only one of these where some related nets are not all 1: then any vector does where they are. The job without its
     priced nets; in the golden netlist the related nets, the cut nets, and how many nets stand before these."""
     golden = []
-    nets = related_nets(rng, golden, n, 10)
+    nets = some_nets(rng, golden, n, 10)
     front = n + len(golden)
     roots = []
     for t in range(m):
@@ -234,9 +237,9 @@ def in_old(job, nets):
     return sorted({net if net < job.inputs else net + job.targets for net in nets})
 
 
-def related_job(rng, n, m):
+def related_job(rng, n, m, some_nets=related_nets):
     """The related nets are priced, others seldom and dear, so that they are the support."""
-    job, nets, _, front = related_circuit(rng, n, m)
+    job, nets, _, front = related_circuit(rng, n, m, some_nets)
     named = set(in_old(job, nets))
     others = [net for net in range(front) if net not in nets and rng.random() < 0.1]
     dear = set(in_old(job, others))
@@ -294,28 +297,140 @@ def masked_job(rng, n, m):
     return job
 
 
+def put_gate(golden, n, kind, *operands):
+    """Appends a gate; its net."""
+    golden.append(Gate.of(kind, *operands))
+    return n + len(golden) - 1
+
+
+def all_one(golden, n, nets):
+    """Appends gates; the net that is 1 where all of these are."""
+    while len(nets) > 1:
+        nets = [put_gate(golden, n, AND, *nets[:4])] + nets[4:]
+    return nets[0]
+
+
+def either_job(n, m, golden, nets):
+    """Each cut net is the or of two nets, which are priced; the outputs show it where they are not both 1."""
+    open_net = put_gate(golden, n, NAND, *nets)
+    roots = [put_gate(golden, n, OR, *nets) for _ in range(m)]
+    outputs = [put_gate(golden, n, AND, root, open_net) for root in roots]
+    old = cut(n, m, golden, outputs, [root - n for root in roots], lambda: True)
+    job = Job(n, m, old, Netlist(golden, outputs), [])
+    job.candidates = [Candidate(net, 5) for net in in_old(job, nets)]
+    return job
+
+
 def last_job(n, m, occurs):
     """Two inputs or more, one target or more. One net is 1 where all even inputs are, the other where all odd ones are and,
     if reading 3 is not to occur, input 0 is not. Each cut net is their or; the outputs show it where they are not both 1."""
     golden = []
-
-    def put(kind, *operands):
-        golden.append(Gate.of(kind, *operands))
-        return n + len(golden) - 1
-
-    def both(nets):
-        while len(nets) > 1:
-            nets = [put(AND, *nets[:4])] + nets[4:]
-        return nets[0]
-
     even, odd = list(range(0, n, 2)), list(range(1, n, 2))
-    nets = [both(even), both(odd if occurs else odd + [put(3, 0)])]
-    open_net = put(5, *nets)
-    roots = [put(OR, *nets) for _ in range(m)]
-    outputs = [put(AND, root, open_net) for root in roots]
-    old = cut(n, m, golden, outputs, [root - n for root in roots], lambda: True)
-    named = sorted(net if net < n else net + m for net in nets)
-    return Job(n, m, old, Netlist(golden, outputs), [Candidate(net, 5) for net in named])
+    nets = [all_one(golden, n, even), all_one(golden, n, odd if occurs else odd + [put_gate(golden, n, NOT, 0)])]
+    return either_job(n, m, golden, nets)
+
+
+# ---- jobs whose outputs are held on ranges of inputs
+
+STYLES = ["exclusive", "products", "any", "pairs", "hidden pairs", "sum"]
+
+
+def decoded_nets(rng, golden, n, inputs, count):
+    """Appends gates: up to so many nets of which at most one is 1, each at one setting of these inputs."""
+    sides = [(put_gate(golden, n, NOT, net), net) for net in inputs]
+    settings = rng.sample(range(2 ** len(inputs)), min(count, 2 ** len(inputs)))
+    return [chain(rng, golden, n, [side[s >> i & 1] for i, side in enumerate(sides)], [AND], 4) for s in settings]
+
+
+def paired_nets(rng, golden, n, inputs, count, hidden):
+    """Appends gates: the and and the or of so many pairs of inputs and of gates over these. Hidden, the or is the sum of the and and of
+    the pair's sum, so that no gate alone says that the first at 1 and the second at 0 exclude each other."""
+    leaves = inputs + [put_gate(golden, n, rng.choice(WIDE), *rng.sample(inputs, 2)) for _ in range(rng.randrange(3))]
+    found = []
+    for _ in range(count):
+        pair = rng.sample(leaves, 2)
+        both = put_gate(golden, n, AND, *pair)
+        either = put_gate(golden, n, XOR, put_gate(golden, n, XOR, *pair), both) if hidden else put_gate(golden, n, OR, *pair)
+        found += [both, either]
+    return found
+
+
+def summed_nets(rng, golden, n, inputs):
+    """Appends gates: these inputs but one, and a net that is their sum where that one is 1, else 0. The readings that no input gives
+    differ from each other at two nets or more."""
+    opening, *nets = rng.sample(inputs, len(inputs))
+    total = chain(rng, golden, n, nets, [XOR, XNOR], 4)
+    return nets + [put_gate(golden, n, AND, total, opening)]
+
+
+def styled_nets(rng, golden, n, style, count):
+    """Appends gates over low and high inputs, four or five but for a sum: about so many nets in one of the styles."""
+    size = count if style == "sum" else rng.randrange(4, 6)
+    high = rng.randrange(min(2, n - RANGE_INPUTS) + 1)
+    inputs = rng.sample(range(RANGE_INPUTS), size - high) + rng.sample(range(RANGE_INPUTS, n), high)
+    if style == "sum":
+        return summed_nets(rng, golden, n, inputs)
+    if style == "exclusive":
+        return decoded_nets(rng, golden, n, inputs, count)
+    if style in ("pairs", "hidden pairs"):
+        return paired_nets(rng, golden, n, inputs, count // 2, style == "hidden pairs")
+    found = []
+    for _ in range(count):
+        kind = rng.choice([AND, AND, NOR, NOT] if style == "products" else range(BUF, XNOR + 1))
+        found.append(put_gate(golden, n, kind, *rng.sample(inputs, rj.some_count(rng, kind, 3))))
+    return found
+
+
+def turned_nets(rng, golden, n, nets, holding, ones):
+    """Appends gates: some of these nets are joined with an input that holds, or with that and a low one. Where the outputs are not
+    held, each is as before or inverted."""
+    share = rng.choice([0, 0.3, 0.6])
+    found = []
+    for net in nets:
+        if rng.random() < share:
+            other = rng.choice(holding)
+            if rng.random() < 0.5:
+                other = put_gate(golden, n, OR if ones else AND, other, rng.randrange(RANGE_INPUTS))
+            net = put_gate(golden, n, rng.choice([XOR, XNOR] + ([AND, NAND] if ones else [OR, NOR])), net, other)
+        found.append(net)
+    return found
+
+
+def hold(job, kind, inputs):
+    """Each output of both sides is 0 now where a gate of this kind over these inputs is 0, else as before."""
+    for side in (job.old, job.golden):
+        first = job.net_count(side)
+        side.gates += [Gate.of(kind, *inputs)] + [Gate.of(AND, net, first) for net in side.outputs]
+        side.outputs = list(range(first + 1, job.net_count(side)))
+
+
+def held_job(rng, n, m):
+    """16 inputs or more. The outputs of both sides are 0 unless one to four of the inputs from number 15 on are all 1, or all 0; of 20
+    inputs four. So they are 0 on whole ranges of 2^15 inputs, where the related nets may have readings that they have nowhere else."""
+    high = range(RANGE_INPUTS, n)
+    holding = rng.sample(high, 4 if n == jobs.MAX_INPUTS else rng.randrange(1, min(4, len(high)) + 1))
+    ones = rng.random() < 0.5
+
+    def some_nets(rng, golden, n, most):
+        nets = styled_nets(rng, golden, n, rng.choice(STYLES), rng.randrange(2, most + 1))
+        return turned_nets(rng, golden, n, nets, holding, ones)
+
+    job = related_job(rng, n, m, some_nets)
+    hold(job, (BUF if ones else NOT) if len(holding) == 1 else AND if ones else NOR, holding)
+    return job
+
+
+def held_last_job(n, m, occurs):
+    """16 inputs or more, one target or more. One net is 1 where all even inputs below 15 are, the other where all odd ones are and
+    input 0 is not or, if reading 3 is to occur, the inputs from 15 on are all 1. The outputs are 0 where the last input is 1."""
+    golden = []
+    below = put_gate(golden, n, NOT, 0)
+    high = list(range(RANGE_INPUTS, n)) + ([] if occurs else [below])
+    either = put_gate(golden, n, OR, below, all_one(golden, n, high))
+    even, odd = list(range(0, RANGE_INPUTS, 2)), list(range(1, RANGE_INPUTS, 2))
+    job = either_job(n, m, golden, [all_one(golden, n, even), all_one(golden, n, odd + [either])])
+    hold(job, NOT, [n - 1])
+    return job
 
 
 # ---- jobs that fill every place

@@ -7,6 +7,7 @@ from dataclasses import replace
 
 import cases
 import cut_jobs as cj
+import held
 import job as jobs
 import random_jobs as rj
 import random_sheets as rs
@@ -16,7 +17,7 @@ import ties
 from choose import shared_vectors
 from job import Candidate, Gate, Job, Netlist, encode
 from judge import fixed_inputs
-from rectify import rectify
+from rectify import choose, rectify
 from verdict_calls import BUFFER, compare_call, judge_call, order_call
 
 SEED = 1364
@@ -63,6 +64,19 @@ TIE_QUOTAS = {
     "decided by net numbers, more nets than before card 5, all weights 0": 8,
 }
 LONGEST_TIED = 320  # bytes of a job of these
+HELD_QUOTAS = {
+    "held: no reading unseen": 8,
+    "held: unseen readings": 11,
+    "held: unseen readings, more than 16": 9,
+    "held: unseen readings, more than 64": 9,
+    "held: readings that held inputs alone give": 11,
+    "held: readings that held inputs alone give, more than 16": 6,
+    "held: readings that held inputs alone give, more than 64": 4,
+    "held: both": 12,
+    "held: both, more than 16": 10,
+    "held: both, more than 64": 10,
+}
+LONGEST_HELD = 700  # bytes of a job of these
 
 
 def reading_at(job, x):
@@ -166,6 +180,24 @@ def tie_jobs(rng):
         if left.get(name):
             left[name] -= 1
             yield job, verdict
+
+
+def held_jobs(rng):
+    """Jobs with patches and held ranges: by hand with 16 to 20 inputs, then as many of each class as the quotas say; inputs 16 to 18
+    and targets 1 to 4 in turn, seldom 20 inputs."""
+    for k in range(5):
+        for occurs in (True, False):
+            job = cj.held_last_job(16 + k, 1 + k % 4, occurs)
+            yield job, rectify(encode(job))
+    left = dict(HELD_QUOTAS)
+    turn = 0
+    while any(left.values()):
+        turn += 1
+        job = cj.held_job(rng, 16 + turn % 3 if turn % 16 else 20, 1 + turn // 3 % 4)
+        name = held.held_class(job, choose(encode(job)).patch) if len(encode(job)) <= LONGEST_HELD else None
+        if left.get(name):
+            left[name] -= 1
+            yield job, rectify(encode(job))
 
 
 def full_jobs(rng, n, count, names, related=False):
@@ -457,6 +489,9 @@ def covered(jobs_and_verdicts):
             found["notes " + " ".join(str(note) for note in sorted(set(verdict.patch.notes)))] += 1
             if job.targets and verdict.patch.support:
                 found["notes: " + related_class(job, verdict.patch)] += 1
+            if name := held.held_class(job, verdict.patch):
+                found[name] += 1
+                found[f"held ranges {len(held.ranges(job)):2} of {2 ** (job.inputs - cj.RANGE_INPUTS):2}"] += 1
             if 0 in verdict.patch.notes:
                 found[f"unseen readings, support nets {len(verdict.patch.support):2}"] += 1
             ranked = ties.ranks(job)
@@ -494,4 +529,6 @@ def made():
     calls = list(judge_calls(rng, accepted + longs, fulls)) + list(order_calls(rng, accepted, longs, fulls))
     calls += [call for _, call in named]
     rng.shuffle(calls)
-    return calls, accepted + longs + fulls, Counter(name for name, _ in named)
+    last = list(held_jobs(random.Random(SEED)))
+    calls += [judge_call(encode(job)) for job, _ in last]
+    return calls, accepted + longs + fulls + last, Counter(name for name, _ in named)
