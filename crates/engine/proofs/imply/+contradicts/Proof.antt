@@ -105,21 +105,7 @@ returns-6 t c o vs v m =
 
 pub +contradicts-spec : {M : Type 1} → statement M
 +contradicts-spec =
-    close μ-contradicts λ t. contradicts-lts.spec (calls t)
-    (contradicts-at t)
-    contradicts.Post
-    (learn-backward-requires t)
-    (returns t)
-    (learn-forward-requires t)
-    (returns-2 t)
-    (returns-3 t)
-    (open-net-requires t)
-    (returns-4 t)
-    (array-write-more t)
-    (sub-contradicts t)
-    (contradicts-requires t)
-    (returns-5 t)
-    (array-write-more-2 t)
-    (sub-contradicts-2 t)
-    (contradicts-requires-2 t)
-    (returns-6 t)
+    close μ-contradicts λ t. contradicts-lts.spec (calls t) (contradicts-at t) contradicts.Post
+    (learn-backward-requires t) (returns t) (learn-forward-requires t) (returns-2 t) (returns-3 t) (open-net-requires t) (returns-4 t)
+    (array-write-more t) (sub-contradicts t) (contradicts-requires t) (returns-5 t)
+    (array-write-more-2 t) (sub-contradicts-2 t) (contradicts-requires-2 t) (returns-6 t)
