@@ -1,11 +1,11 @@
 -- Which readings of a support inputs give (src/given.rt). A reading is unseen while no input looked at gives it: bit 16 of its set is 1. No public
 -- contract cites this file. Assumes nothing.
 --
+--   SameVectors ss ts      the sets ss and ts have the same vectors
 --   GivenCover p ..        the unseen readings that an input gives are in the cover
 --   GivenBy g x k r        one of the k inputs from x on gives reading r
 --   BlockSeen ..           the sets after the count inputs of a block, where no target leads to the nets read
 --   Unseen j is ss         bit 16 of a reading of the nets is is 0 exactly when some input gives the reading
---   SameVectors ss ts      the sets ss and ts have the same vectors
 --   AllSeen ..             the sets after all inputs of the ranges that were skipped
 use Prim.Native.Nat.{ℕ, _+_, _*_, _^_, _≤_, _<_}
 use mathlib.Core.Path.{_≡_}
