@@ -1,4 +1,4 @@
--- What the values of some nets imply of the nets that lead to them (src/imply.rt). No public contract cites this file. Assumes nothing.
+-- What the values of some nets imply of others (src/imply.rt). No public contract cites this file. Assumes nothing.
 --
 --   Binary vs               the values vs are 0 and 1
 --   Implied known vs        where something is known of a net, 0 or 1, it is the net's value in vs
@@ -9,7 +9,7 @@
 --   GateHas c vs            the net of gate c has the value that its operands give, and that what is known of them gives, if it gives one
 --   ValuesOf cs n vs        .. as those of the first n gates of cs
 --   CubeHas ..              the nets of a cube have its values
---   Unrefuted ..             the cubes that values of the gates may give are left
+--   Unrefuted ..            the cubes that values of the gates may give are left
 use Prim.Native.Nat.{ℕ, _<_}
 use mathlib.Core.Path.{_≡_}
 use mathlib.Core.List.{List, map}
