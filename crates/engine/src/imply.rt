@@ -103,11 +103,18 @@ fn learn_backward(gates: &[u64], count: usize, known: &mut [u8; NETS]) -> bool
     true
 }
 
-// Notes what is known of gate c's net by its operands.
+// Notes what is known of gate c's net by its operands. Most gates have two of which nothing is known.
 fn learn_from_operands(c: u64, known: &mut [u8; NETS]) -> bool
     requires { ⌜ length (now known) ≡ 1024 ⌝ }
     ensures { λ r. ⌜ (length (now (known .exit)) ≡ 1024) × Learns (GateHas c) (now (known .entry)) r (now (known .exit)) ⌝ }
 {
+    let rest = c / SLOTS_AT;
+    if c / COUNT_AT % COUNTS == 2
+        && UNKNOWN <= known[(rest % NET) as usize]
+        && UNKNOWN <= known[(rest / NET % NET) as usize]
+    {
+        return true;
+    }
     let v = ternary_gate(c, known);
     if UNKNOWN <= v {
         return true;

@@ -23,9 +23,12 @@ use super::packed::NET;
 use super::packed::NET_AT;
 use super::packed::SLOTS_AT;
 use super::plan::Plan;
+use super::ternary::ternary_entry;
+use super::ternary::ternary_table;
 use super::ternary::ternary_value;
 use records::OUTPUTS;
 use records::SLOTS;
+use records::wide;
 
 // What is known of the operands of a packed gate, which has four at most; 0 behind them.
 fn known_operands(c: u64, known: &[u8; NETS]) -> [u8; SLOTS]
@@ -45,16 +48,20 @@ fn known_operands(c: u64, known: &[u8; NETS]) -> [u8; SLOTS]
     r
 }
 
-// What is known of a packed gate's net.
+// What is known of a packed gate's net. Most gates have two operands: their kind's table says it at one look.
 pub(super) fn ternary_gate(c: u64, known: &[u8; NETS]) -> u8
     ensures { λ r. ⌜ r ≡ codeTernary (now (known .entry)) c ⌝ }
 {
+    let kind = (c % COUNT_AT) as u8;
+    let count = c / COUNT_AT % COUNTS;
+    if count == 2 {
+        let rest = c / SLOTS_AT;
+        let a = wide(known[(rest % NET) as usize]);
+        let b = wide(known[(rest / NET % NET) as usize]);
+        return ternary_entry(ternary_table(kind), a, b);
+    }
     let operands = known_operands(c, known);
-    ternary_value(
-        (c % COUNT_AT) as u8,
-        (c / COUNT_AT % COUNTS) as u8,
-        operands,
-    )
+    ternary_value(kind, count as u8, operands)
 }
 
 // Each of the first count gates, one after the other, sets what is known of its own net.

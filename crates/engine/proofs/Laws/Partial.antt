@@ -19,12 +19,12 @@ use Rattle.records.specs.Refusal.{gateGood}
 use Rattle.records.proofs.Laws.Bytes.{all-cons, length-tabulate, getD-tabulate, tabulate-snoc, placed-nil, length-placed, take-placed, set-placed}
 use Rattle.records.proofs.Laws.Gate.{gateGood-parts}
 use Rattle.engine.specs.Eval.{bit, bits}
-use Rattle.engine.specs.Ternary.{unknown, ternaryValue, Completes, CompletesAll}
+use Rattle.engine.specs.Ternary.{unknown, ternaryValue, ternaryTable, entry, Completes, CompletesAll}
 use Rattle.engine.specs.Inner.Packed.{fields, kindOf, countOf, operandsOf}
 use Rattle.engine.specs.Inner.Ranges.{knownAt, ternaryOf, codeTernary, Completed, partialInput, InRange}
 use Rattle.engine.proofs.Laws.Choice.{true-or-false}
 use Rattle.engine.proofs.Laws.Eval.{bit-lt}
-use Rattle.engine.proofs.Laws.Ternary.{knowns, knowns-map, ternaries-map, completes-unknown, completes-nil, completes-cons, possible, possible-iff}
+use Rattle.engine.proofs.Laws.Ternary.{entry-table, knowns, knowns-map, ternaries-map, completes-unknown, completes-nil, completes-cons, possible, possible-iff}
 
 -- ---- what is known of a packed gate's operands, slot by slot
 
@@ -78,6 +78,17 @@ codeTernary-operands nets c xs e w =
     let t : take n xs ≡ take (min n 4) xs = sym (take-min n xs) ∙ ap (λ (m : ℕ). take (min n m) xs) e in
     ap (ternaryValue (kindOf c))
     (knowns-map n xs ∙ ap (map (λ x. min x unknown)) (t ∙ w) ∙ map-map (λ x. min x unknown) (netAt nets) (take 4 (operandsOf c)))
+
+-- .. and, of two operands, the entry of its kind's table at them
+pub codeTernary-two : (nets : List ℕ) (c : ℕ) → countOf c ≡ 2
+    → entry (ternaryTable (kindOf c)) (netAt nets (c / 131072 % 1024)) (netAt nets (c / 131072 / 1024 % 1024)) ≡ codeTernary nets c
+unfolding codeTernary knownAt fields entry
+codeTernary-two nets c e =
+    let x = netAt nets (c / 131072 % 1024) in
+    let y = netAt nets (c / 131072 / 1024 % 1024) in
+    let a : min (min x 2) 2 ≡ min x 2 = omega arith in
+    let b : min (min y 2) 2 ≡ min y 2 = omega arith in
+    rw e (rw (a, b) at (entry-table (kindOf c) (min x 2) (min y 2) (omega arith) (omega arith)))
 
 -- ---- a gate
 
