@@ -30,9 +30,9 @@ use super::ranges::settled;
 use super::sole::NOT_SOLE;
 use super::sole::keep_block;
 use super::sole::sole_table;
-use super::trust::first_trust;
+use super::trust::first_pace;
+use super::trust::next_pace;
 use super::trust::next_tries;
-use super::trust::next_trust;
 use records::INPUTS;
 
 // The words of block b on the nets that no target leads to. It costs one gate evaluation a gate of these, for 1,024 inputs.
@@ -170,7 +170,7 @@ pub(super) fn sets_of_inputs(gates: &[u64], plan: Plan) -> Met
     let size = 1usize << plan.inputs;
     let mut words = [0u64; WORDS];
     let mut sets = [UNSEEN + all_vectors(plan.targets) as u32; READINGS];
-    let mut trust = first_trust(plan.inputs, 17);
+    let mut pace = first_pace(plan.inputs, 17);
     let mut table = [NOT_SOLE; READINGS];
     let mut tries = first_tries(gates, plan);
     let mut skipped = 0usize;
@@ -185,13 +185,13 @@ pub(super) fn sets_of_inputs(gates: &[u64], plan: Plan) -> Met
                 plan,
                 b,
                 count,
-                0 < trust,
+                pace.wait == 0,
                 &table,
                 &mut sets,
                 &mut words,
             );
-            trust = next_trust(trust, b, kept);
-            if !kept & (0 < trust) {
+            pace = next_pace(pace, kept);
+            if !kept & (pace.wait == 0) {
                 table = sole_table(sets);
             }
             b += 1;

@@ -1,10 +1,14 @@
-// How far a test that may save a block's work is trusted: a block on which it fails takes one, one on which it does not gives one back.
+// How far a test that may save a block's work is trusted. A block on which it fails takes one, one on which it does not gives one back; or it
+// waits for longer and longer while it fails.
 ghost use Prim.Native.Nat.{_≤_};
 use super::limits::BLOCK;
 use super::limits::RANGE;
 use super::limits::TRUST;
 
 const SIXTEEN_BLOCKS: usize = 16 * BLOCK;
+
+// No job has as many.
+const ENDLESS_BLOCKS: usize = 1025;
 
 // At first it may fail on one block of sixteen, and on none where there are fewer inputs than least, since what it learns costs more there.
 pub(super) fn first_trust(inputs: usize, least: usize) -> usize
@@ -41,6 +45,57 @@ pub(super) fn next_trust(trust: usize, b: usize, saved: bool) -> usize
         return more(trust);
     }
     if b == 0 { trust } else { less(trust) }
+}
+
+// When a test is tried next: after how many blocks; and after how many more where it fails then.
+pub struct Pace {
+    pub wait: usize,
+    pub rest: usize,
+}
+
+// After the first block, or never where there are fewer inputs than least, since what it learns costs more there.
+pub(super) fn first_pace(inputs: usize, least: usize) -> Pace
+    ensures { λ r. ⌜ r .rest ≤ 80 ⌝ }
+{
+    if inputs < least {
+        return Pace {
+            wait: ENDLESS_BLOCKS,
+            rest: 0,
+        };
+    }
+    Pace { wait: 1, rest: 0 }
+}
+
+// A quarter longer, up to some 64 blocks.
+fn longer(rest: usize) -> usize
+    requires { ⌜ rest ≤ 80 ⌝ }
+    ensures { λ r. ⌜ r ≤ 80 ⌝ }
+{
+    if rest < TRUST {
+        rest + rest / 4 + 1
+    } else {
+        rest
+    }
+}
+
+// .. after a block, which the test saved or did not. Each time that it fails it waits for longer.
+pub(super) fn next_pace(pace: Pace, saved: bool) -> Pace
+    requires { ⌜ pace .rest ≤ 80 ⌝ }
+    ensures { λ r. ⌜ r .rest ≤ 80 ⌝ }
+{
+    if saved {
+        return Pace { wait: 0, rest: 0 };
+    }
+    if 0 < pace.wait {
+        return Pace {
+            wait: pace.wait - 1,
+            rest: pace.rest,
+        };
+    }
+    Pace {
+        wait: pace.rest,
+        rest: longer(pace.rest),
+    }
 }
 
 // How many tries of partial evaluation may still settle nothing, after block b, from which on it skipped so many blocks, or none. Only

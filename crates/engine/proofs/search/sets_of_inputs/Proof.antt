@@ -1,11 +1,11 @@
--- `engine::search::sets_of_inputs` meets its contract. The invariant: the sets after the blocks passed, and, while it is trusted, their
+-- `engine::search::sets_of_inputs` meets its contract. The invariant: the sets after the blocks passed, and, where it is tried next, their
 -- table. Assumes nothing.
 use Prim.Native.Nat.{ℕ, _+_, _-_, _*_, _/_, _%_, _^_, _≤_, _<_}
 use mathlib.Core.Path.{_≡_, _∙_, ap, subst}
 use mathlib.Core.Logic.{⊎-elim}
 use mathlib.Core.List.{List}
 use native.Mathlib.Omega.{arith}
-use borrow.Author.Tests.{ltb-true, ltb-false, not-false}
+use borrow.Author.Tests.{eqb-true, eqb-false, not-false}
 use lib.ListN.{length, length-replicate}
 use lib.Pow.{pow-mono}
 use Rattle.records.specs.Job.{Job}
@@ -25,16 +25,16 @@ abbrev SetsAfter : Plan → List ℕ → ℕ → List ℕ → ℕ → Type 0
 SetsAfter p gates skipped sets x = (j : Job) → TurnsOf j (candidateNets j) p gates → SetsTo j x skipped sets
 
 abbrev Inv-loop : tie.InvT-loop
-Inv-loop gates plan size words₀ sets₀ trust₀ table₀ tries₀ skipped₀ b₀ words sets trust table tries skipped b =
+Inv-loop gates plan size words₀ sets₀ pace₀ table₀ tries₀ skipped₀ b₀ words sets pace table tries skipped b =
     (length words ≡ 16384)
     × (length sets ≡ 1024)
-    × (trust ≤ 64)
-    × (0 < trust → SoleTable sets table)
+    × (pace .rest ≤ 80)
+    × (pace .wait ≡ 0 → SoleTable sets table)
     × WalkTo (SetsAfter plan gates skipped sets) (plan .inputs) size b
     × (tries ≤ 64)
 
 abbrev μ-loop : tie.MeasureT-loop
-μ-loop gates plan size words₀ sets₀ trust₀ table₀ tries₀ skipped₀ b₀ words sets trust table tries skipped b = size - 1024 * b
+μ-loop gates plan size words₀ sets₀ pace₀ table₀ tries₀ skipped₀ b₀ words sets pace table tries skipped b = size - 1024 * b
 
 abbrev start : tie.At-loop Inv-loop μ-loop → tie.Start Inv-loop μ-loop
 start l = l .before .before .before .before .before .before
@@ -44,9 +44,6 @@ shl-size c = omega (arith, c .before .before .pre .inputs)
 
 all-vectors-requires : tie.Need-all-vectors-requires Inv-loop μ-loop
 all-vectors-requires c κs = c .before .before .pre .targets
-
-first-trust-requires : tie.Need-first-trust-requires Inv-loop μ-loop
-first-trust-requires c κs = c .before .before .before .pre .inputs
 
 first-tries-requires : tie.Need-first-tries-requires Inv-loop μ-loop
 first-tries-requires c κs = c .before .before .before .before .pre
@@ -58,7 +55,7 @@ loop-holds c =
     let s = a .before .before .before in (
       length-replicate {A = ℕ} 16384 0,
       length-replicate 1024 (65536 + a .all-vectors .result),
-      t .first-trust .ensures,
+      t .first-pace .ensures,
       λ _. sole-start (a .all-vectors .result),
       walk-start (SetsAfter _ _ _ _) (s .pre .inputs)
           (λ j q. sets-start j (omega (arith, s .pre .targets, q .planned .targets)) (a .all-vectors .ensures ∙ ap (λ (m : ℕ). 2 ^ 2 ^ m - 1) (q .planned .targets))),
@@ -75,28 +72,28 @@ next-tries-requires c κs = c .before .before .loop .inv .5
 
 meet-inputs-requires : tie.Need-meet-inputs-requires Inv-loop μ-loop
 meet-inputs-requires c κs =
-    let b = c .before .before .before in
+    let b = c .before .before .before .before in
     let l = b .before .before .before .before .before in
     let i = l .loop .inv in (
-      (start l .pre, walk-range (i .4) (omega arith) (b .block-inputs .ensures), λ e. i .3 (ltb-true 0 (l .loop .trust) e)),
+      (start l .pre, walk-range (i .4) (omega arith) (b .block-inputs .ensures), λ e. i .3 (eqb-true (l .loop .pace .wait) 0 e)),
       (i .1, i .0),
     )
 
-next-trust-requires : tie.Need-next-trust-requires Inv-loop μ-loop
-next-trust-requires c κs = c .before .before .before .before .before .before .before .before .before .loop .inv .2
+next-pace-requires : tie.Need-next-pace-requires Inv-loop μ-loop
+next-pace-requires c κs = c .before .before .before .before .before .before .before .before .before .before .loop .inv .2
 
 loop-again : tie.Need-loop-again Inv-loop μ-loop
 loop-again c =
-    let n = c .before in
+    let n = c .before .before in
     let m = n .before in
-    let b = m .before .before .before .before in
+    let b = m .before .before .before .before .before in
     let l = b .before .before .before .before .before in
     let i = l .loop .inv in
     let e = m .meet-inputs .ensures in (
       e .0 .1,
       e .0 .0 .long ∙ i .1,
-      n .next-trust .ensures,
-      -- the table is made again; or the sets stay; or it is not trusted any more
+      n .next-pace .ensures,
+      -- the table is made again; or the sets stay; or it is not tried next
       λ o.
           ⊎-elim (λ w. rw (w .2) (w .1 .ensures))
           (λ w.
@@ -104,8 +101,8 @@ loop-again c =
           (⊎-elim
           (λ k.
           let s = e .1 (not-false (m .meet-inputs .result) k) in
-          rw (s .1) (i .3 (ltb-true 0 (l .loop .trust) (s .0))))
-          (λ z. let f : ⊥ = omega (arith, ltb-false 0 (n .next-trust .result) z) in absurd f)
+          rw (s .1) (i .3 (eqb-true (l .loop .pace .wait) 0 (s .0))))
+          (λ z. absurd (eqb-false (n .next-pace .result .wait) 0 z o))
           (and-cases _ _ (w .0 .left))))
           (c .if2 .came),
       walk-block (i .4) (omega arith) (b .block-inputs .ensures) (SetsAfter _ _ _ _)
@@ -143,6 +140,6 @@ returns c =
 pub sets-of-inputs-spec : {M : Type 1} → statement M
 sets-of-inputs-spec =
     tie.close
-    (tie.spec Inv-loop μ-loop shl-size all-vectors-requires (λ c. omega arith) (λ c. omega arith) first-trust-requires first-tries-requires loop-holds
+    (tie.spec Inv-loop μ-loop shl-size all-vectors-requires (λ c. omega arith) (λ c. omega arith) (λ c κs. tt) first-tries-requires loop-holds
     (λ c. omega arith) settled-from-requires next-tries-requires (λ c. omega arith) (λ c. omega arith) (λ c κs. tt) meet-inputs-requires
-    next-trust-requires (λ c κs. tt) (λ c. omega arith) (λ c. omega arith) loop-again shl-skipped add-b-2 (λ c. omega arith) loop-again-2 returns)
+    next-pace-requires (λ c κs. tt) (λ c. omega arith) (λ c. omega arith) loop-again shl-skipped add-b-2 (λ c. omega arith) loop-again-2 returns)
