@@ -241,7 +241,7 @@ fn list_inputs(
     }
     vector_block(gates, plan, 0, words);
     let masks = masks_of(gates, plan, words);
-    let next = next_trust(trust, b, false);
+    let next = next_trust(trust, b);
     if 0 < next {
         sort_block(masks, readings, (count + 63) / 64, sets);
     }

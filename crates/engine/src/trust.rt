@@ -36,14 +36,11 @@ pub(super) fn more(trust: usize) -> usize
     if trust < TRUST { trust + 1 } else { TRUST }
 }
 
-// After block b, which the test saved or did not. It is not tried on the first block.
-pub(super) fn next_trust(trust: usize, b: usize, saved: bool) -> usize
+// After block b, which the test did not save. It is not tried on the first block.
+pub(super) fn next_trust(trust: usize, b: usize) -> usize
     requires { ⌜ trust ≤ 64 ⌝ }
     ensures { λ r. ⌜ r ≤ 64 ⌝ }
 {
-    if saved {
-        return more(trust);
-    }
     if b == 0 { trust } else { less(trust) }
 }
 
