@@ -3,6 +3,7 @@
 // all; then a block is known to give none of them without a look at each of its inputs. No proof rests on a cube being wide, or on it having
 // no other readings.
 ghost use mathlib.Core.Path.{_≡_};
+ghost use mathlib.Core.Logic.{_⊎_};
 ghost use mathlib.Core.Bool.{true, false, cond};
 ghost use Prim.Native.Nat.{ℕ, _≤_, _<_};
 ghost use lib.Dec.{eqb};
@@ -77,6 +78,17 @@ fn in_cover(cover: Cover, reading: usize) -> bool
     false
 }
 
+// .. in one of either
+fn in_either(a: Cover, b: Cover, reading: usize) -> bool
+    requires { ⌜ CoverHeld a × CoverHeld b ⌝ }
+    ensures { λ r. ⌜ (r ≡ true → InCover a reading ⊎ InCover b reading) ⌝ }
+{
+    if in_cover(a, reading) {
+        return true;
+    }
+    in_cover(b, reading)
+}
+
 // Whether the readings of a cube are unseen. They are looked at one after the other, by counting in the bits that the cube leaves open.
 fn all_unseen(sets: &[u32; READINGS], value: usize, care: usize) -> bool {
     let mut free = 0usize;
@@ -149,16 +161,16 @@ pub(super) fn all_readings() -> Cover
     }
 }
 
-// A cover of the unseen readings of so many nets; of all readings where it would take more than 64 cubes.
-pub(super) fn cover_of(sets: &[u32; READINGS], reads: usize) -> Cover
-    requires { ⌜ reads ≤ 10 ⌝ }
-    ensures { λ r. ⌜ CoverOf (now (sets .entry)) reads r ⌝ }
+// A cover of the unseen readings of so many nets that are in no cube of another; of all readings where it would take more than 64 cubes.
+pub(super) fn cover_of(sets: &[u32; READINGS], reads: usize, never: Cover) -> Cover
+    requires { ⌜ (reads ≤ 10) × CoverHeld never ⌝ }
+    ensures { λ r. ⌜ CoverOf (now (sets .entry)) reads never r ⌝ }
 {
     let count = reading_count(reads);
     let mut cover = no_cubes();
     let mut r = next_unseen(sets, 0, count);
     while r < count {
-        if !in_cover(cover, r) {
+        if !in_either(never, cover, r) {
             if cover.count == CUBES {
                 return all_readings();
             }

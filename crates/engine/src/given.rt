@@ -11,14 +11,17 @@ ghost use Rattle.engine.specs.Inner.Miter.{MiterRoom, MergedOf};
 ghost use Rattle.engine.specs.Inner.Plan.{NetsRead, PlanHeld};
 ghost use Rattle.engine.specs.Inner.Search.{BlockRange};
 ghost use Rattle.engine.specs.Inner.Best.{GivenBits};
+ghost use Rattle.engine.specs.Inner.Imply.{NoneGives};
 ghost use Rattle.engine.specs.Inner.Given.{GivenCover, BlockSeen, Unseen, SameVectors, AllSeen};
 use super::cover::Cover;
 use super::cover::all_readings;
 use super::cover::cover_of;
 use super::cover::gives_cover;
 use super::cover::next_unseen;
+use super::cover::no_cubes;
 use super::cover::unseen_count;
-use super::imply::unrefuted;
+use super::imply::Sorted;
+use super::imply::sort_cubes;
 use super::leaves::block_inputs;
 use super::leaves::read_rows;
 use super::limits::BLOCK;
@@ -64,52 +67,72 @@ fn see_block(
     meet_block([!0u64; ROWS], readings, (count + 63) / 64, sets);
 }
 
-// A cover of the unseen readings that an input may still give. Few cubes that are not refuted at once are worth a longer look.
-fn given_cover(gates: &[u64], plan: Plan, sets: &[u32; READINGS]) -> Cover
-    requires { ⌜ PlanHeld plan (now gates) ⌝ }
-    ensures { λ r. ⌜ GivenCover plan (now (gates .entry)) (now (sets .entry)) r ⌝ }
+// A cover of the unseen readings that an input may still give, beside cubes that none gives, some of which are known. Few cubes that are not
+// refuted at once are worth a longer look.
+fn given_cover(gates: &[u64], plan: Plan, sets: &[u32; READINGS], never: Cover) -> Sorted
+    requires { ⌜ PlanHeld plan (now gates) × NoneGives plan (now gates) never ⌝ }
+    ensures { λ r. ⌜ GivenCover plan (now (gates .entry)) (now (sets .entry)) (r .left) × NoneGives plan (now (gates .entry)) (r .never) ⌝ }
 {
-    let left = unrefuted(gates, plan, cover_of(sets, plan.reads), 1);
+    let cover = cover_of(sets, plan.reads, never);
+    let first = sort_cubes(gates, plan, cover, never, 1);
+    let left = first.left;
+    let refuted = first.never;
     if TESTED < left.count {
-        return all_readings();
+        return Sorted {
+            left: all_readings(),
+            never: refuted,
+        };
     }
-    unrefuted(gates, plan, left, SPLITS)
+    sort_cubes(gates, plan, left, refuted, SPLITS)
 }
 
-// A cover, how many readings were unseen when it was made, and how often it may be made anew.
+// Such a cover, how many readings were unseen when it was made, and how often it may be made anew.
 struct Covering {
-    cover: Cover,
+    left: Cover,
+    never: Cover,
     unseen: usize,
     renewals: usize,
 }
 
-fn covering_of(gates: &[u64], plan: Plan, sets: &[u32; READINGS], renewals: usize) -> Covering
-    requires { ⌜ PlanHeld plan (now gates) ⌝ }
-    ensures { λ r. ⌜ GivenCover plan (now (gates .entry)) (now (sets .entry)) (r .cover) ⌝ }
+fn covering_of(
+    gates: &[u64],
+    plan: Plan,
+    sets: &[u32; READINGS],
+    never: Cover,
+    renewals: usize,
+) -> Covering
+    requires { ⌜ PlanHeld plan (now gates) × NoneGives plan (now gates) never ⌝ }
+    ensures { λ r. ⌜ GivenCover plan (now (gates .entry)) (now (sets .entry)) (r .left) × NoneGives plan (now (gates .entry)) (r .never) ⌝ }
 {
+    let cubes = given_cover(gates, plan, sets, never);
+    let left = cubes.left;
+    let never = cubes.never;
     Covering {
-        cover: given_cover(gates, plan, sets),
+        left,
+        never,
         unseen: unseen_count(sets),
         renewals,
     }
 }
 
-// .. made anew, where fewer readings are unseen than when it was made, before a range's block 0, 1, 2, 4, 8 or 16
-fn renewed(gates: &[u64], plan: Plan, sets: &[u32; READINGS], old: Covering, b: usize) -> Covering
-    requires { ⌜ PlanHeld plan (now gates) × GivenCover plan (now gates) (now sets) (old .cover) ⌝ }
-    ensures { λ r. ⌜ GivenCover plan (now (gates .entry)) (now (sets .entry)) (r .cover) ⌝ }
+// .. made anew, where fewer readings are unseen than when it was made
+fn renewed(gates: &[u64], plan: Plan, sets: &[u32; READINGS], old: Covering) -> Covering
+    requires { ⌜ PlanHeld plan (now gates) × GivenCover plan (now gates) (now sets) (old .left) × NoneGives plan (now gates) (old .never) ⌝ }
+    ensures { λ r. ⌜ GivenCover plan (now (gates .entry)) (now (sets .entry)) (r .left) × NoneGives plan (now (gates .entry)) (r .never) ⌝ }
 {
-    let r = b % RANGE;
-    if r & (r + RANGE - 1) != 0 {
-        return old;
-    }
     if old.renewals == 0 {
         return old;
     }
     if unseen_count(sets) == old.unseen {
         return old;
     }
-    covering_of(gates, plan, sets, old.renewals - 1)
+    covering_of(gates, plan, sets, old.never, old.renewals - 1)
+}
+
+// Whether it is time for that: before a range's block 0, 1, 2, 4, 8 or 16.
+fn is_due(b: usize) -> bool {
+    let r = b % RANGE;
+    r & (r + RANGE - 1) == 0
 }
 
 // The sets after the inputs of the ranges that were skipped. It ends where no reading is unseen, or none of those that are can be given.
@@ -121,24 +144,26 @@ fn see_inputs(gates: &[u64], plan: Plan, skipped: usize, sets: &mut [u32; READIN
     let count = reading_count(plan.reads);
     let size = 1usize << plan.inputs;
     let mut words = [0u64; WORDS];
-    let mut covering = covering_of(gates, plan, sets, RENEWALS);
+    let mut covering = covering_of(gates, plan, sets, no_cubes(), RENEWALS);
     let mut next = next_unseen(sets, 0, count);
     let mut b = 0usize;
     while BLOCK * b < size {
         if next == count {
             return;
         }
-        if covering.cover.count == 0 {
+        if is_due(b) {
+            covering = renewed(gates, plan, sets, covering);
+        }
+        if covering.left.count == 0 {
             return;
         }
         if (skipped >> (b / RANGE)) % 2 == 1 {
-            covering = renewed(gates, plan, sets, covering, b);
             see_block(
                 gates,
                 plan,
                 b,
                 block_inputs(size - BLOCK * b),
-                covering.cover,
+                covering.left,
                 &mut words,
                 sets,
             );

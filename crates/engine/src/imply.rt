@@ -9,12 +9,13 @@ ghost use Prim.Native.Nat.{ℕ, _≤_, _<_};
 ghost use lib.ListN.{length, getD};
 ghost use Rattle.records.specs.Netlist.{netAt};
 ghost use Rattle.engine.specs.Inner.Cover.{CoverHeld};
-ghost use Rattle.engine.specs.Inner.Imply.{Implied, Learns, AllHave, Forces, GateHas, ValuesOf, CubeHas, Unrefuted};
+ghost use Rattle.engine.specs.Inner.Imply.{Implied, Learns, AllHave, Forces, GateHas, ValuesOf, CubeHas, NoneGives, CubeSorted, Unrefuted};
 ghost use Rattle.engine.specs.Inner.Packed.{operandsOf};
 ghost use Rattle.engine.specs.Inner.Plan.{PlanHeld};
 use super::cover::Cover;
 use super::cover::no_cubes;
 use super::cover::with_cube;
+use super::limits::CUBES;
 use super::limits::NETS;
 use super::packed::COUNT_AT;
 use super::packed::COUNTS;
@@ -236,23 +237,70 @@ fn refuted(gates: &[u64], plan: Plan, value: usize, care: usize, splits: usize) 
     contradicts(gates, ends[0], known, splits)
 }
 
-// The cubes of a cover that are not refuted, with so many nets split for each. A cube costs two steps a gate of the plan, and as many for each
-// case tried.
-pub(super) fn unrefuted(gates: &[u64], plan: Plan, cover: Cover, splits: usize) -> Cover
-    requires { ⌜ PlanHeld plan (now gates) × CoverHeld cover ⌝ }
-    ensures { λ r. ⌜ Unrefuted plan (now (gates .entry)) cover r ⌝ }
+// Cubes that an input may give, and cubes that none gives.
+pub struct Sorted {
+    pub left: Cover,
+    pub never: Cover,
+}
+
+// .. with one cube more, to the ones or the others. It costs two steps a gate of the plan, and as many for each case tried.
+fn sort_cube(
+    gates: &[u64],
+    plan: Plan,
+    value: usize,
+    care: usize,
+    splits: usize,
+    sorted: Sorted,
+) -> Sorted
+    requires { ⌜ PlanHeld plan (now gates) × (value < 1024) × (care < 1024) ⌝ }
+    requires { ⌜ CoverHeld (sorted .left) × (sorted .left .count < 64) × NoneGives plan (now gates) (sorted .never) ⌝ }
+    ensures { λ r. ⌜ CubeSorted plan (now (gates .entry)) value care (sorted .left) (r .left) × NoneGives plan (now (gates .entry)) (r .never) ⌝ }
+{
+    let left = sorted.left;
+    let never = sorted.never;
+    if !refuted(gates, plan, value, care, splits) {
+        return Sorted {
+            left: with_cube(left, value, care),
+            never,
+        };
+    }
+    if never.count == CUBES {
+        return sorted;
+    }
+    Sorted {
+        left,
+        never: with_cube(never, value, care),
+    }
+}
+
+// The cubes of a cover, those that are refuted, with so many nets split for each, put to the ones that no input gives.
+pub(super) fn sort_cubes(
+    gates: &[u64],
+    plan: Plan,
+    cover: Cover,
+    never: Cover,
+    splits: usize,
+) -> Sorted
+    requires { ⌜ PlanHeld plan (now gates) × CoverHeld cover × NoneGives plan (now gates) never ⌝ }
+    ensures { λ r. ⌜ Unrefuted plan (now (gates .entry)) cover (r .left) × NoneGives plan (now (gates .entry)) (r .never) ⌝ }
 {
     let values = cover.values;
     let cares = cover.cares;
-    let mut left = no_cubes();
+    let mut sorted = Sorted {
+        left: no_cubes(),
+        never,
+    };
     let mut i = 0usize;
     while i < cover.count {
-        let value = values[i] as usize;
-        let care = cares[i] as usize;
-        if !refuted(gates, plan, value, care, splits) {
-            left = with_cube(left, value, care);
-        }
+        sorted = sort_cube(
+            gates,
+            plan,
+            values[i] as usize,
+            cares[i] as usize,
+            splits,
+            sorted,
+        );
         i += 1;
     }
-    left
+    sorted
 }

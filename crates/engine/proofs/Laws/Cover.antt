@@ -1,7 +1,7 @@
 -- Laws of covers by cubes (specs/Inner/Cover). Assumes nothing.
 use Prim.Native.Nat.{ℕ, _+_, _-_, _*_, _/_, _%_, _^_, min, _≤_, _<_}
 use mathlib.Core.Path.{_≡_, refl, sym, _∙_, ap}
-use mathlib.Core.Logic.{⊎-elim}
+use mathlib.Core.Logic.{_⊎_, inl, inr, ⊎-elim}
 use mathlib.Core.List.{List, map}
 use mathlib.Core.Bool.{Bool, true, false, cond}
 use native.Mathlib.Omega.{arith}
@@ -96,23 +96,36 @@ cube-added c value care h l v k =
             cube =
                 rw (getD-set-other (c .values) n p value 0 o, getD-set-other (c .cares) n p care 0 o) (m .cube);
           };
+      only = λ q m.
+          let p = m .place in
+          ⊎-elim
+          (λ (e : p ≡ n). inr (rw (e, is, cares) at (m .cube)))
+          (λ (l : p < n).
+          let o : p ≡ n → ⊥ = λ e. omega arith in
+          inl record {
+            place = p;
+            within = l;
+            cube =
+                rw (getD-set-other (c .values) n p value 0 o, getD-set-other (c .cares) n p care 0 o) at (m .cube);
+          })
+          (eq-or-below p n (m .within));
     }
 
-module _ (ss : List ℕ) {r : ℕ} {c : Cover} where
-  pub cover-none : {n : ℕ} → NextUnseen ss 0 n r → CoverTo ss r c
+module _ (ss : List ℕ) {r : ℕ} {e c : Cover} where
+  pub cover-none : {n : ℕ} → NextUnseen ss 0 n r → CoverTo ss r e c
   cover-none u q l o = let f : ⊥ = omega (arith, u .seen q (omega arith) l) in absurd f
 
   -- .. and the next, and those from there on to the next unseen one
-  pub cover-next : {n s : ℕ} → CoverTo ss r c → InCover c r → NextUnseen ss (r + 1) n s → CoverTo ss s c
+  pub cover-next : {n s : ℕ} → CoverTo ss r e c → InCover e r ⊎ InCover c r → NextUnseen ss (r + 1) n s → CoverTo ss s e c
   cover-next a m u q l o =
       ⊎-elim
       (λ (t : ltb q (r + 1) ≡ true).
-      ⊎-elim (λ (e : q ≡ r). rw e m) (λ (b : q < r). a q b o) (eq-or-below q r (ltb-true q (r + 1) t)))
+      ⊎-elim (λ (i : q ≡ r). rw i m) (λ (b : q < r). a q b o) (eq-or-below q r (ltb-true q (r + 1) t)))
       (λ (t : ltb q (r + 1) ≡ false). let f : ⊥ = omega (arith, u .seen q (ltb-false q (r + 1) t) l) in absurd f)
       (true-or-false (ltb q (r + 1)))
 
-  pub cover-more : {k : ℕ} {d : Cover} → CoverTo ss r c → CubeAdded c r k d → CoverTo ss r d
-  cover-more a m q l o = m .kept q (a q l o)
+  pub cover-more : {k : ℕ} {d : Cover} → CoverTo ss r e c → CubeAdded c r k d → CoverTo ss r e d
+  cover-more a m q l o = ⊎-elim inl (λ i. inr (m .kept q i)) (a q l o)
 
 pub zero-cubes : (n : ℕ) → n ≤ 64 → CoverHeld (record { count = n; values = replicate 64 0; cares = replicate 64 0 })
 zero-cubes n h =

@@ -20,9 +20,9 @@ use Rattle.records.specs.Refusal.{gateGood, gatesGood, candidateGood}
 use Rattle.records.proofs.Laws.Bytes.{and-both, all-cons}
 use Rattle.engine.specs.Eval.{bit, numberOf}
 use Rattle.engine.specs.Support.{reading}
-use Rattle.engine.specs.Inner.Cover.{InCube, CoverOf}
+use Rattle.engine.specs.Inner.Cover.{InCube, CoverHeld, CubeAdded, CoverOf}
 use Rattle.engine.specs.Inner.Given.{GivenCover}
-use Rattle.engine.specs.Inner.Imply.{Binary, Implied, Learns, AllHave, Forces, GateHas, ValuesOf, CubeHas, Unrefuted}
+use Rattle.engine.specs.Inner.Imply.{Binary, Implied, Learns, AllHave, Forces, GateHas, ValuesOf, CubeHas, NoneGives, CubeSorted, Unrefuted}
 use Rattle.engine.specs.Inner.Miter.{miterGates, miterNets, miterValues}
 use Rattle.engine.specs.Inner.Packed.{own, packed, packedFrom, formed, joined, folded, foldedFrom, operation, countOf, operandsOf, fields, codeValue}
 use Rattle.engine.specs.Inner.Plan.{fanned, PlanHeld, ReadsOf}
@@ -264,13 +264,40 @@ module _ {p : Plan} {gates : List ℕ} where
   pub unrefuted-then : {c d e : Cover} → Unrefuted p gates c d → Unrefuted p gates d e → Unrefuted p gates c e
   unrefuted-then f g = record { held = g .held; left = λ vs v m. g .left vs v (f .left vs v m) }
 
-  pub cover-given : {ss : List ℕ} {c d : Cover} → PlanHeld p gates → CoverOf ss (p .reads) c → Unrefuted p gates c d → GivenCover p gates ss d
-  cover-given h o m =
+  -- no cubes: no values give one
+  pub no-cubes-given : {c : Cover} → CoverHeld c → c .count ≡ 0 → NoneGives p gates c
+  no-cubes-given h e = record { held = h; none = λ vs v m. omega (arith, m .within) }
+
+  module _ (value care : ℕ) where
+    -- a cube is left
+    pub cube-left : {c d : Cover} → CubeAdded c value care d → CubeSorted p gates value care c d
+    cube-left a = record { held = a .held; count = omega (arith, a .count); kept = a .kept; left = λ vs v m. a .added _ m }
+
+    -- .. or refuted
+    module _ (h : PlanHeld p gates)
+        (f : (vs : List ℕ) → ValuesOf gates (getD (p .ends) 0 0) vs → CubeHas (p .nets) (p .reads) value care vs → ⊥) where
+      none-in : (vs : List ℕ) → ValuesOf gates (getD (p .ends) 0 0) vs
+          → InCube value care (numberOf (map (netAt vs) (take (p .reads) (p .nets)))) → ⊥
+      none-in vs v m = f vs v (cube-has (p .nets) (p .reads) value care vs (omega (arith, h .reads, h .nets)) (v .0) m)
+
+      pub cube-refuted : {c : Cover} → CoverHeld c → CubeSorted p gates value care c c
+      cube-refuted l = record { held = l; count = omega arith; kept = λ r m. m; left = λ vs v m. absurd (none-in vs v m) }
+
+      pub none-added : {c d : Cover} → NoneGives p gates c → CubeAdded c value care d → NoneGives p gates d
+      none-added n a = record { held = a .held; none = λ vs v m. ⊎-elim (n .none vs v) (none-in vs v) (a .only _ m) }
+
+  pub cover-given : {ss : List ℕ} {e c d : Cover} → PlanHeld p gates → CoverOf ss (p .reads) e c → NoneGives p gates e → Unrefuted p gates c d
+      → GivenCover p gates ss d
+  cover-given h o n m =
       record {
         held = m .held;
         covers = λ j is q good x u.
-            let n = first-few (p .reads) (p .nets) (q .nets) in
-            let few : reading j is x < 2 ^ p .reads = omega (arith, reading-lt j is x, pow-mono n) in
+            let k = first-few (p .reads) (p .nets) (q .nets) in
+            let few : reading j is x < 2 ^ p .reads = omega (arith, reading-lt j is x, pow-mono k) in
             let e = job-reading h q x good in
-            rw e at (m .left (miterValues j x 0) (job-values h q x) (rw (← e) at (o .covers (reading j is x) few u)));
+            let v = job-values h q x in
+            ⊎-elim
+            (λ i. absurd (n .none (miterValues j x 0) v (rw e i)))
+            (λ i. rw e at (m .left (miterValues j x 0) v (rw e i)))
+            (o .covers (reading j is x) few u);
       }

@@ -5,13 +5,14 @@
 --   InCube value care q      q has the bits of value at the nets that care says
 --   CoverHeld c              the lengths and bounds of a cover's struct
 --   InCover c q              q is in one of its cubes
---   CubeAdded c .. d         d has the cubes of c, and one more
---   CoverTo ss n c           the unseen ones of the first n readings are in the cover
---   CoverOf ss k c           .. of the readings of k nets
+--   CubeAdded c .. d         d has the cubes of c, and one more, and no others
+--   CoverTo ss n e c         the unseen ones of the first n readings are in one of two covers
+--   CoverOf ss k e c         .. of the readings of k nets
 --   readingIn words is y     the reading of the nets is in scenario y of a block
 --   GivesNone ..             .. is in no scenario in the cover
 use Prim.Native.Nat.{ℕ, _+_, _^_, _≤_, _<_}
 use mathlib.Core.Path.{_≡_}
+use mathlib.Core.Logic.{_⊎_}
 use mathlib.Core.List.{List, map}
 use lib.ListN.{length, getD}
 use Rattle.engine.specs.Eval.{bit, numberOf}
@@ -44,13 +45,14 @@ pub record CubeAdded (c : Cover) (value care : ℕ) (d : Cover) : Type 0 where
   pub count : d .count ≡ c .count + 1
   pub added : (q : ℕ) → InCube value care q → InCover d q
   pub kept : (r : ℕ) → InCover c r → InCover d r
+  pub only : (q : ℕ) → InCover d q → InCover c q ⊎ InCube value care q
 
-abbrev pub CoverTo : List ℕ → ℕ → Cover → Type 0
-CoverTo ss n c = (q : ℕ) → q < n → bit maxVectors (getD ss q 0) ≡ 1 → InCover c q
+abbrev pub CoverTo : List ℕ → ℕ → Cover → Cover → Type 0
+CoverTo ss n e c = (q : ℕ) → q < n → bit maxVectors (getD ss q 0) ≡ 1 → InCover e q ⊎ InCover c q
 
-pub record CoverOf (ss : List ℕ) (k : ℕ) (c : Cover) : Type 0 where
+pub record CoverOf (ss : List ℕ) (k : ℕ) (e c : Cover) : Type 0 where
   pub held : CoverHeld c
-  pub covers : CoverTo ss (2 ^ k) c
+  pub covers : CoverTo ss (2 ^ k) e c
 
 abbrev pub readingIn : List ℕ → List ℕ → ℕ → ℕ
 readingIn words is y = numberOf (map (valueIn words y) is)

@@ -9,8 +9,10 @@
 --   GateHas c vs            the net of gate c has the value that its operands give, and that what is known of them gives, if it gives one
 --   ValuesOf cs n vs        .. as those of the first n gates of cs
 --   CubeHas ..              the nets of a cube have its values
+--   NoneGives p gates c     values of the gates give no reading of the cover c
+--   CubeSorted p .. c d     d has the cubes of c and, where values of the gates may give a reading of one more, that one
 --   Unrefuted ..            the cubes that values of the gates may give are left
-use Prim.Native.Nat.{ℕ, _<_}
+use Prim.Native.Nat.{ℕ, _+_, _≤_, _<_}
 use mathlib.Core.Path.{_≡_}
 use mathlib.Core.List.{List, map}
 use mathlib.Core.Bool.{Bool, true}
@@ -19,7 +21,7 @@ use lib.ListN.{getD, take}
 use Rattle.records.specs.Bytes.{all}
 use Rattle.records.specs.Netlist.{netAt}
 use Rattle.engine.specs.Eval.{bit, numberOf}
-use Rattle.engine.specs.Inner.Cover.{CoverHeld, InCover}
+use Rattle.engine.specs.Inner.Cover.{InCube, CoverHeld, InCover}
 use Rattle.engine.specs.Inner.Packed.{own, operation, operandsOf, folded, codeValue}
 use Rattle.engine.specs.Inner.Ranges.{codeTernary}
 use Rattle.engine.specs.declared.cover.Cover.{Cover}
@@ -51,6 +53,19 @@ ValuesOf cs n vs = Binary vs × ((i : ℕ) → i < n → GateHas (getD cs i 0) v
 
 abbrev pub CubeHas : List ℕ → ℕ → ℕ → ℕ → List ℕ → Type 0
 CubeHas nets reads value care vs = (k : ℕ) → k < reads → bit k care ≡ 1 → netAt vs (getD nets k 0) ≡ bit k value
+
+pub record NoneGives (p : Plan) (gates : List ℕ) (c : Cover) : Type 0 where
+  pub held : CoverHeld c
+  pub none : (vs : List ℕ) → ValuesOf gates (getD (p .ends) 0 0) vs
+      → InCover c (numberOf (map (netAt vs) (take (p .reads) (p .nets)))) → ⊥
+
+pub record CubeSorted (p : Plan) (gates : List ℕ) (value care : ℕ) (c d : Cover) : Type 0 where
+  pub held : CoverHeld d
+  pub count : d .count ≤ c .count + 1
+  pub kept : (r : ℕ) → InCover c r → InCover d r
+  pub left : (vs : List ℕ) → ValuesOf gates (getD (p .ends) 0 0) vs
+      → InCube value care (numberOf (map (netAt vs) (take (p .reads) (p .nets))))
+      → InCover d (numberOf (map (netAt vs) (take (p .reads) (p .nets))))
 
 pub record Unrefuted (p : Plan) (gates : List ℕ) (c d : Cover) : Type 0 where
   pub held : CoverHeld d

@@ -6,12 +6,16 @@ use Rattle.engine.proofs.given.given_cover.Statement.{statement}
 use Rattle.engine.proofs.given.given_cover.Tie as tie
 
 returns : tie.Need-returns
-returns c = let a = c .all-readings .ensures in all-given (a .0) (a .1)
+returns c =
+    let a = c .all-readings .ensures in
+    (all-given (a .0) (a .1), c .before .before .before .before .before .sort-cubes .ensures .1)
 
 returns-2 : tie.Need-returns-2
 returns-2 c =
-    let u = c .before .before .before in
-    cover-given (u .before .before .before .pre) (u .before .cover-of .ensures) (unrefuted-then (u .unrefuted .ensures) (c .unrefuted2 .ensures))
+    let u = c .before .before .before .before .before in
+    let s = u .before .before .before in
+    let e = c .sort-cubes2 .ensures in
+    (cover-given (s .pre .0) (u .before .cover-of .ensures) (s .pre .1) (unrefuted-then (u .sort-cubes .ensures .0) (e .0)), e .1)
 
 pub given-cover-spec : {M : Type 1} → statement M
 given-cover-spec =
