@@ -144,17 +144,17 @@ fn choose_job(job: JobParts, reply: &mut [u8]) -> ChooseReply
     rule_patch(support, best.cost, &sets, reply)
 }
 
-// The service choose: the cheapest patch of a job, or the blind reading, and its sheet at the start of the reply buffer. Refused are a
-// buffer below 2,084 bytes (1) and what is no whole job (2 to 6). It walks all inputs, also those that no vector rectifies. It costs, for
-// each block of 1,024 inputs, one gate evaluation a gate of both netlists; and, unless each reading that the block gives has one vector
-// left, or none, which rectifies its inputs (see sole.rt, from 17 inputs on), one for every second vector and each gate that the target with
-// the fewest leads to, for every fourth vector and each gate that another leads to, and so on, and some 1,000 steps to note the inputs. An
-// evaluation takes 16 words. Gates and outputs are left out, and partial evaluation is tried, as in judge. The choice among the sets of k
-// candidates leaves out one net after the other and stops at unsound and at too dear sets: at most 3 ^ k steps, whatever the gates are, and
-// as many more where supports cost the same and the gates of their patches are counted. The notes cost nothing where no block was spared, and
-// some 10 to 40 us where gates show which readings of the support no input gives (see imply.rt); else, for each block that was spared until all
-// readings are seen, one gate evaluation a gate that leads to the support, and some 1,000 steps where the block may give an unseen reading, which
-// is about what it would have cost at most. A job of at most six inputs costs as in judge.
+// The service choose: the cheapest patch of a job, or the blind reading, and its sheet at the start of the reply buffer. Refused are a buffer
+// below 2,084 bytes (1) and what is no whole job (2 to 6). It walks all inputs, also those that no vector rectifies. It costs, for each block
+// of 1,024 inputs, one gate evaluation a gate of both netlists; and, unless it is tried and shown that each reading that the block gives has
+// one vector left, or none, which rectifies its inputs (see sole.rt; trust.rt says when), one for every second vector and each gate that the
+// target with the fewest leads to, for every fourth vector and each gate that another leads to, and so on, and some 1,000 steps to note the
+// inputs. An evaluation takes 16 words. Gates and outputs are left out, and partial evaluation is tried, as in judge. The choice among the
+// sets of k candidates leaves out one net after the other and stops at unsound and at too dear sets: at most 3 ^ k steps, whatever the gates
+// are, and as many more where supports cost the same and the gates of their patches are counted. The notes cost nothing where no block was
+// spared, and some 10 to 40 us where gates show which readings of the support no input gives (see imply.rt); else, for each block that was
+// spared until all readings are seen, one gate evaluation a gate that leads to the support, and some 1,000 steps where the block may give an
+// unseen reading, which is about what it would have cost at most. A job of at most six inputs costs as in judge.
 pub fn choose(job: &[u8], reply: &mut [u8]) -> ChooseReply
     ensures reply { λ r. ⌜ r ≡ chooseReply (now (reply .entry)) (now (job .entry)) ⌝ }
     ensures lent { λ _. ⌜ now (reply .exit) ≡ chosenBytes (now (reply .entry)) (now (job .entry)) ⌝ }

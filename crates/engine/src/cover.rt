@@ -78,7 +78,7 @@ fn in_cover(cover: Cover, reading: usize) -> bool
     false
 }
 
-// .. in one of either
+// .. in a cube of one of two covers
 fn in_either(a: Cover, b: Cover, reading: usize) -> bool
     requires { ⌜ CoverHeld a × CoverHeld b ⌝ }
     ensures { λ r. ⌜ (r ≡ true → InCover a reading ⊎ InCover b reading) ⌝ }
@@ -161,7 +161,8 @@ pub(super) fn all_readings() -> Cover
     }
 }
 
-// A cover of the unseen readings of so many nets that are in no cube of another; of all readings where it would take more than 64 cubes.
+// A cover of those unseen readings of so many nets that are in no cube of never, which its own cubes may overlap; of all readings where it would
+// take more than 64 cubes.
 pub(super) fn cover_of(sets: &[u32; READINGS], reads: usize, never: Cover) -> Cover
     requires { ⌜ (reads ≤ 10) × CoverHeld never ⌝ }
     ensures { λ r. ⌜ CoverOf (now (sets .entry)) reads never r ⌝ }

@@ -2,7 +2,7 @@
 ghost use mathlib.Core.Path.{_≡_};
 ghost use mathlib.Core.Bool.{true};
 ghost use mathlib.Core.List.{List};
-ghost use Prim.Native.Nat.{ℕ};
+ghost use Prim.Native.Nat.{ℕ, _<_};
 ghost use lib.ListN.{length, take};
 ghost use Rattle.records.specs.Bytes.{all as all′};
 ghost use Rattle.records.specs.Job.{Job};
@@ -67,8 +67,8 @@ fn see_block(
     meet_block([!0u64; ROWS], readings, (count + 63) / 64, sets);
 }
 
-// A cover of the unseen readings that an input may still give, beside cubes that none gives, some of which are known. Few cubes that are not
-// refuted at once are worth a longer look.
+// A cover of the unseen readings that an input may still give, and cubes that none gives: those of never, and those that are refuted here. Few
+// cubes that are not refuted at once are worth a longer look.
 fn given_cover(gates: &[u64], plan: Plan, sets: &[u32; READINGS], never: Cover) -> Sorted
     requires { ⌜ PlanHeld plan (now gates) × NoneGives plan (now gates) never ⌝ }
     ensures { λ r. ⌜ GivenCover plan (now (gates .entry)) (now (sets .entry)) (r .left) × NoneGives plan (now (gates .entry)) (r .never) ⌝ }
@@ -129,10 +129,12 @@ fn renewed(gates: &[u64], plan: Plan, sets: &[u32; READINGS], old: Covering) -> 
     covering_of(gates, plan, sets, old.never, old.renewals - 1)
 }
 
-// Whether it is time for that: before a range's block 0, 1, 2, 4, 8 or 16.
-fn is_due(b: usize) -> bool {
+// Whether it is time for that: before block 0, 1, 2, 4, 8 or 16 of a range that was skipped.
+fn is_due(skipped: usize, b: usize) -> bool
+    requires { ⌜ b < 1024 ⌝ }
+{
     let r = b % RANGE;
-    r & (r + RANGE - 1) == 0
+    (r & (r + RANGE - 1) == 0) & ((skipped >> (b / RANGE)) % 2 == 1)
 }
 
 // The sets after the inputs of the ranges that were skipped. It ends where no reading is unseen, or none of those that are can be given.
@@ -151,7 +153,7 @@ fn see_inputs(gates: &[u64], plan: Plan, skipped: usize, sets: &mut [u32; READIN
         if next == count {
             return;
         }
-        if is_due(b) {
+        if is_due(skipped, b) {
             covering = renewed(gates, plan, sets, covering);
         }
         if covering.left.count == 0 {

@@ -104,7 +104,7 @@ fn learn_backward(gates: &[u64], count: usize, known: &mut [u8; NETS]) -> bool
     true
 }
 
-// Notes what is known of gate c's net by its operands. Most gates have two of which nothing is known.
+// Notes what is known of gate c's net by its operands. Most gates have two operands of which nothing is known, and say nothing.
 fn learn_from_operands(c: u64, known: &mut [u8; NETS]) -> bool
     requires { ⌜ length (now known) ≡ 1024 ⌝ }
     ensures { λ r. ⌜ (length (now (known .exit)) ≡ 1024) × Learns (GateHas c) (now (known .entry)) r (now (known .exit)) ⌝ }
@@ -243,7 +243,8 @@ pub struct Sorted {
     pub never: Cover,
 }
 
-// .. with one cube more, to the ones or the others. It costs two steps a gate of the plan, and as many for each case tried.
+// .. with one cube more: it is left, or, where it is refuted, put to never, unless that has 64 already. It costs two steps a gate of the plan, and
+// as many for each case tried.
 fn sort_cube(
     gates: &[u64],
     plan: Plan,
@@ -273,7 +274,7 @@ fn sort_cube(
     }
 }
 
-// The cubes of a cover, those that are refuted, with so many nets split for each, put to the ones that no input gives.
+// The cubes of a cover, sorted: those that are refuted, with so many nets split for each, are put to never, the others are left.
 pub(super) fn sort_cubes(
     gates: &[u64],
     plan: Plan,

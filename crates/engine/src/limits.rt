@@ -26,7 +26,7 @@ pub const WORDS: usize = ROW * NETS;
 pub const VECTORS: usize = 16;
 
 pub const ROWS: usize = ROW * VECTORS;
-// How many blocks more a test that may save a block's work may fail on than it does not (src/trust.rt).
+// How many blocks more a test that may save a block's work may fail on than it does not, and up to which wait it waits for longer (src/trust.rt).
 pub const TRUST: usize = 64;
 // How many tries of partial evaluation may settle nothing at first; each that settles a range gives one back (src/trust.rt).
 pub const TRIES: usize = 8;

@@ -118,25 +118,25 @@ pub struct Met {
     pub skipped: usize,
 }
 
-// The sets after the first count inputs of block b. Where the table of readings' only vectors is trusted and shows that they stay as they are,
+// The sets after the first count inputs of block b. Where the table of readings' only vectors is tried and shows that they stay as they are,
 // which is told, it costs one gate evaluation a gate of both netlists; else that, those of the masks, and some 1,000 steps.
 fn meet_inputs(
     gates: &[u64],
     plan: Plan,
     b: usize,
     count: usize,
-    trusted: bool,
+    tried: bool,
     table: &[u16; READINGS],
     sets: &mut [u32; READINGS],
     words: &mut [u64; WORDS],
 ) -> bool
-    requires { ⌜ PlanHeld plan (now gates) × BlockRange (plan .inputs) b count × (trusted ≡ true → SoleTable (now sets) (now table)) ⌝ }
+    requires { ⌜ PlanHeld plan (now gates) × BlockRange (plan .inputs) b count × (tried ≡ true → SoleTable (now sets) (now table)) ⌝ }
     requires { ⌜ (length (now sets) ≡ 1024) × (length (now words) ≡ 16384) ⌝ }
     ensures { λ _. ⌜ BlockMet plan (now (gates .entry)) b count (now (sets .entry)) (now (sets .exit)) × (length (now (words .exit)) ≡ 16384) ⌝ }
-    ensures { λ r. ⌜ (r ≡ true → (trusted ≡ true) × (now (sets .exit) ≡ now (sets .entry))) ⌝ }
+    ensures { λ r. ⌜ (r ≡ true → (tried ≡ true) × (now (sets .exit) ≡ now (sets .entry))) ⌝ }
 {
     let readings = read_block(gates, plan, b, words);
-    if trusted {
+    if tried {
         if keep_block(gates, plan, readings, table, words) {
             return true;
         }

@@ -1,5 +1,5 @@
-// How far a test that may save a block's work is trusted. A block on which it fails takes one, one on which it does not gives one back; or it
-// waits for longer and longer while it fails.
+// When a test that may save a block's work is tried. Judge's tables are trusted so far: a block on which they fail takes one, one on which they
+// do not gives one back. Choose's table (src/sole.rt) waits for longer and longer while it fails.
 ghost use Prim.Native.Nat.{_≤_};
 use super::limits::BLOCK;
 use super::limits::RANGE;
@@ -44,7 +44,7 @@ pub(super) fn next_trust(trust: usize, b: usize) -> usize
     if b == 0 { trust } else { less(trust) }
 }
 
-// When a test is tried next: after how many blocks; and after how many more where it fails then.
+// When a test is tried next: after wait blocks; and, where it fails then, after rest more.
 pub struct Pace {
     pub wait: usize,
     pub rest: usize,
@@ -63,7 +63,7 @@ pub(super) fn first_pace(inputs: usize, least: usize) -> Pace
     Pace { wait: 1, rest: 0 }
 }
 
-// A quarter longer, up to some 64 blocks.
+// A quarter and one block longer, until it is 64 or more: 0, 1, 2, 3, 4, 6, 8, 11, .., 59, 74.
 fn longer(rest: usize) -> usize
     requires { ⌜ rest ≤ 80 ⌝ }
     ensures { λ r. ⌜ r ≤ 80 ⌝ }
@@ -75,7 +75,7 @@ fn longer(rest: usize) -> usize
     }
 }
 
-// .. after a block, which the test saved or did not. Each time that it fails it waits for longer.
+// The pace after a block, which the test saved, did not save, or was not tried on.
 pub(super) fn next_pace(pace: Pace, saved: bool) -> Pace
     requires { ⌜ pace .rest ≤ 80 ⌝ }
     ensures { λ r. ⌜ r .rest ≤ 80 ⌝ }

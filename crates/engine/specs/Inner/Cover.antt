@@ -5,8 +5,8 @@
 --   InCube value care q      q has the bits of value at the nets that care says
 --   CoverHeld c              the lengths and bounds of a cover's struct
 --   InCover c q              q is in one of its cubes
---   CubeAdded c .. d         d has the cubes of c, and one more, and no others
---   CoverTo ss n e c         the unseen ones of the first n readings are in one of two covers
+--   CubeAdded c .. d         d has one cube more than c, and the readings of c and of that cube alone
+--   CoverTo ss n e c         the unseen ones of the first n readings are in the cover e or in c
 --   CoverOf ss k e c         .. of the readings of k nets
 --   readingIn words is y     the reading of the nets is in scenario y of a block
 --   GivesNone ..             .. is in no scenario in the cover

@@ -9,9 +9,9 @@
 --   GateHas c vs            the net of gate c has the value that its operands give, and that what is known of them gives, if it gives one
 --   ValuesOf cs n vs        .. as those of the first n gates of cs
 --   CubeHas ..              the nets of a cube have its values
---   NoneGives p gates c     values of the gates give no reading of the cover c
---   CubeSorted p .. c d     d has the cubes of c and, where values of the gates may give a reading of one more, that one
---   Unrefuted ..            the cubes that values of the gates may give are left
+--   NoneGives p gates c     no values of the gates give a reading of the cover c
+--   CubeSorted p .. c d     d has the readings of c, those of one cube that values of the gates give, and one cube more at most
+--   Unrefuted p gates c d   d has the readings of c that values of the gates give
 use Prim.Native.Nat.{ℕ, _+_, _≤_, _<_}
 use mathlib.Core.Path.{_≡_}
 use mathlib.Core.List.{List, map}

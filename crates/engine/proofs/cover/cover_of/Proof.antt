@@ -1,4 +1,4 @@
--- `engine::cover::cover_of` meets its contract. The invariant: the unseen readings before r are in the cover, or the other. Assumes nothing.
+-- `engine::cover::cover_of` meets its contract. The invariant: the unseen readings before r are in one of the two covers. Assumes nothing.
 use Prim.Native.Nat.{_-_, _≤_}
 use mathlib.Core.Path.{refl}
 use mathlib.Core.Logic.{_⊎_, inr, ⊎-elim}

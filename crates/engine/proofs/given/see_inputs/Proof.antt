@@ -1,5 +1,5 @@
 -- `engine::given::see_inputs` meets its contract. The invariant: the sets after the blocks passed, all readings seen before the first that is
--- not, and a cover of those that are not. Assumes nothing.
+-- not, a cover of those that are not, and cubes that none gives. Assumes nothing.
 use Prim.Native.Nat.{ℕ, _-_, _*_}
 use mathlib.Core.Path.{_≡_, refl, sym, subst}
 use mathlib.Core.Logic.{inl, inr, ⊎-elim}
@@ -72,6 +72,9 @@ loop-holds c =
 returns : tie.Need-returns Inv-loop μ-loop
 returns c = let i = c .before .before .loop .inv in (seeing-all (i .1) (i .2 .0) (inr (inl (c .if1 .taken))), i .1 .same)
 
+is-due-requires : tie.Need-is-due-requires Inv-loop μ-loop
+is-due-requires c κs = omega (arith, c .before .before .loop .inv .1 .few)
+
 returns-2 : tie.Need-returns-2 Inv-loop μ-loop
 returns-2 c =
     let m = c .before .before in
@@ -117,5 +120,5 @@ pub see-inputs-spec : {M : Type 1} → statement M
 see-inputs-spec =
     tie.close
     (tie.spec Inv-loop μ-loop reading-count-requires (λ c. omega arith) (λ c κs. tt) covering-of-requires next-unseen-requires loop-holds
-    (λ c. omega arith) returns (λ c κs. tt) renewed-requires returns-2 shr-if4 (λ c. omega arith) (λ c. omega arith) (λ c κs. tt) see-block-requires
+    (λ c. omega arith) returns is-due-requires renewed-requires returns-2 shr-if4 (λ c. omega arith) (λ c. omega arith) (λ c κs. tt) see-block-requires
     next-unseen-requires-2 (λ c. omega arith) (λ c. omega arith) loop-again returns-3)

@@ -1,5 +1,4 @@
--- `engine::imply::sort_cube` meets its contract: what refutes the cube is that no values have its values. Assumes nothing.
-use native.Mathlib.Omega.{arith}
+-- `engine::imply::sort_cube` meets its contract: a cube is refuted where no values of the gates have its values. Assumes nothing.
 use borrow.Author.Needs.{needs}
 use borrow.Author.Tests.{not-false}
 use Rattle.engine.proofs.Laws.Imply.{cube-left, cube-refuted, none-added}
@@ -17,9 +16,6 @@ returns-2 c =
     let f = c .before .before .before .refuted .ensures (not-false _ (c .before .before .if1 .left)) in
     (cube-refuted (s .args .value) (s .args .care) (s .pre .0 .0) f (s .pre .1 .0), s .pre .1 .2)
 
-with-cube-requires-2 : tie.Need-with-cube-requires-2
-with-cube-requires-2 c κs = search needs
-
 returns-3 : tie.Need-returns-3
 returns-3 c =
     let s = c .before .before .before .before .before .before .before .before in
@@ -30,4 +26,4 @@ returns-3 c =
 pub sort-cube-spec : {M : Type 1} → statement M
 sort-cube-spec =
     tie.close
-    (tie.spec (λ c κs. search needs) (λ c κs. search needs) returns returns-2 with-cube-requires-2 returns-3)
+    (tie.spec (λ c κs. search needs) (λ c κs. search needs) returns returns-2 (λ c κs. search needs) returns-3)

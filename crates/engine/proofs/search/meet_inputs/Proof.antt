@@ -19,7 +19,7 @@ read-block-requires c κs =
     let p = c .before .before .pre in
     (p .0 .0, block-small (p .0 .1) (p .0 .0 .inputs), p .1 .1)
 
--- ---- where the table is trusted
+-- ---- where the table is tried
 
 returns : tie.Need-returns
 returns c =

@@ -1,6 +1,6 @@
--- `engine::search::sets_of_inputs` meets its contract. The invariant: the sets after the blocks passed, and, where it is tried next, their
--- table. Assumes nothing.
-use Prim.Native.Nat.{ℕ, _+_, _-_, _*_, _/_, _%_, _^_, _≤_, _<_}
+-- `engine::search::sets_of_inputs` meets its contract. The invariant: the sets after the blocks passed, and, where the table is tried
+-- next, that it is theirs. Assumes nothing.
+use Prim.Native.Nat.{ℕ, _+_, _-_, _*_, _/_, _%_, _^_, _≤_}
 use mathlib.Core.Path.{_≡_, _∙_, ap, subst}
 use mathlib.Core.Logic.{⊎-elim}
 use mathlib.Core.List.{List}
