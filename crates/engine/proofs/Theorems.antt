@@ -7,9 +7,9 @@ use mathlib.Core.Bool.{true, false}
 use native.Mathlib.Omega.{arith}
 use Rattle.records.specs.Job.{Job}
 use Rattle.engine.specs.Choice.{any}
-use Rattle.engine.specs.Rectify.{rectifies, vectorLoop}
-use Rattle.engine.specs.Support.{sound, candidateNets, subsets, better, chosen, table_of}
-use Rattle.engine.specs.Verdict.{patch, blind, blindReading, ruling}
+use Rattle.engine.specs.Rectify.{rectifies, vector_loop}
+use Rattle.engine.specs.Support.{sound, candidate_nets, subsets, better, chosen, table_of}
+use Rattle.engine.specs.Verdict.{patch, blind, blind_reading, ruling}
 use Rattle.engine.specs.Claims.{In, Rectifiable, TernaryKnown, TernaryUnknown, TernaryListKnown, TernaryListUnknown, TernaryFold, TernaryInverts, LoopEnds, EveryTable, Readings, PatchExactly, PatchTable, LeastCost, SoundExactly, FewestGates, WinsTies, UnfixableExactly, BlindExactly, HalvesEqual, SharesNone}
 use Rattle.engine.proofs.Laws.Choice.{any-iff-member, none_or_some, true-or-false}
 use Rattle.engine.proofs.Laws.Ternary.{entry-known-iff, entry-unknown-iff, list-known-iff, list-unknown-iff, fold_more, fold-inverts}
@@ -43,7 +43,7 @@ ternary-inverts = fold-inverts
 
 pub loop-ends : LoopEnds
 loop-ends j =
-    let vs = (vectorLoop j).vectors in
+    let vs = (vector_loop j).vectors in
     let listed : (x : ℕ) → (v : ℕ) × In v vs × (rectifies j x v ≡ true) → any (rectifies j x) vs ≡ true =
     λ x. (any-iff-member (rectifies j x) vs).1 in
     ⊎_elim
@@ -51,7 +51,7 @@ loop-ends j =
     (λ s.
     let r = (stuck-iff j s.0).0 s.1 in
     inr (s.0, s.1, r.0, unlisted-of-some j s.0 s.1, r.1, λ y h. listed y (listed-of-some j s.0 s.1 y h)))
-    (none_or_some (vectorLoop j).stuck)
+    (none_or_some (vector_loop j).stuck)
 
 pub every-table : EveryTable
 every-table j is t = (
@@ -63,20 +63,20 @@ pub readings : Readings
 readings j g is m x v = reading-vector j g is m x v
 
 -- where all candidates together are sound, every input is fixable, and the verdict is the patch over the chosen support
-pub sound-ruling : (j : Job) → sound j (candidateNets j) ≡ true → ruling j ≡ patch (chosen j)
+pub sound-ruling : (j : Job) → sound j (candidate_nets j) ≡ true → ruling j ≡ patch (chosen j)
 sound-ruling j s =
     ruling-patch j
-    ((stuck-none-iff j).1 (rectifiable-of-carries j (candidateNets j) (carries-of-sound j (candidateNets j) s))) s
+    ((stuck-none-iff j).1 (rectifiable-of-carries j (candidate_nets j) (carries-of-sound j (candidate_nets j) s))) s
 
 pub patch-exactly : PatchExactly
 patch-exactly j =
-    let carries = sound-iff-subset-carries j (candidateNets j) in (
+    let carries = sound-iff-subset-carries j (candidate_nets j) in (
       λ p. carries.0 (patch-chosen j p.0 p.1).1,
       λ c. (chosen j, sound-ruling j (carries.1 c)),
     )
 
 -- a patch's nets are a sound set of candidates
-pub patch-sound : (j : Job) (is : List ℕ) → ruling j ≡ patch is → (sound j is ≡ true) × In is (subsets (candidateNets j))
+pub patch-sound : (j : Job) (is : List ℕ) → ruling j ≡ patch is → (sound j is ≡ true) × In is (subsets (candidate_nets j))
 patch-sound j is e = let c = patch-chosen j is e in rw c.2 (chosen-sound j c.1)
 
 pub patch-table : PatchTable
@@ -118,7 +118,7 @@ blind-exactly j r = (
   λ h.
       let l : LeastBlind j r = record { below = h.1; none-shared = h.2; smaller = h.3 } in
       let u = unsound-of-blind j r l in
-      ruling-blind j ((stuck-none-iff j).1 h.0) u ∙ ap blind (blind-unique j (blindReading j) r (blind-least j u) l),
+      ruling-blind j ((stuck-none-iff j).1 h.0) u ∙ ap blind (blind-unique j (blind_reading j) r (blind-least j u) l),
 )
 
 pub shares-none : SharesNone

@@ -6,19 +6,19 @@
 --   unrectified j vs x       no vector of the list vs rectifies x
 --   Listed                what the loop gives: the vector list, and the input at which it stopped for want of a vector
 --   rounds j k vs         k rounds of the loop from the list vs
---   vectorLoop j          the loop, from the single vector 0. Each round appends a vector that is not listed yet, so as many
+--   vector_loop j          the loop, from the single vector 0. Each round appends a vector that is not listed yet, so as many
 --                         rounds as there are vectors are enough
 use Rattle.std.specs.Prelude.{ℕ, zero, suc, ◌^◌, List, [], ◌∷◌, ◌++◌, Bool, not}
 use Rattle.std.proofs.Math.Option.{Option, none, some}
 use Rattle.records.specs.Job.{Job}
 use Rattle.engine.specs.Choice.{any, first, same}
-use Rattle.engine.specs.Eval.{allInputs, allVectors, oldOutputs, goldenOutputs}
+use Rattle.engine.specs.Eval.{all_inputs, all_vectors, old_outputs, golden_outputs}
 
 unfoldable pub rectifies : Job → ℕ → ℕ → Bool
-rectifies j x v = same (oldOutputs j x v) (goldenOutputs j x)
+rectifies j x v = same (old_outputs j x v) (golden_outputs j x)
 
 unfoldable pub rectifiable : Job → ℕ → Bool
-rectifiable j x = any (rectifies j x) (allVectors j)
+rectifiable j x = any (rectifies j x) (all_vectors j)
 
 unfoldable pub unrectified : Job → List ℕ → ℕ → Bool
 unrectified j vs x = not (any (rectifies j x) vs)
@@ -32,12 +32,12 @@ pub record Listed : Type 0 where
 unfoldable pub rounds : Job → ℕ → List ℕ → Listed
 rounds j zero vs = record { vectors = vs; stuck = none }
 rounds j (suc k) vs =
-    elim (first (unrectified j vs) (allInputs j)) [
+    elim (first (unrectified j vs) (all_inputs j)) [
       | none ↦ record { vectors = vs; stuck = none }
       | some x ↦
-          elim (first (rectifies j x) (allVectors j))
+          elim (first (rectifies j x) (all_vectors j))
           [ none ↦ record { vectors = vs; stuck = some x } | some v ↦ rounds j k (vs ++ (v ∷ [])) ]
     ]
 
-unfoldable pub vectorLoop : Job → Listed
-vectorLoop j = rounds j (2 ^ j.targets) (0 ∷ [])
+unfoldable pub vector_loop : Job → Listed
+vector_loop j = rounds j (2 ^ j.targets) (0 ∷ [])

@@ -1,29 +1,29 @@
 -- What judge, choose, compare and fit reply, and what the lent buffer holds afterwards (document 01, "Verdicts", "Fitting and
 -- comparing" and "Numbers given when a call is declined"; card 7 of document 02). Assumes nothing.
 --
---   judgementOf j          whether every input of job j is fixable, or the smallest that is not, as judge replies it
---   judgementFields v      the paper's tag and value of each case: 19 alone, as the sheet has no other field, or 20 and the input; none
+--   judgement_of j          whether every input of job j is fixable, or the smallest that is not, as judge replies it
+--   judgement_fields v      the paper's tag and value of each case: 19 alone, as the sheet has no other field, or 20 and the input; none
 --                          where the call is declined
---   declinedJudge n        what judge replies when it declines with number n
---   judgeReply d s         what judge replies to job bytes s and a reply buffer d
+--   declined_judge n        what judge replies when it declines with number n
+--   judge_reply d s         what judge replies to job bytes s and a reply buffer d
 --   choice_of j             the cost of the patch on job j, or its blind reading, as choose replies it
---   choiceFields v         18 and the cost, or 21 and the reading
---   declinedChoose, chooseReply     .. for choose
---   comparisonOf o         the result of a comparison, by the smallest differing input if there is one
---   compareNumber s p      the number for job bytes s and sheet bytes p
---   compareReply s p       what compare replies
---   fitTests d s p         the tests of a reply buffer d, a job's bytes s and a sheet's bytes p, numbers 1 to 9
---   fitNumber, fitReply, fittedBuffer d s p     the number, what fit replies, and the reply buffer afterwards
+--   choice_fields v         18 and the cost, or 21 and the reading
+--   declined_choose, choose_reply     .. for choose
+--   comparison_of o         the result of a comparison, by the smallest differing input if there is one
+--   compare_number s p      the number for job bytes s and sheet bytes p
+--   compare_reply s p       what compare replies
+--   fit_tests d s p         the tests of a reply buffer d, a job's bytes s and a sheet's bytes p, numbers 1 to 9
+--   fit_number, fit_reply, fitted_buffer d s p     the number, what fit replies, and the reply buffer afterwards
 use Rattle.std.specs.Prelude.{ℕ, List, [], ◌∷◌, ◌++◌, true, false, cond, length, leb, eqb}
 use Rattle.std.proofs.Math.Option.{Option, none, some}
 use Rattle.records.specs.Bytes.{placed}
 use Rattle.records.specs.Job.{Job, job_of}
-use Rattle.records.specs.Refusal.{Test, firstFailing}
+use Rattle.records.specs.Refusal.{Test, first_failing}
 use Rattle.records.specs.Sheet.{patch_of}
-use Rattle.engine.specs.Rectify.{vectorLoop}
-use Rattle.engine.specs.Support.{sound, candidateNets, cost, chosen}
-use Rattle.engine.specs.Verdict.{blindReading, judgeSheet, chooseSheet, judgeNumber, chooseNumber}
-use Rattle.engine.specs.Compare.{difference, pairTests}
+use Rattle.engine.specs.Rectify.{vector_loop}
+use Rattle.engine.specs.Support.{sound, candidate_nets, cost, chosen}
+use Rattle.engine.specs.Verdict.{blind_reading, judge_sheet, choose_sheet, judge_number, choose_number}
+use Rattle.engine.specs.Compare.{difference, pair_tests}
 use Rattle.engine.specs.declared.judging.Judgement.{Judgement}
 use Rattle.engine.specs.declared.judging.Judgement.TheVariants as Judgement
 use Rattle.engine.specs.declared.judging.JudgeReply.{JudgeReply}
@@ -32,93 +32,93 @@ use Rattle.engine.specs.declared.choosing.Choice.TheVariants as Choice
 use Rattle.engine.specs.declared.choosing.ChooseReply.{ChooseReply}
 use Rattle.engine.specs.declared.comparing.Comparison.{Comparison}
 use Rattle.engine.specs.declared.comparing.Comparison.TheVariants as Comparison
-use Rattle.engine.specs.Fit.{fittedBytes, fits, longestFit}
+use Rattle.engine.specs.Fit.{fitted_bytes, fits, longest_fit}
 use Rattle.engine.specs.declared.comparing.CompareReply.{CompareReply}
 use Rattle.engine.specs.declared.fitting.FitReply.{FitReply}
 
-unfoldable pub judgementOf : Job → Judgement
-judgementOf j =
-    elim (vectorLoop j).stuck [ some x ↦ Judgement.Unfixable (record { input = x }) | none ↦ Judgement.Fixable ]
+unfoldable pub judgement_of : Job → Judgement
+judgement_of j =
+    elim (vector_loop j).stuck [ some x ↦ Judgement.Unfixable (record { input = x }) | none ↦ Judgement.Fixable ]
 
-unfoldable pub judgementFields : Judgement → List ℕ
-judgementFields Judgement.Fixable = 19 ∷ []
-judgementFields (Judgement.Unfixable u) = 20 ∷ u.input ∷ []
-judgementFields Judgement.Declined = []
+unfoldable pub judgement_fields : Judgement → List ℕ
+judgement_fields Judgement.Fixable = 19 ∷ []
+judgement_fields (Judgement.Unfixable u) = 20 ∷ u.input ∷ []
+judgement_fields Judgement.Declined = []
 
-unfoldable pub declinedJudge : ℕ → JudgeReply
-declinedJudge n = record { number = n; len = 0; verdict = Judgement.Declined }
+unfoldable pub declined_judge : ℕ → JudgeReply
+declined_judge n = record { number = n; len = 0; verdict = Judgement.Declined }
 
-unfoldable pub judgeReply : List ℕ → List ℕ → JudgeReply
-judgeReply d s =
-    let number = judgeNumber d s in
+unfoldable pub judge_reply : List ℕ → List ℕ → JudgeReply
+judge_reply d s =
+    let number = judge_number d s in
     let j = job_of s in
     cond (eqb number 0)
-    (record { number = 0; len = length (judgeSheet j); verdict = judgementOf j })
-    (declinedJudge number)
+    (record { number = 0; len = length (judge_sheet j); verdict = judgement_of j })
+    (declined_judge number)
 
 -- ---- choose
 
 unfoldable pub choice_of : Job → Choice
 choice_of j =
-    elim (sound j (candidateNets j)) [
+    elim (sound j (candidate_nets j)) [
       | true ↦ Choice.Patch (record { cost = cost j (chosen j) })
-      | false ↦ Choice.Blind (record { reading = blindReading j })
+      | false ↦ Choice.Blind (record { reading = blind_reading j })
     ]
 
-unfoldable pub choiceFields : Choice → List ℕ
-choiceFields (Choice.Patch p) = 18 ∷ p.cost ∷ []
-choiceFields (Choice.Blind b) = 21 ∷ b.reading ∷ []
-choiceFields Choice.Declined = []
+unfoldable pub choice_fields : Choice → List ℕ
+choice_fields (Choice.Patch p) = 18 ∷ p.cost ∷ []
+choice_fields (Choice.Blind b) = 21 ∷ b.reading ∷ []
+choice_fields Choice.Declined = []
 
-unfoldable pub declinedChoose : ℕ → ChooseReply
-declinedChoose n = record { number = n; len = 0; verdict = Choice.Declined }
+unfoldable pub declined_choose : ℕ → ChooseReply
+declined_choose n = record { number = n; len = 0; verdict = Choice.Declined }
 
-unfoldable pub chooseReply : List ℕ → List ℕ → ChooseReply
-chooseReply d s =
-    let number = chooseNumber d s in
+unfoldable pub choose_reply : List ℕ → List ℕ → ChooseReply
+choose_reply d s =
+    let number = choose_number d s in
     let j = job_of s in
     cond (eqb number 0)
-    (record { number = 0; len = length (chooseSheet j); verdict = choice_of j })
-    (declinedChoose number)
+    (record { number = 0; len = length (choose_sheet j); verdict = choice_of j })
+    (declined_choose number)
 
 -- ---- compare
 
-unfoldable pub comparisonOf : Option ℕ → Comparison
-comparisonOf none = Comparison.Equal
-comparisonOf (some x) = Comparison.Differs (record { input = x })
+unfoldable pub comparison_of : Option ℕ → Comparison
+comparison_of none = Comparison.Equal
+comparison_of (some x) = Comparison.Differs (record { input = x })
 
-unfoldable pub compareNumber : List ℕ → List ℕ → ℕ
-compareNumber s p = firstFailing (pairTests s p)
+unfoldable pub compare_number : List ℕ → List ℕ → ℕ
+compare_number s p = first_failing (pair_tests s p)
 
-unfoldable pub compareReply : List ℕ → List ℕ → CompareReply
-compareReply s p =
-    let number = compareNumber s p in
+unfoldable pub compare_reply : List ℕ → List ℕ → CompareReply
+compare_reply s p =
+    let number = compare_number s p in
     let patch = patch_of p in
     cond (eqb number 0)
-    (record { number = 0; result = comparisonOf (difference (job_of s) patch.support patch.table) })
+    (record { number = 0; result = comparison_of (difference (job_of s) patch.support patch.table) })
     (record { number = number; result = Comparison.Declined })
 
 -- ---- fit
 
-unfoldable pub fitTests : List ℕ → List ℕ → List ℕ → List Test
-fitTests d s p =
+unfoldable pub fit_tests : List ℕ → List ℕ → List ℕ → List Test
+fit_tests d s p =
     let patch = patch_of p in
-    record { number = 1; passes = leb longestFit (length d) }
-    ∷ pairTests s p
+    record { number = 1; passes = leb longest_fit (length d) }
+    ∷ pair_tests s p
     ++ (record { number = 9; passes = fits (job_of s) patch.support patch.table } ∷ [])
 
-unfoldable pub fitNumber : List ℕ → List ℕ → List ℕ → ℕ
-fitNumber d s p = firstFailing (fitTests d s p)
+unfoldable pub fit_number : List ℕ → List ℕ → List ℕ → ℕ
+fit_number d s p = first_failing (fit_tests d s p)
 
-unfoldable pub fitReply : List ℕ → List ℕ → List ℕ → FitReply
-fitReply d s p =
+unfoldable pub fit_reply : List ℕ → List ℕ → List ℕ → FitReply
+fit_reply d s p =
     let patch = patch_of p in
     record {
-      number = fitNumber d s p;
-      len = cond (eqb (fitNumber d s p) 0) (length (fittedBytes (job_of s) patch.support patch.table)) 0;
+      number = fit_number d s p;
+      len = cond (eqb (fit_number d s p) 0) (length (fitted_bytes (job_of s) patch.support patch.table)) 0;
     }
 
-unfoldable pub fittedBuffer : List ℕ → List ℕ → List ℕ → List ℕ
-fittedBuffer d s p =
+unfoldable pub fitted_buffer : List ℕ → List ℕ → List ℕ → List ℕ
+fitted_buffer d s p =
     let patch = patch_of p in
-    cond (eqb (fitNumber d s p) 0) (placed d 0 (fittedBytes (job_of s) patch.support patch.table)) d
+    cond (eqb (fit_number d s p) 0) (placed d 0 (fitted_bytes (job_of s) patch.support patch.table)) d

@@ -2,10 +2,10 @@
 --
 --   unknown                2 stands for not yet known
 --   agreed vs              the value that all of vs have, or unknown
---   completionsOf xs       the lists that xs may turn out to be, each element taken on its own
---   ternaryValue k xs      kind k on the operands xs, however many they are: known exactly when every completion of the operands, each
+--   completions_of xs       the lists that xs may turn out to be, each element taken on its own
+--   ternary_value k xs      kind k on the operands xs, however many they are: known exactly when every completion of the operands, each
 --                          taken on its own, gives the same value
---   ternaryTable k         the three by three table of kind k on two operands
+--   ternary_table k         the three by three table of kind k on two operands
 --   entry t x y            the entry of the table t at the operands x and y, where any number above 1 stands for not yet known
 --   Completes a x          a is a value that x may turn out to have: 0 or 1, and x itself where x is known
 --   CompletesAll vs xs     the list vs is one that xs may turn out to be
@@ -13,7 +13,7 @@
 --   PossibleOf k xs v      v is what kind k gives on a completion of xs
 use Rattle.std.specs.Prelude.{ℕ, ◌<◌, min, ◌≡◌, List, [], ◌∷◌, ◌++◌, map, cond, eqb, length, get_or}
 use Rattle.records.specs.Bytes.{all}
-use Rattle.records.specs.Gate.{gateValue}
+use Rattle.records.specs.Gate.{gate_value}
 
 abbrev pub unknown : ℕ
 unknown = 2
@@ -22,19 +22,19 @@ unfoldable pub agreed : List ℕ → ℕ
 agreed [] = unknown
 agreed (v ∷ vs) = cond (all (eqb v) vs) v unknown
 
-unfoldable pub completionsOf : List ℕ → List (List ℕ)
-completionsOf [] = [] ∷ []
-completionsOf (x ∷ xs) =
-    let vss = completionsOf xs in
+unfoldable pub completions_of : List ℕ → List (List ℕ)
+completions_of [] = [] ∷ []
+completions_of (x ∷ xs) =
+    let vss = completions_of xs in
     cond (eqb x unknown)
     (map (λ (vs : List ℕ). 0 ∷ vs) vss ++ map (λ (vs : List ℕ). 1 ∷ vs) vss)
     (map (λ (vs : List ℕ). x ∷ vs) vss)
 
-unfoldable pub ternaryValue : ℕ → List ℕ → ℕ
-ternaryValue k xs = agreed (map (gateValue k) (completionsOf xs))
+unfoldable pub ternary_value : ℕ → List ℕ → ℕ
+ternary_value k xs = agreed (map (gate_value k) (completions_of xs))
 
-unfoldable pub ternaryTable : ℕ → List (List ℕ)
-ternaryTable k = map (λ x. map (λ y. ternaryValue k (x ∷ y ∷ [])) (0 ∷ 1 ∷ 2 ∷ [])) (0 ∷ 1 ∷ 2 ∷ [])
+unfoldable pub ternary_table : ℕ → List (List ℕ)
+ternary_table k = map (λ x. map (λ y. ternary_value k (x ∷ y ∷ [])) (0 ∷ 1 ∷ 2 ∷ [])) (0 ∷ 1 ∷ 2 ∷ [])
 
 unfoldable pub entry : List (List ℕ) → ℕ → ℕ → ℕ
 entry t x y = get_or (get_or t (min x unknown) []) (min y unknown) 0
@@ -48,9 +48,9 @@ pub record Completes (a x : ℕ) : Type 0 where
 pub record Possible (k x y v : ℕ) : Type 0 where
   pub left : ℕ
   pub right : ℕ
-  pub completesLeft : Completes left x
-  pub completesRight : Completes right y
-  pub gives : gateValue k (left ∷ right ∷ []) ≡ v
+  pub completes_left : Completes left x
+  pub completes_right : Completes right y
+  pub gives : gate_value k (left ∷ right ∷ []) ≡ v
 
 pub record CompletesAll (vs xs : List ℕ) : Type 0 where
   pub long : length vs ≡ length xs
@@ -59,4 +59,4 @@ pub record CompletesAll (vs xs : List ℕ) : Type 0 where
 pub record PossibleOf (k : ℕ) (xs : List ℕ) (v : ℕ) : Type 0 where
   pub choice : List ℕ
   pub completes : CompletesAll choice xs
-  pub gives : gateValue k choice ≡ v
+  pub gives : gate_value k choice ≡ v

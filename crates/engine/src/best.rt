@@ -4,7 +4,7 @@
 // place at on, and those of the same support without one net in the places behind them.
 ghost use Rattle.std.specs.Prelude.{◌≡◌, true, ℕ, ◌+◌, ◌-◌, ◌^◌, ◌≤◌, ◌<◌, List, length, take, drop};
 ghost use Rattle.records.specs.Job.{Job};
-ghost use Rattle.engine.specs.Support.{sound, candidateNets, patchGates, chosen};
+ghost use Rattle.engine.specs.Support.{sound, candidate_nets, patch_gates, chosen};
 ghost use Rattle.records.specs.Claims.{Below};
 ghost use Rattle.engine.specs.Inner.Plan.{NetsRead};
 ghost use Rattle.engine.specs.Inner.Best.{picked, total, low_first, before, PickedNets, FirstEmpty, SetsOf, GivenBits, SameTo, Kept, ArenaRoom, LeftOut, OpenPick, PricedRoom, PricedOf, PickOf, CountedOf, OpenOf, BestFrom, HeldSupport, Choosable, ChosenOf};
@@ -109,9 +109,9 @@ fn leave_out(at: usize, len: usize, place: usize, arena: &mut [u32; ARENA]) -> b
 // The sets of the candidates that are in a sound set, from those of all in the first places.
 fn sets_of(candidates: usize, set: usize, arena: &mut [u32; ARENA]) -> [u32; READINGS]
     requires { (candidates ≤ 10) × (length arena.old ≡ 2048) }
-    ensures { (length result ≡ 1024) × ((j : Job) → length (candidateNets j) ≡ candidates → SetsOf j (candidateNets j) arena.old
-        → sound j (picked (candidateNets j) set) ≡ true → SetsOf j (picked (candidateNets j) set) result
-        × ((k : ℕ) → GivenBits j (candidateNets j) arena.old k → GivenBits j (picked (candidateNets j) set) result k)) }
+    ensures { (length result ≡ 1024) × ((j : Job) → length (candidate_nets j) ≡ candidates → SetsOf j (candidate_nets j) arena.old
+        → sound j (picked (candidate_nets j) set) ≡ true → SetsOf j (picked (candidate_nets j) set) result
+        × ((k : ℕ) → GivenBits j (candidate_nets j) arena.old k → GivenBits j (picked (candidate_nets j) set) result k)) }
 {
     let mut at = 0usize;
     let mut len = candidates;
@@ -204,7 +204,7 @@ fn precedes(a: Pick, b: Pick) -> bool
 // six nets each entry is read once for each target, and above that at most 1 + 5 * (len - 6) times.
 fn patch_gates(sets: &[u32], len: usize, targets: usize) -> usize
     requires { (len ≤ 10) × (2 ^ len ≤ length sets.now) × (targets ≤ 4) }
-    ensures { (j : Job) (is : List ℕ) → SetsOf j is sets.now → length is ≡ len → j.targets ≡ targets → result ≡ patchGates j is }
+    ensures { (j : Job) (is : List ℕ) → SetsOf j is sets.now → length is ≡ len → j.targets ≡ targets → result ≡ patch_gates j is }
 {
     let table = fill_table(sets, len);
     trees_size(&table, len, targets)
@@ -321,7 +321,7 @@ pub(super) fn best_support(
     ensures held_support { HeldSupport result.support × (Below 1024 nets → NetsRead result.support.nets result.support.len)
         × (length result.sets ≡ 1024) }
     ensures chosen_of { (j : Job) → Choosable j nets priced sets.now → ChosenOf j result.support result.cost result.sets
-        × ((k : ℕ) → GivenBits j (candidateNets j) sets.now k → GivenBits j (chosen j) result.sets k) }
+        × ((k : ℕ) → GivenBits j (candidate_nets j) sets.now k → GivenBits j (chosen j) result.sets k) }
 {
     let count = priced.count;
     let weights = priced.weights;

@@ -3,9 +3,9 @@ ghost use Rattle.std.specs.Prelude.{◌≡◌, true, false, ◌^◌, ◌≤◌, 
 ghost use Rattle.records.specs.Job.{Job};
 ghost use Rattle.records.specs.Claims.{Below};
 ghost use Rattle.records.specs.Parts.{PartsOf};
-ghost use Rattle.engine.specs.Support.{sound, candidateNets, chosen};
-ghost use Rattle.engine.specs.Verdict.{blindReading, chosenBytes};
-ghost use Rattle.engine.specs.Reply.{declinedChoose, chooseReply};
+ghost use Rattle.engine.specs.Support.{sound, candidate_nets, chosen};
+ghost use Rattle.engine.specs.Verdict.{blind_reading, chosen_bytes};
+ghost use Rattle.engine.specs.Reply.{declined_choose, choose_reply};
 ghost use Rattle.engine.specs.Inner.Miter.{SomeParts, MiterRoom, MergedOf};
 ghost use Rattle.engine.specs.Inner.Plan.{NetsRead};
 ghost use Rattle.engine.specs.Inner.Search.{SetsTo};
@@ -52,7 +52,7 @@ pub struct ChooseReply {
 }
 
 fn declined(number: u8) -> ChooseReply
-    ensures { result ≡ declinedChoose number }
+    ensures { result ≡ declined_choose number }
 {
     ChooseReply {
         number,
@@ -64,7 +64,7 @@ fn declined(number: u8) -> ChooseReply
 // The choice where the inputs of a reading share no vector, and its sheet.
 fn rule_blind(reading: usize, reply: &mut [u8]) -> ChooseReply
     requires { (reading < 65536) × (2084 ≤ length reply.old) }
-    ensures { (j : Job) → sound j (candidateNets j) ≡ false → reading ≡ blindReading j
+    ensures { (j : Job) → sound j (candidate_nets j) ≡ false → reading ≡ blind_reading j
         → ChosenJob j reply.old result reply.new }
 {
     let len = put_blind(reply, reading);
@@ -80,7 +80,7 @@ fn rule_blind(reading: usize, reply: &mut [u8]) -> ChooseReply
 // The choice where all candidates together are sound: the chosen support with its table and notes, and its sheet.
 fn rule_patch(support: Support, cost: u32, sets: &[u32; READINGS], reply: &mut [u8]) -> ChooseReply
     requires { HeldSupport support × (2084 ≤ length reply.old) }
-    ensures { (j : Job) → sound j (candidateNets j) ≡ true → ChosenOf j support cost sets.now
+    ensures { (j : Job) → sound j (candidate_nets j) ≡ true → ChosenOf j support cost sets.now
         → Unseen j (chosen j) sets.now → ChosenJob j reply.old result reply.new }
 {
     let table = fill_table(sets, support.len);
@@ -96,7 +96,7 @@ fn rule_patch(support: Support, cost: u32, sets: &[u32; READINGS], reply: &mut [
 // The sets of all readings of the first reads nets, over all inputs of a miter.
 fn reading_sets(miter: Miter, nets: [u16; CANDIDATES], reads: usize) -> Met
     requires { MiterRoom miter × NetsRead nets reads }
-    ensures { (j : Job) → MergedOf j miter → take reads nets ≡ candidateNets j → SetsTo j (2 ^ j.inputs) result.skipped result.sets }
+    ensures { (j : Job) → MergedOf j miter → take reads nets ≡ candidate_nets j → SetsTo j (2 ^ j.inputs) result.skipped result.sets }
 {
     if miter.inputs <= WORD_INPUTS {
         return sets_of_words(miter, nets, reads);
@@ -145,8 +145,8 @@ fn choose_job(job: JobParts, reply: &mut [u8]) -> ChooseReply
 // spared until all readings are seen, one gate evaluation a gate that leads to the support, and some 1,000 steps where the block may give an
 // unseen reading, which is about what it would have cost at most. A job of at most six inputs costs as in judge.
 pub fn choose(job: &[u8], reply: &mut [u8]) -> ChooseReply
-    ensures reply { result ≡ chooseReply reply.old job.now }
-    ensures lent { reply.new ≡ chosenBytes reply.old job.now }
+    ensures reply { result ≡ choose_reply reply.old job.now }
+    ensures lent { reply.new ≡ chosen_bytes reply.old job.now }
 {
     if reply.len() < LONGEST_CHOOSE {
         return declined(1);

@@ -3,10 +3,10 @@ ghost use Rattle.std.specs.Prelude.{◌≡◌, List, ℕ, ◌+◌, ◌≤◌, �
 ghost use Rattle.records.specs.Job.{Job};
 ghost use Rattle.records.specs.Parts.{PartsOf};
 ghost use Rattle.engine.specs.Compare.{difference};
-ghost use Rattle.engine.specs.Reply.{comparisonOf, compareReply};
+ghost use Rattle.engine.specs.Reply.{comparison_of, compare_reply};
 ghost use Rattle.engine.specs.Inner.Miter.{SomeParts};
 ghost use Rattle.engine.specs.Inner.Plan.{PlanHeld};
-ghost use Rattle.engine.specs.Inner.Comparing.{PlanReads, TableCopied, sheetComparison};
+ghost use Rattle.engine.specs.Inner.Comparing.{PlanReads, TableCopied, sheet_comparison};
 
 use super::drive::{driven_row, table_rows};
 use super::leaves::block_inputs;
@@ -42,7 +42,7 @@ pub struct CompareReply {
 fn first_difference(gates: &[u64], plan: Plan, table: &[u16; READINGS]) -> Comparison
     requires { PlanHeld plan gates.now }
     ensures { (j : Job) (is : List ℕ) → PlanReads j is plan gates.now
-        → result ≡ comparisonOf (difference j is table.now) }
+        → result ≡ comparison_of (difference j is table.now) }
 {
     let size = 1usize << plan.inputs;
     let mut words = [0u64; WORDS];
@@ -80,7 +80,7 @@ fn table_of(sheet: &[u8], start: usize, count: usize) -> [u16; READINGS]
 // The comparison of a good job with a sheet's bytes.
 fn compare_sheet(job: JobParts, sheet: &[u8]) -> CompareReply
     requires { SomeParts job }
-    ensures { (j : Job) → PartsOf j job → result ≡ sheetComparison j sheet.now }
+    ensures { (j : Job) → PartsOf j job → result ≡ sheet_comparison j sheet.now }
 {
     let counts = job.counts;
     let nets = job.nets;
@@ -107,7 +107,7 @@ fn compare_sheet(job: JobParts, sheet: &[u8]) -> CompareReply
 // which it has not. Refused are what read refuses of the job and read_sheet of the sheet. It costs, for each block of 1,024 inputs
 // up to the one with the difference, one gate evaluation a gate of both netlists, but for what judge leaves out too.
 pub fn compare(job: &[u8], sheet: &[u8]) -> CompareReply
-    ensures { result ≡ compareReply job.now sheet.now }
+    ensures { result ≡ compare_reply job.now sheet.now }
 {
     let parts = load(job);
     let check = parts.check;

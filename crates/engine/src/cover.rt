@@ -4,8 +4,8 @@
 // no other readings.
 ghost use Rattle.std.specs.Prelude.{◌≡◌, ◌⊎◌, true, false, cond, ℕ, ◌≤◌, ◌<◌, eqb, length, get_or, take};
 ghost use Rattle.engine.specs.Eval.{bit};
-ghost use Rattle.engine.specs.Inner.Kernel.{rowValue, valueIn};
-ghost use Rattle.engine.specs.Inner.Cover.{NextUnseen, InCube, CoverHeld, InCover, CubeAdded, CoverOf, readingIn, GivesNone};
+ghost use Rattle.engine.specs.Inner.Kernel.{row_value, value_in};
+ghost use Rattle.engine.specs.Inner.Cover.{NextUnseen, InCube, CoverHeld, InCover, CubeAdded, CoverOf, reading_in, GivesNone};
 
 use super::limits::{CUBES, READINGS, ROW, UNSEEN, WORDS};
 use super::table::reading_count;
@@ -177,8 +177,8 @@ pub(super) fn cover_of(sets: &[u32; READINGS], reads: usize, never: Cover) -> Co
 // The row r, with 0 where net i has another value than the lowest bit of x.
 fn keep_value(i: usize, x: usize, r: &mut [u64; ROW], words: &[u64; WORDS])
     requires { (i < 1024) × (length r.old ≡ 16) }
-    ensures { (length r.new ≡ 16) × ((y : ℕ) → y < 1024 → rowValue r.new y
-        ≡ cond (eqb (valueIn words.now y i) (bit 0 x)) (rowValue r.old y) 0) }
+    ensures { (length r.new ≡ 16) × ((y : ℕ) → y < 1024 → row_value r.new y
+        ≡ cond (eqb (value_in words.now y i) (bit 0 x)) (row_value r.old y) 0) }
 {
     let v = broadcast(x);
     let mut w = 0usize;
@@ -197,7 +197,7 @@ fn cube_row(
     words: &[u64; WORDS],
 ) -> [u64; ROW]
     requires { (reads ≤ 10) × (length nets ≡ 10) × ((i : ℕ) → get_or nets i 0 < 1024) }
-    ensures { (y : ℕ) → y < 1024 → InCube value care (readingIn words.now (take reads nets) y) → rowValue result y ≡ 1 }
+    ensures { (y : ℕ) → y < 1024 → InCube value care (reading_in words.now (take reads nets) y) → row_value result y ≡ 1 }
 {
     let mut r = [!0u64; ROW];
     let mut k = 0usize;

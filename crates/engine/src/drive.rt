@@ -1,7 +1,7 @@
 // The targets of a block driven by a table: each scenario's reading gives the vector to which its targets are set. Transposed, a word
 // of the readings' rows has four readings, and the entries at them are the word of four vectors.
 ghost use Rattle.std.specs.Prelude.{◌≡◌, ℕ, ◌+◌, ◌%◌, ◌≤◌, ◌<◌, length, get_or};
-ghost use Rattle.engine.specs.Inner.Kernel.{rowValue, valueIn, NetsSet};
+ghost use Rattle.engine.specs.Inner.Kernel.{row_value, value_in, NetsSet};
 ghost use Rattle.engine.specs.Inner.Note.{gathered};
 ghost use Rattle.engine.specs.Inner.Plan.{PlanHeld};
 ghost use Rattle.engine.specs.Inner.Search.{RowsSay, DrivenRow};
@@ -58,7 +58,7 @@ pub(super) fn table_rows(mut readings: [u64; ROWS], table: &[u16; READINGS]) -> 
 // Row i of 16 rows.
 pub(super) fn row_at(rows: &[u64; ROWS], i: usize) -> [u64; ROW]
     requires { i < 16 }
-    ensures { (y : ℕ) → y < 1024 → rowValue result y ≡ valueIn rows.now y i }
+    ensures { (y : ℕ) → y < 1024 → row_value result y ≡ value_in rows.now y i }
 {
     let mut r = [0u64; ROW];
     let mut w = 0usize;
@@ -78,7 +78,7 @@ fn set_targets(
     words: &mut [u64; WORDS],
 )
     requires { (at + targets ≤ 1024) × (first + targets ≤ 16) × (length words.old ≡ 16384) }
-    ensures { NetsSet at targets (λ y k. valueIn rows.now y (first + k)) words.old words.new }
+    ensures { NetsSet at targets (λ y k. value_in rows.now y (first + k)) words.old words.new }
 {
     let mut i = 0usize;
     while i < targets {

@@ -3,12 +3,12 @@ ghost use Rattle.std.specs.Prelude.{◌≡◌, [], ℕ, ◌+◌, ◌^◌, ◌≤
 ghost use Rattle.records.specs.Job.{Job};
 ghost use Rattle.records.specs.Sheet.{patch_of};
 ghost use Rattle.records.specs.Parts.{PartsOf};
-ghost use Rattle.engine.specs.Reply.{fitReply, fittedBuffer};
+ghost use Rattle.engine.specs.Reply.{fit_reply, fitted_buffer};
 ghost use Rattle.engine.specs.Inner.Miter.{SomeParts};
-ghost use Rattle.engine.specs.Inner.Tree.{Nets, GateRoom, treesSize};
-ghost use Rattle.engine.specs.Fit.{fittedBytes};
-ghost use Rattle.engine.specs.Inner.Fitting.{TreesPlaced, sideJob, Fittable, patchedCount, GatesPlaced, FitGives, patchNumber, sheetFitNumber, OldOf, FitReady};
-ghost use Rattle.engine.specs.Inner.Renumber.{oldBase};
+ghost use Rattle.engine.specs.Inner.Tree.{Nets, GateRoom, trees_size};
+ghost use Rattle.engine.specs.Fit.{fitted_bytes};
+ghost use Rattle.engine.specs.Inner.Fitting.{TreesPlaced, side_job, Fittable, patched_count, GatesPlaced, FitGives, patch_number, sheet_fit_number, OldOf, FitReady};
+ghost use Rattle.engine.specs.Inner.Renumber.{old_base};
 
 use super::limits::LONGEST_FIT;
 use super::miter::miter_of;
@@ -38,7 +38,7 @@ fn place_trees(
     requires len_bound { (support.len ≤ 10) × (support.len ≤ length support.nets) × (2 ^ support.len ≤ length table.now)
         × Nets support.len support.nets }
     requires targets_bound { (targets ≤ 4) × (inputs + targets ≤ 1024) × (length new.numbers ≡ 1024) × Nets 1024 new.numbers }
-    requires gate_room { GateRoom inputs (new.count + treesSize targets 0 support.len table.now) new.gates }
+    requires gate_room { GateRoom inputs (new.count + trees_size targets 0 support.len table.now) new.gates }
     ensures { TreesPlaced inputs targets (take support.len support.nets)
         (take (2 ^ support.len) table.now) new result }
 {
@@ -67,8 +67,8 @@ fn place_trees(
 
 // The gates of the patched netlist and each old net's new number.
 fn place_gates(old: OldSide, support: Support, table: &[u8]) -> NewSide
-    requires { Fittable old support table.now × (patchedCount old support table.now ≤ 400) }
-    ensures { GatesPlaced (sideJob old []) (take support.len support.nets)
+    requires { Fittable old support table.now × (patched_count old support table.now ≤ 400) }
+    ensures { GatesPlaced (side_job old []) (take support.len support.nets)
         (take (2 ^ support.len) table.now) result }
 {
     let numbers = number_inputs(old.inputs);
@@ -93,11 +93,11 @@ fn fit_patch(
     reply: &mut [u8],
 ) -> FitReply
     requires fittable { Fittable old support table.now × (4075 ≤ length reply.old) }
-    requires count_bound { (count ≤ 32) × ((i : ℕ) → i < count → get_or outputs i 0 < oldBase old + old.count) }
+    requires count_bound { (count ≤ 32) × ((i : ℕ) → i < count → get_or outputs i 0 < old_base old + old.count) }
     ensures { FitGives
-        (patchNumber (sideJob old (take count outputs)) (take support.len support.nets)
+        (patch_number (side_job old (take count outputs)) (take support.len support.nets)
         (take (2 ^ support.len) table.now))
-        (fittedBytes (sideJob old (take count outputs)) (take support.len support.nets)
+        (fitted_bytes (side_job old (take count outputs)) (take support.len support.nets)
         (take (2 ^ support.len) table.now))
         reply.old result reply.new }
 {
@@ -118,8 +118,8 @@ fn fit_patch(
 fn fit_sheet(old: OldSide, job: JobParts, sheet: &[u8], reply: &mut [u8]) -> FitReply
     requires { FitReady old job × (4075 ≤ length reply.old) }
     ensures { (j : Job) → PartsOf j job → OldOf j old
-        → FitGives (sheetFitNumber j sheet.now)
-        (fittedBytes j (patch_of sheet.now).support (patch_of sheet.now).table)
+        → FitGives (sheet_fit_number j sheet.now)
+        (fitted_bytes j (patch_of sheet.now).support (patch_of sheet.now).table)
         reply.old result reply.new }
 {
     let counts = job.counts;
@@ -174,8 +174,8 @@ fn old_side(job: JobParts) -> OldSide
 // than 400 gates (9). It evaluates no gate: it passes four times over the old gates, once over the golden ones, and at most
 // 6 * (k + 1) times over each target's column of the table, for a support of k nets.
 pub fn fit(job: &[u8], sheet: &[u8], reply: &mut [u8]) -> FitReply
-    ensures reply { result ≡ fitReply reply.old job.now sheet.now }
-    ensures lent { reply.new ≡ fittedBuffer reply.old job.now sheet.now }
+    ensures reply { result ≡ fit_reply reply.old job.now sheet.now }
+    ensures lent { reply.new ≡ fitted_buffer reply.old job.now sheet.now }
 {
     if reply.len() < LONGEST_FIT {
         return FitReply { number: 1, len: 0 };

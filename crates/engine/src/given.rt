@@ -2,7 +2,7 @@
 ghost use Rattle.std.specs.Prelude.{◌≡◌, true, List, ℕ, ◌<◌, length, take};
 ghost use Rattle.records.specs.Bytes.{all as all'};
 ghost use Rattle.records.specs.Job.{Job};
-ghost use Rattle.records.specs.Refusal.{candidateGood};
+ghost use Rattle.records.specs.Refusal.{candidate_good};
 ghost use Rattle.engine.specs.Inner.Miter.{MiterRoom, MergedOf};
 ghost use Rattle.engine.specs.Inner.Plan.{NetsRead, PlanHeld};
 ghost use Rattle.engine.specs.Inner.Search.{BlockRange};
@@ -169,7 +169,7 @@ pub(super) fn see_skipped(
 )
     requires { MiterRoom miter × NetsRead support.nets support.len × (length sets.old ≡ 1024) }
     ensures unseen { (j : Job) (is : List ℕ) → MergedOf j miter → take support.len support.nets ≡ is
-        → all' (candidateGood j) is ≡ true → GivenBits j is sets.old skipped → Unseen j is sets.new }
+        → all' (candidate_good j) is ≡ true → GivenBits j is sets.old skipped → Unseen j is sets.new }
     ensures same_vectors { SameVectors sets.old sets.new }
 {
     if skipped == 0 {

@@ -7,8 +7,8 @@ ghost use Rattle.std.specs.Prelude.{◌≡◌, true, false, ℕ, ◌*◌, ◌^�
 ghost use Rattle.records.specs.Job.{Job};
 ghost use Rattle.engine.specs.Choice.{any};
 ghost use Rattle.engine.specs.Eval.{bit};
-ghost use Rattle.engine.specs.Support.{candidateNets};
-ghost use Rattle.engine.specs.Inner.List.{Held, listed_of, startList};
+ghost use Rattle.engine.specs.Support.{candidate_nets};
+ghost use Rattle.engine.specs.Inner.List.{Held, listed_of, start_list};
 ghost use Rattle.engine.specs.Inner.Search.{FreeKept};
 ghost use Rattle.engine.specs.Inner.Plan.{PlanHeld, TurnsOf};
 ghost use Rattle.engine.specs.Inner.Guess.{ListTo, OfListed, BlockGuessed, BlockShown, BlockListed};
@@ -240,7 +240,7 @@ fn list_inputs(
 pub(super) fn list_of_inputs(gates: &[u64], plan: Plan) -> Vectors
     requires { PlanHeld plan gates.now }
     ensures held { Held result }
-    ensures list_to { (j : Job) → TurnsOf j (candidateNets j) plan gates.now → ListTo j (2 ^ j.inputs) result }
+    ensures list_to { (j : Job) → TurnsOf j (candidate_nets j) plan gates.now → ListTo j (2 ^ j.inputs) result }
 {
     let size = 1usize << plan.inputs;
     let mut words = [0u64; WORDS];
@@ -273,7 +273,7 @@ pub(super) fn list_of_inputs(gates: &[u64], plan: Plan) -> Vectors
 
 // Vector 0 alone, with which the loop begins.
 pub(super) fn first_list() -> Vectors
-    ensures { Held result × (listed_of result ≡ startList) × (result.stuck ≡ false) }
+    ensures { Held result × (listed_of result ≡ start_list) × (result.stuck ≡ false) }
 {
     Vectors {
         list: [0u8; VECTORS],

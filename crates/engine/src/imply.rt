@@ -3,10 +3,10 @@
 // its operands, and from the first to the last, what is known of its operands says what it can of its net. Where that is not enough, both values
 // of a net are tried, an open operand of a gate that is not justified: its own value is known, and what is known of its operands does not give it.
 ghost use Rattle.std.specs.Prelude.{◌≡◌, true, List, ℕ, ◌≤◌, ◌<◌, length, get_or};
-ghost use Rattle.records.specs.Netlist.{netAt};
+ghost use Rattle.records.specs.Netlist.{net_at};
 ghost use Rattle.engine.specs.Inner.Cover.{CoverHeld};
 ghost use Rattle.engine.specs.Inner.Imply.{Implied, Learns, AllHave, Forces, GateHas, ValuesOf, CubeHas, NoneGives, CubeSorted, Unrefuted};
-ghost use Rattle.engine.specs.Inner.Packed.{operandsOf};
+ghost use Rattle.engine.specs.Inner.Packed.{operands_of};
 ghost use Rattle.engine.specs.Inner.Plan.{PlanHeld};
 
 use super::cover::{Cover, no_cubes, with_cube};
@@ -22,7 +22,7 @@ const UNKNOWN: u8 = 2;
 // Notes that net i is v; whether it was not known to be the other value.
 fn learn(i: usize, v: u8, known: &mut [u8; NETS]) -> bool
     requires { (i < 1024) × (length known.old ≡ 1024) }
-    ensures { (length known.new ≡ 1024) × Learns (λ vs. netAt vs i ≡ v) known.old result known.new }
+    ensures { (length known.new ≡ 1024) × Learns (λ vs. net_at vs i ≡ v) known.old result known.new }
 {
     let was = known[i];
     if was < UNKNOWN {
@@ -35,7 +35,7 @@ fn learn(i: usize, v: u8, known: &mut [u8; NETS]) -> bool
 // .. that each operand of gate c is v
 fn learn_operands(c: u64, v: u8, known: &mut [u8; NETS]) -> bool
     requires { length known.old ≡ 1024 }
-    ensures { (length known.new ≡ 1024) × Learns (AllHave v (operandsOf c)) known.old result known.new }
+    ensures { (length known.new ≡ 1024) × Learns (AllHave v (operands_of c)) known.old result known.new }
 {
     let mut rest = c / SLOTS_AT;
     let mut i = c / COUNT_AT % COUNTS;

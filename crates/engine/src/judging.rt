@@ -3,11 +3,11 @@ ghost use Rattle.std.specs.Prelude.{◌≡◌, true, ◌^◌, ◌≤◌, ◌<◌
 ghost use Rattle.records.specs.Job.{Job};
 ghost use Rattle.records.specs.Claims.{Below};
 ghost use Rattle.records.specs.Parts.{PartsOf};
-ghost use Rattle.engine.specs.Verdict.{judgedBytes};
-ghost use Rattle.engine.specs.Reply.{declinedJudge, judgeReply};
-ghost use Rattle.engine.specs.Rectify.{vectorLoop};
+ghost use Rattle.engine.specs.Verdict.{judged_bytes};
+ghost use Rattle.engine.specs.Reply.{declined_judge, judge_reply};
+ghost use Rattle.engine.specs.Rectify.{vector_loop};
 ghost use Rattle.engine.specs.Inner.List.{Held, listed_of};
-ghost use Rattle.engine.specs.Support.{candidateNets};
+ghost use Rattle.engine.specs.Support.{candidate_nets};
 ghost use Rattle.engine.specs.Inner.Guess.{ListTo};
 ghost use Rattle.engine.specs.Inner.Miter.{SomeParts, MiterRoom, MergedOf};
 ghost use Rattle.engine.specs.Inner.Plan.{NetsRead};
@@ -45,7 +45,7 @@ pub struct JudgeReply {
 }
 
 fn declined(number: u8) -> JudgeReply
-    ensures { result ≡ declinedJudge number }
+    ensures { result ≡ declined_judge number }
 {
     JudgeReply {
         number,
@@ -57,7 +57,7 @@ fn declined(number: u8) -> JudgeReply
 // The judgement that the vector list of all inputs gives, and its sheet: where the list is stuck, that input is unfixable.
 fn rule_list(list: Vectors, reply: &mut [u8]) -> JudgeReply
     requires { Held list × (list.stuck ≡ true → list.input < 4294967296) × (26 ≤ length reply.old) }
-    ensures { (j : Job) → listed_of list ≡ vectorLoop j → JudgedJob j reply.old result reply.new }
+    ensures { (j : Job) → listed_of list ≡ vector_loop j → JudgedJob j reply.old result reply.new }
 {
     let vectors = list.list;
     if list.stuck {
@@ -81,7 +81,7 @@ fn rule_list(list: Vectors, reply: &mut [u8]) -> JudgeReply
 // The vector list over all inputs of a miter; of the first reads nets the tables are made (see guess.rt).
 fn vector_list(miter: Miter, nets: [u16; CANDIDATES], reads: usize) -> Vectors
     requires { MiterRoom miter × NetsRead nets reads }
-    ensures { Held result × ((j : Job) → MergedOf j miter → take reads nets ≡ candidateNets j → ListTo j (2 ^ j.inputs) result) }
+    ensures { Held result × ((j : Job) → MergedOf j miter → take reads nets ≡ candidate_nets j → ListTo j (2 ^ j.inputs) result) }
 {
     if miter.inputs <= WORD_INPUTS {
         return list_of_words(miter);
@@ -112,8 +112,8 @@ fn judge_job(job: JobParts, reply: &mut [u8]) -> JudgeReply
 // on 0, 1 and not yet known, which may spare all their blocks. It is given up where it settles too little: after eight such ranges where it
 // settles none. A job of at most six inputs costs one gate evaluation a gate for each vector, on one word (see narrow.rt).
 pub fn judge(job: &[u8], reply: &mut [u8]) -> JudgeReply
-    ensures reply { result ≡ judgeReply reply.old job.now }
-    ensures lent { reply.new ≡ judgedBytes reply.old job.now }
+    ensures reply { result ≡ judge_reply reply.old job.now }
+    ensures lent { reply.new ≡ judged_bytes reply.old job.now }
 {
     if reply.len() < LONGEST_JUDGE {
         return declined(1);

@@ -2,8 +2,8 @@
 ghost use Rattle.std.specs.Prelude.{◌≡◌, map, ℕ, ◌+◌, ◌*◌, ◌%◌, ◌≤◌, ◌<◌, length, get_or};
 ghost use Rattle.std.specs.Int.Bits.{bit_xor};
 ghost use Rattle.std.proofs.Math.Seq.{slice};
-ghost use Rattle.engine.specs.Inner.Packed.{operation, operandsOf, folded};
-ghost use Rattle.engine.specs.Inner.Kernel.{applied, Filled, rowValue, valueIn, Ran};
+ghost use Rattle.engine.specs.Inner.Packed.{operation, operands_of, folded};
+ghost use Rattle.engine.specs.Inner.Kernel.{applied, Filled, row_value, value_in, Ran};
 
 use super::limits::{ROW, WORDS};
 use super::packed::{COUNT_AT, COUNTS, NET, NET_AT, SLOTS_AT};
@@ -48,7 +48,7 @@ pub(super) fn store(at: usize, x: u64, r: [u64; ROW], words: &mut [u64; WORDS])
 // Gate c's operation over the words of its operands. The first joins zeros by operation 3, or.
 fn gate_words(c: u64, words: &[u64; WORDS]) -> [u64; ROW]
     ensures { (y : ℕ) → y < 1024
-        → rowValue result y ≡ folded (operation c) (map (valueIn words.now y) (operandsOf c)) }
+        → row_value result y ≡ folded (operation c) (map (value_in words.now y) (operands_of c)) }
 {
     let mut r = [0u64; ROW];
     let mut op = 3u64;

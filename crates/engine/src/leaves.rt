@@ -2,7 +2,7 @@
 ghost use Rattle.std.specs.Prelude.{◌≡◌, map, cond, ℕ, ◌+◌, ◌*◌, ◌≤◌, ◌<◌, min, eqb, length, get_or, take};
 ghost use Rattle.engine.specs.Choice.{same};
 ghost use Rattle.engine.specs.Eval.{bit, number_of};
-ghost use Rattle.engine.specs.Inner.Kernel.{rowValue, valueIn, NetSet, NetsSet};
+ghost use Rattle.engine.specs.Inner.Kernel.{row_value, value_in, NetSet, NetsSet};
 ghost use Rattle.engine.specs.Inner.Note.{gathered};
 
 use super::limits::{BLOCK, ROW, ROWS, WORDS};
@@ -22,7 +22,7 @@ pub(super) fn block_inputs(left: usize) -> usize
 // The row r becomes that of net i. (The kernel's store has one caller, so that it is part of the kernel's loop.)
 pub(super) fn set_row(i: usize, r: [u64; ROW], words: &mut [u64; WORDS])
     requires { (i < 1024) × (length words.old ≡ 16384) }
-    ensures { NetSet i (rowValue r) words.old words.new }
+    ensures { NetSet i (row_value r) words.old words.new }
 {
     let mut w = 0usize;
     while w < ROW {
@@ -44,7 +44,7 @@ pub(super) fn set_net(i: usize, x: usize, words: &mut [u64; WORDS])
 // The row of input i in block b.
 fn input_row(i: usize, b: usize) -> [u64; ROW]
     requires { (i < 64) × (b < 65536) }
-    ensures { (y : ℕ) → y < 1024 → rowValue result y ≡ bit i (1024 * b + y) }
+    ensures { (y : ℕ) → y < 1024 → row_value result y ≡ bit i (1024 * b + y) }
 {
     let mut r = [0u64; ROW];
     let mut w = 0usize;
@@ -83,7 +83,7 @@ pub(super) fn set_vector(at: usize, targets: usize, vector: usize, words: &mut [
 // The row of net i.
 pub(super) fn row_of(i: usize, words: &[u64; WORDS]) -> [u64; ROW]
     requires { i < 1024 }
-    ensures { (length result ≡ 16) × ((y : ℕ) → y < 1024 → rowValue result y ≡ valueIn words.now y i) }
+    ensures { (length result ≡ 16) × ((y : ℕ) → y < 1024 → row_value result y ≡ value_in words.now y i) }
 {
     let mut r = [0u64; ROW];
     let mut w = 0usize;
@@ -97,7 +97,7 @@ pub(super) fn row_of(i: usize, words: &[u64; WORDS]) -> [u64; ROW]
 // The row r becomes row i of 16 rows.
 pub(super) fn put_row(i: usize, r: [u64; ROW], rows: &mut [u64; ROWS])
     requires { (i < 16) × (length rows.old ≡ 256) }
-    ensures { NetSet i (rowValue r) rows.old rows.new }
+    ensures { NetSet i (row_value r) rows.old rows.new }
 {
     let mut w = 0usize;
     while w < ROW {
@@ -110,7 +110,7 @@ pub(super) fn put_row(i: usize, r: [u64; ROW], rows: &mut [u64; ROWS])
 pub(super) fn read_rows(nets: [u16; CANDIDATES], count: usize, words: &[u64; WORDS]) -> [u64; ROWS]
     requires { (count ≤ 10) × (length nets ≡ 10) × ((i : ℕ) → get_or nets i 0 < 1024) }
     ensures { (length result ≡ 256) × ((y : ℕ) → y < 1024
-        → gathered result y ≡ number_of (map (valueIn words.now y) (take count nets))) }
+        → gathered result y ≡ number_of (map (value_in words.now y) (take count nets))) }
 {
     let mut rows = [0u64; ROWS];
     let mut k = 0usize;
@@ -125,8 +125,8 @@ pub(super) fn read_rows(nets: [u16; CANDIDATES], count: usize, words: &[u64; WOR
 // The row r, with 0 where the nets a and b differ.
 fn keep_equal(a: usize, b: usize, r: &mut [u64; ROW], words: &[u64; WORDS])
     requires { (a < 1024) × (b < 1024) × (length r.old ≡ 16) }
-    ensures { (length r.new ≡ 16) × ((y : ℕ) → y < 1024 → rowValue r.new y
-        ≡ cond (eqb (valueIn words.now y a) (valueIn words.now y b)) (rowValue r.old y) 0) }
+    ensures { (length r.new ≡ 16) × ((y : ℕ) → y < 1024 → row_value r.new y
+        ≡ cond (eqb (value_in words.now y a) (value_in words.now y b)) (row_value r.old y) 0) }
 {
     let mut w = 0usize;
     while w < ROW {
@@ -144,8 +144,8 @@ pub(super) fn equal_row(
 ) -> [u64; ROW]
     requires count_bound { (count ≤ 32) × (length outputs ≡ 32) × (length goldens ≡ 32) }
     requires by_index { ((i : ℕ) → get_or outputs i 0 < 1024) × ((i : ℕ) → get_or goldens i 0 < 1024) }
-    ensures { (length result ≡ 16) × ((y : ℕ) → y < 1024 → rowValue result y
-        ≡ cond (same (map (valueIn words.now y) (take count outputs)) (map (valueIn words.now y) (take count goldens))) 1 0) }
+    ensures { (length result ≡ 16) × ((y : ℕ) → y < 1024 → row_value result y
+        ≡ cond (same (map (value_in words.now y) (take count outputs)) (map (value_in words.now y) (take count goldens))) 1 0) }
 {
     let mut r = [!0u64; ROW];
     let mut k = 0usize;

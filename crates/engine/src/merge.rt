@@ -3,7 +3,7 @@
 // them out. Outputs that have come to be one net need not be compared, nor what leads to them alone be evaluated.
 ghost use Rattle.std.specs.Prelude.{◌≡◌, true, ◌+◌, ◌-◌, ◌≤◌, ◌<◌, length, get_or};
 ghost use Rattle.records.specs.Job.{Job};
-ghost use Rattle.engine.specs.Inner.Renumber.{gateIn};
+ghost use Rattle.engine.specs.Inner.Renumber.{gate_in};
 ghost use Rattle.records.specs.Parts.{PartsOf};
 ghost use Rattle.engine.specs.Inner.Miter.{SomeParts, MiterRoom, MiterOf, MergedOf};
 ghost use Rattle.engine.specs.Inner.Merge.{Backward, GatesMerged, PairsKept};
@@ -39,7 +39,7 @@ fn place_of(c: u64) -> usize
 
 // Whether two packed gates have one kind, count and operands.
 fn alike(a: u64, b: u64) -> bool
-    ensures { result ≡ true → gateIn a ≡ gateIn b }
+    ensures { result ≡ true → gate_in a ≡ gate_in b }
 {
     (a % NET_AT == b % NET_AT) & (a / SLOTS_AT == b / SLOTS_AT)
 }
@@ -47,7 +47,7 @@ fn alike(a: u64, b: u64) -> bool
 // One more than the index of the last gate alike c in the chain whose last gate is at from - 1; 0 where there is none.
 fn find(gates: &[u64; MITER_GATES], next: &[u16; MITER_GATES], from: usize, c: u64) -> usize
     requires { (from ≤ 800) × Backward next.now }
-    ensures { (result ≤ from) × (0 < result → gateIn (get_or gates.now (result - 1) 0) ≡ gateIn c) }
+    ensures { (result ≤ from) × (0 < result → gate_in (get_or gates.now (result - 1) 0) ≡ gate_in c) }
 {
     let mut k = from;
     while 0 < k {

@@ -2,10 +2,10 @@
 ghost use Rattle.std.specs.Prelude.{◌≡◌, map, ◌++◌, ℕ, ◌+◌, ◌≤◌, ◌<◌, get_or, take, drop};
 ghost use Rattle.records.specs.Claims.{Below};
 ghost use Rattle.records.specs.Job.{Job};
-ghost use Rattle.records.specs.Service.{gateFrom};
+ghost use Rattle.records.specs.Service.{gate_from};
 ghost use Rattle.records.specs.Parts.{PartsOf};
 ghost use Rattle.engine.specs.Inner.Packed.{packed};
-ghost use Rattle.engine.specs.Inner.Miter.{shiftedNet, shifted, GateFits, GatesFit, CodesPut, NetsFit, NetsShifted, SomeParts, MiterRoom, MiterOf};
+ghost use Rattle.engine.specs.Inner.Miter.{shifted_net, shifted, GateFits, GatesFit, CodesPut, NetsFit, NetsShifted, SomeParts, MiterRoom, MiterOf};
 
 use super::limits::MITER_GATES;
 use super::packed::pack;
@@ -26,7 +26,7 @@ pub struct Miter {
 // A net in the miter: an input keeps its number, a gate's net stands shift further on.
 fn shift_net(i: usize, inputs: usize, shift: usize) -> usize
     requires { (i < 65536) × (shift < 65536) }
-    ensures { result ≡ shiftedNet inputs shift i }
+    ensures { result ≡ shifted_net inputs shift i }
 {
     if i < inputs {
         return i;
@@ -37,7 +37,7 @@ fn shift_net(i: usize, inputs: usize, shift: usize) -> usize
 // The operand slots with the first count of them, which are used, at their nets in the miter.
 fn shift_slots(slots: [u16; SLOTS], count: usize, inputs: usize, shift: usize) -> [u16; SLOTS]
     requires { (count ≤ 4) × ((i : ℕ) → get_or slots i 0 + shift < 1024) }
-    ensures { (result ≡ map (shiftedNet inputs shift) (take count slots) ++ drop count slots) × Below 1024 result }
+    ensures { (result ≡ map (shifted_net inputs shift) (take count slots) ++ drop count slots) × Below 1024 result }
 {
     let mut r = slots;
     let mut i = 0usize;
@@ -56,7 +56,7 @@ fn shift_slots(slots: [u16; SLOTS], count: usize, inputs: usize, shift: usize) -
 // A gate that drives net own, in one number.
 fn gate_code(gate: Gate, own: usize, inputs: usize, shift: usize) -> u64
     requires { GateFits gate shift × (own < 1024) }
-    ensures { result ≡ packed own (shifted inputs shift (gateFrom gate)) }
+    ensures { result ≡ packed own (shifted inputs shift (gate_from gate)) }
 {
     let slots = shift_slots(slots_of(gate), gate.count as usize, inputs, shift);
     pack(gate.kind, gate.count, own, slots)

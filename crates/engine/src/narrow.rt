@@ -2,16 +2,16 @@
 // inputs are not used, the 64 places of a word repeat those of the inputs there are.
 ghost use Rattle.std.specs.Prelude.{◌≡◌, map, cond, ℕ, ◌%◌, ◌^◌, ◌≤◌, ◌<◌, length, get_or, take};
 ghost use Rattle.records.specs.Job.{Job};
-ghost use Rattle.records.specs.Netlist.{netAt};
+ghost use Rattle.records.specs.Netlist.{net_at};
 ghost use Rattle.engine.specs.Choice.{same};
 ghost use Rattle.engine.specs.Eval.{bit, number_of};
-ghost use Rattle.engine.specs.Support.{candidateNets};
+ghost use Rattle.engine.specs.Support.{candidate_nets};
 ghost use Rattle.engine.specs.Inner.Guess.{ListTo};
 ghost use Rattle.engine.specs.Inner.List.{Held};
 ghost use Rattle.engine.specs.Inner.Miter.{MiterRoom, MergedOf};
-ghost use Rattle.engine.specs.Inner.Narrow.{valuesAt, leafAt, LeavesLoaded, WordsRan, NarrowOf, ValuesOf, MasksOf};
+ghost use Rattle.engine.specs.Inner.Narrow.{values_at, leaf_at, LeavesLoaded, WordsRan, NarrowOf, ValuesOf, MasksOf};
 ghost use Rattle.engine.specs.Inner.Note.{gathered};
-ghost use Rattle.engine.specs.Inner.Packed.{codeValue};
+ghost use Rattle.engine.specs.Inner.Packed.{code_value};
 ghost use Rattle.engine.specs.Inner.Plan.{NetsRead};
 ghost use Rattle.engine.specs.Inner.Search.{SetsTo};
 
@@ -31,7 +31,7 @@ use records::{CANDIDATES, OUTPUTS};
 // The word of leaf i at a vector: an input's, or that of a target behind the inputs.
 fn leaf_word(inputs: usize, vector: usize, i: usize) -> u64
     requires { i < 64 }
-    ensures { (y : ℕ) → y < 64 → bit y result ≡ leafAt inputs vector y i }
+    ensures { (y : ℕ) → y < 64 → bit y result ≡ leaf_at inputs vector y i }
 {
     if i < inputs {
         return input_word(i, 0);
@@ -53,7 +53,7 @@ fn load_leaves(inputs: usize, count: usize, vector: usize, words: &mut [u64; NET
 
 // The word of gate c, from those of its operands. The first joins zeros by operation 3, or.
 fn gate_word(c: u64, words: &[u64; NETS]) -> u64
-    ensures { (y : ℕ) → y < 64 → bit y result ≡ codeValue (valuesAt words.now y) c }
+    ensures { (y : ℕ) → y < 64 → bit y result ≡ code_value (values_at words.now y) c }
 {
     let mut r = 0u64;
     let mut op = 3u64;
@@ -91,8 +91,8 @@ fn equal_word(
 ) -> u64
     requires count_bound { (count ≤ 32) × (length outputs ≡ 32) × (length goldens ≡ 32) }
     requires by_index { ((i : ℕ) → get_or outputs i 0 < 1024) × ((i : ℕ) → get_or goldens i 0 < 1024) }
-    ensures { (y : ℕ) → y < 64 → bit y result ≡ cond (same (map (netAt (valuesAt words.now y)) (take count outputs))
-        (map (netAt (valuesAt words.now y)) (take count goldens))) 1 0 }
+    ensures { (y : ℕ) → y < 64 → bit y result ≡ cond (same (map (net_at (values_at words.now y)) (take count outputs))
+        (map (net_at (values_at words.now y)) (take count goldens))) 1 0 }
 {
     let mut r = !0u64;
     let mut k = 0usize;
@@ -155,7 +155,7 @@ fn word_masks(miter: Miter, words: &mut [u64; NETS]) -> [u64; ROWS]
 fn read_words(nets: [u16; CANDIDATES], count: usize, words: &[u64; NETS]) -> [u64; ROWS]
     requires { NetsRead nets count }
     ensures { (length result ≡ 256) × ((y : ℕ) → y < 1024
-        → gathered result y ≡ number_of (map (netAt (valuesAt words.now (y % 64))) (take count nets))) }
+        → gathered result y ≡ number_of (map (net_at (values_at words.now (y % 64))) (take count nets))) }
 {
     let mut rows = [0u64; ROWS];
     let mut k = 0usize;
@@ -180,7 +180,7 @@ pub(super) fn list_of_words(miter: Miter) -> Vectors
 // The sets of all readings of the first reads nets, over all inputs of a miter with six at most.
 pub(super) fn sets_of_words(miter: Miter, nets: [u16; CANDIDATES], reads: usize) -> Met
     requires { MiterRoom miter × (miter.inputs ≤ 6) × NetsRead nets reads }
-    ensures { (j : Job) → MergedOf j miter → take reads nets ≡ candidateNets j → SetsTo j (2 ^ j.inputs) result.skipped result.sets }
+    ensures { (j : Job) → MergedOf j miter → take reads nets ≡ candidate_nets j → SetsTo j (2 ^ j.inputs) result.skipped result.sets }
 {
     let mut words = [0u64; NETS];
     let masks = word_masks(miter, &mut words);

@@ -1,10 +1,10 @@
 // The fields of a netlist that has no targets, put into the reply.
 ghost use Rattle.std.specs.Prelude.{◌≡◌, [], ◌∷◌, ◌+◌, ◌*◌, ◌≤◌, ◌<◌, length, take};
-ghost use Rattle.records.specs.Bytes.{flat, bytePair, placed, field};
-ghost use Rattle.records.specs.Job.{gateBytes};
+ghost use Rattle.records.specs.Bytes.{flat, byte_pair, placed, field};
+ghost use Rattle.records.specs.Job.{gate_bytes};
 ghost use Rattle.engine.specs.Inner.Sheet.{BytesPut};
-ghost use Rattle.engine.specs.Inner.Renumber.{gateIn, unpacked};
-ghost use Rattle.engine.specs.Inner.Netlist.{netlistBytes};
+ghost use Rattle.engine.specs.Inner.Renumber.{gate_in, unpacked};
+ghost use Rattle.engine.specs.Inner.Netlist.{netlist_bytes};
 
 use super::packed::{COUNT_AT, COUNTS, NET, SLOTS_AT};
 use super::sheet::two_bytes;
@@ -13,7 +13,7 @@ use records::{GATE_SIZE, GATES, OUTPUTS, put_field};
 // The ten bytes of the gate in the number c, from position at on.
 fn put_code(c: u64, at: usize, bytes: &mut [u8; GATE_SIZE * GATES])
     requires { (at + 10 ≤ 4000) × (length bytes.old ≡ 4000) }
-    ensures { bytes.new ≡ placed bytes.old at (gateBytes (gateIn c)) }
+    ensures { bytes.new ≡ placed bytes.old at (gate_bytes (gate_in c)) }
 {
     bytes[at] = (c % COUNT_AT) as u8;
     bytes[at + 1] = (c / COUNT_AT % COUNTS) as u8;
@@ -31,7 +31,7 @@ fn put_code(c: u64, at: usize, bytes: &mut [u8; GATE_SIZE * GATES])
 // The first count gates, ten bytes each, at the start.
 fn gates_bytes(gates: [u64; GATES], count: usize) -> [u8; GATE_SIZE * GATES]
     requires { count ≤ 400 }
-    ensures { take (10 * count) result ≡ flat gateBytes (unpacked count gates) }
+    ensures { take (10 * count) result ≡ flat gate_bytes (unpacked count gates) }
 {
     let mut bytes = [0u8; GATE_SIZE * GATES];
     let mut i = 0usize;
@@ -45,7 +45,7 @@ fn gates_bytes(gates: [u64; GATES], count: usize) -> [u8; GATE_SIZE * GATES]
 // The first count nets, two bytes each, at the start.
 fn pair_bytes(nets: [u16; OUTPUTS], count: usize) -> [u8; 2 * OUTPUTS]
     requires { count ≤ 32 }
-    ensures { take (2 * count) result ≡ flat bytePair (take count nets) }
+    ensures { take (2 * count) result ≡ flat byte_pair (take count nets) }
 {
     let mut bytes = [0u8; 2 * OUTPUTS];
     let mut i = 0usize;
@@ -71,7 +71,7 @@ fn put_inputs(reply: &mut [u8], inputs: usize) -> usize
 // The field of the first count gates, from position at on.
 fn put_gate_list(reply: &mut [u8], at: usize, gates: [u64; GATES], count: usize) -> usize
     requires { (count ≤ 400) × (at + 3 + 10 * count ≤ length reply.old) }
-    ensures { BytesPut reply.old at (field 2 (flat gateBytes (unpacked count gates))) reply.new result }
+    ensures { BytesPut reply.old at (field 2 (flat gate_bytes (unpacked count gates))) reply.new result }
 {
     let bytes = gates_bytes(gates, count);
     let len = GATE_SIZE * count;
@@ -81,7 +81,7 @@ fn put_gate_list(reply: &mut [u8], at: usize, gates: [u64; GATES], count: usize)
 // The field of the first count outputs, from position at on.
 fn put_outputs(reply: &mut [u8], at: usize, outputs: [u16; OUTPUTS], count: usize) -> usize
     requires { (count ≤ 32) × (at + 3 + 2 * count ≤ length reply.old) }
-    ensures { BytesPut reply.old at (field 3 (flat bytePair (take count outputs))) reply.new result }
+    ensures { BytesPut reply.old at (field 3 (flat byte_pair (take count outputs))) reply.new result }
 {
     let bytes = pair_bytes(outputs, count);
     let len = 2 * count;
@@ -98,7 +98,7 @@ pub(super) fn put_netlist(
     outputs: usize,
 ) -> usize
     requires { (4075 ≤ length reply.old) × (inputs < 256) × (count ≤ 400) × (outputs ≤ 32) }
-    ensures { BytesPut reply.old 0 (netlistBytes inputs (unpacked count gates) (take outputs nets))
+    ensures { BytesPut reply.old 0 (netlist_bytes inputs (unpacked count gates) (take outputs nets))
         reply.new result }
 {
     let a = put_inputs(reply, inputs);

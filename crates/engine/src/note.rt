@@ -3,7 +3,7 @@
 // vector rectifies.
 ghost use Rattle.std.specs.Prelude.{◌≡◌, ℕ, ◌+◌, ◌*◌, ◌/◌, ◌%◌, ◌^◌, ◌≤◌, ◌<◌, length, get_or, take};
 ghost use Rattle.std.specs.Int.Bits.{bit_or};
-ghost use Rattle.engine.specs.Inner.Note.{narrowed, setsFrom, gathered, ColumnMet, Joined, CoveredTo, ListNoted};
+ghost use Rattle.engine.specs.Inner.Note.{narrowed, sets_from, gathered, ColumnMet, Joined, CoveredTo, ListNoted};
 ghost use Rattle.engine.specs.Inner.List.{Held};
 
 use super::limits::{READING, READINGS, ROW, ROWS, SET, VECTORS, WORD};
@@ -56,7 +56,7 @@ pub(super) fn meet_block(
 )
     requires { (length masks ≡ 256) × (length readings ≡ 256) × (columns ≤ 16) }
     ensures { sets.new
-        ≡ setsFrom (gathered masks) (λ y. gathered readings y % 1024) sets.old 0 (64 * columns) }
+        ≡ sets_from (gathered masks) (λ y. gathered readings y % 1024) sets.old 0 (64 * columns) }
 {
     transpose(&mut masks, columns);
     transpose(&mut readings, columns);

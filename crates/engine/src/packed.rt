@@ -2,7 +2,7 @@
 // what stands in its four operand slots (10 each).
 ghost use Rattle.std.specs.Prelude.{◌≡◌, ◌<◌};
 ghost use Rattle.records.specs.Claims.{Below};
-ghost use Rattle.engine.specs.Inner.Packed.{gateWith, packed};
+ghost use Rattle.engine.specs.Inner.Packed.{gate_with, packed};
 
 use records::SLOTS;
 
@@ -26,7 +26,7 @@ const FOURTH_AT: u64 = NET * THIRD_AT;
 
 pub(super) fn pack(kind: u8, count: u8, own: usize, slots: [u16; SLOTS]) -> u64
     requires { (kind < 16) × (count < 8) × (own < 1024) × Below 1024 slots }
-    ensures { result ≡ packed own (gateWith kind count slots) }
+    ensures { result ≡ packed own (gate_with kind count slots) }
 {
     let low = kind as u64 + COUNT_AT * count as u64 + NET_AT * own as u64;
     let first = SLOTS_AT * slots[0] as u64 + SECOND_AT * slots[1] as u64;

@@ -2,11 +2,11 @@
 ghost use Rattle.std.specs.Prelude.{◌≡◌, true, List, ℕ, ◌+◌, ◌≤◌, ◌<◌, max, length, take};
 ghost use Rattle.records.specs.Bytes.{all};
 ghost use Rattle.records.specs.Job.{Job};
-ghost use Rattle.records.specs.Refusal.{candidateGood};
+ghost use Rattle.records.specs.Refusal.{candidate_good};
 ghost use Rattle.records.specs.Claims.{Below};
-ghost use Rattle.engine.specs.Inner.Packed.{operandsOf};
+ghost use Rattle.engine.specs.Inner.Packed.{operands_of};
 ghost use Rattle.engine.specs.Inner.Miter.{MiterRoom, MergedOf};
-ghost use Rattle.engine.specs.Inner.Plan.{codeMark, markedAll, liveFrom, liveMarks, leavesFrom, marksFrom, picked};
+ghost use Rattle.engine.specs.Inner.Plan.{code_mark, marked_all, live_from, live_marks, leaves_from, marks_from, picked};
 ghost use Rattle.engine.specs.Inner.Plan.{ListPut, ListsUpTo, NetsRead, PlanHeld, ReadsOf, PlannedOf, TurnsOf};
 
 use super::limits::{LISTED, LISTS, NETS};
@@ -37,7 +37,7 @@ fn greater(a: u8, b: u8) -> u8
 
 // The mark of a gate: the greatest of its operands' marks.
 fn gate_mark(c: u64, marks: &[u8; NETS]) -> u8
-    ensures { result ≡ codeMark marks.now c }
+    ensures { result ≡ code_mark marks.now c }
 {
     let mut r = 0u8;
     let mut rest = c / SLOTS_AT;
@@ -53,7 +53,7 @@ fn gate_mark(c: u64, marks: &[u8; NETS]) -> u8
 // A mark for each of the k nets from from on.
 fn leaf_marks(from: usize, k: usize) -> [u8; NETS]
     requires { from + k ≤ 1024 }
-    ensures { result ≡ leavesFrom from k }
+    ensures { result ≡ leaves_from from k }
 {
     let mut marks = [0u8; NETS];
     let mut i = 0usize;
@@ -67,7 +67,7 @@ fn leaf_marks(from: usize, k: usize) -> [u8; NETS]
 // The marks of all nets where the k leaves from from on have one: each gate's, in turn.
 pub(super) fn mark_from(gates: &[u64], count: usize, from: usize, k: usize) -> [u8; NETS]
     requires { (count ≤ length gates.now) × (from + k ≤ 1024) }
-    ensures { result ≡ marksFrom (take count gates.now) from k }
+    ensures { result ≡ marks_from (take count gates.now) from k }
 {
     let mut marks = leaf_marks(from, k);
     let mut i = 0usize;
@@ -83,7 +83,7 @@ pub(super) fn mark_from(gates: &[u64], count: usize, from: usize, k: usize) -> [
 // The marks, and one for each of the first count nets.
 fn mark_nets(nets: &[u16], count: usize, mut marks: [u8; NETS]) -> [u8; NETS]
     requires { (count ≤ length nets.now) × Below 1024 nets.now }
-    ensures { result ≡ markedAll marks (take count nets.now) }
+    ensures { result ≡ marked_all marks (take count nets.now) }
 {
     let mut i = 0usize;
     while i < count {
@@ -96,7 +96,7 @@ fn mark_nets(nets: &[u16], count: usize, mut marks: [u8; NETS]) -> [u8; NETS]
 
 // Marks the operands of a gate.
 fn mark_operands(c: u64, marks: &mut [u8; NETS])
-    ensures { marks.new ≡ markedAll marks.old (operandsOf c) }
+    ensures { marks.new ≡ marked_all marks.old (operands_of c) }
 {
     let mut rest = c / SLOTS_AT;
     let mut i = c / COUNT_AT % COUNTS;
@@ -110,7 +110,7 @@ fn mark_operands(c: u64, marks: &mut [u8; NETS])
 // The marks, and from the last gate to the first those of the operands of each gate with a mark.
 fn mark_live(gates: &[u64], count: usize, mut marks: [u8; NETS]) -> [u8; NETS]
     requires { count ≤ length gates.now }
-    ensures { result ≡ liveFrom marks (take count gates.now) }
+    ensures { result ≡ live_from marks (take count gates.now) }
 {
     let mut i = count;
     while 0 < i {
@@ -195,7 +195,7 @@ fn live_marks(
 ) -> [u8; NETS]
     requires count_in_bounds { (count ≤ length gates.now) × (outs ≤ 32) × NetsRead nets reads }
     requires outputs_len { (length outputs ≡ 32) × Below 1024 outputs × (length goldens ≡ 32) × Below 1024 goldens }
-    ensures { result ≡ liveMarks (take outs outputs) (take outs goldens) (take reads nets) (take count gates.now) }
+    ensures { result ≡ live_marks (take outs outputs) (take outs goldens) (take reads nets) (take count gates.now) }
 {
     let one = mark_nets(&outputs, outs, [0; NETS]);
     let two = mark_nets(&goldens, outs, one);
@@ -214,7 +214,7 @@ pub(super) fn plan_of(
 ) -> Plan
     requires { MiterRoom miter × NetsRead nets reads × (turns ≤ miter.targets) × (length gates.old ≡ 2400) }
     ensures plan_held { PlanHeld result gates.new }
-    ensures planned_of { (j : Job) (is : List ℕ) → MergedOf j miter → take reads nets ≡ is → all (candidateGood j) is ≡ true
+    ensures planned_of { (j : Job) (is : List ℕ) → MergedOf j miter → take reads nets ≡ is → all (candidate_good j) is ≡ true
         → PlannedOf j is result gates.new × (turns ≡ miter.targets → TurnsOf j is result gates.new) }
 {
     let outputs = miter.outputs;
@@ -260,7 +260,7 @@ pub(super) fn reads_of(
     requires { MiterRoom miter × NetsRead nets reads × (length gates.old ≡ 2400) }
     ensures plan_held { PlanHeld result gates.new }
     ensures reads_of { (j : Job) (is : List ℕ) → MergedOf j miter → take reads nets ≡ is
-        → all (candidateGood j) is ≡ true → ReadsOf j is result gates.new }
+        → all (candidate_good j) is ≡ true → ReadsOf j is result gates.new }
 {
     let outputs = miter.outputs;
     let goldens = miter.goldens;

@@ -4,13 +4,13 @@ ghost use Rattle.std.specs.Prelude.{◌≡◌, ◌↔◌, true, List, map, ℕ, 
 ghost use Rattle.std.proofs.Math.Seq.{slice};
 ghost use Rattle.records.specs.Bytes.{tabulate, placed};
 ghost use Rattle.records.specs.Claims.{Below};
-ghost use Rattle.records.specs.Netlist.{netAt};
+ghost use Rattle.records.specs.Netlist.{net_at};
 ghost use Rattle.records.specs.Job.{Job};
 ghost use Rattle.engine.specs.Rectify.{rectifies};
 ghost use Rattle.engine.specs.Ternary.{unknown};
-ghost use Rattle.engine.specs.Inner.Packed.{count_of, operandsOf, evaluated};
+ghost use Rattle.engine.specs.Inner.Packed.{count_of, operands_of, evaluated};
 ghost use Rattle.engine.specs.Inner.Plan.{PlanHeld, PlannedOf};
-ghost use Rattle.engine.specs.Inner.Ranges.{codeTernary, partialInput, InRange, Known};
+ghost use Rattle.engine.specs.Inner.Ranges.{code_ternary, partial_input, InRange, Known};
 
 use super::limits::NETS;
 use super::packed::{COUNT_AT, COUNTS, NET, NET_AT, SLOTS_AT};
@@ -20,7 +20,7 @@ use records::{OUTPUTS, SLOTS, wide};
 
 // What is known of the operands of a packed gate, which has four at most; 0 behind them.
 fn known_operands(c: u64, known: &[u8; NETS]) -> [u8; SLOTS]
-    ensures { take (min (count_of c) 4) result ≡ map (netAt known.now) (take 4 (operandsOf c)) }
+    ensures { take (min (count_of c) 4) result ≡ map (net_at known.now) (take 4 (operands_of c)) }
 {
     let mut r = [0u8; SLOTS];
     let mut rest = c / SLOTS_AT;
@@ -38,7 +38,7 @@ fn known_operands(c: u64, known: &[u8; NETS]) -> [u8; SLOTS]
 
 // What is known of a packed gate's net. Most gates have two operands: their kind's table says it at one look.
 pub(super) fn ternary_gate(c: u64, known: &[u8; NETS]) -> u8
-    ensures { result ≡ codeTernary known.now c }
+    ensures { result ≡ code_ternary known.now c }
 {
     let kind = (c % COUNT_AT) as u8;
     let count = c / COUNT_AT % COUNTS;
@@ -55,7 +55,7 @@ pub(super) fn ternary_gate(c: u64, known: &[u8; NETS]) -> u8
 // Each of the first count gates, one after the other, sets what is known of its own net.
 fn eval_partial(gates: &[u64], count: usize, known: &mut [u8; NETS])
     requires { (count ≤ length gates.now) × (length known.old ≡ 1024) }
-    ensures { known.new ≡ evaluated codeTernary known.old (slice 0 count gates.now) }
+    ensures { known.new ≡ evaluated code_ternary known.old (slice 0 count gates.now) }
 {
     let mut i = 0usize;
     while i < count {
@@ -68,7 +68,7 @@ fn eval_partial(gates: &[u64], count: usize, known: &mut [u8; NETS])
 // What is known of input i where the inputs from low on are the bits of prefix.
 fn partial_input(i: usize, low: usize, prefix: usize) -> u8
     requires { i < 64 }
-    ensures { result ≡ partialInput low prefix i }
+    ensures { result ≡ partial_input low prefix i }
 {
     if i < low {
         return 2;
@@ -79,7 +79,7 @@ fn partial_input(i: usize, low: usize, prefix: usize) -> u8
 // What is known of the inputs, from net 0 on: those from low on are the bits of prefix, the others not yet known.
 fn load_partial(inputs: usize, low: usize, prefix: usize, known: &mut [u8; NETS])
     requires { (inputs < 64) × (length known.old ≡ 1024) }
-    ensures { known.new ≡ placed known.old 0 (tabulate inputs (partialInput low prefix)) }
+    ensures { known.new ≡ placed known.old 0 (tabulate inputs (partial_input low prefix)) }
 {
     let mut i = 0usize;
     while i < inputs {

@@ -4,7 +4,7 @@ ghost use Rattle.records.specs.Claims.{Below};
 ghost use Rattle.engine.specs.Fit.{moved};
 ghost use Rattle.engine.specs.Inner.Packed.{packed};
 ghost use Rattle.engine.specs.Inner.Tree.{Nets, GateRoom};
-ghost use Rattle.engine.specs.Inner.Renumber.{gateIn, OldHeld, InputsNumbered, withMark, MarkedPlaced};
+ghost use Rattle.engine.specs.Inner.Renumber.{gate_in, OldHeld, InputsNumbered, with_mark, MarkedPlaced};
 
 use super::limits::{MITER_GATES, NETS};
 use super::packed::{COUNT_AT, COUNTS, NET, SLOTS_AT, pack};
@@ -59,7 +59,7 @@ pub(super) fn move_nets(nets: &[u16], count: usize, numbers: &[u16; NETS], out: 
 // The operand slots of the gate in the number c, those that it uses at their new numbers.
 fn moved_slots(c: u64, numbers: &[u16; NETS]) -> [u16; SLOTS]
     requires { Nets 1024 numbers.now }
-    ensures { (result ≡ (moved numbers.now (gateIn c)).slots) × Below 1024 result }
+    ensures { (result ≡ (moved numbers.now (gate_in c)).slots) × Below 1024 result }
 {
     let mut r = [0u16; SLOTS];
     let mut rest = c / SLOTS_AT;
@@ -77,7 +77,7 @@ fn moved_slots(c: u64, numbers: &[u16; NETS]) -> [u16; SLOTS]
 // The gate in the number c at its new numbers, driving net own, in one number.
 pub(super) fn moved_code(c: u64, own: usize, numbers: &[u16; NETS]) -> u64
     requires { (own < 1024) × Nets 1024 numbers.now }
-    ensures { result ≡ packed own (moved numbers.now (gateIn c)) }
+    ensures { result ≡ packed own (moved numbers.now (gate_in c)) }
 {
     let slots = moved_slots(c, numbers);
     pack(
@@ -91,7 +91,7 @@ pub(super) fn moved_code(c: u64, own: usize, numbers: &[u16; NETS]) -> u64
 // The old gates with this mark, in their order, numbered from the new netlist's next net on and put behind its gates.
 pub(super) fn place_marked(old: OldSide, mark: u8, new: NewSide) -> NewSide
     requires old_held { OldHeld old × (length new.numbers ≡ 1024) × Nets 1024 new.numbers }
-    requires gate_room { GateRoom old.inputs (new.count + length (withMark old mark)) new.gates }
+    requires gate_room { GateRoom old.inputs (new.count + length (with_mark old mark)) new.gates }
     ensures { MarkedPlaced old mark new result }
 {
     let marks = old.marks;

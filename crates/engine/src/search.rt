@@ -2,7 +2,7 @@
 // blocks leave the sets as they are; where each set has one vector, or none, that is shown at the cost of one vector (src/sole.rt).
 ghost use Rattle.std.specs.Prelude.{◌≡◌, true, ◌-◌, ◌*◌, ◌^◌, ◌≤◌, ◌<◌, length};
 ghost use Rattle.records.specs.Job.{Job};
-ghost use Rattle.engine.specs.Support.{candidateNets};
+ghost use Rattle.engine.specs.Support.{candidate_nets};
 ghost use Rattle.engine.specs.Inner.Search.{SetsTo, BlockRange, BlockLoaded, BlockRead, BlockVector, BlockMet, SoleTable, SettledFrom};
 ghost use Rattle.engine.specs.Inner.Plan.{PlanHeld, TurnsOf};
 
@@ -150,7 +150,7 @@ pub(super) fn all_vectors(targets: usize) -> u16
 // do, those of the masks, less what partial evaluation skips; and, for each try of that, one a gate. It is given up where it settles too little.
 pub(super) fn sets_of_inputs(gates: &[u64], plan: Plan) -> Met
     requires { PlanHeld plan gates.now }
-    ensures { (j : Job) → TurnsOf j (candidateNets j) plan gates.now → SetsTo j (2 ^ j.inputs) result.skipped result.sets }
+    ensures { (j : Job) → TurnsOf j (candidate_nets j) plan gates.now → SetsTo j (2 ^ j.inputs) result.skipped result.sets }
 {
     let size = 1usize << plan.inputs;
     let mut words = [0u64; WORDS];

@@ -1,22 +1,22 @@
 // The sheets of judge and choose: their fields put into the reply.
 ghost use Rattle.std.specs.Prelude.{◌≡◌, ◌++◌, ◌+◌, ◌*◌, ◌^◌, ◌≤◌, ◌<◌, length, take};
-ghost use Rattle.records.specs.Bytes.{flat, bytePair, field};
-ghost use Rattle.engine.specs.Verdict.{fourBytes};
-ghost use Rattle.engine.specs.Inner.Sheet.{BytesPut, patchBytes};
+ghost use Rattle.records.specs.Bytes.{flat, byte_pair, field};
+ghost use Rattle.engine.specs.Verdict.{four_bytes};
+ghost use Rattle.engine.specs.Inner.Sheet.{BytesPut, patch_bytes};
 
 use super::limits::VECTORS;
 use records::{CANDIDATES, Support, put_field};
 
 // A number as two bytes.
 pub(super) fn two_bytes(x: u16) -> [u8; 2]
-    ensures { result ≡ bytePair x }
+    ensures { result ≡ byte_pair x }
 {
     [(x / 256) as u8, (x % 256) as u8]
 }
 
 // A number as four bytes.
 fn four_bytes(x: u32) -> [u8; 4]
-    ensures { result ≡ fourBytes x }
+    ensures { result ≡ four_bytes x }
 {
     let high = x / 65536;
     let low = x % 65536;
@@ -31,7 +31,7 @@ fn four_bytes(x: u32) -> [u8; 4]
 // The nets of a support, two bytes each, at the start.
 fn net_bytes(support: Support) -> [u8; 2 * CANDIDATES]
     requires { support.len ≤ 10 }
-    ensures { take (2 * support.len) result ≡ flat bytePair (take support.len support.nets) }
+    ensures { take (2 * support.len) result ≡ flat byte_pair (take support.len support.nets) }
 {
     let nets = support.nets;
     let len = support.len;
@@ -50,7 +50,7 @@ fn net_bytes(support: Support) -> [u8; 2 * CANDIDATES]
 // The field of a support, at the start.
 fn put_support(reply: &mut [u8], support: Support) -> usize
     requires { (support.len ≤ 10) × (3 + 2 * support.len ≤ length reply.old) }
-    ensures { BytesPut reply.old 0 (field 16 (flat bytePair (take support.len support.nets)))
+    ensures { BytesPut reply.old 0 (field 16 (flat byte_pair (take support.len support.nets)))
         reply.new result }
 {
     let bytes = net_bytes(support);
@@ -70,7 +70,7 @@ fn put_rows(reply: &mut [u8], at: usize, tag: u8, rows: &[u8], len: usize) -> us
 // The field of a number of four bytes, from position at on.
 fn put_number(reply: &mut [u8], at: usize, tag: u8, x: u32) -> usize
     requires { at + 7 ≤ length reply.old }
-    ensures { BytesPut reply.old at (field tag (fourBytes x)) reply.new result }
+    ensures { BytesPut reply.old at (field tag (four_bytes x)) reply.new result }
 {
     let bytes = four_bytes(x);
     put_field(reply, at, tag, &bytes)
@@ -95,7 +95,7 @@ pub(super) fn put_patch(
     requires in_bounds { (2084 ≤ length reply.old) × (support.len ≤ 10) × (2 ^ support.len ≤ length table.now) }
     requires len_in_bounds { 2 ^ support.len ≤ length notes.now }
     ensures { BytesPut reply.old 0
-        (patchBytes (take support.len support.nets) (take (2 ^ support.len) table.now) cost
+        (patch_bytes (take support.len support.nets) (take (2 ^ support.len) table.now) cost
         (take (2 ^ support.len) notes.now)) reply.new result }
 {
     let a = put_support(reply, support);
@@ -112,7 +112,7 @@ pub(super) fn put_unfixable(
     len: usize,
 ) -> usize
     requires { (26 ≤ length reply.old) × (input < 4294967296) × (len ≤ 16) }
-    ensures { BytesPut reply.old 0 (field 20 (fourBytes input) ++ field 19 (take len list)) reply.new result }
+    ensures { BytesPut reply.old 0 (field 20 (four_bytes input) ++ field 19 (take len list)) reply.new result }
 {
     let a = put_number(reply, 0, 20, input as u32);
     put_vectors(reply, a, list, len)
@@ -121,7 +121,7 @@ pub(super) fn put_unfixable(
 // The sheet of a blind reading.
 pub(super) fn put_blind(reply: &mut [u8], reading: usize) -> usize
     requires { (5 ≤ length reply.old) × (reading < 65536) }
-    ensures { BytesPut reply.old 0 (field 21 (bytePair reading)) reply.new result }
+    ensures { BytesPut reply.old 0 (field 21 (byte_pair reading)) reply.new result }
 {
     let bytes = two_bytes(reading as u16);
     put_field(reply, 0, 21, &bytes)

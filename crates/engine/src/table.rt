@@ -2,7 +2,7 @@
 ghost use Rattle.std.specs.Prelude.{◌≡◌, ◌^◌, ◌≤◌, length};
 ghost use Rattle.engine.specs.Choice.{or_zero};
 ghost use Rattle.engine.specs.Inner.List.{lowest};
-ghost use Rattle.engine.specs.Inner.Table.{TableFilled, noteFrom, NotesFilled};
+ghost use Rattle.engine.specs.Inner.Table.{TableFilled, note_from, NotesFilled};
 
 use super::limits::{READINGS, UNSEEN};
 use super::list::lowest_of;
@@ -41,7 +41,7 @@ pub(super) fn fill_table(sets: &[u32], len: usize) -> [u8; READINGS]
 
 // The note of a reading with this set, whose bit above the vectors' is 1 where no input gives it.
 fn note_of(set: u32) -> u8
-    ensures { result ≡ noteFrom set }
+    ensures { result ≡ note_from set }
 {
     if set / UNSEEN % 2 != 0 {
         return 0;

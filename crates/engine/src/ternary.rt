@@ -1,7 +1,7 @@
 // Gates on 0, 1 and not yet known (2): each kind's three by three table, handed by value to the partial evaluation of the
 // search, which goes with it from operand to operand.
 ghost use Rattle.std.specs.Prelude.{min, ◌≡◌, map, take};
-ghost use Rattle.engine.specs.Ternary.{unknown, ternaryValue, ternaryTable, entry};
+ghost use Rattle.engine.specs.Ternary.{unknown, ternary_value, ternary_table, entry};
 
 use records::{SLOTS, wide};
 
@@ -21,7 +21,7 @@ const TABLES: [[[u8; 3]; 3]; 10] = [
 
 // The table of a kind; a kind above 9 has the value 0.
 pub fn ternary_table(kind: u8) -> [[u8; 3]; 3]
-    ensures { result ≡ ternaryTable kind }
+    ensures { result ≡ ternary_table kind }
 {
     if kind < 10 {
         TABLES[kind as usize]
@@ -49,7 +49,7 @@ pub fn ternary_entry(table: [[u8; 3]; 3], a: usize, b: usize) -> u8
 // What is known of a gate of this kind on what is known of its first count operands, of all four where count is above 4: the plain
 // kind's table goes from the last of them to the first, and not's inverts what it gives for an odd kind. A kind above 9 has the value 0.
 pub fn ternary_value(kind: u8, count: u8, operands: [u8; SLOTS]) -> u8
-    ensures { result ≡ ternaryValue kind (take count (map (λ x. min x unknown) operands)) }
+    ensures { result ≡ ternary_value kind (take count (map (λ x. min x unknown) operands)) }
 {
     if 9 < kind {
         return 0;

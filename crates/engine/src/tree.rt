@@ -3,9 +3,9 @@ ghost use Rattle.std.specs.Prelude.{◌≡◌, [], ◌∷◌, ℕ, ◌+◌, ◌-
 ghost use Rattle.records.specs.Bytes.{all};
 ghost use Rattle.engine.specs.Choice.{same};
 ghost use Rattle.engine.specs.Eval.{bit, bits, number_of};
-ghost use Rattle.records.specs.Gate.{gateOf};
-ghost use Rattle.engine.specs.Tree.{column, join_of, buildsLow, buildsHigh, joinGates, tree, treeSize};
-ghost use Rattle.engine.specs.Inner.Tree.{Nets, GateRoom, GatesPut, columnPart, TablePart, treeStart, joinSize, JoinRoom, treesSize, TreesPut};
+ghost use Rattle.records.specs.Gate.{gate_of};
+ghost use Rattle.engine.specs.Tree.{column, join_of, builds_low, builds_high, join_gates, tree, tree_size};
+ghost use Rattle.engine.specs.Inner.Tree.{Nets, GateRoom, GatesPut, column_part, TablePart, tree_start, join_size, JoinRoom, trees_size, TreesPut};
 ghost use Rattle.engine.specs.declared.tree.Join.TheVariants.{Both};
 
 use super::limits::NETS;
@@ -46,7 +46,7 @@ fn add_gate(
     gates: &mut [u64; GATES],
 ) -> usize
     requires { GateRoom base (at + 1) gates.old × (kind < 16) × (count < 8) × (a < 1024) × (b < 1024) }
-    ensures { GatesPut base at gates.old (gateOf kind count a b 0 0 ∷ []) result gates.new }
+    ensures { GatesPut base at gates.old (gate_of kind count a b 0 0 ∷ []) result gates.new }
 {
     gates[at] = pack(kind, count, base + at, [a, b, 0, 0]);
     at + 1
@@ -56,7 +56,7 @@ fn add_gate(
 // is 1.
 fn put_mux(s: u16, low: u16, base: usize, count: usize, gates: &mut [u64; GATES]) -> usize
     requires { GateRoom base (count + 4) gates.old × (s < 1024) × (low < 1024) × (0 < count) }
-    ensures { GatesPut base count gates.old (joinGates Both s low (base + count)) result gates.new }
+    ensures { GatesPut base count gates.old (join_gates Both s low (base + count)) result gates.new }
 {
     let n = (base + count) as u16;
     let a = add_gate(3, 1, s, 0, base, count, gates);
@@ -75,7 +75,7 @@ fn put_join(
     gates: &mut [u64; GATES],
 ) -> usize
     requires { JoinRoom join s base low high gates.old }
-    ensures { GatesPut base high gates.old (joinGates join s (base + low - 1) (base + high)) result
+    ensures { GatesPut base high gates.old (join_gates join s (base + low - 1) (base + high)) result
         gates.new }
 {
     let n = (base + high) as u16;
@@ -166,7 +166,7 @@ fn join_of(table: &[u8], at: usize, half: usize, t: usize) -> Join
 
 // Whether the low half has a tree.
 fn builds_low(join: Join) -> bool
-    ensures { result ≡ buildsLow join }
+    ensures { result ≡ builds_low join }
 {
     match join {
         Join::AndLow | Join::OrLow | Join::Both => true,
@@ -176,7 +176,7 @@ fn builds_low(join: Join) -> bool
 
 // Whether the high half has one.
 fn builds_high(join: Join) -> bool
-    ensures { result ≡ buildsHigh join }
+    ensures { result ≡ builds_high join }
 {
     match join {
         Join::AndHigh | Join::OrHigh | Join::Both => true,
@@ -186,7 +186,7 @@ fn builds_high(join: Join) -> bool
 
 // How many gates join the halves.
 fn join_size(join: Join) -> usize
-    ensures { result ≡ joinSize join }
+    ensures { result ≡ join_size join }
 {
     match join {
         Join::AndLow | Join::OrHigh => 2,
@@ -198,7 +198,7 @@ fn join_size(join: Join) -> usize
 // How the tree over k nets and the column of target t, at the 2 ^ k entries from place at on, starts.
 fn tree_start(table: &[u8], at: usize, k: usize, t: usize) -> TreeStart
     requires { TablePart table.now at k t }
-    ensures { result ≡ treeStart k (columnPart table.now at k t) }
+    ensures { result ≡ tree_start k (column_part table.now at k t) }
 {
     let size = reading_count(k);
     if column_is(table, at, size, t, 0) {
@@ -217,7 +217,7 @@ fn tree_start(table: &[u8], at: usize, k: usize, t: usize) -> TreeStart
 // The column of target t at the 2 ^ k entries from place at on, as one number: bit i is that of entry at + i.
 fn column_word(table: &[u8], at: usize, k: usize, t: usize) -> u64
     requires { TablePart table.now at k t × (k ≤ 6) }
-    ensures { result ≡ number_of (columnPart table.now at k t) }
+    ensures { result ≡ number_of (column_part table.now at k t) }
 {
     let mut w = 0u64;
     let mut i = reading_count(k);
@@ -257,7 +257,7 @@ fn word_join(low: u64, high: u64, ones: u64) -> Join
 // on each half.
 fn word_size(w: u64, k: usize) -> usize
     requires { (k ≤ 6) × (w < 2 ^ 2 ^ k) }
-    ensures { result ≡ treeSize k (bits (2 ^ k) w) }
+    ensures { result ≡ tree_size k (bits (2 ^ k) w) }
 {
     if k < 2 {
         return 1;
@@ -287,7 +287,7 @@ fn word_size(w: u64, k: usize) -> usize
 // read once, and above that each is read at most five times a net.
 fn tree_size(table: &[u8], at: usize, k: usize, t: usize) -> usize
     requires { TablePart table.now at k t }
-    ensures { result ≡ treeSize k (columnPart table.now at k t) }
+    ensures { result ≡ tree_size k (column_part table.now at k t) }
 {
     if k <= 6 {
         return word_size(column_word(table, at, k, t), k);
@@ -326,9 +326,9 @@ pub(super) fn put_tree(
     gates: &mut [u64; GATES],
 ) -> usize
     requires table_part { TablePart table.now at k t × Nets k support }
-    requires gate_room { GateRoom base (count + treeSize k (columnPart table.now at k t)) gates.old }
+    requires gate_room { GateRoom base (count + tree_size k (column_part table.now at k t)) gates.old }
     ensures { GatesPut base count gates.old
-        (tree k (base + count) support (columnPart table.now at k t)) result gates.new }
+        (tree k (base + count) support (column_part table.now at k t)) result gates.new }
 {
     let start = tree_start(table, at, k, t);
     match start {
@@ -352,7 +352,7 @@ pub(super) fn put_tree(
 // How many gates the trees of all targets have.
 pub(super) fn trees_size(table: &[u8], k: usize, targets: usize) -> usize
     requires { (k ≤ 10) × (2 ^ k ≤ length table.now) × (targets ≤ 4) }
-    ensures { result ≡ treesSize targets 0 k table.now }
+    ensures { result ≡ trees_size targets 0 k table.now }
 {
     let mut sum = 0usize;
     let mut t = 0usize;
@@ -377,7 +377,7 @@ pub(super) fn put_trees(
 ) -> usize
     requires k_bound { (k ≤ 10) × (2 ^ k ≤ length table.now) × (targets ≤ 4) × Nets k support }
     requires targets_bound { (base + targets ≤ 1024) × (length numbers.old ≡ 1024) }
-    requires gate_room { GateRoom base (count + treesSize targets 0 k table.now) gates.old }
+    requires gate_room { GateRoom base (count + trees_size targets 0 k table.now) gates.old }
     ensures { TreesPut targets k base support table.now count numbers.old gates.old result
         numbers.new gates.new }
 {

@@ -1,7 +1,7 @@
 // Words: a bit a scenario. Scenario j of word b is input 64 * b + j. A row has the 16 words of 1,024 scenarios.
 ghost use Rattle.std.specs.Prelude.{◌≡◌, ℕ, ◌+◌, ◌*◌, ◌≤◌, ◌<◌, max, true};
 ghost use Rattle.engine.specs.Eval.{bit};
-ghost use Rattle.engine.specs.Inner.Kernel.{rowValue, LowestBit, FirstZero};
+ghost use Rattle.engine.specs.Inner.Kernel.{row_value, LowestBit, FirstZero};
 
 use super::limits::{BLOCK, ROW, WORD};
 
@@ -65,7 +65,7 @@ pub(super) fn first_zero(row: [u64; ROW]) -> usize
 
 // Whether the row says 0 of every scenario.
 pub(super) fn zero_row(row: [u64; ROW]) -> bool
-    ensures { result ≡ true → (y : ℕ) → y < 1024 → rowValue row y ≡ 0 }
+    ensures { result ≡ true → (y : ℕ) → y < 1024 → row_value row y ≡ 0 }
 {
     let mut w = 0usize;
     while w < ROW {
@@ -79,7 +79,7 @@ pub(super) fn zero_row(row: [u64; ROW]) -> bool
 
 // 1 where one of the rows says 1.
 pub(super) fn join_rows(a: [u64; ROW], b: [u64; ROW]) -> [u64; ROW]
-    ensures { (y : ℕ) → y < 1024 → rowValue result y ≡ max (rowValue a y) (rowValue b y) }
+    ensures { (y : ℕ) → y < 1024 → row_value result y ≡ max (row_value a y) (row_value b y) }
 {
     let mut r = [0u64; ROW];
     let mut w = 0usize;

@@ -4,10 +4,10 @@ use Rattle.engine.specs.declared.comparing.Comparison.{Comparison}
 use Rattle.engine.specs.declared.comparing.Comparison.TheVariants as Comparison
 
 -- 1 where the outputs differ, else 0
-unfoldable pub differsOf : Comparison → ℕ
-differsOf Comparison.Equal = 0
-differsOf (Comparison.Differs d) = 1
-differsOf Comparison.Declined = 0
+unfoldable pub differs_of : Comparison → ℕ
+differs_of Comparison.Equal = 0
+differs_of (Comparison.Differs d) = 1
+differs_of Comparison.Declined = 0
 
 -- the smallest input at which they differ, 0 where they do not
 unfoldable pub input_of : Comparison → ℕ

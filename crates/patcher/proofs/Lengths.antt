@@ -2,8 +2,8 @@
 use Rattle.std.proofs.Common.{◌≡◌, ℕ, ◌≤◌, Bool, true, false, cond, eqb, List, length, refl, ap, arith, eqb-true}
 use Rattle.records.specs.Job.{job_of}
 use Rattle.records.specs.Sheet.{patch_of}
-use Rattle.engine.specs.Fit.{fittedBytes, longestFit}
-use Rattle.engine.specs.Reply.{judgeReply, chooseReply, fitNumber, fitReply}
+use Rattle.engine.specs.Fit.{fitted_bytes, longest_fit}
+use Rattle.engine.specs.Reply.{judge_reply, choose_reply, fit_number, fit_reply}
 use Rattle.engine.specs.declared.judging.JudgeReply.{JudgeReply}
 use Rattle.engine.specs.declared.choosing.ChooseReply.{ChooseReply}
 use Rattle.engine.specs.declared.fitting.FitReply.{FitReply}
@@ -11,10 +11,10 @@ use Rattle.engine.proofs.Replies.{reply-keeps, judge-replies, choose-replies, lo
 use Rattle.engine.proofs.FitReplies.{fit-accepts, longest-fit}
 
 module _ (d s : List ℕ) where
-  pub judge-short : {r : JudgeReply} → r ≡ judgeReply d s → r.len ≤ length d
+  pub judge-short : {r : JudgeReply} → r ≡ judge_reply d s → r.len ≤ length d
   judge-short e = (reply-keeps longest-judged (judge-replies d s e)).0
 
-  pub choose-short : {r : ChooseReply} → r ≡ chooseReply d s → r.len ≤ length d
+  pub choose-short : {r : ChooseReply} → r ≡ choose_reply d s → r.len ≤ length d
   choose-short e = (reply-keeps longest-chosen (choose-replies d s e)).0
 
 -- a length that is given where a test holds, and else 0
@@ -23,14 +23,14 @@ cond-le true k m h = h refl
 cond-le false k m h = omega arith
 
 module _ (d s p : List ℕ) where
-  abbrev fittedLength : ℕ
-  fittedLength = length (fittedBytes (job_of s) (patch_of p).support (patch_of p).table)
+  abbrev fitted_length : ℕ
+  fitted_length = length (fitted_bytes (job_of s) (patch_of p).support (patch_of p).table)
 
-  accepted-fit : eqb (fitNumber d s p) 0 ≡ true → fittedLength ≤ longestFit
+  accepted-fit : eqb (fit_number d s p) 0 ≡ true → fitted_length ≤ longest_fit
   accepted-fit e =
-      let u = (fit-accepts d s p).0 (eqb-true (fitNumber d s p) 0 e) in
+      let u = (fit-accepts d s p).0 (eqb-true (fit_number d s p) 0 e) in
       longest-fit s ((compare-accepts s p).0 u.1).1 (patch_of p).support (patch_of p).table u.2
 
-  pub fit-short : {r : FitReply} → r ≡ fitReply d s p → r.len ≤ longestFit
-  unfolding fitReply
-  fit-short q = omega (arith, ap (λ (x : FitReply). x.len) q, cond-le _ _ longestFit accepted-fit)
+  pub fit-short : {r : FitReply} → r ≡ fit_reply d s p → r.len ≤ longest_fit
+  unfolding fit_reply
+  fit-short q = omega (arith, ap (λ (x : FitReply). x.len) q, cond-le _ _ longest_fit accepted-fit)

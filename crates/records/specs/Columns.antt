@@ -2,20 +2,20 @@
 -- the operand slots, four a gate (docs/DECISIONS.md). That they give what read and write give is claimed in Claims.antt. Assumes nothing.
 --
 --   SideColumns, Columns       the lent columns of a netlist, of a job
---   sideColumns, columns       the same from their lists
---   sideColumnsRoomy, columnsRoomy p            number 1 for read_columns: places for the longest job
---   sideColumnsFilled, columnsFilled p j        the columns p with the parts of j at their starts
---   columnsNumber, columnsReply, columnsAfter   what read_columns replies, and the columns afterwards
---   sideColumnsHeld, columnsHeld c p            number 3 for write_columns: no count of c exceeds its places
---   gatesFrom, columnsNetlist, columnsJob c p   the job whose parts stand at the starts of the columns p, as many as the counts c say
---   columnsWriteNumber, columnsWriteReply, columnsWritten               what write_columns replies, and the reply buffer afterwards
+--   side_columns, columns       the same from their lists
+--   side_columns_roomy, columns_roomy p            number 1 for read_columns: places for the longest job
+--   side_columns_filled, columns_filled p j        the columns p with the parts of j at their starts
+--   columns_number, columns_reply, columns_after   what read_columns replies, and the columns afterwards
+--   side_columns_held, columns_held c p            number 3 for write_columns: no count of c exceeds its places
+--   gates_from, columns_netlist, columns_job c p   the job whose parts stand at the starts of the columns p, as many as the counts c say
+--   columns_write_number, columns_write_reply, columns_written               what write_columns replies, and the reply buffer afterwards
 use Rattle.std.specs.Prelude.{ℕ, ◌+◌, ◌*◌, List, ◌∷◌, map, Bool, cond, ◌&&◌, length, get_or, take, leb, eqb}
 use Rattle.records.specs.Bytes.{tabulate, flat, placed}
-use Rattle.records.specs.Gate.{Gate, slotCount, gateOf}
+use Rattle.records.specs.Gate.{Gate, slot_count, gate_of}
 use Rattle.records.specs.Netlist.{Netlist}
-use Rattle.records.specs.Job.{Candidate, Job, job_of, jobBytes}
-use Rattle.records.specs.Refusal.{maxGates, maxOutputs, maxCandidates, longestJob, firstFailing, partTests, jobTests}
-use Rattle.records.specs.Service.{countsOf, noCounts, candidatesFrom}
+use Rattle.records.specs.Job.{Candidate, Job, job_of, job_bytes}
+use Rattle.records.specs.Refusal.{max_gates, max_outputs, max_candidates, longest_job, first_failing, part_tests, job_tests}
+use Rattle.records.specs.Service.{counts_of, no_counts, candidates_from}
 use Rattle.records.specs.declared.job.SideCounts.{SideCounts}
 use Rattle.records.specs.declared.job.Counts.{Counts}
 use Rattle.records.specs.declared.reading.ReadReply.{ReadReply}
@@ -33,30 +33,30 @@ pub record Columns : Type 0 where
   pub nets : List ℕ
   pub weights : List ℕ
 
-abbrev pub sideColumns : List ℕ → List ℕ → List ℕ → List ℕ → SideColumns
-sideColumns ks ns ss os = record { kinds = ks; counts = ns; slots = ss; outputs = os }
+abbrev pub side_columns : List ℕ → List ℕ → List ℕ → List ℕ → SideColumns
+side_columns ks ns ss os = record { kinds = ks; counts = ns; slots = ss; outputs = os }
 
 abbrev pub columns : SideColumns → SideColumns → List ℕ → List ℕ → Columns
 columns old golden nets weights = record { old = old; golden = golden; nets = nets; weights = weights }
 
 -- ---- read_columns
 
-unfoldable pub sideColumnsRoomy : SideColumns → Bool
-sideColumnsRoomy p =
-    leb maxGates (length p.kinds)
-    && leb maxGates (length p.counts)
-    && leb (slotCount * maxGates) (length p.slots)
-    && leb maxOutputs (length p.outputs)
+unfoldable pub side_columns_roomy : SideColumns → Bool
+side_columns_roomy p =
+    leb max_gates (length p.kinds)
+    && leb max_gates (length p.counts)
+    && leb (slot_count * max_gates) (length p.slots)
+    && leb max_outputs (length p.outputs)
 
-unfoldable pub columnsRoomy : Columns → Bool
-columnsRoomy p =
-    sideColumnsRoomy p.old
-    && sideColumnsRoomy p.golden
-    && leb maxCandidates (length p.nets)
-    && leb maxCandidates (length p.weights)
+unfoldable pub columns_roomy : Columns → Bool
+columns_roomy p =
+    side_columns_roomy p.old
+    && side_columns_roomy p.golden
+    && leb max_candidates (length p.nets)
+    && leb max_candidates (length p.weights)
 
-unfoldable pub sideColumnsFilled : SideColumns → Netlist → SideColumns
-sideColumnsFilled p l =
+unfoldable pub side_columns_filled : SideColumns → Netlist → SideColumns
+side_columns_filled p l =
     record {
       kinds = placed p.kinds 0 (map (λ (g : Gate). g.kind) l.gates);
       counts = placed p.counts 0 (map (λ (g : Gate). g.count) l.gates);
@@ -64,32 +64,32 @@ sideColumnsFilled p l =
       outputs = placed p.outputs 0 l.outputs;
     }
 
-unfoldable pub columnsFilled : Columns → Job → Columns
-columnsFilled p j =
+unfoldable pub columns_filled : Columns → Job → Columns
+columns_filled p j =
     record {
-      old = sideColumnsFilled p.old j.old;
-      golden = sideColumnsFilled p.golden j.golden;
+      old = side_columns_filled p.old j.old;
+      golden = side_columns_filled p.golden j.golden;
       nets = placed p.nets 0 (map (λ (c : Candidate). c.net) j.candidates);
       weights = placed p.weights 0 (map (λ (c : Candidate). c.weight) j.candidates);
     }
 
-unfoldable pub columnsNumber : Columns → List ℕ → ℕ
-columnsNumber p s = firstFailing (record { number = 1; passes = columnsRoomy p } ∷ jobTests s)
+unfoldable pub columns_number : Columns → List ℕ → ℕ
+columns_number p s = first_failing (record { number = 1; passes = columns_roomy p } ∷ job_tests s)
 
-unfoldable pub columnsReply : Columns → List ℕ → ReadReply
-columnsReply p s =
-    record { number = columnsNumber p s; counts = cond (eqb (columnsNumber p s) 0) (countsOf (job_of s)) noCounts }
+unfoldable pub columns_reply : Columns → List ℕ → ReadReply
+columns_reply p s =
+    record { number = columns_number p s; counts = cond (eqb (columns_number p s) 0) (counts_of (job_of s)) no_counts }
 
-unfoldable pub columnsAfter : Columns → List ℕ → Columns
-columnsAfter p s = cond (eqb (columnsNumber p s) 0) (columnsFilled p (job_of s)) p
+unfoldable pub columns_after : Columns → List ℕ → Columns
+columns_after p s = cond (eqb (columns_number p s) 0) (columns_filled p (job_of s)) p
 
 -- ---- write_columns
 
-unfoldable pub gatesFrom : ℕ → List ℕ → List ℕ → List ℕ → List Gate
-gatesFrom k kinds counts slots =
+unfoldable pub gates_from : ℕ → List ℕ → List ℕ → List ℕ → List Gate
+gates_from k kinds counts slots =
     tabulate k
-    (λ i. let at = slotCount * i in
-    gateOf
+    (λ i. let at = slot_count * i in
+    gate_of
     (get_or kinds i 0)
     (get_or counts i 0)
     (get_or slots at 0)
@@ -97,47 +97,47 @@ gatesFrom k kinds counts slots =
     (get_or slots (at + 2) 0)
     (get_or slots (at + 3) 0))
 
-unfoldable pub columnsNetlist : SideCounts → SideColumns → Netlist
-columnsNetlist c p =
+unfoldable pub columns_netlist : SideCounts → SideColumns → Netlist
+columns_netlist c p =
     record {
-      gates = gatesFrom c.gates p.kinds p.counts p.slots;
+      gates = gates_from c.gates p.kinds p.counts p.slots;
       outputs = take c.outputs p.outputs;
     }
 
-unfoldable pub columnsJob : Counts → Columns → Job
-columnsJob c p =
+unfoldable pub columns_job : Counts → Columns → Job
+columns_job c p =
     record {
       inputs = c.inputs;
       targets = c.targets;
-      old = columnsNetlist c.old p.old;
-      golden = columnsNetlist c.golden p.golden;
-      candidates = candidatesFrom c.candidates p.nets p.weights;
+      old = columns_netlist c.old p.old;
+      golden = columns_netlist c.golden p.golden;
+      candidates = candidates_from c.candidates p.nets p.weights;
     }
 
-unfoldable pub sideColumnsHeld : SideCounts → SideColumns → Bool
-sideColumnsHeld c p =
+unfoldable pub side_columns_held : SideCounts → SideColumns → Bool
+side_columns_held c p =
     leb c.gates (length p.kinds)
     && leb c.gates (length p.counts)
-    && leb (slotCount * c.gates) (length p.slots)
+    && leb (slot_count * c.gates) (length p.slots)
     && leb c.outputs (length p.outputs)
 
-unfoldable pub columnsHeld : Counts → Columns → Bool
-columnsHeld c p =
-    sideColumnsHeld c.old p.old
-    && sideColumnsHeld c.golden p.golden
+unfoldable pub columns_held : Counts → Columns → Bool
+columns_held c p =
+    side_columns_held c.old p.old
+    && side_columns_held c.golden p.golden
     && leb c.candidates (length p.nets)
     && leb c.candidates (length p.weights)
 
-unfoldable pub columnsWriteNumber : Counts → Columns → List ℕ → ℕ
-columnsWriteNumber c p d =
-    firstFailing
-    (record { number = 1; passes = leb longestJob (length d) }
-    ∷ record { number = 3; passes = columnsHeld c p }
-    ∷ partTests (columnsJob c p))
+unfoldable pub columns_write_number : Counts → Columns → List ℕ → ℕ
+columns_write_number c p d =
+    first_failing
+    (record { number = 1; passes = leb longest_job (length d) }
+    ∷ record { number = 3; passes = columns_held c p }
+    ∷ part_tests (columns_job c p))
 
-unfoldable pub columnsWriteReply : Counts → Columns → List ℕ → WriteReply
-columnsWriteReply c p d =
-    record { number = columnsWriteNumber c p d; len = cond (eqb (columnsWriteNumber c p d) 0) (length (jobBytes (columnsJob c p))) 0 }
+unfoldable pub columns_write_reply : Counts → Columns → List ℕ → WriteReply
+columns_write_reply c p d =
+    record { number = columns_write_number c p d; len = cond (eqb (columns_write_number c p d) 0) (length (job_bytes (columns_job c p))) 0 }
 
-unfoldable pub columnsWritten : Counts → Columns → List ℕ → List ℕ
-columnsWritten c p d = cond (eqb (columnsWriteNumber c p d) 0) (placed d 0 (jobBytes (columnsJob c p))) d
+unfoldable pub columns_written : Counts → Columns → List ℕ → List ℕ
+columns_written c p d = cond (eqb (columns_write_number c p d) 0) (placed d 0 (job_bytes (columns_job c p))) d

@@ -4,26 +4,26 @@
 --   LoadGiven         load gives the number of read into places with room, and the parts of an accepted job
 use Rattle.std.specs.Prelude.{ℕ, ◌≡◌, List, length, take}
 use Rattle.records.specs.Job.{Job, job_of}
-use Rattle.records.specs.Refusal.{maxGates, maxOutputs, maxCandidates, jobRefusal}
-use Rattle.records.specs.Service.{countsOf, gatesIn, candidatesFrom, loaded}
+use Rattle.records.specs.Refusal.{max_gates, max_outputs, max_candidates, job_refusal}
+use Rattle.records.specs.Service.{counts_of, gates_in, candidates_from, loaded}
 use Rattle.records.specs.Claims.{PartsGood}
 use Rattle.records.specs.declared.loading.JobParts.{JobParts}
 
 pub record PartsOf (j : Job) (p : JobParts) : Type 0 where
   pub good : PartsGood j
-  pub counts : p.counts ≡ countsOf j
-  pub old : gatesIn (length j.old.gates) p.old ≡ j.old.gates
+  pub counts : p.counts ≡ counts_of j
+  pub old : gates_in (length j.old.gates) p.old ≡ j.old.gates
   pub outputs : take (length j.old.outputs) p.outputs ≡ j.old.outputs
-  pub golden : gatesIn (length j.golden.gates) p.golden ≡ j.golden.gates
+  pub golden : gates_in (length j.golden.gates) p.golden ≡ j.golden.gates
   pub goldens : take (length j.golden.outputs) p.goldens ≡ j.golden.outputs
-  pub candidates : candidatesFrom (length j.candidates) p.nets p.weights ≡ j.candidates
+  pub candidates : candidates_from (length j.candidates) p.nets p.weights ≡ j.candidates
   -- lengths of the arrays
-  pub old-long : length p.old ≡ maxGates
-  pub outputs-long : length p.outputs ≡ maxOutputs
-  pub golden-long : length p.golden ≡ maxGates
-  pub goldens-long : length p.goldens ≡ maxOutputs
-  pub nets-long : length p.nets ≡ maxCandidates
-  pub weights-long : length p.weights ≡ maxCandidates
+  pub old-long : length p.old ≡ max_gates
+  pub outputs-long : length p.outputs ≡ max_outputs
+  pub golden-long : length p.golden ≡ max_gates
+  pub goldens-long : length p.goldens ≡ max_outputs
+  pub nets-long : length p.nets ≡ max_candidates
+  pub weights-long : length p.weights ≡ max_candidates
 
 abbrev pub LoadGiven : Type 0
-LoadGiven = (s : List ℕ) → ((loaded s).number ≡ jobRefusal s) × (jobRefusal s ≡ 0 → PartsOf (job_of s) (loaded s))
+LoadGiven = (s : List ℕ) → ((loaded s).number ≡ job_refusal s) × (job_refusal s ≡ 0 → PartsOf (job_of s) (loaded s))

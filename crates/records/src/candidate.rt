@@ -1,7 +1,7 @@
 // Candidates in a job's bytes.
 ghost use Rattle.std.specs.Prelude.{◌≡◌, ◌≤◌};
-ghost use Rattle.records.specs.Job.{candidatesOf};
-ghost use Rattle.records.specs.Inner.{checkOf, unmarkedAscending};
+ghost use Rattle.records.specs.Job.{candidates_of};
+ghost use Rattle.records.specs.Inner.{check_of, unmarked_ascending};
 
 use super::field::{Check, word_at};
 use super::limits::{CANDIDATE_SIZE, NETS};
@@ -9,7 +9,7 @@ use super::limits::{CANDIDATE_SIZE, NETS};
 // Whether the candidates ascend, are below nets and have no mark.
 pub(super) fn check_candidates(s: &[u8], nets: usize, marks: &[u8; NETS]) -> Check
     requires { nets ≤ 424 }
-    ensures { result ≡ checkOf (unmarkedAscending nets marks.now (candidatesOf s.now)) }
+    ensures { result ≡ check_of (unmarked_ascending nets marks.now (candidates_of s.now)) }
 {
     let count = s.len() / CANDIDATE_SIZE;
     let mut least = 0usize;

@@ -2,9 +2,9 @@
 // operand slots, four a gate.
 ghost use Rattle.std.specs.Prelude.{◌≡◌, length};
 ghost use Rattle.records.specs.Bytes.{placed};
-ghost use Rattle.records.specs.Service.{sidePlaces, places, readReply, readPlaces, writeReply, writtenBytes};
-ghost use Rattle.records.specs.Columns.{sideColumns, columns, columnsReply, columnsAfter, columnsWriteReply, columnsWritten};
-ghost use Rattle.records.specs.Inner.{checkOf, columnsHold, noGates, structsFrom, ColumnsHold, Split};
+ghost use Rattle.records.specs.Service.{side_places, places, read_reply, read_places, write_reply, written_bytes};
+ghost use Rattle.records.specs.Columns.{side_columns, columns, columns_reply, columns_after, columns_write_reply, columns_written};
+ghost use Rattle.records.specs.Inner.{check_of, columns_hold, no_gates, structs_from, ColumnsHold, Split};
 
 use super::field::Check;
 use super::gate::Gate;
@@ -29,20 +29,20 @@ pub(super) fn read_gates(
     nets: &mut [u16],
     weights: &mut [u16],
 ) -> GatesRead
-    ensures reply { result.reply ≡ readReply
+    ensures reply { result.reply ≡ read_reply
         (places
-        (sidePlaces noGates old_outputs.old)
-        (sidePlaces noGates golden_outputs.old)
+        (side_places no_gates old_outputs.old)
+        (side_places no_gates golden_outputs.old)
         nets.old weights.old)
         job.now }
     ensures lent { places
-        (sidePlaces result.old old_outputs.new)
-        (sidePlaces result.golden golden_outputs.new)
+        (side_places result.old old_outputs.new)
+        (side_places result.golden golden_outputs.new)
         nets.new weights.new
-        ≡ readPlaces
+        ≡ read_places
         (places
-        (sidePlaces noGates old_outputs.old)
-        (sidePlaces noGates golden_outputs.old)
+        (side_places no_gates old_outputs.old)
+        (side_places no_gates golden_outputs.old)
         nets.old weights.old)
         job.now }
 {
@@ -79,16 +79,16 @@ fn write_gates(
     weights: &[u16],
     buf: &mut [u8],
 ) -> WriteReply
-    ensures reply { result ≡ writeReply counts
+    ensures reply { result ≡ write_reply counts
         (places
-        (sidePlaces old old_outputs.now)
-        (sidePlaces golden golden_outputs.now)
+        (side_places old old_outputs.now)
+        (side_places golden golden_outputs.now)
         nets.now weights.now)
         buf.old }
-    ensures lent { buf.new ≡ writtenBytes counts
+    ensures lent { buf.new ≡ written_bytes counts
         (places
-        (sidePlaces old old_outputs.now)
-        (sidePlaces golden golden_outputs.now)
+        (side_places old old_outputs.now)
+        (side_places golden golden_outputs.now)
         nets.now weights.now)
         buf.old }
 {
@@ -128,7 +128,7 @@ fn split(gates: [Gate; GATES], count: usize, kinds: &mut [u8], counts: &mut [u8]
 // The first count gates of columns.
 fn joined(kinds: &[u8], counts: &[u8], slots: &[u16], count: usize) -> [Gate; GATES]
     requires { ColumnsHold 400 count (length kinds.now) (length counts.now) (length slots.now) }
-    ensures { result ≡ placed noGates 0 (structsFrom count kinds.now counts.now slots.now) }
+    ensures { result ≡ placed no_gates 0 (structs_from count kinds.now counts.now slots.now) }
 {
     let mut gates = [Gate {
         kind: 0,
@@ -156,7 +156,7 @@ fn joined(kinds: &[u8], counts: &[u8], slots: &[u16], count: usize) -> [Gate; GA
 
 // Whether so many places hold count gates.
 fn check_columns(count: usize, kinds: usize, counts: usize, slots: usize) -> Check
-    ensures { result ≡ checkOf (columnsHold count kinds counts slots) }
+    ensures { result ≡ check_of (columns_hold count kinds counts slots) }
 {
     if (count <= kinds) & (count <= counts) & (count <= slots / SLOTS) {
         return Check::Passed;
@@ -178,20 +178,20 @@ pub fn read_columns(
     nets: &mut [u16],
     weights: &mut [u16],
 ) -> ReadReply
-    ensures reply { result ≡ columnsReply
+    ensures reply { result ≡ columns_reply
         (columns
-        (sideColumns old_kinds.old old_counts.old old_slots.old old_outputs.old)
-        (sideColumns golden_kinds.old golden_counts.old golden_slots.old golden_outputs.old)
+        (side_columns old_kinds.old old_counts.old old_slots.old old_outputs.old)
+        (side_columns golden_kinds.old golden_counts.old golden_slots.old golden_outputs.old)
         nets.old weights.old)
         job.now }
     ensures lent { columns
-        (sideColumns old_kinds.new old_counts.new old_slots.new old_outputs.new)
-        (sideColumns golden_kinds.new golden_counts.new golden_slots.new golden_outputs.new)
+        (side_columns old_kinds.new old_counts.new old_slots.new old_outputs.new)
+        (side_columns golden_kinds.new golden_counts.new golden_slots.new golden_outputs.new)
         nets.new weights.new
-        ≡ columnsAfter
+        ≡ columns_after
         (columns
-        (sideColumns old_kinds.old old_counts.old old_slots.old old_outputs.old)
-        (sideColumns golden_kinds.old golden_counts.old golden_slots.old golden_outputs.old)
+        (side_columns old_kinds.old old_counts.old old_slots.old old_outputs.old)
+        (side_columns golden_kinds.old golden_counts.old golden_slots.old golden_outputs.old)
         nets.old weights.old)
         job.now }
 {
@@ -241,16 +241,16 @@ pub fn write_columns(
     weights: &[u16],
     buf: &mut [u8],
 ) -> WriteReply
-    ensures reply { result ≡ columnsWriteReply counts
+    ensures reply { result ≡ columns_write_reply counts
         (columns
-        (sideColumns old_kinds.now old_counts.now old_slots.now old_outputs.now)
-        (sideColumns golden_kinds.now golden_counts.now golden_slots.now golden_outputs.now)
+        (side_columns old_kinds.now old_counts.now old_slots.now old_outputs.now)
+        (side_columns golden_kinds.now golden_counts.now golden_slots.now golden_outputs.now)
         nets.now weights.now)
         buf.old }
-    ensures lent { buf.new ≡ columnsWritten counts
+    ensures lent { buf.new ≡ columns_written counts
         (columns
-        (sideColumns old_kinds.now old_counts.now old_slots.now old_outputs.now)
-        (sideColumns golden_kinds.now golden_counts.now golden_slots.now golden_outputs.now)
+        (side_columns old_kinds.now old_counts.now old_slots.now old_outputs.now)
+        (side_columns golden_kinds.now golden_counts.now golden_slots.now golden_outputs.now)
         nets.now weights.now)
         buf.old }
 {

@@ -1,7 +1,7 @@
 // Fields: a one-byte tag, a two-byte length, and that many bytes; and the reader that walks them.
 ghost use Rattle.std.specs.Prelude.{◌≡◌, ◌+◌, ◌≤◌, ◌<◌, length};
 ghost use Rattle.records.specs.Bytes.{word};
-ghost use Rattle.records.specs.Inner.{fieldAt, walkFrom, noted, ended, Notable, Walks};
+ghost use Rattle.records.specs.Inner.{field_at, walk_from, noted, ended, Notable, Walks};
 
 // The field at a position: where its bytes start and how many they are, or that no whole field with the tag stands there.
 #[derive(Drop)]
@@ -53,7 +53,7 @@ pub(super) fn word_at(s: &[u8], at: usize) -> usize
 
 // The field with this tag at a position.
 pub(super) fn field_at(s: &[u8], at: usize, tag: u8) -> Field
-    ensures { result ≡ fieldAt s.now at tag }
+    ensures { result ≡ field_at s.now at tag }
 {
     if s.len() < at {
         return Field::Missing;
@@ -75,7 +75,7 @@ pub(super) fn field_at(s: &[u8], at: usize, tag: u8) -> Field
 impl<'a> FieldReader<'a> {
     // The field with this tag at the reader's position.
     fn field(self, tag: u8) -> Field
-        ensures { result ≡ fieldAt self.entry.bytes.now self.entry.at tag }
+        ensures { result ≡ field_at self.entry.bytes.now self.entry.at tag }
     {
         field_at(self.bytes, self.at, tag)
     }
@@ -93,7 +93,7 @@ impl<'a> FieldReader<'a> {
 
 // The walk before the first field, which has this tag.
 fn walk_from(tag: u8) -> Walk
-    ensures { result ≡ walkFrom tag }
+    ensures { result ≡ walk_from tag }
 {
     Walk {
         check: Check::Passed,

@@ -1,7 +1,7 @@
 // Bytes, and the numbers they hold, put into lent places.
 ghost use Rattle.std.specs.Prelude.{◌≡◌, ◌+◌, ◌*◌, ◌≤◌, length};
 ghost use Rattle.records.specs.Bytes.{placed};
-ghost use Rattle.records.specs.Inner.{wordColumn};
+ghost use Rattle.records.specs.Inner.{word_column};
 
 use super::field::word_at;
 
@@ -20,7 +20,7 @@ pub(super) fn copy(src: &[u8], buf: &mut [u8])
 // The two-byte numbers that stand from offset on, size bytes apart, count of them.
 pub(super) fn fill_words(s: &[u8], size: usize, offset: usize, count: usize, places: &mut [u16])
     requires { (size ≤ 4) × (offset + size * count + 2 ≤ length s.now + size) × (count ≤ length places.old) }
-    ensures { places.new ≡ placed places.old 0 (wordColumn s.now size offset count) }
+    ensures { places.new ≡ placed places.old 0 (word_column s.now size offset count) }
 {
     let mut i = 0usize;
     let mut at = offset;

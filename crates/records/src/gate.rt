@@ -1,8 +1,8 @@
 // Gates: the check of one gate, and its value on 0 and 1.
 ghost use Rattle.std.specs.Prelude.{◌≡◌, cond, [], ◌∷◌, map, ◌%◌, ◌<◌, ltb, eqb, take};
-ghost use Rattle.records.specs.Gate.{permits, gateValue};
-ghost use Rattle.records.specs.Refusal.{gateGood};
-ghost use Rattle.records.specs.Service.{structSlots, gateFrom};
+ghost use Rattle.records.specs.Gate.{permits, gate_value};
+ghost use Rattle.records.specs.Refusal.{gate_good};
+ghost use Rattle.records.specs.Service.{struct_slots, gate_from};
 
 use super::limits::SLOTS;
 
@@ -19,7 +19,7 @@ pub struct Gate {
 
 // The operand slots of a gate.
 pub fn slots_of(gate: Gate) -> [u16; SLOTS]
-    ensures { result ≡ structSlots gate }
+    ensures { result ≡ struct_slots gate }
 {
     [gate.first, gate.second, gate.third, gate.fourth]
 }
@@ -45,7 +45,7 @@ fn slot_good(used: bool, x: usize, net: usize) -> bool
 
 // Whether a gate may drive net.
 pub(super) fn gate_good(gate: Gate, net: usize) -> bool
-    ensures { result ≡ gateGood net (gateFrom gate) }
+    ensures { result ≡ gate_good net (gate_from gate) }
 {
     if !permits(gate.kind, gate.count) {
         return false;
@@ -65,7 +65,7 @@ pub(super) fn gate_good(gate: Gate, net: usize) -> bool
 // A kind that inverts nothing, on two values; a kind above 9 has the value 0.
 fn plain_value(kind: u8, x: u8, y: u8) -> u8
     requires { (kind % 2 ≡ 0) × (x < 2) × (y < 2) }
-    ensures { (result ≡ gateValue kind (x ∷ y ∷ [])) × (result < 2) }
+    ensures { (result ≡ gate_value kind (x ∷ y ∷ [])) × (result < 2) }
 {
     match kind {
         2 => x,
@@ -80,7 +80,7 @@ fn plain_value(kind: u8, x: u8, y: u8) -> u8
 // kind does not permit has a value too: and of none is 1, every other even kind of none is 0, an odd kind inverts that; buf and not
 // look at the first operand alone, constants at none. A kind above 9 has the value 0.
 pub fn value(kind: u8, count: u8, operands: [u8; SLOTS]) -> u8
-    ensures { result ≡ gateValue kind (take count (map (λ v. v % 2) operands)) }
+    ensures { result ≡ gate_value kind (take count (map (λ v. v % 2) operands)) }
 {
     if 9 < kind {
         return 0;

@@ -1,9 +1,9 @@
 // Lists of gate structs, filled from bytes and put as bytes.
 ghost use Rattle.std.specs.Prelude.{◌≡◌, ◌+◌, ◌*◌, ◌≤◌, length};
 ghost use Rattle.records.specs.Bytes.{placed};
-ghost use Rattle.records.specs.Job.{gateBytes};
-ghost use Rattle.records.specs.Service.{gateFrom};
-ghost use Rattle.records.specs.Inner.{struct_at, structsAt, gatesBytes, gateSpans};
+ghost use Rattle.records.specs.Job.{gate_bytes};
+ghost use Rattle.records.specs.Service.{gate_from};
+ghost use Rattle.records.specs.Inner.{struct_at, structs_at, gates_bytes, gate_spans};
 
 use super::field::{Check, word_at};
 use super::gate::Gate;
@@ -22,7 +22,7 @@ pub struct GateSpans {
 
 // The spans of a job with these counts; none where a count is outside its range.
 pub(super) fn gate_spans(counts: Counts) -> GateSpans
-    ensures { result ≡ gateSpans counts }
+    ensures { result ≡ gate_spans counts }
 {
     let check = check_counts(counts);
     let Check::Passed = check else {
@@ -62,7 +62,7 @@ pub(super) fn gate_at(s: &[u8], at: usize) -> Gate
 // A gate's bytes.
 fn put_gate(buf: &mut [u8], at: usize, gate: Gate)
     requires { at + 10 ≤ length buf.old }
-    ensures { buf.new ≡ placed buf.old at (gateBytes (gateFrom gate)) }
+    ensures { buf.new ≡ placed buf.old at (gate_bytes (gate_from gate)) }
 {
     buf[at] = gate.kind;
     buf[at + 1] = gate.count;
@@ -75,7 +75,7 @@ fn put_gate(buf: &mut [u8], at: usize, gate: Gate)
 // The first count places with the gates whose bytes stand from a position on.
 pub(super) fn fill_gates(s: &[u8], at: usize, count: usize, gates: &mut [Gate])
     requires { (at + 10 * count ≤ length s.now) × (count ≤ length gates.old) }
-    ensures { gates.new ≡ placed gates.old 0 (structsAt s.now at count) }
+    ensures { gates.new ≡ placed gates.old 0 (structs_at s.now at count) }
 {
     let mut i = 0usize;
     while i < count {
@@ -87,7 +87,7 @@ pub(super) fn fill_gates(s: &[u8], at: usize, count: usize, gates: &mut [Gate])
 // The bytes of the first count gates, from a position on.
 pub(super) fn put_gates(gates: &[Gate], count: usize, at: usize, buf: &mut [u8])
     requires { (at + 10 * count ≤ length buf.old) × (count ≤ length gates.now) }
-    ensures { buf.new ≡ placed buf.old at (gatesBytes count gates.now) }
+    ensures { buf.new ≡ placed buf.old at (gates_bytes count gates.now) }
 {
     let mut i = 0usize;
     while i < count {

@@ -1,9 +1,9 @@
 // A job's bytes: its shape, its counts, and the first number that applies.
 ghost use Rattle.std.specs.Prelude.{◌≡◌, length};
 ghost use Rattle.records.specs.Job.{job_of};
-ghost use Rattle.records.specs.Refusal.{netlistsGood, outputsGood, candidatesGood};
-ghost use Rattle.records.specs.Service.{noCounts};
-ghost use Rattle.records.specs.Inner.{checkOf, countedFrom, countsWithin, Within, shape_of, startsOf, Laid, LaidGates, checkedOf};
+ghost use Rattle.records.specs.Refusal.{netlists_good, outputs_good, candidates_good};
+ghost use Rattle.records.specs.Service.{no_counts};
+ghost use Rattle.records.specs.Inner.{check_of, counted_from, counts_within, Within, shape_of, starts_of, Laid, LaidGates, checked_of};
 
 use super::candidate::check_candidates;
 use super::field::{Check, walked, wide};
@@ -29,7 +29,7 @@ pub struct Counts {
 
 // Counts of 0, as a refusal gives them.
 pub(super) fn no_counts() -> Counts
-    ensures { result ≡ noCounts }
+    ensures { result ≡ no_counts }
 {
     let none = SideCounts {
         gates: 0,
@@ -73,7 +73,7 @@ pub enum Checked {
 // and whole gates, nets and candidates.
 fn counted(lens: [usize; 6], inputs: usize, targets: usize) -> Shape
     requires { length lens ≡ 6 }
-    ensures { result ≡ countedFrom lens inputs targets }
+    ensures { result ≡ counted_from lens inputs targets }
 {
     let old = lens[1];
     let outputs = lens[2];
@@ -114,7 +114,7 @@ fn shaped(job: &[u8]) -> Shape
 
 // Whether every count is within its range.
 pub(super) fn check_counts(c: Counts) -> Check
-    ensures { result ≡ checkOf (countsWithin c) }
+    ensures { result ≡ check_of (counts_within c) }
 {
     let old = (c.old.gates <= GATES) & (1 <= c.old.outputs) & (c.old.outputs <= OUTPUTS);
     let golden = (c.golden.gates <= GATES)
@@ -129,7 +129,7 @@ pub(super) fn check_counts(c: Counts) -> Check
 // Where the fields of a job with these counts stand.
 pub(super) fn starts_of(c: Counts) -> Starts
     requires { Within c }
-    ensures { result ≡ startsOf c }
+    ensures { result ≡ starts_of c }
 {
     let old = c.old;
     let golden = c.golden;
@@ -149,7 +149,7 @@ pub(super) fn starts_of(c: Counts) -> Starts
 
 fn check_netlists(job: &[u8], c: Counts) -> Check
     requires { Laid job.now c }
-    ensures { result ≡ checkOf (netlistsGood (job_of job.now)) }
+    ensures { result ≡ check_of (netlists_good (job_of job.now)) }
 {
     let at = starts_of(c);
     let a = at.old;
@@ -165,7 +165,7 @@ fn check_netlists(job: &[u8], c: Counts) -> Check
 
 fn check_all_outputs(job: &[u8], c: Counts) -> Check
     requires { Laid job.now c }
-    ensures { result ≡ checkOf (outputsGood (job_of job.now)) }
+    ensures { result ≡ check_of (outputs_good (job_of job.now)) }
 {
     let at = starts_of(c);
     let old = c.old;
@@ -192,7 +192,7 @@ fn check_all_outputs(job: &[u8], c: Counts) -> Check
 
 fn check_all_candidates(job: &[u8], c: Counts) -> Check
     requires { LaidGates job.now c }
-    ensures { result ≡ checkOf (candidatesGood (job_of job.now)) }
+    ensures { result ≡ check_of (candidates_good (job_of job.now)) }
 {
     let at = starts_of(c);
     let old = c.old;
@@ -206,7 +206,7 @@ fn check_all_candidates(job: &[u8], c: Counts) -> Check
 
 // The counts of an accepted job, or the first number that applies, each tested over the whole job before the next.
 pub(super) fn check_job(job: &[u8]) -> Checked
-    ensures { result ≡ checkedOf job.now }
+    ensures { result ≡ checked_of job.now }
 {
     let found = shaped(job);
     let Shape::Whole(counts) = found else {

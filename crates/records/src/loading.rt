@@ -1,6 +1,6 @@
 // The service read for callers with plain parameters: a job's parts by value, beside what the check of its bytes found.
 ghost use Rattle.std.specs.Prelude.{◌≡◌, eqb};
-ghost use Rattle.records.specs.Service.{checkOf, loaded};
+ghost use Rattle.records.specs.Service.{check_of, loaded};
 
 use super::columns::read_gates;
 use super::field::Check;
@@ -24,7 +24,7 @@ pub struct JobParts {
 
 // Whether a number accepts.
 fn check_number(number: u8) -> Check
-    ensures { result ≡ checkOf (eqb number 0) }
+    ensures { result ≡ check_of (eqb number 0) }
 {
     if number != 0 {
         return Check::Failed;

@@ -2,10 +2,10 @@
 ghost use Rattle.std.specs.Prelude.{◌≡◌, true, ℕ, ◌+◌, ◌*◌, ◌/◌, ◌≤◌, ◌<◌, max, length, get_or, take, ltb};
 ghost use Rattle.records.specs.Bytes.{all};
 ghost use Rattle.records.specs.Netlist.{mark_of, fanout};
-ghost use Rattle.records.specs.Job.{gatesOf};
-ghost use Rattle.records.specs.Refusal.{gatesGood};
-ghost use Rattle.records.specs.Service.{gateFrom};
-ghost use Rattle.records.specs.Inner.{checkOf, leafMarks, wordColumn, structSlots};
+ghost use Rattle.records.specs.Job.{gates_of};
+ghost use Rattle.records.specs.Refusal.{gates_good};
+ghost use Rattle.records.specs.Service.{gate_from};
+ghost use Rattle.records.specs.Inner.{check_of, leaf_marks, word_column, struct_slots};
 
 use super::field::{Check, word_at};
 use super::gate::{Gate, gate_good, slots_of};
@@ -15,7 +15,7 @@ use super::limits::{GATE_SIZE, NETS};
 // The gate check: whether each gate of the gate field's bytes may drive its net, the first one net base.
 pub(super) fn check_gates(s: &[u8], base: usize) -> Check
     requires { base < 65536 }
-    ensures { result ≡ checkOf (gatesGood base (gatesOf s.now)) }
+    ensures { result ≡ check_of (gates_good base (gates_of s.now)) }
 {
     let count = s.len() / GATE_SIZE;
     let mut i = 0usize;
@@ -31,7 +31,7 @@ pub(super) fn check_gates(s: &[u8], base: usize) -> Check
 // Whether each output, of which count stand from a position on, is below nets.
 pub(super) fn check_outputs(s: &[u8], at: usize, count: usize, nets: usize) -> Check
     requires { at + 2 * count ≤ length s.now }
-    ensures { result ≡ checkOf (all (λ i. ltb i nets) (wordColumn s.now 2 at count)) }
+    ensures { result ≡ check_of (all (λ i. ltb i nets) (word_column s.now 2 at count)) }
 {
     let mut i = 0usize;
     while i < count {
@@ -52,8 +52,8 @@ fn greater(a: u8, b: u8) -> u8
 
 // The mark of a gate: 1 where a used operand is marked.
 fn gate_mark(marks: &[u8; NETS], gate: Gate) -> u8
-    requires { (gate.count ≤ 4) × ((i : ℕ) → i < gate.count → get_or (structSlots gate) i 0 < 424) }
-    ensures { result ≡ mark_of marks.now (gateFrom gate) }
+    requires { (gate.count ≤ 4) × ((i : ℕ) → i < gate.count → get_or (struct_slots gate) i 0 < 424) }
+    ensures { result ≡ mark_of marks.now (gate_from gate) }
 {
     let slots = slots_of(gate);
     let mut r = 0u8;
@@ -68,7 +68,7 @@ fn gate_mark(marks: &[u8; NETS], gate: Gate) -> u8
 // The marks of inputs and targets: 0 and 1.
 fn leaf_marks(inputs: usize, targets: usize) -> [u8; NETS]
     requires { inputs + targets ≤ 424 }
-    ensures { (length result ≡ 424) × (take (inputs + targets) result ≡ leafMarks inputs targets) }
+    ensures { (length result ≡ 424) × (take (inputs + targets) result ≡ leaf_marks inputs targets) }
 {
     let mut marks = [0u8; NETS];
     let mut i = 0usize;
@@ -82,8 +82,8 @@ fn leaf_marks(inputs: usize, targets: usize) -> [u8; NETS]
 // The targets' fanout, a mark for each net of the old netlist whose gates have these bytes.
 pub(super) fn fanout_marks(s: &[u8], inputs: usize, targets: usize) -> [u8; NETS]
     requires s_bound { inputs + targets + length s.now / 10 ≤ 424 }
-    requires s_value { gatesGood (inputs + targets) (gatesOf s.now) ≡ true }
-    ensures { take (inputs + targets + length s.now / 10) result ≡ fanout inputs targets (gatesOf s.now) }
+    requires s_value { gates_good (inputs + targets) (gates_of s.now) ≡ true }
+    ensures { take (inputs + targets + length s.now / 10) result ≡ fanout inputs targets (gates_of s.now) }
 {
     let mut marks = leaf_marks(inputs, targets);
     let count = s.len() / GATE_SIZE;

@@ -1,8 +1,8 @@
 // A job's bytes, and any field, put into a buffer, from a position on.
 ghost use Rattle.std.specs.Prelude.{◌≡◌, List, ◌∷◌, ◌+◌, ◌*◌, ◌<◌, ◌≤◌, cond, length, get_or};
-ghost use Rattle.records.specs.Bytes.{bytePair, placed, headSize, field};
-ghost use Rattle.records.specs.Refusal.{longestJob};
-ghost use Rattle.records.specs.Service.{sidePlaces, places, fieldFits};
+ghost use Rattle.records.specs.Bytes.{byte_pair, placed, head_size, field};
+ghost use Rattle.records.specs.Refusal.{longest_job};
+ghost use Rattle.records.specs.Service.{side_places, places, field_fits};
 ghost use Rattle.records.specs.Inner.{spread, SidePut, SideDone, JobPut, JobDone, GatesPut};
 ghost use Rattle.records.specs.declared.gate.Gate.{Gate as GateStruct};
 
@@ -20,7 +20,7 @@ pub struct JobBytes {
 // A field's tag and length.
 fn put_head(buf: &mut [u8], at: usize, tag: u8, len: usize) -> usize
     requires { (at + 3 ≤ length buf.old) × (len < 65536) }
-    ensures { (result ≡ at + 3) × (buf.new ≡ placed buf.old at (tag ∷ bytePair len)) }
+    ensures { (result ≡ at + 3) × (buf.new ≡ placed buf.old at (tag ∷ byte_pair len)) }
 {
     buf[at] = tag;
     buf[at + 1] = (len / 256 % 256) as u8;
@@ -31,10 +31,10 @@ fn put_head(buf: &mut [u8], at: usize, tag: u8, len: usize) -> usize
 // One field put into a buffer, from position at on: tag, length and bytes. Where there is no room for it, or it is longer
 // than a field can say, the buffer is left as it was. The position behind the field, or at.
 pub fn put_field(buf: &mut [u8], at: usize, tag: u8, bytes: &[u8]) -> usize
-    ensures end { result ≡ cond (fieldFits buf.old at bytes.now)
-        (at + headSize + length bytes.now)
+    ensures end { result ≡ cond (field_fits buf.old at bytes.now)
+        (at + head_size + length bytes.now)
         at }
-    ensures lent { buf.new ≡ cond (fieldFits buf.old at bytes.now)
+    ensures lent { buf.new ≡ cond (field_fits buf.old at bytes.now)
         (placed buf.old at (field tag bytes.now))
         buf.old }
 {
@@ -60,7 +60,7 @@ pub fn put_field(buf: &mut [u8], at: usize, tag: u8, bytes: &[u8]) -> usize
 // A two-byte number.
 pub(super) fn put_word(buf: &mut [u8], at: usize, x: u16)
     requires { at + 2 ≤ length buf.old }
-    ensures { buf.new ≡ placed buf.old at (bytePair x) }
+    ensures { buf.new ≡ placed buf.old at (byte_pair x) }
 {
     buf[at] = (x / 256 % 256) as u8;
     buf[at + 1] = (x % 256) as u8;
@@ -69,7 +69,7 @@ pub(super) fn put_word(buf: &mut [u8], at: usize, x: u16)
 // The bytes with a field's tag and length.
 fn headed(bytes: [u8; LONGEST_JOB], at: usize, tag: u8, len: usize) -> [u8; LONGEST_JOB]
     requires { (at + 3 ≤ length bytes) × (len < 65536) }
-    ensures { result ≡ placed bytes at (tag ∷ bytePair len) }
+    ensures { result ≡ placed bytes at (tag ∷ byte_pair len) }
 {
     let mut bytes = bytes;
     put_head(&mut bytes, at, tag, len);
@@ -129,10 +129,10 @@ pub(super) fn put_rest(
 ) -> JobBytes
     requires { JobPut (length bytes) counts
         (length old_outputs.now) (length golden_outputs.now) (length nets.now) (length weights.now) }
-    ensures { (result.len ≤ longestJob) × (length result.bytes ≡ longestJob) × ((gs hs : List GateStruct) → GatesPut counts gs hs bytes → JobDone counts
+    ensures { (result.len ≤ longest_job) × (length result.bytes ≡ longest_job) × ((gs hs : List GateStruct) → GatesPut counts gs hs bytes → JobDone counts
         (places
-        (sidePlaces gs old_outputs.now)
-        (sidePlaces hs golden_outputs.now)
+        (side_places gs old_outputs.now)
+        (side_places hs golden_outputs.now)
         nets.now weights.now)
         result.len result.bytes) }
 {

@@ -1,8 +1,8 @@
 // The service read: a job's bytes into lent places.
 ghost use Rattle.std.specs.Prelude.{◌≡◌, length};
 ghost use Rattle.records.specs.Job.{job_of};
-ghost use Rattle.records.specs.Service.{sidePlaces, places, readReply, readPlaces};
-ghost use Rattle.records.specs.Inner.{checkOf, room, refusedRead, replyIn, RestFits, RestFilled};
+ghost use Rattle.records.specs.Service.{side_places, places, read_reply, read_places};
+ghost use Rattle.records.specs.Inner.{check_of, room, refused_read, reply_in, RestFits, RestFilled};
 
 use super::field::Check;
 use super::fill::fill_words;
@@ -19,7 +19,7 @@ pub struct ReadReply {
 }
 
 pub(super) fn refused(number: u8) -> ReadReply
-    ensures { result ≡ refusedRead number }
+    ensures { result ≡ refused_read number }
 {
     ReadReply {
         number,
@@ -36,7 +36,7 @@ fn check_room(
     nets: usize,
     weights: usize,
 ) -> Check
-    ensures { result ≡ checkOf (room old old_outputs golden golden_outputs nets weights) }
+    ensures { result ≡ check_of (room old old_outputs golden golden_outputs nets weights) }
 {
     if old < GATES {
         return Check::Failed;
@@ -69,7 +69,7 @@ fn check_read(
     nets: usize,
     weights: usize,
 ) -> ReadReply
-    ensures { result ≡ replyIn (room old old_outputs golden golden_outputs nets weights) job.now }
+    ensures { result ≡ reply_in (room old old_outputs golden golden_outputs nets weights) job.now }
 {
     let first = check_room(old, old_outputs, golden, golden_outputs, nets, weights);
     let Check::Passed = first else {
@@ -123,20 +123,20 @@ pub fn read(
     nets: &mut [u16],
     weights: &mut [u16],
 ) -> ReadReply
-    ensures reply { result ≡ readReply
+    ensures reply { result ≡ read_reply
         (places
-        (sidePlaces old.old old_outputs.old)
-        (sidePlaces golden.old golden_outputs.old)
+        (side_places old.old old_outputs.old)
+        (side_places golden.old golden_outputs.old)
         nets.old weights.old)
         job.now }
     ensures lent { places
-        (sidePlaces old.new old_outputs.new)
-        (sidePlaces golden.new golden_outputs.new)
+        (side_places old.new old_outputs.new)
+        (side_places golden.new golden_outputs.new)
         nets.new weights.new
-        ≡ readPlaces
+        ≡ read_places
         (places
-        (sidePlaces old.old old_outputs.old)
-        (sidePlaces golden.old golden_outputs.old)
+        (side_places old.old old_outputs.old)
+        (side_places golden.old golden_outputs.old)
         nets.old weights.old)
         job.now }
 {

@@ -2,8 +2,8 @@
 ghost use Rattle.std.specs.Prelude.{◌≡◌, ◌+◌, ◌*◌, ◌-◌, ◌^◌, ◌≤◌, ◌<◌, length, take, drop, ltb};
 ghost use Rattle.records.specs.Bytes.{all};
 ghost use Rattle.records.specs.Sheet.{quad};
-ghost use Rattle.records.specs.Service.{candidatesFrom, sheetReply};
-ghost use Rattle.records.specs.Inner.{checkOf, start_of, spannedFrom, sheetShapeOf, notesAt, sheetRoom, foundIn, wordColumn, supportOf, refusedSheet, tenPlaces};
+ghost use Rattle.records.specs.Service.{candidates_from, sheet_reply};
+ghost use Rattle.records.specs.Inner.{check_of, start_of, spanned_from, sheet_shape_of, notes_at, sheet_room, found_in, word_column, support_of, refused_sheet, ten_places};
 
 use super::field::{Check, Field, field_at, walked, wide, word_at};
 use super::limits::{CANDIDATES, TARGETS};
@@ -54,7 +54,7 @@ pub enum Costs {
 }
 
 fn refused(number: u8) -> SheetReply
-    ensures { result ≡ refusedSheet number }
+    ensures { result ≡ refused_sheet number }
 {
     SheetReply {
         number,
@@ -69,7 +69,7 @@ fn refused(number: u8) -> SheetReply
 
 // Whether the counts of targets and candidates are within their ranges and the candidates within their places.
 fn check_sheet_room(targets: usize, candidates: usize, nets: usize, weights: usize) -> Check
-    ensures { result ≡ checkOf (sheetRoom targets candidates nets weights) }
+    ensures { result ≡ check_of (sheet_room targets candidates nets weights) }
 {
     if (targets <= TARGETS)
         & (candidates <= CANDIDATES)
@@ -98,7 +98,7 @@ fn power(k: usize) -> usize
 // The fields that start and are as long as these say, or that their lengths do not fit each other.
 fn spanned(starts: [usize; 6], lens: [usize; 6]) -> SheetShape
     requires { (length starts ≡ 6) × (length lens ≡ 6) }
-    ensures { result ≡ spannedFrom starts lens }
+    ensures { result ≡ spanned_from starts lens }
 {
     let long = lens[0];
     if 31 < long {
@@ -136,7 +136,7 @@ fn fields_end(s: &[u8], count: usize) -> usize
 
 // The three fields of a sheet without notes, and that their lengths fit each other.
 fn sheet_shaped(sheet: &[u8]) -> SheetShape
-    ensures { result ≡ sheetShapeOf sheet.now }
+    ensures { result ≡ sheet_shape_of sheet.now }
 {
     let w = walked(sheet, 16, 3);
     let check = w.check;
@@ -151,7 +151,7 @@ fn sheet_shaped(sheet: &[u8]) -> SheetShape
 // Where net stands among the first count of nets.
 fn find(nets: &[u16], count: usize, net: usize) -> Found
     requires { count ≤ length nets.now }
-    ensures { result ≡ foundIn (take count nets.now) net }
+    ensures { result ≡ found_in (take count nets.now) net }
 {
     let mut i = 0usize;
     while i < count {
@@ -167,7 +167,7 @@ fn find(nets: &[u16], count: usize, net: usize) -> Found
 // The cost of the support, of which a sheet has long nets, from position 3 on.
 fn support_cost(s: &[u8], long: usize, count: usize, nets: &[u16], weights: &[u16]) -> Costs
     requires { (2 * long + 3 ≤ length s.now) × (long ≤ 15) × (count ≤ length nets.now) × (count ≤ length weights.now) }
-    ensures { result ≡ supportOf (candidatesFrom count nets.now weights.now) (wordColumn s.now 2 3 long) }
+    ensures { result ≡ support_of (candidates_from count nets.now weights.now) (word_column s.now 2 3 long) }
 {
     let mut least = 0usize;
     let mut sum = 0u32;
@@ -191,7 +191,7 @@ fn support_cost(s: &[u8], long: usize, count: usize, nets: &[u16], weights: &[u1
 // Whether each byte between two positions is below limit.
 fn check_entries(s: &[u8], from: usize, end: usize, limit: usize) -> Check
     requires { (from ≤ end) × (end ≤ length s.now) }
-    ensures { result ≡ checkOf (all (λ v. ltb v limit) (take (end - from) (drop from s.now))) }
+    ensures { result ≡ check_of (all (λ v. ltb v limit) (take (end - from) (drop from s.now))) }
 {
     let mut i = from;
     while i < end {
@@ -206,7 +206,7 @@ fn check_entries(s: &[u8], from: usize, end: usize, limit: usize) -> Check
 // Whether nothing stands from a position on, or the field of the notes alone: a byte for each of count readings, none above 2.
 fn check_notes(s: &[u8], at: usize, count: usize) -> Check
     requires { at ≤ length s.now }
-    ensures { result ≡ checkOf (notesAt count (drop at s.now)) }
+    ensures { result ≡ check_of (notes_at count (drop at s.now)) }
 {
     if at == s.len() {
         return Check::Passed;
@@ -232,7 +232,7 @@ fn quad_at(s: &[u8], at: usize) -> u32
 // The support of a sheet that has len nets, from position 3 on.
 fn support_from(s: &[u8], len: usize) -> Support
     requires { (2 * len + 3 ≤ length s.now) × (len ≤ 10) }
-    ensures { result ≡ tenPlaces (wordColumn s.now 2 3 len) }
+    ensures { result ≡ ten_places (word_column s.now 2 3 len) }
 {
     let mut nets = [0u16; CANDIDATES];
     let mut i = 0usize;
@@ -254,7 +254,7 @@ pub fn read_sheet(
     weights: &[u16],
     sheet: &[u8],
 ) -> SheetReply
-    ensures { result ≡ sheetReply targets candidates nets.now weights.now sheet.now }
+    ensures { result ≡ sheet_reply targets candidates nets.now weights.now sheet.now }
 {
     let first = check_sheet_room(targets, candidates, nets.len(), weights.len());
     let Check::Passed = first else {

@@ -1,7 +1,7 @@
 // The service write: parts into a job's bytes.
 ghost use Rattle.std.specs.Prelude.{◌≡◌, List, length};
-ghost use Rattle.records.specs.Service.{sidePlaces, places, writeReply, writtenBytes};
-ghost use Rattle.records.specs.Inner.{checkOf, holds, refusedPlan, plan_of, GatesPut, RestHeld, RestWritten};
+ghost use Rattle.records.specs.Service.{side_places, places, write_reply, written_bytes};
+ghost use Rattle.records.specs.Inner.{check_of, holds, refused_plan, plan_of, GatesPut, RestHeld, RestWritten};
 ghost use Rattle.records.specs.declared.gate.Gate.{Gate as GateStruct};
 
 use super::field::Check;
@@ -27,7 +27,7 @@ pub struct WritePlan {
 }
 
 fn refused_plan(number: u8) -> WritePlan
-    ensures { result ≡ refusedPlan number }
+    ensures { result ≡ refused_plan number }
 {
     WritePlan {
         number,
@@ -45,7 +45,7 @@ fn check_held(
     nets: usize,
     weights: usize,
 ) -> Check
-    ensures { result ≡ checkOf (holds counts old old_outputs golden golden_outputs nets weights) }
+    ensures { result ≡ check_of (holds counts old old_outputs golden golden_outputs nets weights) }
 {
     let first = (counts.old.gates <= old) & (counts.old.outputs <= old_outputs);
     let second = (counts.golden.gates <= golden) & (counts.golden.outputs <= golden_outputs);
@@ -106,8 +106,8 @@ fn write_rest(
     ensures { (gs hs : List GateStruct) → (plan.number ≡ 0 → GatesPut plan.counts gs hs scratch)
         → RestWritten plan
         (places
-        (sidePlaces gs old_outputs.now)
-        (sidePlaces hs golden_outputs.now)
+        (side_places gs old_outputs.now)
+        (side_places hs golden_outputs.now)
         nets.now weights.now)
         buf.old result buf.new }
 {
@@ -151,16 +151,16 @@ pub fn write(
     weights: &[u16],
     buf: &mut [u8],
 ) -> WriteReply
-    ensures reply { result ≡ writeReply counts
+    ensures reply { result ≡ write_reply counts
         (places
-        (sidePlaces old.now old_outputs.now)
-        (sidePlaces golden.now golden_outputs.now)
+        (side_places old.now old_outputs.now)
+        (side_places golden.now golden_outputs.now)
         nets.now weights.now)
         buf.old }
-    ensures lent { buf.new ≡ writtenBytes counts
+    ensures lent { buf.new ≡ written_bytes counts
         (places
-        (sidePlaces old.now old_outputs.now)
-        (sidePlaces golden.now golden_outputs.now)
+        (side_places old.now old_outputs.now)
+        (side_places golden.now golden_outputs.now)
         nets.now weights.now)
         buf.old }
 {

@@ -16,12 +16,12 @@ row_of c =
     ∷ []
 
 -- what a row holds after the reply r: the counts of an accepted job, else what it held before
-unfoldable pub rowAfter : ReadReply → List ℕ → List ℕ
-rowAfter r row = cond (eqb r.number 0) (row_of r.counts) row
+unfoldable pub row_after : ReadReply → List ℕ → List ℕ
+row_after r row = cond (eqb r.number 0) (row_of r.counts) row
 
 -- the counts that stand in a row in that order
-unfoldable pub rowCounts : List ℕ → Counts
-rowCounts row =
+unfoldable pub row_counts : List ℕ → Counts
+row_counts row =
     record {
       inputs = get_or row 0 0;
       targets = get_or row 1 0;

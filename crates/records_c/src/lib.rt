@@ -4,8 +4,8 @@
 // many elements as the length says can be read there (and written, where the slice is `&mut`), `counts` points to seven numbers and
 // `number` to one, and what is lent `&mut` overlaps nothing else that is lent.
 ghost use Rattle.std.specs.Prelude.{◌≡◌};
-ghost use Rattle.records.specs.Columns.{sideColumns, columns, columnsReply, columnsAfter, columnsWriteReply, columnsWritten};
-ghost use Rattle.records_c.specs.Row.{rowAfter, rowCounts};
+ghost use Rattle.records.specs.Columns.{side_columns, columns, columns_reply, columns_after, columns_write_reply, columns_written};
+ghost use Rattle.records_c.specs.Row.{row_after, row_counts};
 
 // records::read_columns: the reply's number is returned; an accepted job's counts are left in counts, which a refusal keeps.
 #[unsafe(no_mangle)]
@@ -23,26 +23,26 @@ pub extern "C" fn records_read(
     weights: &mut [u16],
     counts: &mut [usize; 7],
 ) -> u8
-    ensures number { result ≡ (columnsReply
+    ensures number { result ≡ (columns_reply
         (columns
-        (sideColumns old_kinds.old old_counts.old old_slots.old old_outputs.old)
-        (sideColumns golden_kinds.old golden_counts.old golden_slots.old golden_outputs.old)
+        (side_columns old_kinds.old old_counts.old old_slots.old old_outputs.old)
+        (side_columns golden_kinds.old golden_counts.old golden_slots.old golden_outputs.old)
         nets.old weights.old)
         job.now).number }
-    ensures counted { counts.new ≡ rowAfter (columnsReply
+    ensures counted { counts.new ≡ row_after (columns_reply
         (columns
-        (sideColumns old_kinds.old old_counts.old old_slots.old old_outputs.old)
-        (sideColumns golden_kinds.old golden_counts.old golden_slots.old golden_outputs.old)
+        (side_columns old_kinds.old old_counts.old old_slots.old old_outputs.old)
+        (side_columns golden_kinds.old golden_counts.old golden_slots.old golden_outputs.old)
         nets.old weights.old)
         job.now) counts.old }
     ensures lent { columns
-        (sideColumns old_kinds.new old_counts.new old_slots.new old_outputs.new)
-        (sideColumns golden_kinds.new golden_counts.new golden_slots.new golden_outputs.new)
+        (side_columns old_kinds.new old_counts.new old_slots.new old_outputs.new)
+        (side_columns golden_kinds.new golden_counts.new golden_slots.new golden_outputs.new)
         nets.new weights.new
-        ≡ columnsAfter
+        ≡ columns_after
         (columns
-        (sideColumns old_kinds.old old_counts.old old_slots.old old_outputs.old)
-        (sideColumns golden_kinds.old golden_counts.old golden_slots.old golden_outputs.old)
+        (side_columns old_kinds.old old_counts.old old_slots.old old_outputs.old)
+        (side_columns golden_kinds.old golden_counts.old golden_slots.old golden_outputs.old)
         nets.old weights.old)
         job.now }
 {
@@ -93,22 +93,22 @@ pub extern "C" fn records_write(
     buf: &mut [u8],
     number: &mut u32,
 ) -> usize
-    ensures length { result ≡ (columnsWriteReply (rowCounts counts.now)
+    ensures length { result ≡ (columns_write_reply (row_counts counts.now)
         (columns
-        (sideColumns old_kinds.now old_counts.now old_slots.now old_outputs.now)
-        (sideColumns golden_kinds.now golden_counts.now golden_slots.now golden_outputs.now)
+        (side_columns old_kinds.now old_counts.now old_slots.now old_outputs.now)
+        (side_columns golden_kinds.now golden_counts.now golden_slots.now golden_outputs.now)
         nets.now weights.now)
         buf.old).len }
-    ensures number { number.new ≡ (columnsWriteReply (rowCounts counts.now)
+    ensures number { number.new ≡ (columns_write_reply (row_counts counts.now)
         (columns
-        (sideColumns old_kinds.now old_counts.now old_slots.now old_outputs.now)
-        (sideColumns golden_kinds.now golden_counts.now golden_slots.now golden_outputs.now)
+        (side_columns old_kinds.now old_counts.now old_slots.now old_outputs.now)
+        (side_columns golden_kinds.now golden_counts.now golden_slots.now golden_outputs.now)
         nets.now weights.now)
         buf.old).number }
-    ensures lent { buf.new ≡ columnsWritten (rowCounts counts.now)
+    ensures lent { buf.new ≡ columns_written (row_counts counts.now)
         (columns
-        (sideColumns old_kinds.now old_counts.now old_slots.now old_outputs.now)
-        (sideColumns golden_kinds.now golden_counts.now golden_slots.now golden_outputs.now)
+        (side_columns old_kinds.now old_counts.now old_slots.now old_outputs.now)
+        (side_columns golden_kinds.now golden_counts.now golden_slots.now golden_outputs.now)
         nets.now weights.now)
         buf.old }
 {

@@ -3,19 +3,19 @@
 --   PatchSheet s           s is the fields of a patch's sheet from choose, of lengths in their ranges
 --   BlindSheet s           the same for a blind reading, UnfixableSheet s for an unfixable input's sheet from judge
 --   ChoiceSheet s          s is a sheet from choose
---   patchSheetText s vs    the lines of the patch sheet s, with the vector list vs
---   choiceText s vs        .. of a sheet from choose, by its first tag
+--   patch_sheet_text s vs    the lines of the patch sheet s, with the vector list vs
+--   choice_text s vs        .. of a sheet from choose, by its first tag
 --   Printed d at xs r d'   d' is d with xs placed from position at on, and r is the position behind
 --   Texted d xs r d'       the same at the start of d, which has room for it
 use Rattle.std.specs.Prelude.{ℕ, ◌+◌, ◌≤◌, ◌≡◌, List, [], ◌∷◌, ◌++◌, true, cond, eqb, length, get_or}
 use Rattle.records.specs.Bytes.{word, placed, whole, nth}
-use Rattle.records.specs.Sheet.{sheetTags, notesTag, patch_of}
-use Rattle.report.specs.Text.{patchText, valueText, blindWord}
+use Rattle.records.specs.Sheet.{sheet_tags, notes_tag, patch_of}
+use Rattle.report.specs.Text.{patch_text, value_text, blind_word}
 
 -- ---- whole sheets: what they require
 
 pub record PatchSheet (s : List ℕ) : Type 0 where
-  pub fields : whole (sheetTags ++ (notesTag ∷ [])) s ≡ true
+  pub fields : whole (sheet_tags ++ (notes_tag ∷ [])) s ≡ true
   pub support : length (nth 0 s) ≤ 20
   pub table : length (nth 1 s) ≤ 1024
   pub cost : length (nth 2 s) ≡ 4
@@ -31,18 +31,18 @@ pub record UnfixableSheet (s : List ℕ) : Type 0 where
   pub vectors : length (nth 1 s) ≤ 16
 
 pub data ChoiceSheet (s : List ℕ) : Type 0 where
-  isPatch : PatchSheet s → ChoiceSheet s
-  isBlind : BlindSheet s → ChoiceSheet s
+  is_patch : PatchSheet s → ChoiceSheet s
+  is_blind : BlindSheet s → ChoiceSheet s
 
 -- ---- their texts, beside the vector list vs
 
-unfoldable pub patchSheetText : List ℕ → List ℕ → List ℕ
-patchSheetText s vs =
+unfoldable pub patch_sheet_text : List ℕ → List ℕ → List ℕ
+patch_sheet_text s vs =
     let p = patch_of s in
-    patchText p.cost p.support p.table vs p.notes
+    patch_text p.cost p.support p.table vs p.notes
 
-unfoldable pub choiceText : List ℕ → List ℕ → List ℕ
-choiceText s vs = cond (eqb (get_or s 0 0) 16) (patchSheetText s vs) (valueText blindWord (word (nth 0 s) 0) vs)
+unfoldable pub choice_text : List ℕ → List ℕ → List ℕ
+choice_text s vs = cond (eqb (get_or s 0 0) 16) (patch_sheet_text s vs) (value_text blind_word (word (nth 0 s) 0) vs)
 
 -- ---- what they give
 

@@ -1,10 +1,10 @@
 // What the program prints, written to a lent buffer.
 ghost use Rattle.std.specs.Prelude.{◌≡◌, [], ◌∷◌, ◌+◌, ◌-◌, ◌<◌, ◌≤◌, length};
 ghost use Rattle.records.specs.Bytes.{nth, word as word'};
-ghost use Rattle.records.specs.Job.{netsOf};
+ghost use Rattle.records.specs.Job.{nets_of};
 ghost use Rattle.records.specs.Sheet.{quad};
-ghost use Rattle.report.specs.Text.{digits, number, numbers, line, unfixableWord, blindWord, patchText, valueText, refusedText, longestText, printedLength, printedBytes};
-ghost use Rattle.report.specs.Inner.{PatchSheet, BlindSheet, UnfixableSheet, ChoiceSheet, patchSheetText, choiceText, Printed, Texted};
+ghost use Rattle.report.specs.Text.{digits, number, numbers, line, unfixable_word, blind_word, patch_text, value_text, refused_text, longest_text, printed_length, printed_bytes};
+ghost use Rattle.report.specs.Inner.{PatchSheet, BlindSheet, UnfixableSheet, ChoiceSheet, patch_sheet_text, choice_text, Printed, Texted};
 
 use engine::{LONGEST_CHOOSE, LONGEST_JUDGE, choose, judge};
 use records::wide;
@@ -72,8 +72,8 @@ fn put_bytes(text: &mut [u8], at: usize, bytes: &[u8]) -> usize
 
 // The number of each net, two bytes each.
 fn put_nets(text: &mut [u8], at: usize, nets: &[u8]) -> usize
-    requires { at + length (numbers (netsOf nets.now)) ≤ length text.old }
-    ensures { Printed text.old at (numbers (netsOf nets.now)) result text.new }
+    requires { at + length (numbers (nets_of nets.now)) ≤ length text.old }
+    ensures { Printed text.old at (numbers (nets_of nets.now)) result text.new }
 {
     let count = nets.len() / 2;
     let mut end = at;
@@ -109,9 +109,9 @@ fn put_bytes_line(text: &mut [u8], at: usize, word: &[u8], bytes: &[u8]) -> usiz
 
 // A line: a word, the number of each net.
 fn put_nets_line(text: &mut [u8], at: usize, word: &[u8], nets: &[u8]) -> usize
-    requires { at + length (line word.now (netsOf nets.now)) ≤ length text.old }
+    requires { at + length (line word.now (nets_of nets.now)) ≤ length text.old }
     ensures { Printed text.old at
-        (line word.now (netsOf nets.now)) result text.new }
+        (line word.now (nets_of nets.now)) result text.new }
 {
     let a = put_word(text, at, word);
     let b = put_nets(text, a, nets);
@@ -121,8 +121,8 @@ fn put_nets_line(text: &mut [u8], at: usize, word: &[u8], nets: &[u8]) -> usize
 
 // The text of a refusal with this number.
 fn refused_text(number: u8, text: &mut [u8]) -> usize
-    requires { longestText ≤ length text.old }
-    ensures { Texted text.old (refusedText number) result text.new }
+    requires { longest_text ≤ length text.old }
+    ensures { Texted text.old (refused_text number) result text.new }
 {
     put_number_line(text, 0, b"refused", wide(number))
 }
@@ -152,8 +152,8 @@ fn patch_lines(
     vectors: &[u8],
     notes: &[u8],
 ) -> usize
-    requires { length (patchText cost (netsOf support.now) table.now vectors.now notes.now) ≤ length text.old }
-    ensures { Texted text.old (patchText cost (netsOf support.now) table.now
+    requires { length (patch_text cost (nets_of support.now) table.now vectors.now notes.now) ≤ length text.old }
+    ensures { Texted text.old (patch_text cost (nets_of support.now) table.now
         vectors.now notes.now) result text.new }
 {
     let a = put_number_line(text, 0, b"patch cost", cost);
@@ -165,8 +165,8 @@ fn patch_lines(
 
 // The text of a patch's sheet, with the vector list.
 fn patch_text(sheet: &[u8], vectors: &[u8], text: &mut [u8]) -> usize
-    requires { (PatchSheet sheet.now) × (length vectors.now ≤ 16) × (longestText ≤ length text.old) }
-    ensures { Texted text.old (patchSheetText sheet.now vectors.now) result text.new }
+    requires { (PatchSheet sheet.now) × (length vectors.now ≤ 16) × (longest_text ≤ length text.old) }
+    ensures { Texted text.old (patch_sheet_text sheet.now vectors.now) result text.new }
 {
     let table = field_end(sheet, 3) + 3;
     let cost = field_end(sheet, table) + 3;
@@ -184,8 +184,8 @@ fn patch_text(sheet: &[u8], vectors: &[u8], text: &mut [u8]) -> usize
 
 // The lines of an unfixable input or a blind reading x.
 fn value_lines(text: &mut [u8], word: &[u8], x: usize, vectors: &[u8]) -> usize
-    requires { length (valueText word.now x vectors.now) ≤ length text.old }
-    ensures { Texted text.old (valueText word.now x vectors.now) result text.new }
+    requires { length (value_text word.now x vectors.now) ≤ length text.old }
+    ensures { Texted text.old (value_text word.now x vectors.now) result text.new }
 {
     let a = put_number_line(text, 0, word, x);
     put_bytes_line(text, a, b"vectors", vectors)
@@ -193,26 +193,26 @@ fn value_lines(text: &mut [u8], word: &[u8], x: usize, vectors: &[u8]) -> usize
 
 // The text of an unfixable input's sheet.
 fn unfixable_text(sheet: &[u8], text: &mut [u8]) -> usize
-    requires { (UnfixableSheet sheet.now) × (longestText ≤ length text.old) }
+    requires { (UnfixableSheet sheet.now) × (longest_text ≤ length text.old) }
     ensures { Texted text.old
-        (valueText unfixableWord (quad (nth 0 sheet.now)) (nth 1 sheet.now)) result text.new }
+        (value_text unfixable_word (quad (nth 0 sheet.now)) (nth 1 sheet.now)) result text.new }
 {
     value_lines(text, b"unfixable", quad_at(&sheet[3..7]), &sheet[10..])
 }
 
 // The text of a blind reading's sheet, with the vector list.
 fn blind_text(sheet: &[u8], vectors: &[u8], text: &mut [u8]) -> usize
-    requires { (BlindSheet sheet.now) × (length vectors.now ≤ 16) × (longestText ≤ length text.old) }
+    requires { (BlindSheet sheet.now) × (length vectors.now ≤ 16) × (longest_text ≤ length text.old) }
     ensures { Texted text.old
-        (valueText blindWord (word' (nth 0 sheet.now) 0) vectors.now) result text.new }
+        (value_text blind_word (word' (nth 0 sheet.now) 0) vectors.now) result text.new }
 {
     value_lines(text, b"blind", word_at(&sheet[3..5], 0), vectors)
 }
 
 // The text of choose's sheet, with the vector list.
 fn choice_text(sheet: &[u8], vectors: &[u8], text: &mut [u8]) -> usize
-    requires { (ChoiceSheet sheet.now) × (length vectors.now ≤ 16) × (longestText ≤ length text.old) }
-    ensures { Texted text.old (choiceText sheet.now vectors.now) result text.new }
+    requires { (ChoiceSheet sheet.now) × (length vectors.now ≤ 16) × (longest_text ≤ length text.old) }
+    ensures { Texted text.old (choice_text sheet.now vectors.now) result text.new }
 {
     if sheet[0] == 16 {
         return patch_text(sheet, vectors, text);
@@ -224,8 +224,8 @@ fn choice_text(sheet: &[u8], vectors: &[u8], text: &mut [u8]) -> usize
 // text has fewer than 8,366 bytes nothing is printed and the length is 0; else the length of the text, which stands at the start. Costs
 // what judge and choose cost.
 pub fn rectify_text(job: &[u8], text: &mut [u8]) -> usize
-    ensures value { result ≡ printedLength text.old job.now }
-    ensures text_after { text.new ≡ printedBytes text.old job.now }
+    ensures value { result ≡ printed_length text.old job.now }
+    ensures text_after { text.new ≡ printed_bytes text.old job.now }
     ensures upper_bound { result ≤ length text.old }
 {
     if text.len() < LONGEST_TEXT {

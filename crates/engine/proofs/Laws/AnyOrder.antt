@@ -13,8 +13,8 @@ use native.Mathlib.Numerals.{add-one}
 use native.Mathlib.Omega.{arith}
 use lib.Arith.{bin_ind}
 use lib.Bits.{bit_and, and_step, and_comm, and_self}
-use Rattle.engine.specs.Inner.Note.{narrowed, setsFrom}
-use Rattle.engine.proofs.Laws.List.{narrowing, setsFrom-snoc}
+use Rattle.engine.specs.Inner.Note.{narrowed, sets_from}
+use Rattle.engine.proofs.Laws.List.{narrowing, sets_from-snoc}
 
 -- a step for each of the list, the last first
 unfoldable pub met : {A X : Type 0} → (A → X → A) → A → List X → A
@@ -111,13 +111,13 @@ narrowed-idem (a ∷ bs) (suc r) s = ap (λ (cs : List ℕ). a ∷ cs) (narrowed
 -- ---- the sets after the inputs v 0 .. v (n - 1)
 
 -- in order
-pub setsFrom-met : (f g : ℕ → ℕ) (ss : List ℕ) (n : ℕ) → setsFrom f g ss 0 n ≡ met (narrowing f g) ss (under (λ y. y) n)
-unfolding met under setsFrom
-setsFrom-met f g ss zero = refl
-setsFrom-met f g ss (suc n) =
-    let s : setsFrom f g ss 0 (suc n) ≡ narrowing f g (setsFrom f g ss 0 n) (0 + n) =
-    rw (add-one n) at (setsFrom-snoc f g ss 0 n) in
-    s ∙ rw (zero-add n, setsFrom-met f g ss n)
+pub sets_from-met : (f g : ℕ → ℕ) (ss : List ℕ) (n : ℕ) → sets_from f g ss 0 n ≡ met (narrowing f g) ss (under (λ y. y) n)
+unfolding met under sets_from
+sets_from-met f g ss zero = refl
+sets_from-met f g ss (suc n) =
+    let s : sets_from f g ss 0 (suc n) ≡ narrowing f g (sets_from f g ss 0 n) (0 + n) =
+    rw (add-one n) at (sets_from-snoc f g ss 0 n) in
+    s ∙ rw (zero-add n, sets_from-met f g ss n)
 
 -- steps h and k, taken in turn, that are the steps f and g of the inputs v 0, v 1, ..
 pub met-along : (v f g h k : ℕ → ℕ) (ss : List ℕ) (n : ℕ) → ((m : ℕ) → m < n → (h m ≡ f (v m)) × (k m ≡ g (v m)))

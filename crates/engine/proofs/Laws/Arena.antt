@@ -13,7 +13,7 @@ use lib.ListN.{length, get_or, take, drop}
 use lib.Seq.{get_or-drop, get_or-take}
 use Rattle.records.specs.Job.{Job}
 use Rattle.engine.specs.Inner.Kernel.{Filled}
-use Rattle.engine.specs.Inner.Best.{SetsOf, NotEmpty, GivenBits, SameTo, Kept, ArenaRoom, spread, joinedAt, LeftOut, OpenOf}
+use Rattle.engine.specs.Inner.Best.{SetsOf, NotEmpty, GivenBits, SameTo, Kept, ArenaRoom, spread, joined_at, LeftOut, OpenOf}
 use Rattle.engine.specs.declared.best.Pick.{Pick}
 
 -- ---- places that stay as they are
@@ -81,20 +81,20 @@ open_kept p at {xs} {ys} k = open-same p (same_drop xs ys at (2 ^ p.len) k.same)
 
 -- the readings that reading q comes from, in the places below
 pub joined-read : (i q at to : ℕ) (xs ys : List ℕ) → SameTo to xs ys → at + (spread i q + 2 ^ i) < to
-    → bit_and (get_or ys (at + spread i q) 0) (get_or ys (at + spread i q + 2 ^ i) 0) ≡ joinedAt (drop at xs) i q
-unfolding joinedAt
+    → bit_and (get_or ys (at + spread i q) 0) (get_or ys (at + spread i q + 2 ^ i) 0) ≡ joined_at (drop at xs) i q
+unfolding joined_at
 joined-read i q at to xs ys s l =
     let e : at + spread i q + 2 ^ i ≡ at + (spread i q + 2 ^ i) = omega arith in
     rw (e, s (at + spread i q) (omega arith), s (at + (spread i q + 2 ^ i)) l, get_or-drop at xs (spread i q) 0, get_or-drop at xs (spread i q + 2 ^ i) 0)
 
 module _ {ss : List ℕ} {n i : ℕ} where
-  pub left-filled : {to : ℕ} {xs ys : List ℕ} → Filled (joinedAt ss i) to (2 ^ n) xs ys
-      → ((q : ℕ) → q < 2 ^ n → NotEmpty (joinedAt ss i q)) → LeftOut ss n i true (drop to ys)
+  pub left-filled : {to : ℕ} {xs ys : List ℕ} → Filled (joined_at ss i) to (2 ^ n) xs ys
+      → ((q : ℕ) → q < 2 ^ n → NotEmpty (joined_at ss i q)) → LeftOut ss n i true (drop to ys)
   left-filled {to} {xs} {ys} f z =
       record {
         filled = λ e q l. (get_or-drop to ys q 0 ∙ f.put q l, z q l);
         empty = λ e. absurd (false≢true (sym e));
       }
 
-  pub left-empty : {q : ℕ} {ps : List ℕ} → q < 2 ^ n → joinedAt ss i q % 65536 ≡ 0 → LeftOut ss n i false ps
+  pub left-empty : {q : ℕ} {ps : List ℕ} → q < 2 ^ n → joined_at ss i q % 65536 ≡ 0 → LeftOut ss n i false ps
   left-empty {q} l e = record { filled = λ t. absurd (false≢true t); empty = λ t. (q, l, e) }

@@ -1,4 +1,4 @@
--- Laws of the choice in specs/Support. better is a strict order in which of two lists that differ one is better, so bestOf gives
+-- Laws of the choice in specs/Support. better is a strict order in which of two lists that differ one is better, so best_of gives
 -- one of its lists than which none is better; hence the chosen support is a sound one, no sound one costs less, none that costs as
 -- much has fewer gates, and it is the only one than which no sound one is better. Assumes nothing.
 use Prim.Native.Nat.{ℕ, ◌≤◌, ◌<◌}
@@ -18,7 +18,7 @@ use borrow.Author.Tests.{ltb-true, ltb-false, eqb-true, lt-ltb, eq-eqb}
 use Rattle.records.specs.Job.{Job}
 use Rattle.records.proofs.Laws.Bytes.{and_left, and_right, and_both, false_of}
 use Rattle.engine.specs.Choice.{keep}
-use Rattle.engine.specs.Support.{sound, candidateNets, subsets, cost, patchGates, earlier, better, bestOf, chosen}
+use Rattle.engine.specs.Support.{sound, candidate_nets, subsets, cost, patch_gates, earlier, better, best_of, chosen}
 use Rattle.engine.proofs.Laws.Choice.{not-both, true-or-false, or_right, or_cases, mem-keep}
 use Rattle.engine.proofs.Laws.Support.{subsets-self}
 
@@ -121,19 +121,19 @@ smaller-neither is ks p q =
 module _ (j : Job) where
   -- fewer patch gates, then fewer nets, then the smaller net number
   abbrev lighter : List ℕ → List ℕ → Bool
-  lighter is ks = then (patchGates j is) (patchGates j ks) (smaller is ks)
+  lighter is ks = then (patch_gates j is) (patch_gates j ks) (smaller is ks)
 
   lighter-irrefl : (is : List ℕ) → lighter is is ≡ false
-  lighter-irrefl is = then-irrefl (patchGates j is) (smaller is is) (smaller-irrefl is)
+  lighter-irrefl is = then-irrefl (patch_gates j is) (smaller is is) (smaller-irrefl is)
 
   lighter-trans : (is ks ls : List ℕ) → lighter is ks ≡ true → lighter ks ls ≡ true → lighter is ls ≡ true
   lighter-trans is ks ls =
-      then-trans (patchGates j is) (patchGates j ks) (patchGates j ls) (smaller is ks) (smaller ks ls) (smaller is ls)
+      then-trans (patch_gates j is) (patch_gates j ks) (patch_gates j ls) (smaller is ks) (smaller ks ls) (smaller is ls)
       (smaller-trans is ks ls)
 
   lighter-neither : (is ks : List ℕ) → lighter is ks ≡ false → lighter ks is ≡ false → is ≡ ks
   lighter-neither is ks p q =
-      let n = then-neither (patchGates j is) (patchGates j ks) (smaller is ks) (smaller ks is) p q in
+      let n = then-neither (patch_gates j is) (patch_gates j ks) (smaller is ks) (smaller ks is) p q in
       smaller-neither is ks n.1 n.2
 
   pub better-irrefl : (is : List ℕ) → better j is is ≡ false
@@ -158,105 +158,105 @@ module _ (j : Job) where
   cost-of-not-better is ks = not-below (cost j is) (cost j ks) (lighter is ks)
 
   -- .. and where it costs the same, it has no fewer gates
-  gates-of-not-better : (is ks : List ℕ) → better j is ks ≡ false → cost j is ≡ cost j ks → patchGates j ks ≤ patchGates j is
+  gates-of-not-better : (is ks : List ℕ) → better j is ks ≡ false → cost j is ≡ cost j ks → patch_gates j ks ≤ patch_gates j is
   unfolding better
   gates-of-not-better is ks p e =
-      not-below (patchGates j is) (patchGates j ks) (smaller is ks) (then-rest (cost j is) (cost j ks) (lighter is ks) p e)
+      not-below (patch_gates j is) (patch_gates j ks) (smaller is ks) (then-rest (cost j is) (cost j ks) (lighter is ks) p e)
 
   -- ---- the best of a list
 
   module _ (is ks : List ℕ) (kss : List (List ℕ)) where
-    pub bestOf-better : better j ks is ≡ true → bestOf j is (ks ∷ kss) ≡ bestOf j ks kss
-    unfolding bestOf
-    bestOf-better h = rw (h, bestOf)
+    pub best_of-better : better j ks is ≡ true → best_of j is (ks ∷ kss) ≡ best_of j ks kss
+    unfolding best_of
+    best_of-better h = rw (h, best_of)
 
-    pub bestOf-worse : better j ks is ≡ false → bestOf j is (ks ∷ kss) ≡ bestOf j is kss
-    unfolding bestOf
-    bestOf-worse h = rw (h, bestOf)
+    pub best_of-worse : better j ks is ≡ false → best_of j is (ks ∷ kss) ≡ best_of j is kss
+    unfolding best_of
+    best_of-worse h = rw (h, best_of)
 
-  pub bestOf-mem : (is : List ℕ) (kss : List (List ℕ)) → Mem (bestOf j is kss) (is ∷ kss)
-  unfolding bestOf
-  bestOf-mem is [] = here refl
-  bestOf-mem is (ks ∷ kss) =
+  pub best_of-mem : (is : List ℕ) (kss : List (List ℕ)) → Mem (best_of j is kss) (is ∷ kss)
+  unfolding best_of
+  best_of-mem is [] = here refl
+  best_of-mem is (ks ∷ kss) =
       ⊎_elim
-      (λ h. mem-cast (bestOf-better is ks kss h) (there (bestOf-mem ks kss)))
+      (λ h. mem-cast (best_of-better is ks kss h) (there (best_of-mem ks kss)))
       (λ h.
       mem-cast
-      (bestOf-worse is ks kss h)
-      (⊎_elim here (λ m. there (there m)) (cases_cons (bestOf-mem is kss))))
+      (best_of-worse is ks kss h)
+      (⊎_elim here (λ m. there (there m)) (cases_cons (best_of-mem is kss))))
       (true-or-false (better j ks is))
 
   -- the list held only improves: what is not better than it never is
-  bestOf-kept : (ls is : List ℕ) (kss : List (List ℕ)) → better j ls is ≡ false → better j ls (bestOf j is kss) ≡ false
-  unfolding bestOf
-  bestOf-kept ls is [] h = h
-  bestOf-kept ls is (ks ∷ kss) h =
+  best_of-kept : (ls is : List ℕ) (kss : List (List ℕ)) → better j ls is ≡ false → better j ls (best_of j is kss) ≡ false
+  unfolding best_of
+  best_of-kept ls is [] h = h
+  best_of-kept ls is (ks ∷ kss) h =
       ⊎_elim
       (λ b.
       let n = false_of (better j ls ks) (λ e. not-both (better-trans ls ks is e b) h) in
-      rw (bestOf-better is ks kss b) (bestOf-kept ls ks kss n))
-      (λ b. rw (bestOf-worse is ks kss b) (bestOf-kept ls is kss h))
+      rw (best_of-better is ks kss b) (best_of-kept ls ks kss n))
+      (λ b. rw (best_of-worse is ks kss b) (best_of-kept ls is kss h))
       (true-or-false (better j ks is))
 
-  bestOf-first : (is : List ℕ) (kss : List (List ℕ)) → better j is (bestOf j is kss) ≡ false
-  bestOf-first is kss = bestOf-kept is is kss (better-irrefl is)
+  best_of-first : (is : List ℕ) (kss : List (List ℕ)) → better j is (best_of j is kss) ≡ false
+  best_of-first is kss = best_of-kept is is kss (better-irrefl is)
 
-  bestOf-other : (is : List ℕ) (kss : List (List ℕ)) (ls : List ℕ) → Mem ls kss → better j ls (bestOf j is kss) ≡ false
-  bestOf-other is [] ls m = absurd (not-nil m)
-  bestOf-other is (ks ∷ kss) ls m =
+  best_of-other : (is : List ℕ) (kss : List (List ℕ)) (ls : List ℕ) → Mem ls kss → better j ls (best_of j is kss) ≡ false
+  best_of-other is [] ls m = absurd (not-nil m)
+  best_of-other is (ks ∷ kss) ls m =
       ⊎_elim
       (λ b.
-      rw (bestOf-better is ks kss b)
-      (⊎_elim (λ e. rw e (bestOf-first ks kss)) (bestOf-other ks kss ls) (cases_cons m)))
+      rw (best_of-better is ks kss b)
+      (⊎_elim (λ e. rw e (best_of-first ks kss)) (best_of-other ks kss ls) (cases_cons m)))
       (λ b.
-      rw (bestOf-worse is ks kss b)
-      (⊎_elim (λ e. rw e (bestOf-kept ks is kss b)) (bestOf-other is kss ls) (cases_cons m)))
+      rw (best_of-worse is ks kss b)
+      (⊎_elim (λ e. rw e (best_of-kept ks is kss b)) (best_of-other is kss ls) (cases_cons m)))
       (true-or-false (better j ks is))
 
   -- none is better
-  pub bestOf-least : (is : List ℕ) (kss : List (List ℕ)) (ls : List ℕ) → Mem ls (is ∷ kss)
-      → better j ls (bestOf j is kss) ≡ false
-  bestOf-least is kss ls m = ⊎_elim (λ e. rw e (bestOf-first is kss)) (bestOf-other is kss ls) (cases_cons m)
+  pub best_of-least : (is : List ℕ) (kss : List (List ℕ)) (ls : List ℕ) → Mem ls (is ∷ kss)
+      → better j ls (best_of j is kss) ≡ false
+  best_of-least is kss ls m = ⊎_elim (λ e. rw e (best_of-first is kss)) (best_of-other is kss ls) (cases_cons m)
 
   -- .. and none costs less
-  pub bestOf-cost : (is : List ℕ) (kss : List (List ℕ)) (ls : List ℕ) → Mem ls (is ∷ kss)
-      → cost j (bestOf j is kss) ≤ cost j ls
-  bestOf-cost is kss ls m = cost-of-not-better ls (bestOf j is kss) (bestOf-least is kss ls m)
+  pub best_of-cost : (is : List ℕ) (kss : List (List ℕ)) (ls : List ℕ) → Mem ls (is ∷ kss)
+      → cost j (best_of j is kss) ≤ cost j ls
+  best_of-cost is kss ls m = cost-of-not-better ls (best_of j is kss) (best_of-least is kss ls m)
 
 -- ---- the chosen support
 
 module _ (j : Job) where
   -- where all candidates together are sound, the chosen support is a sound set of them
-  pub chosen-sound : sound j (candidateNets j) ≡ true
-      → (sound j (chosen j) ≡ true) × Mem (chosen j) (subsets (candidateNets j))
+  pub chosen-sound : sound j (candidate_nets j) ≡ true
+      → (sound j (chosen j) ≡ true) × Mem (chosen j) (subsets (candidate_nets j))
   unfolding chosen
   chosen-sound h =
-      let is = candidateNets j in
+      let is = candidate_nets j in
       let kss = keep (sound j) (subsets is) in
       ⊎_elim
       (λ (e : chosen j ≡ is). (rw e h, mem-cast e (subsets-self is)))
       (λ (m : Mem (chosen j) kss). let r = (mem-keep (sound j) (subsets is) (chosen j)).0 m in (r.1, r.0))
-      (cases_cons (bestOf-mem j is kss))
+      (cases_cons (best_of-mem j is kss))
 
   -- no sound set of candidates is better, and none costs less
-  pub chosen-least : (ks : List ℕ) → Mem ks (subsets (candidateNets j)) → sound j ks ≡ true
+  pub chosen-least : (ks : List ℕ) → Mem ks (subsets (candidate_nets j)) → sound j ks ≡ true
       → (cost j (chosen j) ≤ cost j ks) × (better j ks (chosen j) ≡ false)
   unfolding chosen
   chosen-least ks m h =
-      let is = candidateNets j in
+      let is = candidate_nets j in
       let kss = keep (sound j) (subsets is) in
       let n : Mem ks (is ∷ kss) = there ((mem-keep (sound j) (subsets is) ks).1 (m, h)) in
-      (bestOf-cost j is kss ks n, bestOf-least j is kss ks n)
+      (best_of-cost j is kss ks n, best_of-least j is kss ks n)
 
   -- .. and none that costs as much has fewer gates
-  pub chosen-fewest : (ks : List ℕ) → Mem ks (subsets (candidateNets j)) → sound j ks ≡ true → cost j ks ≡ cost j (chosen j)
-      → patchGates j (chosen j) ≤ patchGates j ks
+  pub chosen-fewest : (ks : List ℕ) → Mem ks (subsets (candidate_nets j)) → sound j ks ≡ true → cost j ks ≡ cost j (chosen j)
+      → patch_gates j (chosen j) ≤ patch_gates j ks
   chosen-fewest ks m h e = gates-of-not-better j ks (chosen j) (chosen-least ks m h).1 e
 
   -- .. so it is the only one than which none is better
-  pub chosen-unique : sound j (candidateNets j) ≡ true
-      → (ks : List ℕ) → Mem ks (subsets (candidateNets j)) → sound j ks ≡ true
-      → ((ls : List ℕ) → Mem ls (subsets (candidateNets j)) → sound j ls ≡ true → better j ls ks ≡ false)
+  pub chosen-unique : sound j (candidate_nets j) ≡ true
+      → (ks : List ℕ) → Mem ks (subsets (candidate_nets j)) → sound j ks ≡ true
+      → ((ls : List ℕ) → Mem ls (subsets (candidate_nets j)) → sound j ls ≡ true → better j ls ks ≡ false)
       → ks ≡ chosen j
   chosen-unique h ks m s b =
       let c = chosen-sound h in

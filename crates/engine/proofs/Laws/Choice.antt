@@ -226,27 +226,27 @@ map-agree f g (x ∷ xs) h =
 
 -- ---- numbers from a up
 
-pub mem-upFrom : (a n x : ℕ) → Mem x (up_from a n) ↔ ((a ≤ x) × (x < a + n))
+pub mem-up_from : (a n x : ℕ) → Mem x (up_from a n) ↔ ((a ≤ x) × (x < a + n))
 unfolding up_from
-mem-upFrom a zero x = (λ m. absurd (not-nil m), λ r. let f : ⊥ = omega (arith, r.0, r.1) in absurd f)
-mem-upFrom a (suc n) x = (
+mem-up_from a zero x = (λ m. absurd (not-nil m), λ r. let f : ⊥ = omega (arith, r.0, r.1) in absurd f)
+mem-up_from a (suc n) x = (
   λ m.
       ⊎_elim
       (λ (e : x ≡ a). (omega arith, omega arith))
-      (λ (k : Mem x (up_from (suc a) n)). let r = (mem-upFrom (suc a) n x).0 k in (omega (arith, r.0), omega (arith, r.1)))
+      (λ (k : Mem x (up_from (suc a) n)). let r = (mem-up_from (suc a) n x).0 k in (omega (arith, r.0), omega (arith, r.1)))
       (cases_cons m),
   λ r.
       ⊎_elim
       (λ (e : a ≡ x). here (sym e))
-      (λ (l : a < x). there ((mem-upFrom (suc a) n x).1 (l, omega (arith, r.1))))
+      (λ (l : a < x). there ((mem-up_from (suc a) n x).1 (l, omega (arith, r.1))))
       (eq-or-lt_of_le r.0),
 )
 
 -- the members of the numbers below n
 pub mem_below : (n x : ℕ) → Mem x (up_from 0 n) ↔ (x < n)
 mem_below n x = (
-  λ m. omega (arith, ((mem-upFrom 0 n x).0 m).1),
-  λ h. (mem-upFrom 0 n x).1 (omega arith, omega arith),
+  λ m. omega (arith, ((mem-up_from 0 n x).0 m).1),
+  λ h. (mem-up_from 0 n x).1 (omega arith, omega arith),
 )
 
 -- no number below the first with p has it

@@ -12,9 +12,9 @@ use lib.ListN.{length, get_or, take, drop, replicate, get_or-eq_default, length-
 use lib.Pow.{pow_mono, shl_exact}
 use lib.Seq.{get_or-take, get_or-drop}
 use Rattle.records.specs.Job.{Job, job_of}
-use Rattle.records.specs.Refusal.{Test, firstFailing, partTests, jobTests, jobRefusal}
-use Rattle.records.specs.Sheet.{patch_of, sheetWhole, sheetTests}
-use Rattle.records.specs.Service.{checkOf, loaded, sheetRoomy, sheetNumber, sheetReply}
+use Rattle.records.specs.Refusal.{Test, first_failing, part_tests, job_tests, job_refusal}
+use Rattle.records.specs.Sheet.{patch_of, sheet_whole, sheet_tests}
+use Rattle.records.specs.Service.{check_of, loaded, sheet_roomy, sheet_number, sheet_reply}
 use Rattle.records.specs.Parts.{PartsOf}
 use Rattle.records.specs.declared.field.Check.TheVariants as Check
 use Rattle.records.specs.declared.loading.JobParts.{JobParts}
@@ -24,24 +24,24 @@ use Rattle.records.proofs.Laws.Counts.{passes, fails}
 use Rattle.records.proofs.Laws.Loading.{loaded-number, loaded-check, loaded-parts}
 use Rattle.records.proofs.Laws.Notes.{tests-seven, seven-exactly as sheet-seven}
 use Rattle.engine.specs.Choice.{first}
-use Rattle.engine.specs.Eval.{allInputs}
+use Rattle.engine.specs.Eval.{all_inputs}
 use Rattle.engine.specs.Rectify.{rectifies}
-use Rattle.engine.specs.Support.{reading, drivenBy}
-use Rattle.engine.specs.Compare.{difference, pairTests}
-use Rattle.engine.specs.Fit.{fits, longestFit}
-use Rattle.engine.specs.Reply.{comparisonOf, compareNumber, compareReply, fitTests, fitNumber}
+use Rattle.engine.specs.Support.{reading, driven_by}
+use Rattle.engine.specs.Compare.{difference, pair_tests}
+use Rattle.engine.specs.Fit.{fits, longest_fit}
+use Rattle.engine.specs.Reply.{comparison_of, compare_number, compare_reply, fit_tests, fit_number}
 use Rattle.engine.specs.Claims.{SevenExactly}
-use Rattle.engine.specs.Inner.Kernel.{Filled, rowValue, FirstZero}
+use Rattle.engine.specs.Inner.Kernel.{Filled, row_value, FirstZero}
 use Rattle.engine.specs.Inner.Note.{gathered}
 use Rattle.engine.specs.Inner.Plan.{PlanHeld}
 use Rattle.engine.specs.Inner.Search.{BlockRead, DrivenRow}
-use Rattle.engine.specs.Inner.Comparing.{differing, PlanReads, TableCopied, declinedComparison, sheetComparison}
+use Rattle.engine.specs.Inner.Comparing.{differing, PlanReads, TableCopied, declined_comparison, sheet_comparison}
 use Rattle.engine.specs.declared.comparing.Comparison.{Comparison}
 use Rattle.engine.specs.declared.comparing.Comparison.TheVariants as Comparison
 use Rattle.engine.specs.declared.plan.Plan.{Plan}
 use Rattle.engine.proofs.Laws.Choice.{true-or-false, Least}
 use Rattle.engine.proofs.Laws.Fill.{fill-at}
-use Rattle.engine.proofs.Laws.Leaves.{getD-zeros}
+use Rattle.engine.proofs.Laws.Leaves.{get_or-zeros}
 use Rattle.engine.proofs.Laws.ListLoop.{first-of-least, first-of-none}
 use Rattle.engine.proofs.Laws.PartsSheet.{parts-number, parts-sheet}
 use Rattle.engine.proofs.Laws.Plan.{reads_of}
@@ -68,14 +68,14 @@ not-of-true b e = rw e
 abbrev pub RowCompared : Plan → List ℕ → List ℕ → ℕ → List ℕ → Type 0
 RowCompared p gates table b row =
     (j : Job) (is : List ℕ) → PlanReads j is p gates → (y : ℕ) → y < 1024
-    → rowValue row y ≡ cond (rectifies j (1024 * b + y) (drivenBy j is table (1024 * b + y))) 1 0
+    → row_value row y ≡ cond (rectifies j (1024 * b + y) (driven_by j is table (1024 * b + y))) 1 0
 
 module _ {p : Plan} {gates : List ℕ} (table vectors : List ℕ) {b : ℕ} {words readings row after : List ℕ} (held : PlanHeld p gates)
     (read : BlockRead p gates b words readings) (looked : LookedUp readings table vectors) (driven : DrivenRow p gates (gathered vectors) words row after) where
   -- the vector of scenario y
   vector-driven : (j : Job) (is : List ℕ) → PlanReads j is p gates → (y : ℕ) → y < 1024
-      → gathered vectors y ≡ drivenBy j is table (1024 * b + y)
-  unfolding drivenBy
+      → gathered vectors y ≡ driven_by j is table (1024 * b + y)
+  unfolding driven_by
   vector-driven j is q y h =
       let n : length is ≤ 10 = omega (arith, ap length q.planned.nets, length-take p.reads p.nets, held.reads) in
       let few : 2 ^ length is ≤ 1024 = pow_mono {j = 10} n in
@@ -96,7 +96,7 @@ pub record Scanning (p : Plan) (gates table : List ℕ) (size b : ℕ) : Type 0 
   pub few : size ≤ 1048576
   pub reached : 1024 * b < size + 1024
   pub passed : (j : Job) (is : List ℕ) → PlanReads j is p gates → (y : ℕ) → y < 1024 * b → y < size
-      → rectifies j y (drivenBy j is table y) ≡ true
+      → rectifies j y (driven_by j is table y) ≡ true
 
 pub scanning-none : (p : Plan) (gates table : List ℕ) → p.inputs ≤ 20
     → Scanning p gates table (1 * 2 ^ p.inputs % 2 ^ 64) 0
@@ -115,7 +115,7 @@ module _ {p : Plan} {gates table row : List ℕ} {size b count r : ℕ} (s : Sca
     (w : RowCompared p gates table b row) (f : FirstZero row r) (h : 1024 * b < size) (e : count ≡ min (size - 1024 * b) 1024) where
   -- no input before the block's first of which the row says 0 differs
   passed-block : (j : Job) (is : List ℕ) → PlanReads j is p gates → (y : ℕ) → y < 1024 * b + r → y < size
-      → rectifies j y (drivenBy j is table y) ≡ true
+      → rectifies j y (driven_by j is table y) ≡ true
   passed-block j is q y i m =
       ⊎_elim
       (λ (t : ltb y (1024 * b) ≡ true). s.passed j is q y (ltb-true y (1024 * b) t) m)
@@ -124,8 +124,8 @@ module _ {p : Plan} {gates table row : List ℕ} {size b count r : ℕ} (s : Sca
       let k : ℕ = y - 1024 * b in
       let g : 1024 * b + k ≡ y = omega arith in
       let o = f.most in
-      subst (λ (x : ℕ). rectifies j x (drivenBy j is table x) ≡ true) g
-      (one-true (rectifies j (1024 * b + k) (drivenBy j is table (1024 * b + k)))
+      subst (λ (x : ℕ). rectifies j x (driven_by j is table x) ≡ true) g
+      (one-true (rectifies j (1024 * b + k) (driven_by j is table (1024 * b + k)))
       (sym (w j is q k (omega arith)) ∙ f.ones k (omega arith))))
       (true-or-false (ltb y (1024 * b)))
 
@@ -143,27 +143,27 @@ module _ {p : Plan} {gates table row : List ℕ} {size b count r : ℕ} (s : Sca
       record {
         below = omega arith;
         holds =
-            zero-differs (rectifies j (1024 * b + r) (drivenBy j is table (1024 * b + r)))
+            zero-differs (rectifies j (1024 * b + r) (driven_by j is table (1024 * b + r)))
             (sym (w j is q r (omega arith)) ∙ f.zero (omega arith));
-        smaller = λ y i. not-of-true (rectifies j y (drivenBy j is table y)) (passed-block j is q y i (omega arith));
+        smaller = λ y i. not-of-true (rectifies j y (driven_by j is table y)) (passed-block j is q y i (omega arith));
       }
 
   -- the first difference
   pub scanned-differs : r < count → (j : Job) (is : List ℕ) → PlanReads j is p gates
-      → Comparison.Differs (record { input = 1024 * b + r }) ≡ comparisonOf (difference j is table)
-  unfolding comparisonOf difference allInputs
+      → Comparison.Differs (record { input = 1024 * b + r }) ≡ comparison_of (difference j is table)
+  unfolding comparison_of difference all_inputs
   scanned-differs a j is q =
       let n : size ≡ 2 ^ j.inputs = s.all ∙ ap (λ (k : ℕ). 2 ^ k) q.planned.inputs in
       rw (first-of-least (differing j is table) (2 ^ j.inputs) (1024 * b + r) (rw n at (scanned-least a j is q)))
 
 -- .. none
 pub scanned-equal : {p : Plan} {gates table : List ℕ} {size b : ℕ} → Scanning p gates table size b → size ≤ 1024 * b
-    → (j : Job) (is : List ℕ) → PlanReads j is p gates → Comparison.Equal ≡ comparisonOf (difference j is table)
-unfolding comparisonOf difference allInputs
+    → (j : Job) (is : List ℕ) → PlanReads j is p gates → Comparison.Equal ≡ comparison_of (difference j is table)
+unfolding comparison_of difference all_inputs
 scanned-equal {p} {gates} {table} {size} {b} s h j is q =
     let n : size ≡ 2 ^ j.inputs = s.all ∙ ap (λ (k : ℕ). 2 ^ k) q.planned.inputs in
     rw (first-of-none (differing j is table) (2 ^ j.inputs)
-    (λ y l. not-of-true (rectifies j y (drivenBy j is table y)) (s.passed j is q y (omega arith) (omega arith))))
+    (λ y l. not-of-true (rectifies j y (driven_by j is table y)) (s.passed j is q y (omega arith) (omega arith))))
 
 -- ---- the table
 
@@ -181,46 +181,46 @@ table-copied sheet table start count h f =
           (λ (t : ltb i count ≡ false).
           let l = ltb-false i count t in
           let n : length (take count (drop start sheet)) ≤ i = omega (arith, length-take count (drop start sheet)) in
-          f.kept i (inr (omega arith)) ∙ getD-zeros 1024 i ∙ sym (get_or-eq_default (take count (drop start sheet)) 0 n))
+          f.kept i (inr (omega arith)) ∙ get_or-zeros 1024 i ∙ sym (get_or-eq_default (take count (drop start sheet)) 0 n))
           (true-or-false (ltb i count));
     }
 
 -- entries alike drive alike
 pub difference-alike : (j : Job) (is t u : List ℕ) → ((i : ℕ) → get_or t i 0 ≡ get_or u i 0) → difference j is t ≡ difference j is u
-unfolding difference drivenBy
-difference-alike j is t u e = λ k. first (λ x. not (rectifies j x (e (reading j is x) k))) (allInputs j)
+unfolding difference driven_by
+difference-alike j is t u e = λ k. first (λ x. not (rectifies j x (e (reading j is x) k))) (all_inputs j)
 
 -- ---- a sheet beside a loaded job
 
 module _ {j : Job} {parts : JobParts} (q : PartsOf j parts) (p : List ℕ) {s : SheetReply}
-    (e : s ≡ sheetReply parts.counts.targets parts.counts.candidates parts.nets parts.weights p) where
-  pub declined-sheet : (s.number ≡ 0 → ⊥) → record { number = s.number; result = Comparison.Declined } ≡ sheetComparison j p
-  unfolding sheetComparison declinedComparison
+    (e : s ≡ sheet_reply parts.counts.targets parts.counts.candidates parts.nets parts.weights p) where
+  pub declined-sheet : (s.number ≡ 0 → ⊥) → record { number = s.number; result = Comparison.Declined } ≡ sheet_comparison j p
+  unfolding sheet_comparison declined_comparison
   declined-sheet z = rw (parts-number q p e, ne_eqb s.number 0 z)
 
-  sheet-accepted : s.number ≡ 0 → (o : Comparison) → o ≡ comparisonOf (difference j (patch_of p).support (patch_of p).table)
-      → record { number = 0; result = o } ≡ sheetComparison j p
-  unfolding sheetComparison
+  sheet-accepted : s.number ≡ 0 → (o : Comparison) → o ≡ comparison_of (difference j (patch_of p).support (patch_of p).table)
+      → record { number = 0; result = o } ≡ sheet_comparison j p
+  unfolding sheet_comparison
   sheet-accepted z o r = rw (parts-number q p e, eq-eqb s.number 0 z, r)
 
   pub compared-sheet : s.number ≡ 0 → (k : ℕ) → k ≡ 2 ^ s.support.len → {table : List ℕ} → TableCopied p s.table k table
-      → {o : Comparison} → o ≡ comparisonOf (difference j (patch_of p).support table)
-      → record { number = 0; result = o } ≡ sheetComparison j p
+      → {o : Comparison} → o ≡ comparison_of (difference j (patch_of p).support table)
+      → record { number = 0; result = o } ≡ sheet_comparison j p
   compared-sheet z k n {table} t {o} r =
       let is = (patch_of p).support in
       let u : take k (drop s.table p) ≡ (patch_of p).table =
       ap (λ (i : ℕ). take i (drop s.table p)) n ∙ (parts-sheet q p e z).table in
       sheet-accepted z o
       (r
-      ∙ ap comparisonOf
+      ∙ ap comparison_of
       (difference-alike j is table (patch_of p).table
       (λ i. t.entries i ∙ ap (λ (l : List ℕ). get_or l i 0) u)))
 
 -- ---- a job's bytes and a sheet's
 
 -- where a test fails, later ones play no part
-pub failing-append : (ts us : List Test) → (firstFailing ts ≡ 0 → ⊥) → firstFailing (ts ++ us) ≡ firstFailing ts
-unfolding firstFailing
+pub failing-append : (ts us : List Test) → (first_failing ts ≡ 0 → ⊥) → first_failing (ts ++ us) ≡ first_failing ts
+unfolding first_failing
 failing-append [] us z = absurd (z refl)
 failing-append (t ∷ ts) us z = go t.number t.passes (failing-append ts us) z
   where
@@ -229,51 +229,51 @@ failing-append (t ∷ ts) us z = go t.number t.passes (failing-append ts us) z
     go k false f y = refl
 
 -- .. and where a job's tests pass, the later ones alone do
-passing-append : (s : List ℕ) (us : List Test) → jobRefusal s ≡ 0 → firstFailing (jobTests s ++ us) ≡ firstFailing us
-unfolding jobTests partTests firstFailing jobRefusal
+passing-append : (s : List ℕ) (us : List Test) → job_refusal s ≡ 0 → first_failing (job_tests s ++ us) ≡ first_failing us
+unfolding job_tests part_tests first_failing job_refusal
 passing-append s us n =
     let a = (job-accepts true s).0 n in
     rw (a.1, a.2.counts, a.2.gates, a.2.outputs, a.2.candidates)
 
 module _ (s : List ℕ) {r : JobParts} (e : r ≡ loaded s) where
-  check-job : r.check ≡ checkOf (eqb (jobRefusal s) 0)
+  check-job : r.check ≡ check_of (eqb (job_refusal s) 0)
   check-job = ap (λ (x : JobParts). x.check) e ∙ loaded-check s
 
   pub declined-job : (q : List ℕ) → r.check ≡ Check.Failed
-      → record { number = r.number; result = Comparison.Declined } ≡ compareReply s q
-  unfolding compareReply compareNumber pairTests jobRefusal
+      → record { number = r.number; result = Comparison.Declined } ≡ compare_reply s q
+  unfolding compare_reply compare_number pair_tests job_refusal
   declined-job q f =
-      let n : r.number ≡ jobRefusal s = ap (λ (x : JobParts). x.number) e ∙ loaded-number s in
-      let z = eqb-false (jobRefusal s) 0 (fails (eqb (jobRefusal s) 0) (sym check-job ∙ f)) in
-      rw (n, failing-append (jobTests s) (sheetTests (job_of s).targets (job_of s).candidates q) z, ne_eqb (jobRefusal s) 0 z)
+      let n : r.number ≡ job_refusal s = ap (λ (x : JobParts). x.number) e ∙ loaded-number s in
+      let z = eqb-false (job_refusal s) 0 (fails (eqb (job_refusal s) 0) (sym check-job ∙ f)) in
+      rw (n, failing-append (job_tests s) (sheet_tests (job_of s).targets (job_of s).candidates q) z, ne_eqb (job_refusal s) 0 z)
 
   module _ (f : r.check ≡ Check.Passed) where
-    accepted-number : jobRefusal s ≡ 0
-    accepted-number = eqb-true (jobRefusal s) 0 (passes (eqb (jobRefusal s) 0) (sym check-job ∙ f))
+    accepted-number : job_refusal s ≡ 0
+    accepted-number = eqb-true (job_refusal s) 0 (passes (eqb (job_refusal s) 0) (sym check-job ∙ f))
 
     pub accepted-job : PartsOf (job_of s) r
     accepted-job = rw e (loaded-parts s accepted-number)
 
-    pub compared-job : (q : List ℕ) → sheetComparison (job_of s) q ≡ compareReply s q
-    unfolding compareReply compareNumber pairTests sheetComparison declinedComparison
-    compared-job q = rw (passing-append s (sheetTests (job_of s).targets (job_of s).candidates q) accepted-number)
+    pub compared-job : (q : List ℕ) → sheet_comparison (job_of s) q ≡ compare_reply s q
+    unfolding compare_reply compare_number pair_tests sheet_comparison declined_comparison
+    compared-job q = rw (passing-append s (sheet_tests (job_of s).targets (job_of s).candidates q) accepted-number)
 
 -- ---- sheets that get 7
 
 -- beside an accepted job 7 is given exactly to what is no whole sheet, whatever tests follow, if none of them gives it
-seven-behind : (s p : List ℕ) (us : List Test) → jobRefusal s ≡ 0 → (firstFailing us ≡ 7 → ⊥)
-    → (firstFailing (pairTests s p ++ us) ≡ 7) ↔ (sheetWhole p ≡ false)
-unfolding pairTests
+seven-behind : (s p : List ℕ) (us : List Test) → job_refusal s ≡ 0 → (first_failing us ≡ 7 → ⊥)
+    → (first_failing (pair_tests s p ++ us) ≡ 7) ↔ (sheet_whole p ≡ false)
+unfolding pair_tests
 seven-behind s p us n h =
     let m = (job_of s).targets in
     let cs = (job_of s).candidates in
-    rw (append_assoc (jobTests s) (sheetTests m cs p) us, passing-append s (sheetTests m cs p ++ us) n) (tests-seven m cs p us h)
+    rw (append_assoc (job_tests s) (sheet_tests m cs p) us, passing-append s (sheet_tests m cs p ++ us) n) (tests-seven m cs p us h)
 
 pub seven-exactly : SevenExactly
-unfolding compareNumber fitNumber fitTests firstFailing
+unfolding compare_number fit_number fit_tests first_failing
 seven-exactly s p n = (
   rw append-nil at (seven-behind s p [] n (λ e. let f : ⊥ = omega arith in f)),
-  λ d l. rw (le-leb longestFit (length d) l) (seven-behind s p _ n (nine (fits (job_of s) (patch_of p).support (patch_of p).table))),
+  λ d l. rw (le-leb longest_fit (length d) l) (seven-behind s p _ n (nine (fits (job_of s) (patch_of p).support (patch_of p).table))),
 )
   where
     nine : (b : Bool) → ◌≡◌ {A = ℕ} (cond b 0 9) 7 → ⊥
@@ -281,9 +281,9 @@ seven-exactly s p n = (
     nine false e = omega arith
 
 -- a sheet that gets 7 from read_sheet, beside no targets and no candidates, gets it from both
-pub both-seven : (s p : List ℕ) → jobRefusal s ≡ 0 → sheetNumber 0 0 [] [] p ≡ 7
-    → (compareNumber s p ≡ 7) × ((d : List ℕ) → longestFit ≤ length d → fitNumber d s p ≡ 7)
-unfolding sheetRoomy
+pub both-seven : (s p : List ℕ) → job_refusal s ≡ 0 → sheet_number 0 0 [] [] p ≡ 7
+    → (compare_number s p ≡ 7) × ((d : List ℕ) → longest_fit ≤ length d → fit_number d s p ≡ 7)
+unfolding sheet_roomy
 both-seven s p n e =
     let w = (sheet-seven 0 0 [] [] p refl).0 e in
     let b = seven-exactly s p n in

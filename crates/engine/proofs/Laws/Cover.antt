@@ -11,19 +11,19 @@ use lib.Dec.{eqb, ltb}
 use lib.ListN.{length, get_or, take, set, replicate, length-set, length-replicate}
 use lib.Seq.{get_or-set_same, get_or-set_other, get_or-take, length-take-le}
 use Rattle.engine.specs.Eval.{bit, number_of}
-use Rattle.engine.specs.Inner.Cover.{NextUnseen, InCube, CoverHeld, InCover, CubeAdded, CoverTo, readingIn}
-use Rattle.engine.specs.Inner.Kernel.{Filled, rowValue, valueIn}
+use Rattle.engine.specs.Inner.Cover.{NextUnseen, InCube, CoverHeld, InCover, CubeAdded, CoverTo, reading_in}
+use Rattle.engine.specs.Inner.Kernel.{Filled, row_value, value_in}
 use Rattle.engine.specs.declared.cover.Cover.{Cover}
 use Rattle.engine.proofs.Laws.Choice.{true-or-false}
 use Rattle.engine.proofs.Laws.Eval.{bit-lt, bits-map}
 use Rattle.engine.proofs.Laws.Fill.{fill-at}
 use Rattle.engine.proofs.Laws.Kernel.{bit-sum}
-use Rattle.engine.proofs.Laws.Leaves.{getD-zeros, bit_kept}
+use Rattle.engine.proofs.Laws.Leaves.{get_or-zeros, bit_kept}
 use Rattle.engine.proofs.Laws.List.{set_below, eq-or-below}
 use Rattle.engine.proofs.Laws.Reordered.{mapped_at}
-use Rattle.engine.proofs.Laws.Rows.{valueIn-lt}
+use Rattle.engine.proofs.Laws.Rows.{value_in-lt}
 use Rattle.engine.proofs.Laws.Shift.{bit_shifted}
-use Rattle.engine.proofs.Laws.VectorSets.{bit-numberOf}
+use Rattle.engine.proofs.Laws.VectorSets.{bit-number_of}
 use Rattle.engine.proofs.Laws.Word.{bit-zero, bit-and}
 
 -- ---- cubes
@@ -42,8 +42,8 @@ in_all value q k h = let f : ⊥ = omega (arith, bit-zero k) in absurd f
 -- 16 words, with 0 where a net has another value than the lowest bit of x
 pub row-valued : (i x v : ℕ) (words r r' : List ℕ) → ((j : ℕ) → j < 64 → bit j v ≡ bit 0 x)
     → Filled (λ w. bit_and (get_or r w 0) (bit_xor (bit_xor (get_or words (16 * i + w) 0) v) (2 ^ 64 - 1))) 0 16 r r'
-    → (y : ℕ) → y < 1024 → rowValue r' y ≡ cond (eqb (valueIn words y i) (bit 0 x)) (rowValue r y) 0
-unfolding rowValue valueIn
+    → (y : ℕ) → y < 1024 → row_value r' y ≡ cond (eqb (value_in words y i) (bit 0 x)) (row_value r y) 0
+unfolding row_value value_in
 row-valued i x v words r r' e l y h =
     ap (bit (y % 64)) (fill-at l (y / 64) (omega arith))
     ∙ bit_kept (y % 64) (get_or r (y / 64) 0) (get_or words (16 * i + y / 64) 0) v (omega arith)
@@ -54,18 +54,18 @@ row-valued i x v words r r' e l y h =
 pub number_bit : (f : ℕ → ℕ) → ((i : ℕ) → f i < 2) → (nets : List ℕ) (reads k : ℕ) → reads ≤ length nets → k < reads
     → bit k (number_of (map f (take reads nets))) ≡ f (get_or nets k 0)
 number_bit f b nets reads k h l =
-    bit-numberOf (bits-map f b (take reads nets)) k
+    bit-number_of (bits-map f b (take reads nets)) k
     ∙ mapped_at f (take reads nets) k (omega (arith, length-take-le reads nets h))
     ∙ ap f (get_or-take reads nets k 0 l)
 
 -- one net more of those that the cube asks for
 pub cube-next : (words nets : List ℕ) (reads value care y k : ℕ) {v : ℕ} → reads ≤ length nets → k < reads → bit k care ≡ 1
-    → InCube value care (readingIn words (take reads nets) y) → v ≡ 1
-    → cond (eqb (valueIn words y (get_or nets k 0)) (bit 0 (value / 2 ^ k))) v 0 ≡ 1
+    → InCube value care (reading_in words (take reads nets) y) → v ≡ 1
+    → cond (eqb (value_in words y (get_or nets k 0)) (bit 0 (value / 2 ^ k))) v 0 ≡ 1
 cube-next words nets reads value care y k {v} h l c m o =
-    let a = valueIn words y (get_or nets k 0) in
+    let a = value_in words y (get_or nets k 0) in
     let b = bit 0 (value / 2 ^ k) in
-    let s : a ≡ b = sym (number_bit (valueIn words y) (valueIn-lt words y) nets reads k h l) ∙ m k c ∙ bit_shifted k value in
+    let s : a ≡ b = sym (number_bit (value_in words y) (value_in-lt words y) nets reads k h l) ∙ m k c ∙ bit_shifted k value in
     ap (λ (t : Bool). cond t v 0) (eq-eqb a b s) ∙ o
 
 -- ---- covers
@@ -133,8 +133,8 @@ zero-cubes n h =
       few = h;
       values = length-replicate {A = ℕ} 64 0;
       cares = length-replicate {A = ℕ} 64 0;
-      values-below = λ i. omega (arith, getD-zeros 64 i);
-      cares-below = λ i. omega (arith, getD-zeros 64 i);
+      values-below = λ i. omega (arith, get_or-zeros 64 i);
+      cares-below = λ i. omega (arith, get_or-zeros 64 i);
     }
 
 -- a cube that asks for nothing

@@ -11,10 +11,10 @@ use native.Mathlib.Omega.{arith}
 use lib.Dec.{lit<}
 use lib.ListN.{length, get_or, replicate}
 use Rattle.records.specs.Bytes.{up_from, tabulate}
-use Rattle.records.specs.Gate.{Gate, operands, conj, disj, parity, inverted, gateValue}
-use Rattle.records.specs.Netlist.{netAt, extended, value_of, values, mark_of, fanout}
+use Rattle.records.specs.Gate.{Gate, operands, conj, disj, parity, inverted, gate_value}
+use Rattle.records.specs.Netlist.{net_at, extended, value_of, values, mark_of, fanout}
 use Rattle.records.specs.Job.{Job}
-use Rattle.engine.specs.Eval.{bit, bits, number_of, oldValues}
+use Rattle.engine.specs.Eval.{bit, bits, number_of, old_values}
 use Rattle.engine.proofs.Laws.Choice.{map-agree}
 
 -- ---- lists of 0 and 1
@@ -63,9 +63,9 @@ zero-lt = lit< tt
 one-lt : 1 < 2
 one-lt = lit< tt
 
-pub gateValue-lt : (k : ℕ) {vs : List ℕ} → Bits vs → gateValue k vs < 2
-unfolding gateValue
-gateValue-lt k {vs} b =
+pub gate_value-lt : (k : ℕ) {vs : List ℕ} → Bits vs → gate_value k vs < 2
+unfolding gate_value
+gate_value-lt k {vs} b =
     let v : ℕ = get_or vs 0 0 in
     get_d_bits
     (bits-cons zero-lt
@@ -82,19 +82,19 @@ gateValue-lt k {vs} b =
 
 -- ---- values
 
-pub netAt-lt : {known : List ℕ} → Bits known → (i : ℕ) → netAt known i < 2
-unfolding netAt
-netAt-lt b i = get_d_bits b i
+pub net_at-lt : {known : List ℕ} → Bits known → (i : ℕ) → net_at known i < 2
+unfolding net_at
+net_at-lt b i = get_d_bits b i
 
-pub valueOf-lt : {known : List ℕ} → Bits known → (g : Gate) → value_of known g < 2
+pub value_of-lt : {known : List ℕ} → Bits known → (g : Gate) → value_of known g < 2
 unfolding value_of
-valueOf-lt {known} b g = gateValue-lt g.kind (bits-map (netAt known) (netAt-lt b) (operands g))
+value_of-lt {known} b g = gate_value-lt g.kind (bits-map (net_at known) (net_at-lt b) (operands g))
 
 pub values-bits : (leaves : List ℕ) → Bits leaves → (gs : List Gate) → Bits (values leaves gs)
 unfolding values extended
 values-bits leaves b [] = b
 values-bits leaves b (g ∷ gs) =
-    values-bits (leaves ++ (value_of leaves g ∷ [])) (bits-append b (bits-cons (valueOf-lt b g) bits-nil)) gs
+    values-bits (leaves ++ (value_of leaves g ∷ [])) (bits-append b (bits-cons (value_of-lt b g) bits-nil)) gs
 
 pub bit-lt : (i x : ℕ) → bit i x < 2
 unfolding bit
@@ -104,29 +104,29 @@ pub bits-bits : (k x : ℕ) → Bits (bits k x)
 unfolding bits tabulate
 bits-bits k x = bits-map (λ i. bit i x) (λ i. bit-lt i x) (up_from 0 k)
 
-pub oldValues-bits : (j : Job) (x v : ℕ) → Bits (oldValues j x v)
-unfolding oldValues
-oldValues-bits j x v =
+pub old_values-bits : (j : Job) (x v : ℕ) → Bits (old_values j x v)
+unfolding old_values
+old_values-bits j x v =
     values-bits (bits j.inputs x ++ bits j.targets v)
     (bits-append (bits-bits j.inputs x) (bits-bits j.targets v))
     j.old.gates
 
 -- ---- numbers
 
-pub numberOf-lt : {bs : List ℕ} → Bits bs → number_of bs < 2 ^ length bs
+pub number_of-lt : {bs : List ℕ} → Bits bs → number_of bs < 2 ^ length bs
 unfolding number_of
-numberOf-lt bits-nil = omega arith
-numberOf-lt (bits-cons {v} {vs} h b) = omega (arith, numberOf-lt b, pow-suc 2 (length vs))
+number_of-lt bits-nil = omega arith
+number_of-lt (bits-cons {v} {vs} h b) = omega (arith, number_of-lt b, pow-suc 2 (length vs))
 
 -- where two rows of bits make the same number, they agree at each place
-pub numberOf-agree : (f g : ℕ → ℕ) → ((i : ℕ) → f i < 2) → ((i : ℕ) → g i < 2) → (is : List ℕ)
+pub number_of-agree : (f g : ℕ → ℕ) → ((i : ℕ) → f i < 2) → ((i : ℕ) → g i < 2) → (is : List ℕ)
     → number_of (map f is) ≡ number_of (map g is) → (i : ℕ) → Mem i is → f i ≡ g i
 unfolding number_of
-numberOf-agree f g l h [] e i m = absurd (not-nil m)
-numberOf-agree f g l h (k ∷ is) e i m =
+number_of-agree f g l h [] e i m = absurd (not-nil m)
+number_of-agree f g l h (k ∷ is) e i m =
     ⊎_elim
     (λ (q : i ≡ k). let p : f k ≡ g k = omega (arith, l k, h k) in ap f q ∙ p ∙ ap g (sym q))
-    (λ (n : Mem i is). numberOf-agree f g l h is (omega (arith, l k, h k)) i n)
+    (λ (n : Mem i is). number_of-agree f g l h is (omega (arith, l k, h k)) i n)
     (cases_cons m)
 
 -- ---- nets that no target leads to
@@ -141,11 +141,11 @@ agree-append : {ms vs ws ms' vs' ws' : List ℕ} → Agree ms vs ws → Agree ms
 agree-append agree-nil b = b
 agree-append (agree-cons h a) b = agree-cons h (agree-append a b)
 
-pub netAt-agree : {ms vs ws : List ℕ} → Agree ms vs ws → (i : ℕ) → netAt ms i ≡ 0 → netAt vs i ≡ netAt ws i
-unfolding netAt
-netAt-agree agree-nil i e = refl
-netAt-agree (agree-cons h a) zero e = h e
-netAt-agree (agree-cons h a) (suc i) e = netAt-agree a i e
+pub net_at-agree : {ms vs ws : List ℕ} → Agree ms vs ws → (i : ℕ) → net_at ms i ≡ 0 → net_at vs i ≡ net_at ws i
+unfolding net_at
+net_at-agree agree-nil i e = refl
+net_at-agree (agree-cons h a) zero e = h e
+net_at-agree (agree-cons h a) (suc i) e = net_at-agree a i e
 
 disj-zero : (f : ℕ → ℕ) (is : List ℕ) → disj (map f is) ≡ 0 → (i : ℕ) → Mem i is → f i ≡ 0
 unfolding disj
@@ -157,11 +157,11 @@ disj-zero f (k ∷ is) e i m =
     (cases_cons m)
 
 -- a gate with mark 0 reads only nets with mark 0
-valueOf-agree : {ms vs ws : List ℕ} → Agree ms vs ws → (g : Gate) → mark_of ms g ≡ 0 → value_of vs g ≡ value_of ws g
+value_of-agree : {ms vs ws : List ℕ} → Agree ms vs ws → (g : Gate) → mark_of ms g ≡ 0 → value_of vs g ≡ value_of ws g
 unfolding mark_of value_of
-valueOf-agree {ms} {vs} {ws} a g e =
-    ap (gateValue g.kind)
-    (map-agree (netAt vs) (netAt ws) (operands g) (λ i m. netAt-agree a i (disj-zero (netAt ms) (operands g) e i m)))
+value_of-agree {ms} {vs} {ws} a g e =
+    ap (gate_value g.kind)
+    (map-agree (net_at vs) (net_at ws) (operands g) (λ i m. net_at-agree a i (disj-zero (net_at ms) (operands g) e i m)))
 
 pub extended-agree : (ms vs ws : List ℕ) → Agree ms vs ws → (gs : List Gate)
     → Agree (extended mark_of ms gs) (extended value_of vs gs) (extended value_of ws gs)
@@ -169,7 +169,7 @@ unfolding extended
 extended-agree ms vs ws a [] = a
 extended-agree ms vs ws a (g ∷ gs) =
     extended-agree (ms ++ (mark_of ms g ∷ [])) (vs ++ (value_of vs g ∷ [])) (ws ++ (value_of ws g ∷ []))
-    (agree-append a (agree-cons (valueOf-agree a g) agree-nil))
+    (agree-append a (agree-cons (value_of-agree a g) agree-nil))
     gs
 
 -- leaves with the mark c: inputs have 0 and one value, targets have 1
@@ -180,20 +180,20 @@ leaves-agree c f g h a zero = agree-nil
 leaves-agree c f g h a (suc n) = agree-cons (h a) (leaves-agree c f g h (suc a) n)
 
 -- the vector has no say on a net that no target leads to
-pub values_agree : (n m : ℕ) (gs : List Gate) (x v w i : ℕ) → netAt (fanout n m gs) i ≡ 0
-    → netAt (values (bits n x ++ bits m v) gs) i ≡ netAt (values (bits n x ++ bits m w) gs) i
+pub values_agree : (n m : ℕ) (gs : List Gate) (x v w i : ℕ) → net_at (fanout n m gs) i ≡ 0
+    → net_at (values (bits n x ++ bits m v) gs) i ≡ net_at (values (bits n x ++ bits m w) gs) i
 unfolding values fanout bits tabulate
 values_agree n m gs x v w i e =
     let a =
     agree-append
     (leaves-agree 0 (λ k. bit k x) (λ k. bit k x) (λ k z. refl) 0 n)
     (leaves-agree 1 (λ k. bit k v) (λ k. bit k w) (λ k z. let f : ⊥ = omega arith in absurd f) 0 m) in
-    netAt-agree
+    net_at-agree
     (extended-agree (replicate n 0 ++ replicate m 1) (bits n x ++ bits m v) (bits n x ++ bits m w) a gs)
     i
     e
 
-pub oldValues-agree : (j : Job) (x v w i : ℕ) → netAt (fanout j.inputs j.targets j.old.gates) i ≡ 0
-    → netAt (oldValues j x v) i ≡ netAt (oldValues j x w) i
-unfolding oldValues
-oldValues-agree j = values_agree j.inputs j.targets j.old.gates
+pub old_values-agree : (j : Job) (x v w i : ℕ) → net_at (fanout j.inputs j.targets j.old.gates) i ≡ 0
+    → net_at (old_values j x v) i ≡ net_at (old_values j x w) i
+unfolding old_values
+old_values-agree j = values_agree j.inputs j.targets j.old.gates

@@ -13,24 +13,24 @@ use lib.ListN.{length, get_or, take, drop, set, replicate, length-set, length-ap
 use lib.ListN.{get_or-replicate}
 use lib.Seq.{append_snoc, drop-nil, length-take-le, get_or-take, get_or-set_same, get_or-set_other, take-length, take-nil, take-suc-set}
 use Rattle.records.specs.Bytes.{up_from, all}
-use Rattle.records.specs.Gate.{Gate, gateOf, operands, unused}
-use Rattle.records.specs.Netlist.{netAt}
+use Rattle.records.specs.Gate.{Gate, gate_of, operands, unused}
+use Rattle.records.specs.Netlist.{net_at}
 use Rattle.records.specs.Claims.{Below}
 use Rattle.records.proofs.Laws.Accepted.{below-of-all}
-use Rattle.records.proofs.Laws.Bytes.{length-upFrom}
-use Rattle.records.proofs.Laws.Gate.{gateGood-parts}
+use Rattle.records.proofs.Laws.Bytes.{length-up_from}
+use Rattle.records.proofs.Laws.Gate.{gate_good-parts}
 use Rattle.engine.specs.Choice.{keep}
 use Rattle.engine.specs.Fit.{moved}
-use Rattle.engine.specs.Inner.Packed.{fields, kind_of, count_of, gateWith, packed, packedFrom}
+use Rattle.engine.specs.Inner.Packed.{fields, kind_of, count_of, gate_with, packed, packed_from}
 use Rattle.engine.specs.Inner.Tree.{Nets, GateRoom, GatesPut, TreesPut}
-use Rattle.engine.specs.Inner.Renumber.{gateIn, unpacked, oldGates, oldBase, OldHeld, indicesWith, InputsNumbered, Numbered}
-use Rattle.engine.specs.Inner.Renumber.{movedFrom, withMark, MarkedPlaced}
+use Rattle.engine.specs.Inner.Renumber.{gate_in, unpacked, old_gates, old_base, OldHeld, indices_with, InputsNumbered, Numbered}
+use Rattle.engine.specs.Inner.Renumber.{moved_from, with_mark, MarkedPlaced}
 use Rattle.engine.specs.Inner.Fitting.{TreesPlaced}
 use Rattle.engine.specs.declared.renumber.NewSide.{NewSide}
 use Rattle.engine.specs.declared.renumber.OldSide.{OldSide}
 use Rattle.engine.proofs.Laws.Choice.{true-or-false, length-keep-le, mem-keep, mem_below, map-agree, all_true}
-use Rattle.engine.proofs.Laws.FitGates.{noGate, good-at}
-use Rattle.engine.proofs.Laws.FitNets.{getD-defaults}
+use Rattle.engine.proofs.Laws.FitGates.{no_gate, good-at}
+use Rattle.engine.proofs.Laws.FitNets.{get_or-defaults}
 use Rattle.engine.proofs.Laws.List.{set_below}
 use Rattle.engine.proofs.Laws.Tree.{gates-put-one, gates-put-append, gates-put-same, room-kept, room-less}
 
@@ -54,37 +54,37 @@ module _ {A : Type 0} (p : A → Bool) where
   unfolding keep
   keep-none x e = rw e
 
-pub upFrom-append : (a n m : ℕ) → up_from a (n + m) ≡ up_from a n ++ up_from (a + n) m
+pub up_from-append : (a n m : ℕ) → up_from a (n + m) ≡ up_from a n ++ up_from (a + n) m
 unfolding up_from
-upFrom-append a zero m = rw (zero-add, add-zero)
-upFrom-append a (suc n) m =
+up_from-append a zero m = rw (zero-add, add-zero)
+up_from-append a (suc n) m =
     let e : suc n + m ≡ suc (n + m) = omega arith in
     let f : suc a + n ≡ a + suc n = omega arith in
     ap (up_from a) e
-    ∙ ap (λ (l : List ℕ). a ∷ l) (upFrom-append (suc a) n m)
+    ∙ ap (λ (l : List ℕ). a ∷ l) (up_from-append (suc a) n m)
     ∙ ap (λ (k : ℕ). a ∷ (up_from (suc a) n ++ up_from k m)) f
 
-upFrom-snoc : (n : ℕ) → up_from 0 (n + 1) ≡ up_from 0 n ++ (n ∷ [])
+up_from-snoc : (n : ℕ) → up_from 0 (n + 1) ≡ up_from 0 n ++ (n ∷ [])
 unfolding up_from
-upFrom-snoc n = upFrom-append 0 n 1 ∙ ap (λ (k : ℕ). up_from 0 n ++ (k ∷ [])) (zero-add n)
+up_from-snoc n = up_from-append 0 n 1 ∙ ap (λ (k : ℕ). up_from 0 n ++ (k ∷ [])) (zero-add n)
 
 -- ---- the gates with a mark
 
 module _ (ms : List ℕ) (base b : ℕ) where
   abbrev has : ℕ → Bool
-  has i = eqb (netAt ms (base + i)) b
+  has i = eqb (net_at ms (base + i)) b
 
-  indicesWith-next : (i : ℕ) → get_or ms (base + i) 0 ≡ b → indicesWith ms base b (i + 1) ≡ indicesWith ms base b i ++ (i ∷ [])
-  unfolding indicesWith netAt
-  indicesWith-next i e =
-      ap (keep has) (upFrom-snoc i)
+  indices_with-next : (i : ℕ) → get_or ms (base + i) 0 ≡ b → indices_with ms base b (i + 1) ≡ indices_with ms base b i ++ (i ∷ [])
+  unfolding indices_with net_at
+  indices_with-next i e =
+      ap (keep has) (up_from-snoc i)
       ∙ keep_append has (up_from 0 i) (i ∷ [])
       ∙ ap (λ (l : List ℕ). keep has (up_from 0 i) ++ l) (keep_one has i (eq-eqb (get_or ms (base + i) 0) b e))
 
-  indicesWith-skip : (i : ℕ) → (get_or ms (base + i) 0 ≡ b → ⊥) → indicesWith ms base b (i + 1) ≡ indicesWith ms base b i
-  unfolding indicesWith netAt
-  indicesWith-skip i e =
-      ap (keep has) (upFrom-snoc i)
+  indices_with-skip : (i : ℕ) → (get_or ms (base + i) 0 ≡ b → ⊥) → indices_with ms base b (i + 1) ≡ indices_with ms base b i
+  unfolding indices_with net_at
+  indices_with-skip i e =
+      ap (keep has) (up_from-snoc i)
       ∙ keep_append has (up_from 0 i) (i ∷ [])
       ∙ ap (λ (l : List ℕ). keep has (up_from 0 i) ++ l) (keep-none has i (ne_eqb (get_or ms (base + i) 0) b e))
       ∙ append-nil (keep has (up_from 0 i))
@@ -129,7 +129,7 @@ numbered-none ms base b first d =
     }
 
 module _ (ms : List ℕ) (base b first : ℕ) (before after : List ℕ) (i : ℕ) (w : Numbered ms base b i first before after) where
-  numbered_next : get_or ms (base + i) 0 ≡ b → base + i < length before → {v : ℕ} → v ≡ first + length (indicesWith ms base b i)
+  numbered_next : get_or ms (base + i) 0 ≡ b → base + i < length before → {v : ℕ} → v ≡ first + length (indices_with ms base b i)
       → Numbered ms base b (i + 1) first before (set after (base + i) v)
   numbered_next e h {v} n =
       let other : (k : ℕ) → (k ≡ base + i → ⊥) → get_or (set after (base + i) v) k 0 ≡ get_or after k 0 =
@@ -168,9 +168,9 @@ module _ (ms : List ℕ) (base b first : ℕ) (before after : List ℕ) (i : ℕ
         others = λ k d. w.others k (λ l. d (omega arith));
       }
 
-pub indicesWith-most : (ms : List ℕ) (base b n : ℕ) → length (indicesWith ms base b n) ≤ n
-unfolding indicesWith
-indicesWith-most ms base b n = omega (arith, length-keep-le (has ms base b) (up_from 0 n), length-upFrom 0 n)
+pub indices_with-most : (ms : List ℕ) (base b n : ℕ) → length (indices_with ms base b n) ≤ n
+unfolding indices_with
+indices_with-most ms base b n = omega (arith, length-keep-le (has ms base b) (up_from 0 n), length-up_from 0 n)
 
 -- the numbers stay nets
 pub numbered-nets : {ms : List ℕ} {base b n first : ℕ} {before after : List ℕ} → Numbered ms base b n first before after
@@ -190,7 +190,7 @@ numbered-nets {ms} {base} {b} {n} {first} {before} {after} w h p k l =
     ⊎_elim
     (λ (m : eqb (get_or ms (base + i) 0) b ≡ true).
     rw (ap (λ (x : ℕ). get_or after x 0) (sym e) ∙ w.numbers i v (eqb-true (get_or ms (base + i) 0) b m))
-    (omega (arith, indicesWith-most ms base b i)))
+    (omega (arith, indices_with-most ms base b i)))
     (λ (m : eqb (get_or ms (base + i) 0) b ≡ false). kept (λ x. eqb-false (get_or ms (base + i) 0) b m))
     (true-or-false (eqb (get_or ms (base + i) 0) b)))
     (λ (u : ltb i n ≡ false). kept (λ x. let f : ⊥ = omega (arith, ltb-false i n u) in absurd f))
@@ -198,26 +198,26 @@ numbered-nets {ms} {base} {b} {n} {first} {before} {after} w h p k l =
     (true-or-false (ltb k base))
 
 -- the more gates, the more have the mark
-indicesWith-le : (ms : List ℕ) (base b i n : ℕ) → i ≤ n → length (indicesWith ms base b i) ≤ length (indicesWith ms base b n)
-unfolding indicesWith
-indicesWith-le ms base b i n h =
+indices_with-le : (ms : List ℕ) (base b i n : ℕ) → i ≤ n → length (indices_with ms base b i) ≤ length (indices_with ms base b n)
+unfolding indices_with
+indices_with-le ms base b i n h =
     let p = has ms base b in
     let m : i + (n - i) ≡ n = omega arith in
     let e : keep p (up_from 0 n) ≡ keep p (up_from 0 i) ++ keep p (up_from (0 + i) (n - i)) =
     ap (λ (k : ℕ). keep p (up_from 0 k)) (sym m)
-    ∙ ap (keep p) (upFrom-append 0 i (n - i))
+    ∙ ap (keep p) (up_from-append 0 i (n - i))
     ∙ keep_append p (up_from 0 i) (up_from (0 + i) (n - i)) in
     omega (arith, ap length e, length-append (keep p (up_from 0 i)) (keep p (up_from (0 + i) (n - i))))
 
 -- ---- gates at their new numbers
 
 -- the slots ss, the first n of them at their new numbers
-abbrev movedSlots : List ℕ → ℕ → List ℕ → List ℕ
-movedSlots ns n ss = map (netAt ns) (take n ss) ++ drop n ss
+abbrev moved_slots : List ℕ → ℕ → List ℕ → List ℕ
+moved_slots ns n ss = map (net_at ns) (take n ss) ++ drop n ss
 
-movedSlots-cons : (ns : List ℕ) (n i x : ℕ) (xs : List ℕ)
-    → movedSlots ns (n - i) (x ∷ xs) ≡ cond (ltb i n) (netAt ns x) x ∷ movedSlots ns (n - (i + 1)) xs
-movedSlots-cons ns n i x xs =
+moved_slots-cons : (ns : List ℕ) (n i x : ℕ) (xs : List ℕ)
+    → moved_slots ns (n - i) (x ∷ xs) ≡ cond (ltb i n) (net_at ns x) x ∷ moved_slots ns (n - (i + 1)) xs
+moved_slots-cons ns n i x xs =
     ⊎_elim
     (λ (t : ltb i n ≡ true).
     let h = ltb-true i n t in
@@ -242,11 +242,11 @@ pub record Moving (ns : List ℕ) (c : ℕ) (r : List ℕ) (rest i : ℕ) : Type
   pub most : i ≤ 4
   pub long : length r ≡ 4
   pub below : Below 1024 r
-  pub slots : take i r ++ movedSlots ns (count_of c - i) (fields (4 - i) rest) ≡ (moved ns (gateIn c)).slots
+  pub slots : take i r ++ moved_slots ns (count_of c - i) (fields (4 - i) rest) ≡ (moved ns (gate_in c)).slots
 
 module _ (ns : List ℕ) (c : ℕ) where
   pub moving-none : Moving ns c (replicate 4 0) (c / 131072) 0
-  unfolding moved gateIn operands unused all
+  unfolding moved gate_in operands unused all
   moving-none =
       let e : count_of c - 0 ≡ count_of c = omega arith in
       record {
@@ -260,7 +260,7 @@ module _ (ns : List ℕ) (c : ℕ) where
     -- a turn: slot i, with the value v that its use gives
     pub moving-next : Nets 1024 ns → i < 4 → {v : ℕ} → v ≡ cond (ltb i (count_of c)) (get_or ns (rest % 1024) 0) (rest % 1024)
         → Moving ns c (set r i v) (rest / 1024) (i + 1)
-    unfolding fields netAt
+    unfolding fields net_at
     moving-next p l {v} e =
         let x = rest % 1024 in
         let h : x < 1024 = omega arith in
@@ -273,7 +273,7 @@ module _ (ns : List ℕ) (c : ℕ) where
         (true-or-false (ltb i (count_of c)))) in
         let n = count_of c - (i + 1) in
         let k : 4 - i ≡ suc (4 - (i + 1)) = omega arith in
-        let left = movedSlots ns n (fields (4 - (i + 1)) (rest / 1024)) in
+        let left = moved_slots ns n (fields (4 - (i + 1)) (rest / 1024)) in
         record {
           most = omega arith;
           long = length-set r i v ∙ w.long;
@@ -283,73 +283,73 @@ module _ (ns : List ℕ) (c : ℕ) where
               ∙ ap (λ (z : List ℕ). z ++ left) (take-suc-set r i v (omega (arith, w.long)))
               ∙ append_snoc (take i r) v left
               ∙ ap (λ (z : ℕ). take i r ++ (z ∷ left)) e
-              ∙ ap (λ (z : List ℕ). take i r ++ z) (sym (movedSlots-cons ns (count_of c) i x (fields (4 - (i + 1)) (rest / 1024))))
-              ∙ ap (λ (z : ℕ). take i r ++ movedSlots ns (count_of c - i) (fields z rest)) (sym k)
+              ∙ ap (λ (z : List ℕ). take i r ++ z) (sym (moved_slots-cons ns (count_of c) i x (fields (4 - (i + 1)) (rest / 1024))))
+              ∙ ap (λ (z : ℕ). take i r ++ moved_slots ns (count_of c - i) (fields z rest)) (sym k)
               ∙ w.slots;
         }
 
-    pub moving-all : 4 ≤ i → (r ≡ (moved ns (gateIn c)).slots) × Below 1024 r
+    pub moving-all : 4 ≤ i → (r ≡ (moved ns (gate_in c)).slots) × Below 1024 r
     unfolding fields
     moving-all l =
         let e : i ≡ 4 = omega (arith, w.most) in
         let n = count_of c - 4 in
-        let z : movedSlots ns n [] ≡ [] = rw (take-nil {A = ℕ} n, drop-nil {A = ℕ} n) in (
+        let z : moved_slots ns n [] ≡ [] = rw (take-nil {A = ℕ} n, drop-nil {A = ℕ} n) in (
           sym (append-nil r)
               ∙ ap (λ (k : List ℕ). r ++ k) (sym z)
-              ∙ ap (λ (k : List ℕ). k ++ movedSlots ns n []) (sym (take-length r) ∙ ap (λ (k : ℕ). take k r) w.long)
+              ∙ ap (λ (k : List ℕ). k ++ moved_slots ns n []) (sym (take-length r) ∙ ap (λ (k : ℕ). take k r) w.long)
               ∙ (rw e at w.slots),
           w.below,
         )
 
   -- the gate with these slots
-  pub gate-moved : {r : List ℕ} → r ≡ (moved ns (gateIn c)).slots → gateWith (kind_of c) (count_of c) r ≡ moved ns (gateIn c)
-  unfolding moved gateIn
+  pub gate-moved : {r : List ℕ} → r ≡ (moved ns (gate_in c)).slots → gate_with (kind_of c) (count_of c) r ≡ moved ns (gate_in c)
+  unfolding moved gate_in
   gate-moved e = rw e
 
 -- ---- the loop that numbers and puts them
 
 module _ (o : OldSide) (h : OldHeld o) where
-  pub length-old : length (oldGates o) ≡ o.count
+  pub length-old : length (old_gates o) ≡ o.count
   length-old =
-      length-map (take o.count o.gates) gateIn ∙ length-take-le o.count o.gates (omega (arith, h.count, h.long))
+      length-map (take o.count o.gates) gate_in ∙ length-take-le o.count o.gates (omega (arith, h.count, h.long))
 
-  pub gate-at : (i : ℕ) → i < o.count → get_or (oldGates o) i noGate ≡ gateIn (get_or o.gates i 0)
-  unfolding gateIn fields gateOf
+  pub gate-at : (i : ℕ) → i < o.count → get_or (old_gates o) i no_gate ≡ gate_in (get_or o.gates i 0)
+  unfolding gate_in fields gate_of
   gate-at i l =
-      get_or-map gateIn (take o.count o.gates) i 0 ∙ ap gateIn (get_or-take o.count o.gates i 0 l)
+      get_or-map gate_in (take o.count o.gates) i 0 ∙ ap gate_in (get_or-take o.count o.gates i 0 l)
 
-movedFrom-snoc : (gs : List Gate) (ns is : List ℕ) (i : ℕ)
-    → movedFrom gs ns (is ++ (i ∷ [])) ≡ movedFrom gs ns is ++ (moved ns (get_or gs i noGate) ∷ [])
-unfolding movedFrom
-movedFrom-snoc gs ns is i = map-append (λ k. moved ns (get_or gs k noGate)) is (i ∷ [])
+moved_from-snoc : (gs : List Gate) (ns is : List ℕ) (i : ℕ)
+    → moved_from gs ns (is ++ (i ∷ [])) ≡ moved_from gs ns is ++ (moved ns (get_or gs i no_gate) ∷ [])
+unfolding moved_from
+moved_from-snoc gs ns is i = map-append (λ k. moved ns (get_or gs k no_gate)) is (i ∷ [])
 
-pub length-movedFrom : (gs : List Gate) (ns ks : List ℕ) → length (movedFrom gs ns ks) ≡ length ks
-unfolding movedFrom
-length-movedFrom gs ns ks = length-map ks _
+pub length-moved_from : (gs : List Gate) (ns ks : List ℕ) → length (moved_from gs ns ks) ≡ length ks
+unfolding moved_from
+length-moved_from gs ns ks = length-map ks _
 
 -- numbers that agree on a gate's operands move it alike
-pub moved-agree : (ns ns' : List ℕ) (g : Gate) → ((i : ℕ) → Mem i (operands g) → get_or ns i 0 ≡ netAt ns' i)
+pub moved-agree : (ns ns' : List ℕ) (g : Gate) → ((i : ℕ) → Mem i (operands g) → get_or ns i 0 ≡ net_at ns' i)
     → moved ns g ≡ moved ns' g
-unfolding moved netAt
+unfolding moved net_at
 moved-agree ns ns' g h =
-    ap (λ (l : List ℕ). gateWith g.kind g.count (l ++ unused g)) (map-agree (netAt ns) (netAt ns') (operands g) h)
+    ap (λ (l : List ℕ). gate_with g.kind g.count (l ++ unused g)) (map-agree (net_at ns) (net_at ns') (operands g) h)
 
 -- the gates with mark b among the first i of the old ones have their numbers in ns, and stand behind the first r₀ gates: r in all
 pub record Placing (ms codes : List ℕ) (base many n b : ℕ) (ns₀ cs₀ : List ℕ) (r₀ i : ℕ) (ns cs : List ℕ) (r : ℕ) : Type 0 where
   pub most : i ≤ many
   pub numbered : Numbered ms base b i (n + r₀) ns₀ ns
-  pub gates : GatesPut n r₀ cs₀ (movedFrom (unpacked many codes) ns (indicesWith ms base b i)) r cs
+  pub gates : GatesPut n r₀ cs₀ (moved_from (unpacked many codes) ns (indices_with ms base b i)) r cs
 
 module _ (o : OldSide) (b : ℕ) (new : NewSide) where
   abbrev pub PlacingOf : ℕ → List ℕ → List ℕ → ℕ → Type 0
   PlacingOf i ns cs r =
-      Placing o.marks o.gates (oldBase o) o.count o.inputs b new.numbers new.gates new.count i ns cs r
+      Placing o.marks o.gates (old_base o) o.count o.inputs b new.numbers new.gates new.count i ns cs r
 
   abbrev indices : ℕ → List ℕ
-  indices i = indicesWith o.marks (oldBase o) b i
+  indices i = indices_with o.marks (old_base o) b i
 
   pub placing-none : PlacingOf 0 new.numbers new.gates new.count
-  unfolding movedFrom indicesWith up_from keep packedFrom
+  unfolding moved_from indices_with up_from keep packed_from
   placing-none =
       record {
         most = omega arith;
@@ -359,14 +359,14 @@ module _ (o : OldSide) (b : ℕ) (new : NewSide) where
 
   module _ {i r : ℕ} {ns cs : List ℕ} (w : PlacingOf i ns cs r) where
     placing-count : r ≡ new.count + length (indices i)
-    placing-count = omega (arith, w.gates.end, length-movedFrom (oldGates o) ns (indices i))
+    placing-count = omega (arith, w.gates.end, length-moved_from (old_gates o) ns (indices i))
 
-    pub placing-skip : i < o.count → (get_or o.marks (oldBase o + i) 0 ≡ b → ⊥) → PlacingOf (i + 1) ns cs r
+    pub placing-skip : i < o.count → (get_or o.marks (old_base o + i) 0 ≡ b → ⊥) → PlacingOf (i + 1) ns cs r
     placing-skip l m =
         record {
           most = omega arith;
           numbered = numbered-skip _ _ _ _ _ _ _ w.numbered m;
-          gates = gates-put-same w.gates (ap (movedFrom (oldGates o) ns) (sym (indicesWith-skip o.marks (oldBase o) b i m)));
+          gates = gates-put-same w.gates (ap (moved_from (old_gates o) ns) (sym (indices_with-skip o.marks (old_base o) b i m)));
         }
 
     pub placing-all : o.count ≤ i → MarkedPlaced o b new (record { count = r; numbers = ns; gates = cs })
@@ -374,54 +374,54 @@ module _ (o : OldSide) (b : ℕ) (new : NewSide) where
         let e : i ≡ o.count = omega (arith, w.most) in
         record { numbered = rw e at w.numbered; gates = rw e at w.gates }
 
-    module _ (h : OldHeld o) (l : i < o.count) (m : get_or o.marks (oldBase o + i) 0 ≡ b) where
+    module _ (h : OldHeld o) (l : i < o.count) (m : get_or o.marks (old_base o + i) 0 ≡ b) where
       -- the number of gate i
       abbrev put : List ℕ
-      put = set ns (oldBase o + i) (o.inputs + r)
+      put = set ns (old_base o + i) (o.inputs + r)
 
       -- .. has no say in the gates before it
-      moved-kept : movedFrom (oldGates o) ns (indices i) ≡ movedFrom (oldGates o) put (indices i)
-      unfolding movedFrom indicesWith netAt
+      moved-kept : moved_from (old_gates o) ns (indices i) ≡ moved_from (old_gates o) put (indices i)
+      unfolding moved_from indices_with net_at
       moved-kept =
           map-agree _ _ (indices i)
           (λ k t.
-          let p = (mem_below i k).0 ((mem-keep (has o.marks (oldBase o) b) (up_from 0 i) k).0 t).0 in
-          let g = get_or (oldGates o) k noGate in
-          let e = good-at (oldBase o) (oldGates o) h.good k (omega (arith, length-old o h)) in
+          let p = (mem_below i k).0 ((mem-keep (has o.marks (old_base o) b) (up_from 0 i) k).0 t).0 in
+          let g = get_or (old_gates o) k no_gate in
+          let e = good-at (old_base o) (old_gates o) h.good k (omega (arith, length-old o h)) in
           moved-agree ns put g
           (λ x y.
           let q =
-          ltb-true x (oldBase o + k)
-          (all_true (λ z. ltb z (oldBase o + k)) (operands g) (gateGood-parts (oldBase o + k) g e).0 x y) in
-          sym (get_or-set_other ns (oldBase o + i) x (o.inputs + r) 0 (λ z. omega arith))))
+          ltb-true x (old_base o + k)
+          (all_true (λ z. ltb z (old_base o + k)) (operands g) (gate_good-parts (old_base o + k) g e).0 x y) in
+          sym (get_or-set_other ns (old_base o + i) x (o.inputs + r) 0 (λ z. omega arith))))
 
       -- there is room for one more where there is room for all
-      pub placing-room : GateRoom o.inputs (new.count + length (withMark o b)) new.gates → GateRoom o.inputs (r + 1) cs
+      pub placing-room : GateRoom o.inputs (new.count + length (with_mark o b)) new.gates → GateRoom o.inputs (r + 1) cs
       placing-room v =
           let k = length-append (indices i) (i ∷ []) in
-          let n = ap length (indicesWith-next o.marks (oldBase o) b i m) in
-          let u = indicesWith-le o.marks (oldBase o) b (i + 1) o.count (omega arith) in
+          let n = ap length (indices_with-next o.marks (old_base o) b i m) in
+          let u = indices_with-le o.marks (old_base o) b (i + 1) o.count (omega arith) in
           room-less (room-kept v w.gates) (omega (arith, placing-count))
 
       placing-number : length new.numbers ≡ 1024
-          → Numbered o.marks (oldBase o) b (i + 1) (o.inputs + new.count) new.numbers put
+          → Numbered o.marks (old_base o) b (i + 1) (o.inputs + new.count) new.numbers put
       placing-number v =
           numbered_next _ _ _ _ _ _ _ w.numbered m (omega (arith, h.inputs, h.targets, h.count)) (omega (arith, placing-count))
 
       pub placing-nets : length new.numbers ≡ 1024 → new.count ≤ 400 → Nets 1024 new.numbers → Nets 1024 put
       placing-nets v f p = numbered-nets (placing-number v) (omega (arith, h.inputs, h.count)) p
 
-      pub placing-next : length new.numbers ≡ 1024 → GateRoom o.inputs (new.count + length (withMark o b)) new.gates
-          → {c : ℕ} → c ≡ packed (o.inputs + r) (moved put (gateIn (get_or o.gates i 0))) → PlacingOf (i + 1) put (set cs r c) (r + 1)
+      pub placing-next : length new.numbers ≡ 1024 → GateRoom o.inputs (new.count + length (with_mark o b)) new.gates
+          → {c : ℕ} → c ≡ packed (o.inputs + r) (moved put (gate_in (get_or o.gates i 0))) → PlacingOf (i + 1) put (set cs r c) (r + 1)
       placing-next v f {c} e =
-          let g = gateIn (get_or o.gates i 0) in
+          let g = gate_in (get_or o.gates i 0) in
           let one : GatesPut o.inputs r cs (moved put g ∷ []) (r + 1) (set cs r c) =
           rw e (gates-put-one o.inputs r cs (placing-room f) (moved put g)) in
-          let z : movedFrom (oldGates o) ns (indices i) ++ (moved put g ∷ []) ≡ movedFrom (oldGates o) put (indices (i + 1)) =
+          let z : moved_from (old_gates o) ns (indices i) ++ (moved put g ∷ []) ≡ moved_from (old_gates o) put (indices (i + 1)) =
           ap (λ (q : List Gate). q ++ (moved put g ∷ [])) moved-kept
-          ∙ ap (λ (q : Gate). movedFrom (oldGates o) put (indices i) ++ (moved put q ∷ [])) (sym (gate-at o h i l))
-          ∙ sym (movedFrom-snoc (oldGates o) put (indices i) i)
-          ∙ ap (movedFrom (oldGates o) put) (sym (indicesWith-next o.marks (oldBase o) b i m)) in
+          ∙ ap (λ (q : Gate). moved_from (old_gates o) put (indices i) ++ (moved put q ∷ [])) (sym (gate-at o h i l))
+          ∙ sym (moved_from-snoc (old_gates o) put (indices i) i)
+          ∙ ap (moved_from (old_gates o) put) (sym (indices_with-next o.marks (old_base o) b i m)) in
           record {
             most = omega arith;
             numbered = placing-number v;
@@ -439,7 +439,7 @@ moved-nets k ns is js l e p q i h =
     let x : get_or js i 0 ≡ get_or ns (get_or is i 0) 0 =
     sym (get_or-take k js i 0 h)
     ∙ ap (λ (xs : List ℕ). get_or xs i 0) e
-    ∙ getD-defaults (map f (take k is)) i 0 (f 0) n
+    ∙ get_or-defaults (map f (take k is)) i 0 (f 0) n
     ∙ get_or-map f (take k is) i 0
     ∙ ap f (get_or-take k is i 0 h) in
     rw x (q (get_or is i 0) (p i h))

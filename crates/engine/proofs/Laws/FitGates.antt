@@ -12,46 +12,46 @@ use borrow.Author.Tests.{ltb-true}
 use lib.Dec.{ltb}
 use lib.ListN.{length, get_or, length-append, get_or-append}
 use lib.Seq.{get_or_at, get_or-append-add}
-use Rattle.records.specs.Gate.{Gate, gateOf, operands, gateValue, disj}
-use Rattle.records.specs.Netlist.{netAt, extended, value_of, mark_of}
-use Rattle.records.specs.Refusal.{gateGood, gatesGood}
+use Rattle.records.specs.Gate.{Gate, gate_of, operands, gate_value, disj}
+use Rattle.records.specs.Netlist.{net_at, extended, value_of, mark_of}
+use Rattle.records.specs.Refusal.{gate_good, gates_good}
 use Rattle.records.proofs.Laws.Bytes.{and_left, and_right, and_both}
-use Rattle.records.proofs.Laws.Gate.{gateGood-parts}
+use Rattle.records.proofs.Laws.Gate.{gate_good-parts}
 use Rattle.engine.proofs.Laws.Choice.{all_true, map-agree}
 use Rattle.engine.proofs.Laws.Eval.{Bits, bits-nil, bits-cons, bits-append}
 
 -- what stands for a gate past the end of a list
-abbrev pub noGate : Gate
-noGate = gateOf 0 0 0 0 0 0
+abbrev pub no_gate : Gate
+no_gate = gate_of 0 0 0 0 0 0
 
 -- ---- good gates
 
-pub good-append : (net : ℕ) (gs hs : List Gate) → gatesGood net gs ≡ true → gatesGood (net + length gs) hs ≡ true
-    → gatesGood net (gs ++ hs) ≡ true
-unfolding gatesGood
+pub good-append : (net : ℕ) (gs hs : List Gate) → gates_good net gs ≡ true → gates_good (net + length gs) hs ≡ true
+    → gates_good net (gs ++ hs) ≡ true
+unfolding gates_good
 good-append net [] hs p q = rw add-zero at q
 good-append net (g ∷ gs) hs p q =
     let e : net + suc (length gs) ≡ suc net + length gs = omega arith in
-    and_both (gateGood net g) (gatesGood (suc net) (gs ++ hs))
-    (and_left (gateGood net g) (gatesGood (suc net) gs) p)
-    (good-append (suc net) gs hs (and_right (gateGood net g) (gatesGood (suc net) gs) p) (rw e at q))
+    and_both (gate_good net g) (gates_good (suc net) (gs ++ hs))
+    (and_left (gate_good net g) (gates_good (suc net) gs) p)
+    (good-append (suc net) gs hs (and_right (gate_good net g) (gates_good (suc net) gs) p) (rw e at q))
 
 -- each gate is good at its net
-pub good-at : (net : ℕ) (gs : List Gate) → gatesGood net gs ≡ true → (r : ℕ) → r < length gs
-    → gateGood (net + r) (get_or gs r noGate) ≡ true
-unfolding gatesGood
+pub good-at : (net : ℕ) (gs : List Gate) → gates_good net gs ≡ true → (r : ℕ) → r < length gs
+    → gate_good (net + r) (get_or gs r no_gate) ≡ true
+unfolding gates_good
 good-at net [] p r h = let f : ⊥ = omega arith in absurd f
-good-at net (g ∷ gs) p zero h = rw add-zero (and_left (gateGood net g) (gatesGood (suc net) gs) p)
+good-at net (g ∷ gs) p zero h = rw add-zero (and_left (gate_good net g) (gates_good (suc net) gs) p)
 good-at net (g ∷ gs) p (suc r) h =
     let e : net + suc r ≡ suc net + r = omega arith in
-    rw e (good-at (suc net) gs (and_right (gateGood net g) (gatesGood (suc net) gs) p) r (omega arith))
+    rw e (good-at (suc net) gs (and_right (gate_good net g) (gates_good (suc net) gs) p) r (omega arith))
 
 pub good-of-each : (net : ℕ) (gs : List Gate)
-    → ((r : ℕ) → r < length gs → gateGood (net + r) (get_or gs r noGate) ≡ true) → gatesGood net gs ≡ true
-unfolding gatesGood
+    → ((r : ℕ) → r < length gs → gate_good (net + r) (get_or gs r no_gate) ≡ true) → gates_good net gs ≡ true
+unfolding gates_good
 good-of-each net [] h = refl
 good-of-each net (g ∷ gs) h =
-    and_both (gateGood net g) (gatesGood (suc net) gs)
+    and_both (gate_good net g) (gates_good (suc net) gs)
     (rw add-zero at (h 0 (omega arith)))
     (good-of-each (suc net) gs
     (λ r l. let e : net + suc r ≡ suc net + r = omega arith in rw e at (h (suc r) (omega arith))))
@@ -59,18 +59,18 @@ good-of-each net (g ∷ gs) h =
 -- ---- gates in turn
 
 abbrev pub Local : (List ℕ → Gate → ℕ) → Type 0
-Local f = (vs ws : List ℕ) (g : Gate) → map (netAt vs) (operands g) ≡ map (netAt ws) (operands g) → f vs g ≡ f ws g
+Local f = (vs ws : List ℕ) (g : Gate) → map (net_at vs) (operands g) ≡ map (net_at ws) (operands g) → f vs g ≡ f ws g
 
-pub valueOf-local : Local value_of
+pub value_of-local : Local value_of
 unfolding value_of
-valueOf-local vs ws g e = ap (gateValue g.kind) e
+value_of-local vs ws g e = ap (gate_value g.kind) e
 
-pub markOf-local : Local mark_of
+pub mark_of-local : Local mark_of
 unfolding mark_of
-markOf-local vs ws g e = ap disj e
+mark_of-local vs ws g e = ap disj e
 
 pub record Consistent (f : List ℕ → Gate → ℕ) (ws : List ℕ) (net : ℕ) (gs : List Gate) : Type 0 where
-  pub at : (r : ℕ) → r < length gs → netAt ws (net + r) ≡ f ws (get_or gs r noGate)
+  pub at : (r : ℕ) → r < length gs → net_at ws (net + r) ≡ f ws (get_or gs r no_gate)
 
 module _ (f : List ℕ → Gate → ℕ) (ws : List ℕ) (net : ℕ) (gs hs : List Gate) (c : Consistent f ws net (gs ++ hs)) where
   pub consistent-left : Consistent f ws net gs
@@ -78,7 +78,7 @@ module _ (f : List ℕ → Gate → ℕ) (ws : List ℕ) (net : ℕ) (gs hs : Li
       record {
         at =
             λ r h.
-            c.at r (omega (arith, length-append gs hs)) ∙ ap (f ws) (get_or-append gs hs noGate r h);
+            c.at r (omega (arith, length-append gs hs)) ∙ ap (f ws) (get_or-append gs hs no_gate r h);
       }
 
   pub consistent-right : Consistent f ws (net + length gs) hs
@@ -86,59 +86,59 @@ module _ (f : List ℕ → Gate → ℕ) (ws : List ℕ) (net : ℕ) (gs hs : Li
       record {
         at =
             λ r h.
-            ap (netAt ws) (add_assoc net (length gs) r)
+            ap (net_at ws) (add_assoc net (length gs) r)
             ∙ c.at (length gs + r) (omega (arith, length-append gs hs))
-            ∙ ap (f ws) (get_or-append-add gs hs r noGate);
+            ∙ ap (f ws) (get_or-append-add gs hs r no_gate);
       }
 
 module _ (f : List ℕ → Gate → ℕ) where
   -- what stands in a list stands in the list extended
-  pub netAt-extended : (known : List ℕ) (gs : List Gate) (i : ℕ) → i < length known
-      → netAt (extended f known gs) i ≡ netAt known i
-  unfolding extended netAt
-  netAt-extended known [] i h = refl
-  netAt-extended known (g ∷ gs) i h =
+  pub net_at-extended : (known : List ℕ) (gs : List Gate) (i : ℕ) → i < length known
+      → net_at (extended f known gs) i ≡ net_at known i
+  unfolding extended net_at
+  net_at-extended known [] i h = refl
+  net_at-extended known (g ∷ gs) i h =
       let v = f known g in
-      netAt-extended (known ++ (v ∷ [])) gs i (omega (arith, length-append known (v ∷ [])))
+      net_at-extended (known ++ (v ∷ [])) gs i (omega (arith, length-append known (v ∷ [])))
       ∙ get_or-append known (v ∷ []) 0 i h
 
   -- .. and after it what f says of each gate, which is what f says of it from all the list
-  pub extended-consistent : Local f → (known : List ℕ) (gs : List Gate) → gatesGood (length known) gs ≡ true
+  pub extended-consistent : Local f → (known : List ℕ) (gs : List Gate) → gates_good (length known) gs ≡ true
       → (r : ℕ) → r < length gs
-      → netAt (extended f known gs) (length known + r) ≡ f (extended f known gs) (get_or gs r noGate)
-  unfolding extended gatesGood netAt
+      → net_at (extended f known gs) (length known + r) ≡ f (extended f known gs) (get_or gs r no_gate)
+  unfolding extended gates_good net_at
   extended-consistent l known [] p r h = let x : ⊥ = omega arith in absurd x
   extended-consistent l known (g ∷ gs) p zero h =
       let v = f known g in
       let ws = extended f (known ++ (v ∷ [])) gs in
-      let o = (gateGood-parts (length known) g (and_left (gateGood (length known) g) (gatesGood (suc (length known)) gs) p)).0 in
+      let o = (gate_good-parts (length known) g (and_left (gate_good (length known) g) (gates_good (suc (length known)) gs) p)).0 in
       let e : length known < length (known ++ (v ∷ [])) = omega (arith, length-append known (v ∷ [])) in
-      ap (netAt ws) (add-zero (length known))
-      ∙ netAt-extended (known ++ (v ∷ [])) gs (length known) e
+      ap (net_at ws) (add-zero (length known))
+      ∙ net_at-extended (known ++ (v ∷ [])) gs (length known) e
       ∙ get_or_at known v [] 0 (length known) refl
       ∙ l known ws g
-      (map-agree (netAt known) (netAt ws) (operands g)
+      (map-agree (net_at known) (net_at ws) (operands g)
       (λ i m.
       sym
-      (netAt-extended known (g ∷ gs) i
+      (net_at-extended known (g ∷ gs) i
       (ltb-true i (length known) (all_true (λ i. ltb i (length known)) (operands g) o i m)))))
   extended-consistent l known (g ∷ gs) p (suc r) h =
       let v = f known g in
       let e : length (known ++ (v ∷ [])) ≡ suc (length known) = length-append known (v ∷ []) ∙ omega arith in
       let n : length known + suc r ≡ length (known ++ (v ∷ [])) + r = omega arith in
-      ap (netAt (extended f (known ++ (v ∷ [])) gs)) n
+      ap (net_at (extended f (known ++ (v ∷ [])) gs)) n
       ∙ extended-consistent l (known ++ (v ∷ [])) gs
-      (rw e (and_right (gateGood (length known) g) (gatesGood (suc (length known)) gs) p))
+      (rw e (and_right (gate_good (length known) g) (gates_good (suc (length known)) gs) p))
       r
       (omega arith)
 
   pub consistent-extended : Local f → (known : List ℕ) (gs : List Gate) (net : ℕ) → length known ≡ net
-      → gatesGood net gs ≡ true → Consistent f (extended f known gs) net gs
+      → gates_good net gs ≡ true → Consistent f (extended f known gs) net gs
   consistent-extended l known gs net e p =
       record {
         at =
             λ r h.
-            ap (λ (k : ℕ). netAt (extended f known gs) (k + r)) (sym e)
+            ap (λ (k : ℕ). net_at (extended f known gs) (k + r)) (sym e)
             ∙ extended-consistent l known gs (rw e p) r h;
       }
 

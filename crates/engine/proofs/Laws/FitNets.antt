@@ -2,9 +2,9 @@
 -- the new number of each old net, and that the fitted gates are good. Assumes nothing.
 --
 --   Ascends a xs         each element of xs is above the one before, and none is below a
---   oldGate j k, oldNet j k    the old gate k, and the old net that it drives
+--   old_gate j k, old_net j k    the old gate k, and the old net that it drives
 --   NetCase n m count i  the old net i is an input, a target or a gate's
---   ledStart j is t      the new net of the first old gate that a target leads to
+--   led_start j is t      the new net of the first old gate that a target leads to
 --   Numbered .. b start  the new net of each old gate with mark b is start and its rank among them
 use Prim.Native.Nat.{ℕ, zero, suc, ◌+◌, ◌-◌, ◌≤◌, ◌<◌}
 use mathlib.Core.Path.{◌≡◌, refl, sym, ◌∙◌, ap, subst}
@@ -23,27 +23,27 @@ use lib.Dec.{eqb, ltb}
 use lib.ListN.{length, get_or, take, drop, replicate, length-append, length-map, get_or-append, get_or-map}
 use lib.Seq.{get_or-append-add}
 use Rattle.records.specs.Bytes.{up_from, tabulate, all}
-use Rattle.records.specs.Gate.{Gate, operands, unused, gateValue, disj}
-use Rattle.records.specs.Netlist.{netAt, mark_of, fanout}
+use Rattle.records.specs.Gate.{Gate, operands, unused, gate_value, disj}
+use Rattle.records.specs.Netlist.{net_at, mark_of, fanout}
 use Rattle.records.specs.Job.{Job}
-use Rattle.records.specs.Refusal.{gateGood, gatesGood, netlistsGood, oldNets}
-use Rattle.records.specs.Inner.{leafMarks}
-use Rattle.records.proofs.Laws.Bytes.{and_left, length-upFrom, getD-upFrom, get_d_tabulate}
-use Rattle.records.proofs.Laws.Gate.{on_bit, gateGood-permits, gateGood-parts}
+use Rattle.records.specs.Refusal.{gate_good, gates_good, netlists_good, old_nets}
+use Rattle.records.specs.Inner.{leaf_marks}
+use Rattle.records.proofs.Laws.Bytes.{and_left, length-up_from, get_or-up_from, get_d_tabulate}
+use Rattle.records.proofs.Laws.Gate.{on_bit, gate_good-permits, gate_good-parts}
 use Rattle.engine.specs.Choice.{keep}
-use Rattle.engine.specs.Fit.{led, gateIndices, rank, newFreeGate, newFreeNet, trees, newGate, newNets, moved, movedGates, fitted}
+use Rattle.engine.specs.Fit.{led, gate_indices, rank, new_free_gate, new_free_net, trees, new_gate, new_nets, moved, moved_gates, fitted}
 use Rattle.engine.proofs.Laws.Choice.{all_true, all-of-members, mem-keep, mem_below, keep-lt, true-or-false}
-use Rattle.engine.proofs.Laws.Eval.{Bits, bits-nil, bits-cons, bits-append, bits-map, netAt-lt, gateValue-lt}
-use Rattle.engine.proofs.Laws.Marks.{leaf-target, length-leafMarks}
-use Rattle.engine.proofs.Laws.FitGates.{noGate, good-append, good-at, good-of-each, markOf-local, consistent-extended, netAt-extended, extended-bits}
+use Rattle.engine.proofs.Laws.Eval.{Bits, bits-nil, bits-cons, bits-append, bits-map, net_at-lt, gate_value-lt}
+use Rattle.engine.proofs.Laws.Marks.{leaf-target, length-leaf_marks}
+use Rattle.engine.proofs.Laws.FitGates.{no_gate, good-append, good-at, good-of-each, mark_of-local, consistent-extended, net_at-extended, extended-bits}
 use Rattle.engine.proofs.Laws.FitTree.{length-nets, trees-good, trees-below}
 
 -- ---- lists
 
-pub getD-defaults : {A : Type 0} (xs : List A) (i : ℕ) (a b : A) → i < length xs → get_or xs i a ≡ get_or xs i b
-getD-defaults [] i a b h = let f : ⊥ = omega arith in absurd f
-getD-defaults (x ∷ xs) zero a b h = refl
-getD-defaults (x ∷ xs) (suc i) a b h = getD-defaults xs i a b (omega arith)
+pub get_or-defaults : {A : Type 0} (xs : List A) (i : ℕ) (a b : A) → i < length xs → get_or xs i a ≡ get_or xs i b
+get_or-defaults [] i a b h = let f : ⊥ = omega arith in absurd f
+get_or-defaults (x ∷ xs) zero a b h = refl
+get_or-defaults (x ∷ xs) (suc i) a b h = get_or-defaults xs i a b (omega arith)
 
 pub mem-at : (xs : List ℕ) (r : ℕ) → r < length xs → Mem (get_or xs r 0) xs
 mem-at [] r h = let f : ⊥ = omega arith in absurd f
@@ -86,17 +86,17 @@ unfolding rank keep
 rank-low ascends-nil i h = refl
 rank-low (ascends-cons {x = x} {xs = xs} l s) i h = rank-past x xs i (omega arith) ∙ rank-low s i (omega arith)
 
-getD-ascends : {a : ℕ} {xs : List ℕ} → Ascends a xs → (r : ℕ) → r < length xs → a ≤ get_or xs r 0
-getD-ascends ascends-nil r h = let f : ⊥ = omega arith in absurd f
-getD-ascends (ascends-cons l s) zero h = l
-getD-ascends (ascends-cons l s) (suc r) h = let p = getD-ascends s r (omega arith) in omega arith
+get_or-ascends : {a : ℕ} {xs : List ℕ} → Ascends a xs → (r : ℕ) → r < length xs → a ≤ get_or xs r 0
+get_or-ascends ascends-nil r h = let f : ⊥ = omega arith in absurd f
+get_or-ascends (ascends-cons l s) zero h = l
+get_or-ascends (ascends-cons l s) (suc r) h = let p = get_or-ascends s r (omega arith) in omega arith
 
 -- the element at place r has rank r
 rank-at : {a : ℕ} {xs : List ℕ} → Ascends a xs → (r : ℕ) → r < length xs → rank xs (get_or xs r 0) ≡ r
 rank-at ascends-nil r h = let f : ⊥ = omega arith in absurd f
 rank-at (ascends-cons {x = x} {xs = xs} l s) zero h = rank-past x xs x (omega arith) ∙ rank-low s x (omega arith)
 rank-at (ascends-cons {x = x} {xs = xs} l s) (suc r) h =
-    rank-above x xs (get_or xs r 0) (getD-ascends s r (omega arith)) ∙ ap suc (rank-at s r (omega arith))
+    rank-above x xs (get_or xs r 0) (get_or-ascends s r (omega arith)) ∙ ap suc (rank-at s r (omega arith))
 
 -- .. so an element stands at its rank
 rank-mem : {a k : ℕ} {xs : List ℕ} → Ascends a xs → Mem k xs → (rank xs k < length xs) × (get_or xs (rank xs k) 0 ≡ k)
@@ -122,65 +122,65 @@ disj-above f (k ∷ is) i m =
     (λ (n : Mem i is). let p = disj-above f is i n in omega arith)
     (cases_cons m)
 
-markOf-lt : (known : List ℕ) → Bits known → (g : Gate) → mark_of known g < 2
-unfolding mark_of gateValue
-markOf-lt known b g = gateValue-lt 6 (bits-map (netAt known) (netAt-lt b) (operands g))
+mark_of-lt : (known : List ℕ) → Bits known → (g : Gate) → mark_of known g < 2
+unfolding mark_of gate_value
+mark_of-lt known b g = gate_value-lt 6 (bits-map (net_at known) (net_at-lt b) (operands g))
 
 bits-replicate : (n c : ℕ) → c < 2 → Bits (replicate n c)
 bits-replicate zero c h = bits-nil
 bits-replicate (suc n) c h = bits-cons h (bits-replicate n c h)
 
 module _ (j : Job) where
-  pub mark-cases : (i : ℕ) → (netAt (led j) i ≡ 0) ⊎ (netAt (led j) i ≡ 1)
+  pub mark-cases : (i : ℕ) → (net_at (led j) i ≡ 0) ⊎ (net_at (led j) i ≡ 1)
   unfolding led fanout
   mark-cases i =
       let b =
-      extended-bits mark_of markOf-lt (replicate j.inputs 0 ++ replicate j.targets 1)
+      extended-bits mark_of mark_of-lt (replicate j.inputs 0 ++ replicate j.targets 1)
       (bits-append (bits-replicate j.inputs 0 (omega arith)) (bits-replicate j.targets 1 (omega arith)))
       j.old.gates in
-      on_bit (λ v. (v ≡ 0) ⊎ (v ≡ 1)) (inl refl) (inr refl) (netAt (led j) i) (netAt-lt b i)
+      on_bit (λ v. (v ≡ 0) ⊎ (v ≡ 1)) (inl refl) (inr refl) (net_at (led j) i) (net_at-lt b i)
 
-  pub mark-target : (i : ℕ) → i < j.targets → netAt (led j) (j.inputs + i) ≡ 1
-  unfolding led fanout leafMarks netAt
+  pub mark-target : (i : ℕ) → i < j.targets → net_at (led j) (j.inputs + i) ≡ 1
+  unfolding led fanout leaf_marks net_at
   mark-target i h =
-      netAt-extended mark_of (leafMarks j.inputs j.targets) j.old.gates (j.inputs + i)
-      (omega (arith, length-leafMarks j.inputs j.targets))
+      net_at-extended mark_of (leaf_marks j.inputs j.targets) j.old.gates (j.inputs + i)
+      (omega (arith, length-leaf_marks j.inputs j.targets))
       ∙ sym (leaf-target j.inputs j.targets (j.inputs + i) (omega arith) (omega arith))
 
 -- ---- the gates of a good job
 
-abbrev pub oldGate : Job → ℕ → Gate
-oldGate j k = get_or j.old.gates k noGate
+abbrev pub old_gate : Job → ℕ → Gate
+old_gate j k = get_or j.old.gates k no_gate
 
-abbrev pub oldNet : Job → ℕ → ℕ
-oldNet j k = j.inputs + j.targets + k
+abbrev pub old_net : Job → ℕ → ℕ
+old_net j k = j.inputs + j.targets + k
 
-module _ (j : Job) (good : netlistsGood j ≡ true) where
-  pub old-good : gatesGood (j.inputs + j.targets) j.old.gates ≡ true
-  unfolding netlistsGood
-  old-good = and_left (gatesGood (j.inputs + j.targets) j.old.gates) (gatesGood j.inputs j.golden.gates) good
+module _ (j : Job) (good : netlists_good j ≡ true) where
+  pub old-good : gates_good (j.inputs + j.targets) j.old.gates ≡ true
+  unfolding netlists_good
+  old-good = and_left (gates_good (j.inputs + j.targets) j.old.gates) (gates_good j.inputs j.golden.gates) good
 
   module _ (k : ℕ) (h : k < length j.old.gates) where
-    pub gate-good : gateGood (oldNet j k) (oldGate j k) ≡ true
+    pub gate-good : gate_good (old_net j k) (old_gate j k) ≡ true
     gate-good = good-at (j.inputs + j.targets) j.old.gates old-good k h
 
-    pub operand_below : (i : ℕ) → Mem i (operands (oldGate j k)) → i < oldNet j k
+    pub operand_below : (i : ℕ) → Mem i (operands (old_gate j k)) → i < old_net j k
     operand_below i m =
-        ltb-true i (oldNet j k)
-        (all_true (λ x. ltb x (oldNet j k)) (operands (oldGate j k)) (gateGood-parts (oldNet j k) (oldGate j k) gate-good).0 i m)
+        ltb-true i (old_net j k)
+        (all_true (λ x. ltb x (old_net j k)) (operands (old_gate j k)) (gate_good-parts (old_net j k) (old_gate j k) gate-good).0 i m)
 
     -- no target leads to the operands of a gate that none leads to
-    pub operand-unmarked : netAt (led j) (oldNet j k) ≡ 0 → (i : ℕ) → Mem i (operands (oldGate j k)) → netAt (led j) i ≡ 0
-    unfolding led fanout leafMarks mark_of
+    pub operand-unmarked : net_at (led j) (old_net j k) ≡ 0 → (i : ℕ) → Mem i (operands (old_gate j k)) → net_at (led j) i ≡ 0
+    unfolding led fanout leaf_marks mark_of
     operand-unmarked e i m =
-        let leaves = leafMarks j.inputs j.targets in
+        let leaves = leaf_marks j.inputs j.targets in
         let c =
-        (consistent-extended mark_of markOf-local leaves j.old.gates (j.inputs + j.targets)
-        (length-leafMarks j.inputs j.targets)
+        (consistent-extended mark_of mark_of-local leaves j.old.gates (j.inputs + j.targets)
+        (length-leaf_marks j.inputs j.targets)
         old-good).at
         k
         h in
-        let l = disj-above (netAt (led j)) (operands (oldGate j k)) i m in
+        let l = disj-above (net_at (led j)) (operands (old_gate j k)) i m in
         omega arith
 
 -- ---- old nets
@@ -213,36 +213,36 @@ net-case n m count i h =
 -- ---- the gates with a mark
 
 module _ (j : Job) (b : ℕ) where
-  indices-ascend : Ascends 0 (gateIndices j b)
-  unfolding gateIndices
-  indices-ascend = ascends-keep (λ i. eqb (netAt (led j) (oldNet j i)) b) 0 (length j.old.gates)
+  indices-ascend : Ascends 0 (gate_indices j b)
+  unfolding gate_indices
+  indices-ascend = ascends-keep (λ i. eqb (net_at (led j) (old_net j i)) b) 0 (length j.old.gates)
 
-  pub mem-indices : (k : ℕ) → Mem k (gateIndices j b) ↔ ((k < length j.old.gates) × (netAt (led j) (oldNet j k) ≡ b))
-  unfolding gateIndices
+  pub mem-indices : (k : ℕ) → Mem k (gate_indices j b) ↔ ((k < length j.old.gates) × (net_at (led j) (old_net j k) ≡ b))
+  unfolding gate_indices
   mem-indices k =
-      let p : ℕ → Bool = λ i. eqb (netAt (led j) (oldNet j i)) b in
+      let p : ℕ → Bool = λ i. eqb (net_at (led j) (old_net j i)) b in
       let r = mem-keep p (up_from 0 (length j.old.gates)) k in
       let l = mem_below (length j.old.gates) k in (
-        λ m. (l.0 (r.0 m).0, eqb-true (netAt (led j) (oldNet j k)) b (r.0 m).1),
-        λ h. r.1 (l.1 h.0, eq-eqb (netAt (led j) (oldNet j k)) b h.1),
+        λ m. (l.0 (r.0 m).0, eqb-true (net_at (led j) (old_net j k)) b (r.0 m).1),
+        λ h. r.1 (l.1 h.0, eq-eqb (net_at (led j) (old_net j k)) b h.1),
       )
 
   -- gate k stands at its rank among the gates with its mark
-  pub gate-rank : (k : ℕ) → k < length j.old.gates → netAt (led j) (oldNet j k) ≡ b
-      → (rank (gateIndices j b) k < length (gateIndices j b)) × (get_or (gateIndices j b) (rank (gateIndices j b) k) 0 ≡ k)
+  pub gate-rank : (k : ℕ) → k < length j.old.gates → net_at (led j) (old_net j k) ≡ b
+      → (rank (gate_indices j b) k < length (gate_indices j b)) × (get_or (gate_indices j b) (rank (gate_indices j b) k) 0 ≡ k)
   gate-rank k h e = rank-mem indices-ascend ((mem-indices k).1 (h, e))
 
   -- .. and comes before a later one
-  pub gate-rank-lt : (k l : ℕ) → k < length j.old.gates → netAt (led j) (oldNet j k) ≡ b → k < l
-      → rank (gateIndices j b) k < rank (gateIndices j b) l
-  gate-rank-lt k l h e p = rank_lt (gateIndices j b) k l p ((mem-indices k).1 (h, e))
+  pub gate-rank-lt : (k l : ℕ) → k < length j.old.gates → net_at (led j) (old_net j k) ≡ b → k < l
+      → rank (gate_indices j b) k < rank (gate_indices j b) l
+  gate-rank-lt k l h e p = rank_lt (gate_indices j b) k l p ((mem-indices k).1 (h, e))
 
 -- ---- new numbers
 
 module _ (j : Job) (is t : List ℕ) where
   -- how many gates stand before the remaining old gates, with the inputs
-  abbrev pub ledStart : ℕ
-  ledStart = j.inputs + length (gateIndices j 0) + length (trees j is t).gates
+  abbrev pub led_start : ℕ
+  led_start = j.inputs + length (gate_indices j 0) + length (trees j is t).gates
 
   length_front : length (up_from 0 j.inputs ++ (trees j is t).nets) ≡ j.inputs + j.targets
   unfolding trees
@@ -250,134 +250,134 @@ module _ (j : Job) (is t : List ℕ) where
       length-append (up_from 0 j.inputs) (trees j is t).nets
       ∙ omega (
         arith,
-        length-upFrom 0 j.inputs,
-        length-nets j.targets 0 (j.inputs + length (gateIndices j 0)) (map (newFreeNet j) is) t,
+        length-up_from 0 j.inputs,
+        length-nets j.targets 0 (j.inputs + length (gate_indices j 0)) (map (new_free_net j) is) t,
       )
 
-  pub number-input : (i : ℕ) → i < j.inputs → netAt (newNets j is t) i ≡ i
-  unfolding newNets netAt
+  pub number-input : (i : ℕ) → i < j.inputs → net_at (new_nets j is t) i ≡ i
+  unfolding new_nets net_at
   number-input i h =
       let u = up_from 0 j.inputs in
-      get_or-append (u ++ (trees j is t).nets) (tabulate (length j.old.gates) (newGate j is t)) 0 i
+      get_or-append (u ++ (trees j is t).nets) (tabulate (length j.old.gates) (new_gate j is t)) 0 i
       (omega (arith, length_front))
-      ∙ get_or-append u (trees j is t).nets 0 i (omega (arith, length-upFrom 0 j.inputs))
-      ∙ getD-upFrom 0 j.inputs i 0 h
+      ∙ get_or-append u (trees j is t).nets 0 i (omega (arith, length-up_from 0 j.inputs))
+      ∙ get_or-up_from 0 j.inputs i 0 h
       ∙ zero-add i
 
-  pub number-target : (i : ℕ) → i < j.targets → netAt (newNets j is t) (j.inputs + i) ≡ get_or (trees j is t).nets i 0
-  unfolding newNets netAt
+  pub number-target : (i : ℕ) → i < j.targets → net_at (new_nets j is t) (j.inputs + i) ≡ get_or (trees j is t).nets i 0
+  unfolding new_nets net_at
   number-target i h =
       let u = up_from 0 j.inputs in
-      get_or-append (u ++ (trees j is t).nets) (tabulate (length j.old.gates) (newGate j is t)) 0 (j.inputs + i)
+      get_or-append (u ++ (trees j is t).nets) (tabulate (length j.old.gates) (new_gate j is t)) 0 (j.inputs + i)
       (omega (arith, length_front))
-      ∙ ap (λ (n : ℕ). get_or (u ++ (trees j is t).nets) (n + i) 0) (sym (length-upFrom 0 j.inputs))
+      ∙ ap (λ (n : ℕ). get_or (u ++ (trees j is t).nets) (n + i) 0) (sym (length-up_from 0 j.inputs))
       ∙ get_or-append-add u (trees j is t).nets i 0
 
-  number-gate : (k : ℕ) → k < length j.old.gates → netAt (newNets j is t) (oldNet j k) ≡ newGate j is t k
-  unfolding newNets netAt
+  number-gate : (k : ℕ) → k < length j.old.gates → net_at (new_nets j is t) (old_net j k) ≡ new_gate j is t k
+  unfolding new_nets net_at
   number-gate k h =
       let u = up_from 0 j.inputs ++ (trees j is t).nets in
-      let gs = tabulate (length j.old.gates) (newGate j is t) in
+      let gs = tabulate (length j.old.gates) (new_gate j is t) in
       ap (λ (n : ℕ). get_or (u ++ gs) (n + k) 0) (sym length_front)
       ∙ get_or-append-add u gs k 0
-      ∙ get_d_tabulate (length j.old.gates) (newGate j is t) k 0 h
+      ∙ get_d_tabulate (length j.old.gates) (new_gate j is t) k 0 h
 
   -- the new net of each gate with mark b is start and its rank among them
   abbrev pub Numbered : ℕ → ℕ → Type 0
   Numbered b start =
-      (k : ℕ) → k < length j.old.gates → netAt (led j) (oldNet j k) ≡ b
-      → netAt (newNets j is t) (oldNet j k) ≡ start + rank (gateIndices j b) k
+      (k : ℕ) → k < length j.old.gates → net_at (led j) (old_net j k) ≡ b
+      → net_at (new_nets j is t) (old_net j k) ≡ start + rank (gate_indices j b) k
 
   pub number-free : Numbered 0 j.inputs
-  unfolding newGate newFreeGate
-  number-free k h e = number-gate k h ∙ rw (eq-eqb (netAt (led j) (oldNet j k)) 0 e)
+  unfolding new_gate new_free_gate
+  number-free k h e = number-gate k h ∙ rw (eq-eqb (net_at (led j) (old_net j k)) 0 e)
 
-  pub number-led : Numbered 1 ledStart
-  unfolding newGate
-  number-led k h e = number-gate k h ∙ rw (ne_eqb (netAt (led j) (oldNet j k)) 0 (λ z. omega arith))
+  pub number-led : Numbered 1 led_start
+  unfolding new_gate
+  number-led k h e = number-gate k h ∙ rw (ne_eqb (net_at (led j) (old_net j k)) 0 (λ z. omega arith))
 
-  support-case : {i : ℕ} → NetCase j.inputs j.targets (length j.old.gates) i → netAt (led j) i ≡ 0
-      → newFreeNet j i ≡ netAt (newNets j is t) i
-  unfolding newFreeNet newFreeGate
+  support-case : {i : ℕ} → NetCase j.inputs j.targets (length j.old.gates) i → net_at (led j) i ≡ 0
+      → new_free_net j i ≡ net_at (new_nets j is t) i
+  unfolding new_free_net new_free_gate
   support-case (input {i} h) e = rw (lt-ltb i j.inputs h) (sym (number-input i h))
   support-case (target {i} h) e = let f : ⊥ = omega (arith, mark-target j i h) in absurd f
   support-case (gate {k} h) e =
-      let l : ltb (oldNet j k) j.inputs ≡ false = le-ltb (oldNet j k) j.inputs (omega arith) in
-      let d : oldNet j k - (j.inputs + j.targets) ≡ k = omega arith in
+      let l : ltb (old_net j k) j.inputs ≡ false = le-ltb (old_net j k) j.inputs (omega arith) in
+      let d : old_net j k - (j.inputs + j.targets) ≡ k = omega arith in
       rw (l, d) (sym (number-free k h e))
 
   -- the number by which the trees read a net that no target leads to
-  pub number-support : (i : ℕ) → i < oldNets j → netAt (led j) i ≡ 0 → newFreeNet j i ≡ netAt (newNets j is t) i
-  unfolding oldNets
+  pub number-support : (i : ℕ) → i < old_nets j → net_at (led j) i ≡ 0 → new_free_net j i ≡ net_at (new_nets j is t) i
+  unfolding old_nets
   number-support i h e = support-case (net-case j.inputs j.targets (length j.old.gates) i h) e
 
-  number-target-below : (i : ℕ) → i < j.targets → netAt (newNets j is t) (j.inputs + i) < ledStart
+  number-target-below : (i : ℕ) → i < j.targets → net_at (new_nets j is t) (j.inputs + i) < led_start
   unfolding trees
   number-target-below i h =
       rw (number-target i h)
-      (trees-below j.targets 0 (j.inputs + length (gateIndices j 0)) (map (newFreeNet j) is) t i h)
+      (trees-below j.targets 0 (j.inputs + length (gate_indices j 0)) (map (new_free_net j) is) t i h)
 
-  number-free-below : (k : ℕ) → k < length j.old.gates → netAt (led j) (oldNet j k) ≡ 0
-      → netAt (newNets j is t) (oldNet j k) < j.inputs + length (gateIndices j 0)
+  number-free-below : (k : ℕ) → k < length j.old.gates → net_at (led j) (old_net j k) ≡ 0
+      → net_at (new_nets j is t) (old_net j k) < j.inputs + length (gate_indices j 0)
   number-free-below k h e = omega (arith, number-free k h e, (gate-rank j 0 k h e).0)
 
-  support-below-case : {i : ℕ} → NetCase j.inputs j.targets (length j.old.gates) i → netAt (led j) i ≡ 0
-      → netAt (newNets j is t) i < j.inputs + length (gateIndices j 0)
+  support-below-case : {i : ℕ} → NetCase j.inputs j.targets (length j.old.gates) i → net_at (led j) i ≡ 0
+      → net_at (new_nets j is t) i < j.inputs + length (gate_indices j 0)
   support-below-case (input {i} h) e = omega (arith, number-input i h)
   support-below-case (target {i} h) e = let f : ⊥ = omega (arith, mark-target j i h) in absurd f
   support-below-case (gate {k} h) e = number-free-below k h e
 
   -- .. which is below the trees' first net
-  pub support-below : (i : ℕ) → i < oldNets j → netAt (led j) i ≡ 0
-      → newFreeNet j i < j.inputs + length (gateIndices j 0)
-  unfolding oldNets
+  pub support-below : (i : ℕ) → i < old_nets j → net_at (led j) i ≡ 0
+      → new_free_net j i < j.inputs + length (gate_indices j 0)
+  unfolding old_nets
   support-below i h e =
       rw (number-support i h e) (support-below-case (net-case j.inputs j.targets (length j.old.gates) i h) e)
 
   -- an old net before gate k has a new number before the one of gate k, where no target leads to gate k nor to it
-  free-before : {i : ℕ} → NetCase j.inputs j.targets (length j.old.gates) i → netAt (led j) i ≡ 0 → (k : ℕ)
-      → i < oldNet j k → netAt (newNets j is t) i < j.inputs + rank (gateIndices j 0) k
+  free-before : {i : ℕ} → NetCase j.inputs j.targets (length j.old.gates) i → net_at (led j) i ≡ 0 → (k : ℕ)
+      → i < old_net j k → net_at (new_nets j is t) i < j.inputs + rank (gate_indices j 0) k
   free-before (input {i} h) e k l = omega (arith, number-input i h)
   free-before (target {i} h) e k l = let f : ⊥ = omega (arith, mark-target j i h) in absurd f
   free-before (gate {k = a} h) e k l = omega (arith, number-free a h e, gate-rank-lt j 0 a k h e (omega arith))
 
   -- .. and where a target leads to gate k
   led-before : {i : ℕ} → NetCase j.inputs j.targets (length j.old.gates) i → (k : ℕ)
-      → i < oldNet j k → netAt (newNets j is t) i < ledStart + rank (gateIndices j 1) k
+      → i < old_net j k → net_at (new_nets j is t) i < led_start + rank (gate_indices j 1) k
   led-before (input {i} h) k l = omega (arith, number-input i h)
   led-before (target {i} h) k l = omega (arith, number-target-below i h)
   led-before (gate {k = a} h) k l =
       ⊎_elim
-      (λ (e : netAt (led j) (oldNet j a) ≡ 0). omega (arith, number-free-below a h e))
-      (λ (e : netAt (led j) (oldNet j a) ≡ 1). omega (arith, number-led a h e, gate-rank-lt j 1 a k h e (omega arith)))
-      (mark-cases j (oldNet j a))
+      (λ (e : net_at (led j) (old_net j a) ≡ 0). omega (arith, number-free-below a h e))
+      (λ (e : net_at (led j) (old_net j a) ≡ 1). omega (arith, number-led a h e, gate-rank-lt j 1 a k h e (omega arith)))
+      (mark-cases j (old_net j a))
 
   number-case : {i : ℕ} → NetCase j.inputs j.targets (length j.old.gates) i
-      → netAt (newNets j is t) i < ledStart + length (gateIndices j 1)
+      → net_at (new_nets j is t) i < led_start + length (gate_indices j 1)
   number-case (input {i} h) = omega (arith, number-input i h)
   number-case (target {i} h) = omega (arith, number-target-below i h)
   number-case (gate {k} h) =
       ⊎_elim
-      (λ (e : netAt (led j) (oldNet j k) ≡ 0). omega (arith, number-free-below k h e))
-      (λ (e : netAt (led j) (oldNet j k) ≡ 1). omega (arith, number-led k h e, (gate-rank j 1 k h e).0))
-      (mark-cases j (oldNet j k))
+      (λ (e : net_at (led j) (old_net j k) ≡ 0). omega (arith, number-free-below k h e))
+      (λ (e : net_at (led j) (old_net j k) ≡ 1). omega (arith, number-led k h e, (gate-rank j 1 k h e).0))
+      (mark-cases j (old_net j k))
 
   -- every old net has a new number below the number of new nets
-  pub number-below : (i : ℕ) → i < oldNets j → netAt (newNets j is t) i < ledStart + length (gateIndices j 1)
-  unfolding oldNets
+  pub number-below : (i : ℕ) → i < old_nets j → net_at (new_nets j is t) i < led_start + length (gate_indices j 1)
+  unfolding old_nets
   number-below i h = number-case (net-case j.inputs j.targets (length j.old.gates) i h)
 
   -- a gate's operands have new numbers below its own
-  pub operand-number : netlistsGood j ≡ true → (k : ℕ) → k < length j.old.gates → (i : ℕ) → Mem i (operands (oldGate j k))
-      → netAt (newNets j is t) i < netAt (newNets j is t) (oldNet j k)
+  pub operand-number : netlists_good j ≡ true → (k : ℕ) → k < length j.old.gates → (i : ℕ) → Mem i (operands (old_gate j k))
+      → net_at (new_nets j is t) i < net_at (new_nets j is t) (old_net j k)
   operand-number good k h i m =
       let l = operand_below j good k h i m in
       let c = net-case j.inputs j.targets (length j.old.gates) i (omega arith) in
       ⊎_elim
-      (λ (e : netAt (led j) (oldNet j k) ≡ 0).
+      (λ (e : net_at (led j) (old_net j k) ≡ 0).
       rw (number-free k h e) (free-before c (operand-unmarked j good k h e i m) k l))
-      (λ (e : netAt (led j) (oldNet j k) ≡ 1). rw (number-led k h e) (led-before c k l))
-      (mark-cases j (oldNet j k))
+      (λ (e : net_at (led j) (old_net j k) ≡ 1). rw (number-led k h e) (led-before c k l))
+      (mark-cases j (old_net j k))
 
 -- ---- moved gates
 
@@ -413,97 +413,97 @@ module _ (f : ℕ → ℕ) (g : Gate) where
   unused-renumbered = drop-moved f g.count g.slots
 
   -- a renumbered gate may drive a net above its operands' new numbers
-  pub renumbered-good : (net new : ℕ) → gateGood net g ≡ true → ((i : ℕ) → Mem i (operands g) → f i < new)
-      → gateGood new (renumbered f g) ≡ true
-  unfolding gateGood
+  pub renumbered-good : (net new : ℕ) → gate_good net g ≡ true → ((i : ℕ) → Mem i (operands g) → f i < new)
+      → gate_good new (renumbered f g) ≡ true
+  unfolding gate_good
   renumbered-good net new e h =
       rw (
         operands-renumbered,
         unused-renumbered,
-        gateGood-permits net g e,
+        gate_good-permits net g e,
         all-mapped f new (operands g) h,
-        (gateGood-parts net g e).1,
+        (gate_good-parts net g e).1,
       )
 
 module _ (ns : List ℕ) (g : Gate) where
-  moved-good : (net new : ℕ) → gateGood net g ≡ true → ((i : ℕ) → Mem i (operands g) → netAt ns i < new)
-      → gateGood new (moved ns g) ≡ true
+  moved-good : (net new : ℕ) → gate_good net g ≡ true → ((i : ℕ) → Mem i (operands g) → net_at ns i < new)
+      → gate_good new (moved ns g) ≡ true
   unfolding moved
-  moved-good = renumbered-good (netAt ns) g
+  moved-good = renumbered-good (net_at ns) g
 
 module _ (j : Job) (ns ks : List ℕ) where
-  pub length_moved : length (movedGates j ns ks) ≡ length ks
-  unfolding movedGates
-  length_moved = length-map ks (λ k. moved ns (get_or j.old.gates k noGate))
+  pub length_moved : length (moved_gates j ns ks) ≡ length ks
+  unfolding moved_gates
+  length_moved = length-map ks (λ k. moved ns (get_or j.old.gates k no_gate))
 
-  pub moved_at : (r : ℕ) → r < length ks → get_or (movedGates j ns ks) r noGate ≡ moved ns (oldGate j (get_or ks r 0))
-  unfolding movedGates
+  pub moved_at : (r : ℕ) → r < length ks → get_or (moved_gates j ns ks) r no_gate ≡ moved ns (old_gate j (get_or ks r 0))
+  unfolding moved_gates
   moved_at r h =
-      let f : ℕ → Gate = λ k. moved ns (get_or j.old.gates k noGate) in
-      getD-defaults (map f ks) r noGate (f 0) (omega (arith, length-map ks f)) ∙ get_or-map f ks r 0
+      let f : ℕ → Gate = λ k. moved ns (get_or j.old.gates k no_gate) in
+      get_or-defaults (map f ks) r no_gate (f 0) (omega (arith, length-map ks f)) ∙ get_or-map f ks r 0
 
 pub length-fitted : (j : Job) (is t : List ℕ)
-    → j.inputs + length (fitted j is t).gates ≡ ledStart j is t + length (gateIndices j 1)
+    → j.inputs + length (fitted j is t).gates ≡ led_start j is t + length (gate_indices j 1)
 unfolding fitted
 length-fitted j is t =
-    let ns = newNets j is t in
-    let xs = movedGates j ns (gateIndices j 0) in
+    let ns = new_nets j is t in
+    let xs = moved_gates j ns (gate_indices j 0) in
     let ys = (trees j is t).gates in
-    let zs = movedGates j ns (gateIndices j 1) in
+    let zs = moved_gates j ns (gate_indices j 1) in
     omega (
       arith,
       length-append (xs ++ ys) zs,
       length-append xs ys,
-      length_moved j ns (gateIndices j 0),
-      length_moved j ns (gateIndices j 1),
+      length_moved j ns (gate_indices j 0),
+      length_moved j ns (gate_indices j 1),
     )
 
 -- ---- good gates
 
-module _ (j : Job) (is t : List ℕ) (good : netlistsGood j ≡ true) where
+module _ (j : Job) (is t : List ℕ) (good : netlists_good j ≡ true) where
   -- the old gates with a mark, moved, from their start on
   group-good : (b start : ℕ) → Numbered j is t b start
-      → gatesGood start (movedGates j (newNets j is t) (gateIndices j b)) ≡ true
+      → gates_good start (moved_gates j (new_nets j is t) (gate_indices j b)) ≡ true
   group-good b start numbered =
-      let ns = newNets j is t in
-      let ks = gateIndices j b in
-      good-of-each start (movedGates j ns ks)
+      let ns = new_nets j is t in
+      let ks = gate_indices j b in
+      good-of-each start (moved_gates j ns ks)
       (λ r h.
       let l : r < length ks = omega (arith, length_moved j ns ks) in
       let k = get_or ks r 0 in
       let m = (mem-indices j b k).0 (mem-at ks r l) in
-      let e : netAt ns (oldNet j k) ≡ start + r =
+      let e : net_at ns (old_net j k) ≡ start + r =
       numbered k m.0 m.1 ∙ ap (λ (x : ℕ). start + x) (rank-at (indices-ascend j b) r l) in
       rw (moved_at j ns ks r l)
-      (moved-good ns (oldGate j k) (oldNet j k) (start + r) (gate-good j good k m.0)
+      (moved-good ns (old_gate j k) (old_net j k) (start + r) (gate-good j good k m.0)
       (λ i o. rw e at (operand-number j is t good k m.0 i o))))
 
-  module _ (free : (i : ℕ) → Mem i is → (i < oldNets j) × (netAt (led j) i ≡ 0)) where
+  module _ (free : (i : ℕ) → Mem i is → (i < old_nets j) × (net_at (led j) i ≡ 0)) where
     -- the trees read nets before their first
-    tree-nets : (r : ℕ) → r < length (map (newFreeNet j) is)
-        → get_or (map (newFreeNet j) is) r 0 < j.inputs + length (gateIndices j 0)
+    tree-nets : (r : ℕ) → r < length (map (new_free_net j) is)
+        → get_or (map (new_free_net j) is) r 0 < j.inputs + length (gate_indices j 0)
     tree-nets r h =
-        let p = mem-of-map (newFreeNet j) is (mem-at (map (newFreeNet j) is) r h) in
+        let p = mem-of-map (new_free_net j) is (mem-at (map (new_free_net j) is) r h) in
         let q = free p.0 p.1 in
         rw p.2 at (support-below j is t p.0 q.0 q.1)
 
-    all-trees-good : gatesGood (j.inputs + length (gateIndices j 0)) (trees j is t).gates ≡ true
+    all-trees-good : gates_good (j.inputs + length (gate_indices j 0)) (trees j is t).gates ≡ true
     unfolding trees
-    all-trees-good = trees-good j.targets 0 (j.inputs + length (gateIndices j 0)) (map (newFreeNet j) is) t tree-nets
+    all-trees-good = trees-good j.targets 0 (j.inputs + length (gate_indices j 0)) (map (new_free_net j) is) t tree-nets
 
     -- the fitted gates are good over the inputs
-    pub fitted-good : gatesGood j.inputs (fitted j is t).gates ≡ true
+    pub fitted-good : gates_good j.inputs (fitted j is t).gates ≡ true
     unfolding fitted
     fitted-good =
-        let ns = newNets j is t in
-        let xs = movedGates j ns (gateIndices j 0) in
+        let ns = new_nets j is t in
+        let xs = moved_gates j ns (gate_indices j 0) in
         let ys = (trees j is t).gates in
-        let zs = movedGates j ns (gateIndices j 1) in
-        let l : length xs ≡ length (gateIndices j 0) = length_moved j ns (gateIndices j 0) in
-        let e : j.inputs + length (gateIndices j 0) ≡ j.inputs + length xs = omega arith in
-        let f : ledStart j is t ≡ j.inputs + length (xs ++ ys) = omega (arith, length-append xs ys) in
+        let zs = moved_gates j ns (gate_indices j 1) in
+        let l : length xs ≡ length (gate_indices j 0) = length_moved j ns (gate_indices j 0) in
+        let e : j.inputs + length (gate_indices j 0) ≡ j.inputs + length xs = omega arith in
+        let f : led_start j is t ≡ j.inputs + length (xs ++ ys) = omega (arith, length-append xs ys) in
         good-append j.inputs (xs ++ ys) zs
         (good-append j.inputs xs ys
         (group-good 0 j.inputs (number-free j is t))
         (rw e at all-trees-good))
-        (rw f at (group-good 1 (ledStart j is t) (number-led j is t)))
+        (rw f at (group-good 1 (led_start j is t) (number-led j is t)))

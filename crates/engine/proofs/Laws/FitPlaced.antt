@@ -15,22 +15,22 @@ use lib.ListN.{length, get_or, take, drop, length-append, get_or-append}
 use lib.Seq.{length-take-le, get_or-take, get_or-drop, get_or-append-add}
 use Rattle.records.specs.Bytes.{up_from, placed}
 use Rattle.records.specs.Gate.{Gate, operands}
-use Rattle.records.specs.Netlist.{netAt}
+use Rattle.records.specs.Netlist.{net_at}
 use Rattle.records.specs.Job.{Job}
-use Rattle.records.specs.Refusal.{gatesGood, netlistsGood, oldNets}
+use Rattle.records.specs.Refusal.{gates_good, netlists_good, old_nets}
 use Rattle.records.specs.declared.sheet.Support.{Support}
-use Rattle.records.proofs.Laws.Bytes.{and_both, length-upFrom, length-placed}
+use Rattle.records.proofs.Laws.Bytes.{and_both, length-up_from, length-placed}
 use Rattle.engine.specs.Choice.{keep}
-use Rattle.engine.specs.Fit.{led, gateIndices, rank, Trees, trees, newFreeNet, newNets, moved, movedGates, fitted}
-use Rattle.engine.specs.Inner.Packed.{packedFrom}
-use Rattle.engine.specs.Inner.Tree.{Nets, GateRoom, GatesPut, treesSize}
-use Rattle.engine.specs.Inner.Renumber.{oldGates, oldBase, withMark, InputsNumbered, Numbered, movedFrom, MarkedPlaced, indicesWith}
-use Rattle.engine.specs.Inner.Fitting.{numberedTrees, TreesPlaced, oldJob, sideJob, Fittable, patchedCount, GatesPlaced}
+use Rattle.engine.specs.Fit.{led, gate_indices, rank, Trees, trees, new_free_net, new_nets, moved, moved_gates, fitted}
+use Rattle.engine.specs.Inner.Packed.{packed_from}
+use Rattle.engine.specs.Inner.Tree.{Nets, GateRoom, GatesPut, trees_size}
+use Rattle.engine.specs.Inner.Renumber.{old_gates, old_base, with_mark, InputsNumbered, Numbered, moved_from, MarkedPlaced, indices_with}
+use Rattle.engine.specs.Inner.Fitting.{numbered_trees, TreesPlaced, old_job, side_job, Fittable, patched_count, GatesPlaced}
 use Rattle.engine.specs.declared.renumber.OldSide.{OldSide}
 use Rattle.engine.specs.declared.renumber.NewSide.{NewSide}
-use Rattle.engine.proofs.Laws.Choice.{mem-keep, mem_below, mem-upFrom, map-agree, true-or-false}
-use Rattle.engine.proofs.Laws.FitCode.{keep_append, upFrom-append, indicesWith-most, length-old, numbered-nets, length-movedFrom, moved-agree}
-use Rattle.engine.proofs.Laws.FitNets.{mark-cases, mark-target, oldNet, oldGate, operand_below, operand-unmarked}
+use Rattle.engine.proofs.Laws.Choice.{mem-keep, mem_below, mem-up_from, map-agree, true-or-false}
+use Rattle.engine.proofs.Laws.FitCode.{keep_append, up_from-append, indices_with-most, length-old, numbered-nets, length-moved_from, moved-agree}
+use Rattle.engine.proofs.Laws.FitNets.{mark-cases, mark-target, old_net, old_gate, operand_below, operand-unmarked}
 use Rattle.engine.proofs.Laws.FitNets.{NetCase, input, target, gate, net-case, mem-indices, mem-at}
 use Rattle.engine.proofs.Laws.FitNets.{number-input, number-target, number-free, number-led, number-support}
 use Rattle.engine.proofs.Laws.FitTree.{length-nets, trees-below}
@@ -52,7 +52,7 @@ keep-below p n k h =
     let high = keep p (up_from (0 + k) (n - k)) in
     let e : keep p (up_from 0 n) ≡ low ++ high =
     ap (λ (i : ℕ). keep p (up_from 0 i)) (sym m)
-    ∙ ap (keep p) (upFrom-append 0 k (n - k))
+    ∙ ap (keep p) (up_from-append 0 k (n - k))
     ∙ keep_append p (up_from 0 k) (up_from (0 + k) (n - k)) in
     ap (keep (λ x. ltb x k)) e
     ∙ keep_append (λ x. ltb x k) low high
@@ -60,39 +60,39 @@ keep-below p n k h =
     (keep_all (λ x. ltb x k) low (λ x i. lt-ltb x k ((mem_below k x).0 ((mem-keep p (up_from 0 k) x).0 i).0)))
     ∙ ap (λ (l : List ℕ). low ++ l)
     (keep-nothing (λ x. ltb x k) high
-    (λ x i. le-ltb x k (omega (arith, ((mem-upFrom (0 + k) (n - k) x).0 ((mem-keep p (up_from (0 + k) (n - k)) x).0 i).0).0))))
+    (λ x i. le-ltb x k (omega (arith, ((mem-up_from (0 + k) (n - k) x).0 ((mem-keep p (up_from (0 + k) (n - k)) x).0 i).0).0))))
     ∙ append-nil low
 
 -- ---- marks, and the gates with a mark
 
 -- what marks say of the old nets
 abbrev pub MarksOf : Job → List ℕ → Type 0
-MarksOf j ms = (i : ℕ) → i < oldNets j → get_or ms i 0 ≡ netAt (led j) i
+MarksOf j ms = (i : ℕ) → i < old_nets j → get_or ms i 0 ≡ net_at (led j) i
 
 module _ (j : Job) (ms : List ℕ) (f : MarksOf j ms) where
-  mark-at : (k : ℕ) → k < length j.old.gates → get_or ms (oldNet j k) 0 ≡ netAt (led j) (oldNet j k)
-  unfolding oldNets
-  mark-at k h = f (oldNet j k) (omega arith)
+  mark-at : (k : ℕ) → k < length j.old.gates → get_or ms (old_net j k) 0 ≡ net_at (led j) (old_net j k)
+  unfolding old_nets
+  mark-at k h = f (old_net j k) (omega arith)
 
-  indicesWith-led : (b k : ℕ) → k ≤ length j.old.gates
-      → indicesWith ms (j.inputs + j.targets) b k ≡ keep (λ i. eqb (netAt (led j) (oldNet j i)) b) (up_from 0 k)
-  unfolding indicesWith netAt
-  indicesWith-led b k h =
+  indices_with-led : (b k : ℕ) → k ≤ length j.old.gates
+      → indices_with ms (j.inputs + j.targets) b k ≡ keep (λ i. eqb (net_at (led j) (old_net j i)) b) (up_from 0 k)
+  unfolding indices_with net_at
+  indices_with-led b k h =
       keep-ext _ _ (up_from 0 k)
       (λ i m.
       let l = (mem_below k i).0 m in
       ap (λ (x : ℕ). eqb x b) (mark-at i (omega arith)))
 
-  pub indicesWith-indices : (b : ℕ) → indicesWith ms (j.inputs + j.targets) b (length j.old.gates) ≡ gateIndices j b
-  unfolding gateIndices
-  indicesWith-indices b = indicesWith-led b (length j.old.gates) (omega arith)
+  pub indices_with-indices : (b : ℕ) → indices_with ms (j.inputs + j.targets) b (length j.old.gates) ≡ gate_indices j b
+  unfolding gate_indices
+  indices_with-indices b = indices_with-led b (length j.old.gates) (omega arith)
 
-  indicesWith-rank : (b k : ℕ) → k ≤ length j.old.gates
-      → length (indicesWith ms (j.inputs + j.targets) b k) ≡ rank (gateIndices j b) k
-  unfolding rank gateIndices
-  indicesWith-rank b k h =
+  indices_with-rank : (b k : ℕ) → k ≤ length j.old.gates
+      → length (indices_with ms (j.inputs + j.targets) b k) ≡ rank (gate_indices j b) k
+  unfolding rank gate_indices
+  indices_with-rank b k h =
       ap length
-      (indicesWith-led b k h ∙ sym (keep-below (λ i. eqb (netAt (led j) (oldNet j i)) b) (length j.old.gates) k h))
+      (indices_with-led b k h ∙ sym (keep-below (λ i. eqb (net_at (led j) (old_net j i)) b) (length j.old.gates) k h))
 
 -- each gate has one of the two marks
 keep-either : (p q : ℕ → Bool) → ((x : ℕ) → ((p x ≡ true) × (q x ≡ false)) ⊎ ((p x ≡ false) × (q x ≡ true))) → (xs : List ℕ)
@@ -103,30 +103,30 @@ keep-either p q h (x ∷ xs) =
     let r = keep-either p q h xs in
     ⊎_elim (λ e. rw (e.0, e.1) (omega arith)) (λ e. rw (e.0, e.1) (omega arith)) (h x)
 
-pub indices-all : (j : Job) → length (gateIndices j 0) + length (gateIndices j 1) ≡ length j.old.gates
-unfolding gateIndices
+pub indices-all : (j : Job) → length (gate_indices j 0) + length (gate_indices j 1) ≡ length j.old.gates
+unfolding gate_indices
 indices-all j =
     keep-either _ _
     (λ i.
-    let m = netAt (led j) (oldNet j i) in
+    let m = net_at (led j) (old_net j i) in
     ⊎_elim
     (λ (e : m ≡ 0). inl (eq-eqb m 0 e, ne_eqb m 1 (λ z. let f : ⊥ = omega arith in f)))
     (λ (e : m ≡ 1). inr (ne_eqb m 0 (λ z. let f : ⊥ = omega arith in f), eq-eqb m 1 e))
-    (mark-cases j (oldNet j i)))
+    (mark-cases j (old_net j i)))
     (up_from 0 (length j.old.gates))
-    ∙ length-upFrom 0 (length j.old.gates)
+    ∙ length-up_from 0 (length j.old.gates)
 
 -- ---- moved gates
 
 -- the gates with mark b, at numbers that their operands have
 moved-indices : (j : Job) (ns ns' : List ℕ) (b : ℕ)
-    → ((k : ℕ) → k < length j.old.gates → netAt (led j) (oldNet j k) ≡ b → (i : ℕ) → Mem i (operands (oldGate j k))
-    → get_or ns i 0 ≡ netAt ns' i)
-    → movedFrom j.old.gates ns (gateIndices j b) ≡ movedGates j ns' (gateIndices j b)
-unfolding movedFrom movedGates
+    → ((k : ℕ) → k < length j.old.gates → net_at (led j) (old_net j k) ≡ b → (i : ℕ) → Mem i (operands (old_gate j k))
+    → get_or ns i 0 ≡ net_at ns' i)
+    → moved_from j.old.gates ns (gate_indices j b) ≡ moved_gates j ns' (gate_indices j b)
+unfolding moved_from moved_gates
 moved-indices j ns ns' b h =
-    map-agree _ _ (gateIndices j b)
-    (λ k m. let r = (mem-indices j b k).0 m in moved-agree ns ns' (oldGate j k) (h k r.0 r.1))
+    map-agree _ _ (gate_indices j b)
+    (λ k m. let r = (mem-indices j b k).0 m in moved-agree ns ns' (old_gate j k) (h k r.0 r.1))
 
 -- ---- the numbers after each group
 
@@ -137,27 +137,27 @@ module _ (j : Job) (is t ms : List ℕ) (f : MarksOf j ms) {d₀ d₁ : List ℕ
   free_input : (i : ℕ) → i < j.inputs → get_or d₁ i 0 ≡ i
   free_input i h = w₁.leaves i (omega arith) ∙ s i h
 
-  free-case : {i : ℕ} → NetCase j.inputs j.targets (length j.old.gates) i → netAt (led j) i ≡ 0
-      → get_or d₁ i 0 ≡ netAt (newNets j is t) i
+  free-case : {i : ℕ} → NetCase j.inputs j.targets (length j.old.gates) i → net_at (led j) i ≡ 0
+      → get_or d₁ i 0 ≡ net_at (new_nets j is t) i
   free-case (input {i} h) e = free_input i h ∙ sym (number-input j is t i h)
   free-case (target {i} h) e = let z : ⊥ = omega (arith, mark-target j i h) in absurd z
   free-case (gate {k} h) e =
       w₁.numbers k h (mark-at j ms f k h ∙ e)
-      ∙ ap (λ (x : ℕ). j.inputs + x) (indicesWith-rank j ms f 0 k (omega arith))
+      ∙ ap (λ (x : ℕ). j.inputs + x) (indices_with-rank j ms f 0 k (omega arith))
       ∙ sym (number-free j is t k h e)
 
   -- the nets that no target leads to have their numbers after the first group
-  free-number : (i : ℕ) → i < oldNets j → netAt (led j) i ≡ 0 → get_or d₁ i 0 ≡ netAt (newNets j is t) i
-  unfolding oldNets
+  free-number : (i : ℕ) → i < old_nets j → net_at (led j) i ≡ 0 → get_or d₁ i 0 ≡ net_at (new_nets j is t) i
+  unfolding old_nets
   free-number i h e = free-case (net-case j.inputs j.targets (length j.old.gates) i h) e
 
-  trees-same : (a : ℕ) → a ≡ length (gateIndices j 0) → ((i : ℕ) → Mem i is → (i < oldNets j) × (netAt (led j) i ≡ 0))
-      → numberedTrees j.inputs j.targets a d₁ is t ≡ trees j is t
+  trees-same : (a : ℕ) → a ≡ length (gate_indices j 0) → ((i : ℕ) → Mem i is → (i < old_nets j) × (net_at (led j) i ≡ 0))
+      → numbered_trees j.inputs j.targets a d₁ is t ≡ trees j is t
   unfolding trees
   trees-same a e free =
       rw (
         e,
-        map-agree (λ o. get_or d₁ o 0) (newFreeNet j) is
+        map-agree (λ o. get_or d₁ o 0) (new_free_net j) is
             (λ i m. let r = free i m in free-number i r.0 r.1 ∙ sym (number-support j is t i r.0 r.1)),
       )
 
@@ -188,20 +188,20 @@ module _ (n : ℕ) (d ns : List ℕ) (r : n + length ns ≤ length d) where
       ∙ get_or-drop (n + length ns) d k 0
 
 module _ (j : Job) (is t ms : List ℕ) (f : MarksOf j ms) {d₀ d₁ d₂ d₃ : List ℕ} {a b : ℕ}
-    (room : oldNets j ≤ length d₀) (free : (i : ℕ) → Mem i is → (i < oldNets j) × (netAt (led j) i ≡ 0))
+    (room : old_nets j ≤ length d₀) (free : (i : ℕ) → Mem i is → (i < old_nets j) × (net_at (led j) i ≡ 0))
     (s : (i : ℕ) → i < j.inputs → get_or d₀ i 0 ≡ i)
     (w₁ : Numbered ms (j.inputs + j.targets) 0 (length j.old.gates) j.inputs d₀ d₁)
-    (e₁ : a ≡ length (gateIndices j 0))
-    (w₂ : d₂ ≡ placed d₁ j.inputs (numberedTrees j.inputs j.targets a d₁ is t).nets)
+    (e₁ : a ≡ length (gate_indices j 0))
+    (w₂ : d₂ ≡ placed d₁ j.inputs (numbered_trees j.inputs j.targets a d₁ is t).nets)
     (e₂ : b ≡ a + length (trees j is t).gates)
     (w₃ : Numbered ms (j.inputs + j.targets) 1 (length j.old.gates) (j.inputs + b) d₂ d₃)
   where
     nets-long : length (trees j is t).nets ≡ j.targets
     unfolding trees
-    nets-long = length-nets j.targets 0 (j.inputs + length (gateIndices j 0)) (map (newFreeNet j) is) t
+    nets-long = length-nets j.targets 0 (j.inputs + length (gate_indices j 0)) (map (new_free_net j) is) t
 
     long : j.inputs + length (trees j is t).nets ≤ length d₁
-    unfolding oldNets
+    unfolding old_nets
     long = omega (arith, w₁.long, nets-long)
 
     second_at : (i : ℕ) → get_or d₂ i 0 ≡ get_or (placed d₁ j.inputs (trees j is t).nets) i 0
@@ -209,7 +209,7 @@ module _ (j : Job) (is t ms : List ℕ) (f : MarksOf j ms) {d₀ d₁ d₂ d₃ 
         ap (λ (l : List ℕ). get_or l i 0) w₂
         ∙ ap (λ (x : Trees). get_or (placed d₁ j.inputs x.nets) i 0) (trees-same j is t ms f s w₁ a e₁ free)
 
-    number-case : {i : ℕ} → NetCase j.inputs j.targets (length j.old.gates) i → get_or d₃ i 0 ≡ netAt (newNets j is t) i
+    number-case : {i : ℕ} → NetCase j.inputs j.targets (length j.old.gates) i → get_or d₃ i 0 ≡ net_at (new_nets j is t) i
     number-case (input {i} h) =
         w₃.leaves i (omega arith)
         ∙ second_at i
@@ -223,42 +223,42 @@ module _ (j : Job) (is t ms : List ℕ) (f : MarksOf j ms) {d₀ d₁ d₂ d₃ 
         ∙ sym (number-target j is t i h)
     number-case (gate {k} h) =
         let q = mark-at j ms f k h in
-        let n : j.inputs + length (trees j is t).nets + k ≡ oldNet j k = omega (arith, nets-long) in
+        let n : j.inputs + length (trees j is t).nets + k ≡ old_net j k = omega (arith, nets-long) in
         ⊎_elim
-        (λ (e : netAt (led j) (oldNet j k) ≡ 0).
+        (λ (e : net_at (led j) (old_net j k) ≡ 0).
         w₃.others k (λ l z. let y : ⊥ = omega arith in y)
-        ∙ second_at (oldNet j k)
+        ∙ second_at (old_net j k)
         ∙ (rw n at (placed-behind j.inputs d₁ (trees j is t).nets long k))
         ∙ free-case j is t ms f s w₁ (gate h) e)
-        (λ (e : netAt (led j) (oldNet j k) ≡ 1).
-        let r = indicesWith-rank j ms f 1 k (omega arith) in
+        (λ (e : net_at (led j) (old_net j k) ≡ 1).
+        let r = indices_with-rank j ms f 1 k (omega arith) in
         w₃.numbers k h (q ∙ e) ∙ omega (arith, number-led j is t k h e))
-        (mark-cases j (oldNet j k))
+        (mark-cases j (old_net j k))
 
     -- all old nets have their numbers after the last
-    new-number : (i : ℕ) → i < oldNets j → get_or d₃ i 0 ≡ netAt (newNets j is t) i
-    unfolding oldNets
+    new-number : (i : ℕ) → i < old_nets j → get_or d₃ i 0 ≡ net_at (new_nets j is t) i
+    unfolding old_nets
     new-number i h = number-case (net-case j.inputs j.targets (length j.old.gates) i h)
 
-    module _ (good : netlistsGood j ≡ true) where
-      free_moved : movedFrom j.old.gates d₁ (gateIndices j 0) ≡ movedGates j (newNets j is t) (gateIndices j 0)
-      unfolding oldNets
+    module _ (good : netlists_good j ≡ true) where
+      free_moved : moved_from j.old.gates d₁ (gate_indices j 0) ≡ moved_gates j (new_nets j is t) (gate_indices j 0)
+      unfolding old_nets
       free_moved =
-          moved-indices j d₁ (newNets j is t) 0
+          moved-indices j d₁ (new_nets j is t) 0
           (λ k h e i m.
           free-number j is t ms f s w₁ i (omega (arith, operand_below j good k h i m)) (operand-unmarked j good k h e i m))
 
-      rest-moved : movedFrom j.old.gates d₃ (gateIndices j 1) ≡ movedGates j (newNets j is t) (gateIndices j 1)
-      unfolding oldNets
+      rest-moved : moved_from j.old.gates d₃ (gate_indices j 1) ≡ moved_gates j (new_nets j is t) (gate_indices j 1)
+      unfolding old_nets
       rest-moved =
-          moved-indices j d₃ (newNets j is t) 1
+          moved-indices j d₃ (new_nets j is t) 1
           (λ k h e i m. new-number i (omega (arith, operand_below j good k h i m)))
 
       -- the three groups are the patched netlist's gates
       all-put : {cs₀ cs₁ cs₂ cs₃ : List ℕ} {c : ℕ}
-          → GatesPut j.inputs 0 cs₀ (movedFrom j.old.gates d₁ (gateIndices j 0)) a cs₁
+          → GatesPut j.inputs 0 cs₀ (moved_from j.old.gates d₁ (gate_indices j 0)) a cs₁
           → GatesPut j.inputs a cs₁ (trees j is t).gates b cs₂
-          → GatesPut j.inputs b cs₂ (movedFrom j.old.gates d₃ (gateIndices j 1)) c cs₃
+          → GatesPut j.inputs b cs₂ (moved_from j.old.gates d₃ (gate_indices j 1)) c cs₃
           → GatesPut j.inputs 0 cs₀ (fitted j is t).gates c cs₃
       unfolding fitted
       all-put p q r =
@@ -266,13 +266,13 @@ module _ (j : Job) (is t ms : List ℕ) (f : MarksOf j ms) {d₀ d₁ d₂ d₃ 
 
 -- ---- an old side and a patch
 
-oldJob-good : (n m : ℕ) (gs : List Gate) (os : List ℕ) → gatesGood (n + m) gs ≡ true → netlistsGood (oldJob n m gs os) ≡ true
-unfolding netlistsGood gatesGood
-oldJob-good n m gs os e = and_both (gatesGood (n + m) gs) true e refl
+old_job-good : (n m : ℕ) (gs : List Gate) (os : List ℕ) → gates_good (n + m) gs ≡ true → netlists_good (old_job n m gs os) ≡ true
+unfolding netlists_good gates_good
+old_job-good n m gs os e = and_both (gates_good (n + m) gs) true e refl
 
 module _ {o : OldSide} {s : Support} {table : List ℕ} (h : Fittable o s table) where
   abbrev job : Job
-  job = sideJob o []
+  job = side_job o []
 
   abbrev support : List ℕ
   support = take s.len s.nets
@@ -283,19 +283,19 @@ module _ {o : OldSide} {s : Support} {table : List ℕ} (h : Fittable o s table)
   pub gate-count : length job.old.gates ≡ o.count
   gate-count = length-old o h.held
 
-  pub net-count : oldNets job ≡ oldBase o + o.count
-  unfolding oldNets
-  net-count = ap (λ (k : ℕ). oldBase o + k) gate-count
+  pub net-count : old_nets job ≡ old_base o + o.count
+  unfolding old_nets
+  net-count = ap (λ (k : ℕ). old_base o + k) gate-count
 
-  net-most : oldNets job ≤ 424
+  net-most : old_nets job ≤ 424
   net-most = let w = h.held in omega (arith, net-count, w.inputs, w.targets, w.count)
 
   side-marks : MarksOf job o.marks
   unfolding led
   side-marks i l = h.held.marks i (omega (arith, net-count))
 
-  pub side-good : netlistsGood job ≡ true
-  side-good = oldJob-good o.inputs o.targets (oldGates o) [] h.held.good
+  pub side-good : netlists_good job ≡ true
+  side-good = old_job-good o.inputs o.targets (old_gates o) [] h.held.good
 
   -- the support's nets are nets
   pub support-nets : Nets s.len s.nets
@@ -303,35 +303,35 @@ module _ {o : OldSide} {s : Support} {table : List ℕ} (h : Fittable o s table)
       let m = h.free (get_or support i 0) (mem-at support i (omega (arith, length-take-le s.len s.nets h.long))) in
       rw (get_or-take s.len s.nets i 0 l) at (let p : get_or support i 0 < 1024 = omega (arith, m.0, net-most) in p)
 
-  pub trees-count : length (trees job support entries).gates ≡ treesSize o.targets 0 s.len table
+  pub trees-count : length (trees job support entries).gates ≡ trees_size o.targets 0 s.len table
   trees-count = length-patch job support table (length-take-le s.len s.nets h.long)
 
-  pub free-room : {cs : List ℕ} → length cs ≡ 400 → GateRoom o.inputs (0 + length (withMark o 0)) cs
+  pub free-room : {cs : List ℕ} → length cs ≡ 400 → GateRoom o.inputs (0 + length (with_mark o 0)) cs
   free-room l =
       let w = h.held in
-      let m = indicesWith-most o.marks (oldBase o) 0 o.count in
+      let m = indices_with-most o.marks (old_base o) 0 o.count in
       record { long = l; room = omega (arith, w.count); nets = omega (arith, w.inputs, w.count) }
 
-  module _ (fit : patchedCount o s table ≤ 400) {d₀ cs₀ : List ℕ} {n₁ : NewSide} (w₀ : InputsNumbered o.inputs d₀)
+  module _ (fit : patched_count o s table ≤ 400) {d₀ cs₀ : List ℕ} {n₁ : NewSide} (w₀ : InputsNumbered o.inputs d₀)
       (room : length cs₀ ≡ 400) (w₁ : MarkedPlaced o 0 (record { count = 0; numbers = d₀; gates = cs₀ }) n₁) where
-    free-numbered : Numbered o.marks (oldBase o) 0 (length job.old.gates) o.inputs d₀ n₁.numbers
+    free-numbered : Numbered o.marks (old_base o) 0 (length job.old.gates) o.inputs d₀ n₁.numbers
     free-numbered = rw gate-count (rw (add-zero o.inputs) at w₁.numbered)
 
-    free-put : GatesPut o.inputs 0 cs₀ (movedFrom (oldGates o) n₁.numbers (gateIndices job 0)) n₁.count n₁.gates
+    free-put : GatesPut o.inputs 0 cs₀ (moved_from (old_gates o) n₁.numbers (gate_indices job 0)) n₁.count n₁.gates
     free-put =
         gates-put-same w₁.gates
-        (ap (movedFrom (oldGates o) n₁.numbers) (rw gate-count at (indicesWith-indices job o.marks side-marks 0)))
+        (ap (moved_from (old_gates o) n₁.numbers) (rw gate-count at (indices_with-indices job o.marks side-marks 0)))
 
-    free-count : n₁.count ≡ length (gateIndices job 0)
-    free-count = omega (arith, free-put.end, length-movedFrom (oldGates o) n₁.numbers (gateIndices job 0))
+    free-count : n₁.count ≡ length (gate_indices job 0)
+    free-count = omega (arith, free-put.end, length-moved_from (old_gates o) n₁.numbers (gate_indices job 0))
 
-    free-most : n₁.count + length (gateIndices job 1) ≡ o.count
+    free-most : n₁.count + length (gate_indices job 1) ≡ o.count
     free-most = omega (arith, free-count, indices-all job, gate-count)
 
     pub free-nets : Nets 1024 n₁.numbers
     free-nets = let w = h.held in numbered-nets w₁.numbered (omega (arith, w.inputs, w.count)) w₀.nets
 
-    pub trees-room : GateRoom o.inputs (n₁.count + treesSize o.targets 0 s.len table) n₁.gates
+    pub trees-room : GateRoom o.inputs (n₁.count + trees_size o.targets 0 s.len table) n₁.gates
     trees-room =
         record {
           long = w₁.gates.long ∙ room;
@@ -340,19 +340,19 @@ module _ {o : OldSide} {s : Support} {table : List ℕ} (h : Fittable o s table)
         }
 
     module _ {n₂ : NewSide} (w₂ : TreesPlaced o.inputs o.targets support entries n₁ n₂) where
-      same : numberedTrees o.inputs o.targets n₁.count n₁.numbers support entries ≡ trees job support entries
+      same : numbered_trees o.inputs o.targets n₁.count n₁.numbers support entries ≡ trees job support entries
       same = trees-same job support entries o.marks side-marks w₀.inputs free-numbered n₁.count free-count h.free
 
       grown-put : GatesPut o.inputs n₁.count n₁.gates (trees job support entries).gates n₂.count n₂.gates
       grown-put = gates-put-same w₂.gates (ap (λ (x : Trees). x.gates) same)
 
-      grown : n₂.count ≡ n₁.count + treesSize o.targets 0 s.len table
+      grown : n₂.count ≡ n₁.count + trees_size o.targets 0 s.len table
       grown = grown-put.end ∙ ap (λ (k : ℕ). n₁.count + k) trees-count
 
-      pub rest-room : GateRoom o.inputs (n₂.count + length (withMark o 1)) n₂.gates
+      pub rest-room : GateRoom o.inputs (n₂.count + length (with_mark o 1)) n₂.gates
       rest-room =
-          let e : length (withMark o 1) ≡ length (gateIndices job 1) =
-          ap length (rw gate-count at (indicesWith-indices job o.marks side-marks 1)) in
+          let e : length (with_mark o 1) ≡ length (gate_indices job 1) =
+          ap length (rw gate-count at (indices_with-indices job o.marks side-marks 1)) in
           record {
             long = w₂.gates.long ∙ w₁.gates.long ∙ room;
             room = omega (arith, grown, free-most);
@@ -365,7 +365,7 @@ module _ {o : OldSide} {s : Support} {table : List ℕ} (h : Fittable o s table)
       tree-net i l =
           omega (
             arith,
-            trees-below o.targets 0 (o.inputs + length (gateIndices job 0)) (map (newFreeNet job) support) entries i l,
+            trees-below o.targets 0 (o.inputs + length (gate_indices job 0)) (map (new_free_net job) support) entries i l,
             grown-put.end,
             free-count,
             rest-room.nets,
@@ -373,7 +373,7 @@ module _ {o : OldSide} {s : Support} {table : List ℕ} (h : Fittable o s table)
 
       tree-nets : length (trees job support entries).nets ≡ o.targets
       unfolding trees
-      tree-nets = length-nets o.targets 0 (o.inputs + length (gateIndices job 0)) (map (newFreeNet job) support) entries
+      tree-nets = length-nets o.targets 0 (o.inputs + length (gate_indices job 0)) (map (new_free_net job) support) entries
 
       tree-room : o.inputs + length (trees job support entries).nets ≤ length n₁.numbers
       tree-room = let w = h.held in omega (arith, tree-nets, w₁.numbered.long, w₀.long, w.inputs, w.targets)
@@ -413,19 +413,19 @@ module _ {o : OldSide} {s : Support} {table : List ℕ} (h : Fittable o s table)
           (true-or-false (ltb i o.inputs)))
 
       module _ {n₃ : NewSide} (w₃ : MarkedPlaced o 1 n₂ n₃) where
-        rest-numbered : Numbered o.marks (oldBase o) 1 (length job.old.gates) (o.inputs + n₂.count) n₂.numbers
+        rest-numbered : Numbered o.marks (old_base o) 1 (length job.old.gates) (o.inputs + n₂.count) n₂.numbers
             n₃.numbers
         rest-numbered = rw gate-count w₃.numbered
 
-        rest_put : GatesPut o.inputs n₂.count n₂.gates (movedFrom (oldGates o) n₃.numbers (gateIndices job 1))
+        rest_put : GatesPut o.inputs n₂.count n₂.gates (moved_from (old_gates o) n₃.numbers (gate_indices job 1))
             n₃.count n₃.gates
         rest_put =
             gates-put-same w₃.gates
-            (ap (movedFrom (oldGates o) n₃.numbers) (rw gate-count at (indicesWith-indices job o.marks side-marks 1)))
+            (ap (moved_from (old_gates o) n₃.numbers) (rw gate-count at (indices_with-indices job o.marks side-marks 1)))
 
         pub gates-placed : GatesPlaced job support entries n₃
         gates-placed =
-            let l : oldNets job ≤ length d₀ = omega (arith, net-most, w₀.long) in
+            let l : old_nets job ≤ length d₀ = omega (arith, net-most, w₀.long) in
             let p =
             all-put job support entries o.marks side-marks l h.free w₀.inputs free-numbered free-count w₂.nets
             grown-put.end
@@ -436,7 +436,7 @@ module _ {o : OldSide} {s : Support} {table : List ℕ} (h : Fittable o s table)
             rest_put in
             record {
               count = p.end ∙ zero-add (length (fitted job support entries).gates);
-              gates = p.gates ∙ ap (λ (k : ℕ). packedFrom k (fitted job support entries).gates) (add-zero o.inputs);
+              gates = p.gates ∙ ap (λ (k : ℕ). packed_from k (fitted job support entries).gates) (add-zero o.inputs);
               numbers =
                   new-number job support entries o.marks side-marks l h.free w₀.inputs free-numbered free-count w₂.nets
                   grown-put.end

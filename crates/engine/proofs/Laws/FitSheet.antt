@@ -10,11 +10,11 @@ use lib.Dec.{leb, ltb}
 use lib.ListN.{length, get_or, take, drop, length-drop}
 use lib.Seq.{length-take-le, get_or-take, take_all}
 use Rattle.records.specs.Gate.{Gate}
-use Rattle.records.specs.Netlist.{netAt}
+use Rattle.records.specs.Netlist.{net_at}
 use Rattle.records.specs.Job.{Job, Candidate, job_of}
-use Rattle.records.specs.Refusal.{oldNets, firstFailing, partTests, jobTests, jobRefusal}
-use Rattle.records.specs.Sheet.{patch_of, sheetWhole, patchGood, sheetTests}
-use Rattle.records.specs.Service.{loaded, countsOf, sideCountsOf, sheetReply}
+use Rattle.records.specs.Refusal.{old_nets, first_failing, part_tests, job_tests, job_refusal}
+use Rattle.records.specs.Sheet.{patch_of, sheet_whole, patch_good, sheet_tests}
+use Rattle.records.specs.Service.{loaded, counts_of, side_counts_of, sheet_reply}
 use Rattle.records.specs.Claims.{PartsGood}
 use Rattle.records.specs.Parts.{PartsOf}
 use Rattle.records.specs.Inner.{Within}
@@ -25,12 +25,12 @@ use Rattle.records.specs.declared.sheet.Support.{Support}
 use Rattle.records.specs.declared.sheet.SheetReply.{SheetReply}
 use Rattle.records.proofs.Laws.Accepted.{passes-of-none, job-accepts}
 use Rattle.engine.specs.Inner.Sheet.{BytesPut}
-use Rattle.engine.specs.Fit.{led, gateIndices, newFreeGate, newFreeNet, trees, newGate, newNets, movedGates, fitted, fittedBytes, fits, longestFit}
-use Rattle.engine.specs.Compare.{pairTests}
-use Rattle.engine.specs.Reply.{fitTests, fitNumber, fitReply, fittedBuffer}
-use Rattle.engine.specs.Inner.Renumber.{gateIn, oldGates, oldBase, OldHeld, unpacked}
-use Rattle.engine.specs.Inner.Fitting.{oldJob, sideJob, GatesPlaced, Fittable, patchedCount, FitGives, patchNumber, sheetFitNumber, OldOf}
-use Rattle.engine.specs.Inner.Netlist.{netlistBytes}
+use Rattle.engine.specs.Fit.{led, gate_indices, new_free_gate, new_free_net, trees, new_gate, new_nets, moved_gates, fitted, fitted_bytes, fits, longest_fit}
+use Rattle.engine.specs.Compare.{pair_tests}
+use Rattle.engine.specs.Reply.{fit_tests, fit_number, fit_reply, fitted_buffer}
+use Rattle.engine.specs.Inner.Renumber.{gate_in, old_gates, old_base, OldHeld, unpacked}
+use Rattle.engine.specs.Inner.Fitting.{old_job, side_job, GatesPlaced, Fittable, patched_count, FitGives, patch_number, sheet_fit_number, OldOf}
+use Rattle.engine.specs.Inner.Netlist.{netlist_bytes}
 use Rattle.engine.specs.declared.fitting.FitReply.{FitReply}
 use Rattle.engine.specs.declared.renumber.NewSide.{NewSide}
 use Rattle.engine.specs.declared.renumber.OldSide.{OldSide}
@@ -59,24 +59,24 @@ module _ (bytes d : List ℕ) where
 -- ---- what the outputs have no say in
 
 module _ (n m : ℕ) (gs : List Gate) (os : List ℕ) (is t : List ℕ) where
-  bare-nets : newNets (oldJob n m gs os) is t ≡ newNets (oldJob n m gs []) is t
-  unfolding newNets trees newGate newFreeNet newFreeGate gateIndices led
+  bare-nets : new_nets (old_job n m gs os) is t ≡ new_nets (old_job n m gs []) is t
+  unfolding new_nets trees new_gate new_free_net new_free_gate gate_indices led
   bare-nets = refl
 
-  bare-gates : (fitted (oldJob n m gs os) is t).gates ≡ (fitted (oldJob n m gs []) is t).gates
-  unfolding fitted movedGates newNets trees newGate newFreeNet newFreeGate gateIndices led
+  bare-gates : (fitted (old_job n m gs os) is t).gates ≡ (fitted (old_job n m gs []) is t).gates
+  unfolding fitted moved_gates new_nets trees new_gate new_free_net new_free_gate gate_indices led
   bare-gates = refl
 
-  bytes-netlist : fittedBytes (oldJob n m gs os) is t
-      ≡ netlistBytes n (fitted (oldJob n m gs os) is t).gates (map (netAt (newNets (oldJob n m gs os) is t)) os)
-  unfolding fittedBytes netlistBytes fitted
+  bytes-netlist : fitted_bytes (old_job n m gs os) is t
+      ≡ netlist_bytes n (fitted (old_job n m gs os) is t).gates (map (net_at (new_nets (old_job n m gs os) is t)) os)
+  unfolding fitted_bytes netlist_bytes fitted
   bytes-netlist = refl
 
 -- ---- a patch
 
 module _ {o : OldSide} {s : Support} {table : List ℕ} (h : Fittable o s table) where
   abbrev job : Job
-  job = sideJob o []
+  job = side_job o []
 
   abbrev support : List ℕ
   support = take s.len s.nets
@@ -84,49 +84,49 @@ module _ {o : OldSide} {s : Support} {table : List ℕ} (h : Fittable o s table)
   abbrev entries : List ℕ
   entries = take (2 ^ s.len) table
 
-  patched-count : length (fitted job support entries).gates ≡ patchedCount o s table
+  patched-count : length (fitted job support entries).gates ≡ patched_count o s table
   patched-count = omega (arith, length-fitted job support entries, indices-all job, gate-count h, trees-count h)
 
   module _ (os : List ℕ) where
-    fits_count : fits (sideJob o os) support entries ≡ leb (patchedCount o s table) 400
+    fits_count : fits (side_job o os) support entries ≡ leb (patched_count o s table) 400
     unfolding fits
     fits_count =
         ap (λ (k : ℕ). leb k 400)
-        (ap length (bare-gates o.inputs o.targets (oldGates o) os support entries) ∙ patched-count)
+        (ap length (bare-gates o.inputs o.targets (old_gates o) os support entries) ∙ patched-count)
 
-    pub patch-refused : (d : List ℕ) → 400 < patchedCount o s table
-        → FitGives (patchNumber (sideJob o os) support entries) (fittedBytes (sideJob o os) support entries) d
+    pub patch-refused : (d : List ℕ) → 400 < patched_count o s table
+        → FitGives (patch_number (side_job o os) support entries) (fitted_bytes (side_job o os) support entries) d
         (record { number = 9; len = 0 }) d
     patch-refused d l =
-        let n : patchNumber (sideJob o os) support entries ≡ 9 = rw (fits_count, lt-leb (patchedCount o s table) 400 l) in
-        rw n (gives-refused (fittedBytes (sideJob o os) support entries) d 9 (λ z. let f : ⊥ = omega arith in f))
+        let n : patch_number (side_job o os) support entries ≡ 9 = rw (fits_count, lt-leb (patched_count o s table) 400 l) in
+        rw n (gives-refused (fitted_bytes (side_job o os) support entries) d 9 (λ z. let f : ⊥ = omega arith in f))
 
-  module _ (fit : patchedCount o s table ≤ 400) {r : NewSide} (w : GatesPlaced job support entries r) where
+  module _ (fit : patched_count o s table ≤ 400) {r : NewSide} (w : GatesPlaced job support entries r) where
     pub gates-few : r.count ≤ 400
     gates-few = omega (arith, w.count, patched-count)
 
     -- the numbers in the places are the patched netlist's gates
-    patched-gates : (os : List ℕ) → unpacked r.count r.gates ≡ (fitted (sideJob o os) support entries).gates
+    patched-gates : (os : List ℕ) → unpacked r.count r.gates ≡ (fitted (side_job o os) support entries).gates
     patched-gates os =
-        ap (map gateIn) w.gates
+        ap (map gate_in) w.gates
         ∙ gates-unpacked o.inputs (fitted job support entries).gates
         (fitted-good job support entries (side-good h) h.free)
         (fitted-formed job support entries (formed-in (take o.count o.gates)))
         (omega (arith, patched-count, h.held.inputs))
-        ∙ sym (bare-gates o.inputs o.targets (oldGates o) os support entries)
+        ∙ sym (bare-gates o.inputs o.targets (old_gates o) os support entries)
 
     patched-outputs : (os nets : List ℕ) (count : ℕ) → count ≤ length os
-        → ((i : ℕ) → i < count → get_or os i 0 < oldBase o + o.count)
+        → ((i : ℕ) → i < count → get_or os i 0 < old_base o + o.count)
         → take count nets ≡ map (λ i. get_or r.numbers i 0) (take count os)
-        → take count nets ≡ map (netAt (newNets (sideJob o (take count os)) support entries)) (take count os)
+        → take count nets ≡ map (net_at (new_nets (side_job o (take count os)) support entries)) (take count os)
     patched-outputs os nets count c l e =
         e
-        ∙ map-agree (λ i. get_or r.numbers i 0) (netAt (newNets job support entries)) (take count os)
+        ∙ map-agree (λ i. get_or r.numbers i 0) (net_at (new_nets job support entries)) (take count os)
         (λ i m. w.numbers i (below i m))
-        ∙ ap (λ (ns : List ℕ). map (netAt ns) (take count os))
-        (sym (bare-nets o.inputs o.targets (oldGates o) (take count os) support entries))
+        ∙ ap (λ (ns : List ℕ). map (net_at ns) (take count os))
+        (sym (bare-nets o.inputs o.targets (old_gates o) (take count os) support entries))
       where
-        below : (i : ℕ) → Mem i (take count os) → i < oldNets job
+        below : (i : ℕ) → Mem i (take count os) → i < old_nets job
         below i m =
             let p = place_of m in
             let n : p.0 < count = omega (arith, p.1, length-take-le count os c) in
@@ -134,57 +134,57 @@ module _ {o : OldSide} {s : Support} {table : List ℕ} (h : Fittable o s table)
             omega (arith, l p.0 n, net-count h)
 
     pub patch-accepted : (os nets d : List ℕ) (count len : ℕ) {e : List ℕ} → count ≤ length os
-        → ((i : ℕ) → i < count → get_or os i 0 < oldBase o + o.count)
+        → ((i : ℕ) → i < count → get_or os i 0 < old_base o + o.count)
         → take count nets ≡ map (λ i. get_or r.numbers i 0) (take count os)
-        → BytesPut d 0 (netlistBytes o.inputs (unpacked r.count r.gates) (take count nets)) e len
-        → FitGives (patchNumber (sideJob o (take count os)) support entries)
-        (fittedBytes (sideJob o (take count os)) support entries) d (record { number = 0; len = len }) e
+        → BytesPut d 0 (netlist_bytes o.inputs (unpacked r.count r.gates) (take count nets)) e len
+        → FitGives (patch_number (side_job o (take count os)) support entries)
+        (fitted_bytes (side_job o (take count os)) support entries) d (record { number = 0; len = len }) e
     patch-accepted os nets d count len {e} c l q p =
-        let j = sideJob o (take count os) in
-        let n : patchNumber j support entries ≡ 0 = rw (fits_count (take count os), le-leb (patchedCount o s table) 400 fit) in
-        let b : netlistBytes o.inputs (unpacked r.count r.gates) (take count nets) ≡ fittedBytes j support entries =
-        ap (λ (gs : List Gate). netlistBytes o.inputs gs (take count nets)) (patched-gates (take count os))
-        ∙ ap (netlistBytes o.inputs (fitted j support entries).gates) (patched-outputs os nets count c l q)
-        ∙ sym (bytes-netlist o.inputs o.targets (oldGates o) (take count os) support entries) in
-        gives-accepted (fittedBytes j support entries) d (patchNumber j support entries) len n (rw b at p)
+        let j = side_job o (take count os) in
+        let n : patch_number j support entries ≡ 0 = rw (fits_count (take count os), le-leb (patched_count o s table) 400 fit) in
+        let b : netlist_bytes o.inputs (unpacked r.count r.gates) (take count nets) ≡ fitted_bytes j support entries =
+        ap (λ (gs : List Gate). netlist_bytes o.inputs gs (take count nets)) (patched-gates (take count os))
+        ∙ ap (netlist_bytes o.inputs (fitted j support entries).gates) (patched-outputs os nets count c l q)
+        ∙ sym (bytes-netlist o.inputs o.targets (old_gates o) (take count os) support entries) in
+        gives-accepted (fitted_bytes j support entries) d (patch_number j support entries) len n (rw b at p)
 
 -- ---- the old side of a job
 
 module _ (j : Job) (is t : List ℕ) where
   abbrev seen : Job
-  seen = oldJob j.inputs j.targets j.old.gates j.old.outputs
+  seen = old_job j.inputs j.targets j.old.gates j.old.outputs
 
   fits-seen : fits seen is t ≡ fits j is t
-  unfolding fits fitted movedGates newNets trees newGate newFreeNet newFreeGate gateIndices led
+  unfolding fits fitted moved_gates new_nets trees new_gate new_free_net new_free_gate gate_indices led
   fits-seen = refl
 
-  bytes-seen : fittedBytes seen is t ≡ fittedBytes j is t
-  unfolding fittedBytes fitted movedGates newNets trees newGate newFreeNet newFreeGate gateIndices led
+  bytes-seen : fitted_bytes seen is t ≡ fitted_bytes j is t
+  unfolding fitted_bytes fitted moved_gates new_nets trees new_gate new_free_net new_free_gate gate_indices led
   bytes-seen = refl
 
-free_seen : (j : Job) (i : ℕ) → (i < oldNets j) × (netAt (led j) i ≡ 0)
-    → (i < oldNets (oldJob j.inputs j.targets j.old.gates []))
-    × (netAt (led (oldJob j.inputs j.targets j.old.gates [])) i ≡ 0)
-unfolding oldNets led
+free_seen : (j : Job) (i : ℕ) → (i < old_nets j) × (net_at (led j) i ≡ 0)
+    → (i < old_nets (old_job j.inputs j.targets j.old.gates []))
+    × (net_at (led (old_job j.inputs j.targets j.old.gates [])) i ≡ 0)
+unfolding old_nets led
 free_seen j i h = h
 
 module _ {j : Job} {o : OldSide} (g : PartsGood j) (w : OldOf j o) where
-  within : Within (countsOf j)
+  within : Within (counts_of j)
   within = job-within j g
 
-  old-same : oldGates o ≡ j.old.gates
-  unfolding countsOf sideCountsOf
+  old-same : old_gates o ≡ j.old.gates
+  unfolding counts_of side_counts_of
   old-same =
       let n = within in
-      ap (map gateIn) w.gates
+      ap (map gate_in) w.gates
       ∙ gates-unpacked (j.inputs + j.targets) j.old.gates (old-good j g.gates) w.forms
       (omega (arith, n.inputs, n.targets, n.old.gates))
 
-  side_same : (os : List ℕ) → sideJob o os ≡ oldJob j.inputs j.targets j.old.gates os
+  side_same : (os : List ℕ) → side_job o os ≡ old_job j.inputs j.targets j.old.gates os
   side_same os = rw (old-same, w.inputs, w.targets)
 
   old-held : OldHeld o
-  unfolding countsOf sideCountsOf led oldNets
+  unfolding counts_of side_counts_of led old_nets
   old-held =
       let n = within in
       record {
@@ -199,54 +199,54 @@ module _ {j : Job} {o : OldSide} (g : PartsGood j) (w : OldOf j o) where
   -- the outputs' nets are among the old ones
   pub outputs-old : (os : List ℕ) {count : ℕ} → count ≡ length j.old.outputs
       → take (length j.old.outputs) os ≡ j.old.outputs
-      → (i : ℕ) → i < count → get_or os i 0 < oldBase o + o.count
-  unfolding oldNets
+      → (i : ℕ) → i < count → get_or os i 0 < old_base o + o.count
+  unfolding old_nets
   outputs-old os e f i l =
       let n : i < length j.old.outputs = omega arith in
       let q : get_or j.old.outputs i 0 ≡ get_or os i 0 =
       ap (λ (xs : List ℕ). get_or xs i 0) (sym f) ∙ get_or-take (length j.old.outputs) os i 0 n in
       let b =
-      ltb-true (get_or j.old.outputs i 0) (oldNets j)
-      (all_true (λ k. ltb k (oldNets j)) j.old.outputs (old-outputs-below j g) (get_or j.old.outputs i 0)
+      ltb-true (get_or j.old.outputs i 0) (old_nets j)
+      (all_true (λ k. ltb k (old_nets j)) j.old.outputs (old-outputs-below j g) (get_or j.old.outputs i 0)
       (mem-at j.old.outputs i n)) in
       omega (arith, w.inputs, w.targets, w.count)
 
 -- ---- a sheet
 
 pub outputs-count : {j : Job} {parts : JobParts} → PartsOf j parts → parts.counts.old.outputs ≡ length j.old.outputs
-unfolding countsOf sideCountsOf
+unfolding counts_of side_counts_of
 outputs-count q = ap (λ (c : Counts). c.old.outputs) q.counts
 
 pub outputs-most : {j : Job} {parts : JobParts} → PartsOf j parts → parts.counts.old.outputs ≤ 32
-unfolding countsOf sideCountsOf
+unfolding counts_of side_counts_of
 outputs-most {j} q = let n = job-within j q.good in omega (arith, outputs-count q, n.old.outputs)
 
 -- an accepted sheet passes both of its tests
-sheet-passes : (m : ℕ) (cs : List Candidate) (p : List ℕ) → firstFailing (sheetTests m cs p) ≡ 0
-    → (sheetWhole p ≡ true) × (patchGood m cs (patch_of p) ≡ true)
-unfolding sheetTests
+sheet-passes : (m : ℕ) (cs : List Candidate) (p : List ℕ) → first_failing (sheet_tests m cs p) ≡ 0
+    → (sheet_whole p ≡ true) × (patch_good m cs (patch_of p) ≡ true)
+unfolding sheet_tests
 sheet-passes m cs p e = let u = passes-of-none _ (omega arith, (omega arith, tt)) e in (u.0, u.1.0)
 
 module _ {j : Job} {parts : JobParts} (q : PartsOf j parts) (p : List ℕ) {a : SheetReply}
-    (e : a ≡ sheetReply parts.counts.targets parts.counts.candidates parts.nets parts.weights p) where
-  declined-number : (a.number ≡ 0 → ⊥) → sheetFitNumber j p ≡ a.number
-  unfolding sheetFitNumber
+    (e : a ≡ sheet_reply parts.counts.targets parts.counts.candidates parts.nets parts.weights p) where
+  declined-number : (a.number ≡ 0 → ⊥) → sheet_fit_number j p ≡ a.number
+  unfolding sheet_fit_number
   declined-number z =
       let n = parts-number q p e in
-      failing-append (sheetTests j.targets j.candidates p) _ (λ y. z (sym n ∙ y)) ∙ n
+      failing-append (sheet_tests j.targets j.candidates p) _ (λ y. z (sym n ∙ y)) ∙ n
 
   pub sheet-refused : (d : List ℕ) → (a.number ≡ 0 → ⊥)
-      → FitGives (sheetFitNumber j p) (fittedBytes j (patch_of p).support (patch_of p).table) d
+      → FitGives (sheet_fit_number j p) (fitted_bytes j (patch_of p).support (patch_of p).table) d
       (record { number = a.number; len = 0 }) d
   sheet-refused d z =
-      rw (declined-number z) (gives-refused (fittedBytes j (patch_of p).support (patch_of p).table) d a.number z)
+      rw (declined-number z) (gives-refused (fitted_bytes j (patch_of p).support (patch_of p).table) d a.number z)
 
   module _ (z : a.number ≡ 0) where
-    both : (sheetWhole p ≡ true) × (patchGood j.targets j.candidates (patch_of p) ≡ true)
+    both : (sheet_whole p ≡ true) × (patch_good j.targets j.candidates (patch_of p) ≡ true)
     both = sheet-passes j.targets j.candidates p (parts-number q p e ∙ z)
 
-    accepted-number : sheetFitNumber j p ≡ patchNumber j (patch_of p).support (patch_of p).table
-    unfolding sheetFitNumber sheetTests firstFailing
+    accepted-number : sheet_fit_number j p ≡ patch_number j (patch_of p).support (patch_of p).table
+    unfolding sheet_fit_number sheet_tests first_failing
     accepted-number = rw (both.0, both.1)
 
     read : ReadSheet j.candidates p a
@@ -288,10 +288,10 @@ module _ {j : Job} {parts : JobParts} (q : PartsOf j parts) (p : List ℕ) {a : 
       pub sheet-accepted : (os : List ℕ) {d f : List ℕ} {count : ℕ} {r : FitReply}
           → count ≡ length j.old.outputs → take (length j.old.outputs) os ≡ j.old.outputs
           → FitGives
-          (patchNumber (sideJob o (take count os)) (take a.support.len a.support.nets) (take (2 ^ a.support.len) part))
-          (fittedBytes (sideJob o (take count os)) (take a.support.len a.support.nets) (take (2 ^ a.support.len) part))
+          (patch_number (side_job o (take count os)) (take a.support.len a.support.nets) (take (2 ^ a.support.len) part))
+          (fitted_bytes (side_job o (take count os)) (take a.support.len a.support.nets) (take (2 ^ a.support.len) part))
           d r f
-          → FitGives (sheetFitNumber j p) (fittedBytes j (patch_of p).support (patch_of p).table) d r f
+          → FitGives (sheet_fit_number j p) (fitted_bytes j (patch_of p).support (patch_of p).table) d r f
       sheet-accepted os {d} {f} {count} {r} c v u =
           let is = (patch_of p).support in
           let t = (patch_of p).table in
@@ -303,44 +303,44 @@ module _ {j : Job} {parts : JobParts} (q : PartsOf j parts) (p : List ℕ) {a : 
 
 module _ (d s p : List ℕ) where
   abbrev bytes : List ℕ
-  bytes = fittedBytes (job_of s) (patch_of p).support (patch_of p).table
+  bytes = fitted_bytes (job_of s) (patch_of p).support (patch_of p).table
 
-  pub fit_gives : {r : FitReply} {e : List ℕ} → FitGives (fitNumber d s p) bytes d r e
-      → (r ≡ fitReply d s p) × (e ≡ fittedBuffer d s p)
-  unfolding fitReply fittedBuffer
+  pub fit_gives : {r : FitReply} {e : List ℕ} → FitGives (fit_number d s p) bytes d r e
+      → (r ≡ fit_reply d s p) × (e ≡ fitted_buffer d s p)
+  unfolding fit_reply fitted_buffer
   fit_gives g = (g.reply, g.buffer)
 
-  fit-declined : (n : ℕ) → fitNumber d s p ≡ n → (n ≡ 0 → ⊥)
-      → FitGives (fitNumber d s p) bytes d (record { number = n; len = 0 }) d
+  fit-declined : (n : ℕ) → fit_number d s p ≡ n → (n ≡ 0 → ⊥)
+      → FitGives (fit_number d s p) bytes d (record { number = n; len = 0 }) d
   fit-declined n q z = rw q (gives-refused bytes d n z)
 
-  pub fit-short : length d < longestFit → FitGives (fitNumber d s p) bytes d (record { number = 1; len = 0 }) d
-  unfolding fitNumber fitTests firstFailing
+  pub fit-short : length d < longest_fit → FitGives (fit_number d s p) bytes d (record { number = 1; len = 0 }) d
+  unfolding fit_number fit_tests first_failing
   fit-short l =
-      fit-declined 1 (rw (lt-leb longestFit (length d) l)) (λ z. let f : ⊥ = omega arith in f)
+      fit-declined 1 (rw (lt-leb longest_fit (length d) l)) (λ z. let f : ⊥ = omega arith in f)
 
-  module _ (l : longestFit ≤ length d) where
-    failed-number : (jobRefusal s ≡ 0 → ⊥) → fitNumber d s p ≡ jobRefusal s
-    unfolding fitNumber fitTests firstFailing jobRefusal pairTests
+  module _ (l : longest_fit ≤ length d) where
+    failed-number : (job_refusal s ≡ 0 → ⊥) → fit_number d s p ≡ job_refusal s
+    unfolding fit_number fit_tests first_failing job_refusal pair_tests
     failed-number z =
-        let js = jobTests s in
-        let ps = sheetTests (job_of s).targets (job_of s).candidates p in
-        let q : firstFailing (js ++ ps) ≡ firstFailing js = failing-append js ps z in
-        rw (le-leb longestFit (length d) l) (failing-append (js ++ ps) _ (λ y. z (sym q ∙ y)) ∙ q)
+        let js = job_tests s in
+        let ps = sheet_tests (job_of s).targets (job_of s).candidates p in
+        let q : first_failing (js ++ ps) ≡ first_failing js = failing-append js ps z in
+        rw (le-leb longest_fit (length d) l) (failing-append (js ++ ps) _ (λ y. z (sym q ∙ y)) ∙ q)
 
     pub fit_refused : {r : JobParts} → r ≡ loaded s → r.check ≡ Check.Failed
-        → FitGives (fitNumber d s p) bytes d (record { number = r.number; len = 0 }) d
+        → FitGives (fit_number d s p) bytes d (record { number = r.number; len = 0 }) d
     fit_refused {r} e f =
         let n = refused-number s e in
         let z = refused-job s e f in
         fit-declined r.number (failed-number (λ y. z (sym n ∙ y)) ∙ n) z
 
-    passed-number : jobRefusal s ≡ 0 → fitNumber d s p ≡ sheetFitNumber (job_of s) p
-    unfolding fitNumber fitTests firstFailing pairTests jobTests partTests sheetFitNumber jobRefusal
+    passed-number : job_refusal s ≡ 0 → fit_number d s p ≡ sheet_fit_number (job_of s) p
+    unfolding fit_number fit_tests first_failing pair_tests job_tests part_tests sheet_fit_number job_refusal
     passed-number z =
         let a = (job-accepts true s).0 z in
-        rw (le-leb longestFit (length d) l, a.1, a.2.counts, a.2.gates, a.2.outputs, a.2.candidates)
+        rw (le-leb longest_fit (length d) l, a.1, a.2.counts, a.2.gates, a.2.outputs, a.2.candidates)
 
     pub fit-accepted : {r : JobParts} → r ≡ loaded s → r.check ≡ Check.Passed → {v : FitReply} {u : List ℕ}
-        → FitGives (sheetFitNumber (job_of s) p) bytes d v u → FitGives (fitNumber d s p) bytes d v u
+        → FitGives (sheet_fit_number (job_of s) p) bytes d v u → FitGives (fit_number d s p) bytes d v u
     fit-accepted e f g = rw (passed-number (accepted-job s e f)) g

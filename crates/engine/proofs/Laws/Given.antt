@@ -15,21 +15,21 @@ use lib.Seq.{get_or-set_same, get_or-set_other}
 use Rattle.records.specs.Bytes.{up_from, tabulate, all}
 use Rattle.records.proofs.Laws.Bytes.{tabulate-ext}
 use Rattle.records.specs.Job.{Job}
-use Rattle.records.specs.Refusal.{candidateGood}
+use Rattle.records.specs.Refusal.{candidate_good}
 use Rattle.engine.specs.Eval.{bit, number_of}
 use Rattle.engine.specs.Support.{reading}
 use Rattle.engine.specs.Inner.Best.{GivenBits}
-use Rattle.engine.specs.Inner.Cover.{NextUnseen, CoverHeld, InCover, readingIn, GivesNone}
+use Rattle.engine.specs.Inner.Cover.{NextUnseen, CoverHeld, InCover, reading_in, GivesNone}
 use Rattle.engine.specs.Inner.Given.{GivenCover, GivenBy, BlockSeen, Unseen, SameVectors, AllSeen}
-use Rattle.engine.specs.Inner.Kernel.{valueIn}
-use Rattle.engine.specs.Inner.Note.{narrowed, setsFrom, gathered, filled}
+use Rattle.engine.specs.Inner.Kernel.{value_in}
+use Rattle.engine.specs.Inner.Note.{narrowed, sets_from, gathered, filled}
 use Rattle.engine.specs.Inner.Plan.{ReadsOf}
 use Rattle.engine.specs.Inner.Search.{BlockRange, BlockLoaded, BlockRead}
 use Rattle.engine.specs.declared.cover.Cover.{Cover}
 use Rattle.engine.specs.declared.plan.Plan.{Plan}
 use Rattle.engine.proofs.Laws.Choice.{true-or-false}
 use Rattle.engine.proofs.Laws.Eval.{bit-lt}
-use Rattle.engine.proofs.Laws.Rows.{setsFrom-agree}
+use Rattle.engine.proofs.Laws.Rows.{sets_from-agree}
 use Rattle.engine.proofs.Laws.Search.{first-few, noted-sets, reading_small, met-long, block-range}
 use Rattle.engine.proofs.Laws.VectorSets.{bit-ones}
 use Rattle.engine.proofs.Laws.Word.{bit-zero, bit-and, bit-ones as word_ones}
@@ -37,22 +37,22 @@ use Rattle.engine.proofs.Laws.Word.{bit-zero, bit-and, bit-ones as word_ones}
 -- ---- the sets after some inputs
 
 -- the set that clears bit 16 alone
-abbrev allOnes : ℕ
-allOnes = 65535
+abbrev all_ones : ℕ
+all_ones = 65535
 
 -- narrowed by all vectors, a set keeps them and loses the bit above them
-ones_below : (v x : ℕ) → v < 16 → bit v (bit_and x allOnes) ≡ bit v x
-ones_below v x h = bit-and v x allOnes ∙ omega (arith, (bit-ones 16 v).1 h, bit-lt v x)
+ones_below : (v x : ℕ) → v < 16 → bit v (bit_and x all_ones) ≡ bit v x
+ones_below v x h = bit-and v x all_ones ∙ omega (arith, (bit-ones 16 v).1 h, bit-lt v x)
 
-ones_above : (x : ℕ) → bit 16 (bit_and x allOnes) ≡ 0
+ones_above : (x : ℕ) → bit 16 (bit_and x all_ones) ≡ 0
 unfolding bit
-ones_above x = let z : bit 16 allOnes ≡ 0 = refl in bit-and 16 x allOnes ∙ omega arith
+ones_above x = let z : bit 16 all_ones ≡ 0 = refl in bit-and 16 x all_ones ∙ omega arith
 
 narrowed-ones : (ss : List ℕ) (q r : ℕ) → r < length ss
-    → (bit 16 (get_or (narrowed ss q allOnes) r 0) ≡ 0) ↔ ((bit 16 (get_or ss r 0) ≡ 0) ⊎ (q ≡ r))
+    → (bit 16 (get_or (narrowed ss q all_ones) r 0) ≡ 0) ↔ ((bit 16 (get_or ss r 0) ≡ 0) ⊎ (q ≡ r))
 unfolding narrowed
 narrowed-ones ss q r l =
-    let v : ℕ = bit_and (get_or ss q 0) allOnes in
+    let v : ℕ = bit_and (get_or ss q 0) all_ones in
     ⊎_elim
     (λ (t : eqb r q ≡ true).
     let e : r ≡ q = eqb-true r q t in
@@ -64,10 +64,10 @@ narrowed-ones ss q r l =
     (true-or-false (eqb r q))
 
 -- .. and all sets keep their vectors
-narrowed-same : (ss : List ℕ) (q : ℕ) → SameVectors ss (narrowed ss q allOnes)
+narrowed-same : (ss : List ℕ) (q : ℕ) → SameVectors ss (narrowed ss q all_ones)
 unfolding narrowed
 narrowed-same ss q r v h =
-    let w : ℕ = bit_and (get_or ss q 0) allOnes in
+    let w : ℕ = bit_and (get_or ss q 0) all_ones in
     ⊎_elim
     (λ (t : eqb r q ≡ true).
     let e : r ≡ q = eqb-true r q t in
@@ -82,23 +82,23 @@ narrowed-same ss q r v h =
     (λ (t : eqb r q ≡ false). ap (bit v) (get_or-set_other ss q r w 0 (eqb-false r q t)))
     (true-or-false (eqb r q))
 
-same_from : (g : ℕ → ℕ) (ss : List ℕ) (x k : ℕ) → SameVectors ss (setsFrom (λ y. allOnes) g ss x k)
-unfolding setsFrom
+same_from : (g : ℕ → ℕ) (ss : List ℕ) (x k : ℕ) → SameVectors ss (sets_from (λ y. all_ones) g ss x k)
+unfolding sets_from
 same_from g ss x zero r v h = refl
-same_from g ss x (suc k) r v h = same_from g (narrowed ss (g x) allOnes) (suc x) k r v h ∙ narrowed-same ss (g x) r v h
+same_from g ss x (suc k) r v h = same_from g (narrowed ss (g x) all_ones) (suc x) k r v h ∙ narrowed-same ss (g x) r v h
 
 -- a bit is 0 after the k inputs from x on exactly when it was before, or one of them gives its reading
 seen-iff : (g : ℕ → ℕ) (os : List ℕ) (x k r : ℕ) → r < length os
-    → (bit 16 (get_or (setsFrom (λ y. allOnes) g os x k) r 0) ≡ 0) ↔ ((bit 16 (get_or os r 0) ≡ 0) ⊎ GivenBy g x k r)
-unfolding setsFrom narrowed
+    → (bit 16 (get_or (sets_from (λ y. all_ones) g os x k) r 0) ≡ 0) ↔ ((bit 16 (get_or os r 0) ≡ 0) ⊎ GivenBy g x k r)
+unfolding sets_from narrowed
 seen-iff g os x zero r l = (
   inl,
   λ z. ⊎_elim (λ (a : bit 16 (get_or os r 0) ≡ 0). a) (λ (a : GivenBy g x 0 r). let f : ⊥ = omega (arith, a.1, a.2) in absurd f) z,
 )
 seen-iff g os x (suc k) r l =
-    let ps = narrowed os (g x) allOnes in
+    let ps = narrowed os (g x) all_ones in
     let turn = narrowed-ones os (g x) r l in
-    let rest = seen-iff g ps (suc x) k r (omega (arith, length-set os (g x) (bit_and (get_or os (g x) 0) allOnes))) in (
+    let rest = seen-iff g ps (suc x) k r (omega (arith, length-set os (g x) (bit_and (get_or os (g x) 0) all_ones))) in (
       λ z.
           ⊎_elim
           (λ (a : bit 16 (get_or ps r 0) ≡ 0).
@@ -120,35 +120,35 @@ seen-iff g os x (suc k) r l =
 -- ---- a block
 
 -- rows of ones say all vectors
-abbrev onesRows : List ℕ
-onesRows = replicate 256 18446744073709551615
+abbrev ones_rows : List ℕ
+ones_rows = replicate 256 18446744073709551615
 
-ones-number : number_of (tabulate 16 (λ i. 1)) ≡ allOnes
+ones-number : number_of (tabulate 16 (λ i. 1)) ≡ all_ones
 unfolding number_of tabulate up_from
 ones-number = refl
 
-gathered-ones : (y : ℕ) → y < 1024 → gathered onesRows y ≡ allOnes
-unfolding gathered valueIn
+gathered-ones : (y : ℕ) → y < 1024 → gathered ones_rows y ≡ all_ones
+unfolding gathered value_in
 gathered-ones y h =
     ap number_of
-    (tabulate-ext 16 (valueIn onesRows y) (λ i. 1)
+    (tabulate-ext 16 (value_in ones_rows y) (λ i. 1)
     (λ i l.
     ap (bit (y % 64)) (get_or-replicate {A = ℕ} 256 (16 * i + y / 64) 18446744073709551615 0 (omega arith)) ∙ word_ones (y % 64) (omega arith)))
     ∙ ones-number
 
 pub block-seen : {p : Plan} {gates : List ℕ} (b count : ℕ) (readings words before after : List ℕ) → p.reads ≤ 10
     → BlockRange p.inputs b count → BlockRead p gates b words readings
-    → after ≡ setsFrom (gathered onesRows) (λ y. gathered readings y % 1024) before 0 (filled count)
+    → after ≡ sets_from (gathered ones_rows) (λ y. gathered readings y % 1024) before 0 (filled count)
     → BlockSeen p gates b count before after
 block-seen b count readings words before after k r e n =
-    let ones = n ∙ setsFrom-agree (gathered onesRows) (λ y. gathered readings y % 1024) (λ y. allOnes) (λ y. gathered readings y % 1024) before 0 0
+    let ones = n ∙ sets_from-agree (gathered ones_rows) (λ y. gathered readings y % 1024) (λ y. all_ones) (λ y. gathered readings y % 1024) before 0 0
     (filled count) (λ i u. (gathered-ones (0 + i) (omega (arith, r.few)), refl)) in
     record {
-      long = met-long onesRows readings before count n;
+      long = met-long ones_rows readings before count n;
       seen =
           λ j is q good i l.
           rw (n
-          ∙ noted-sets j is (λ x. allOnes) (λ x. refl) b count onesRows readings before
+          ∙ noted-sets j is (λ x. all_ones) (λ x. refl) b count ones_rows readings before
           (subst (λ (i : ℕ). BlockRange i b count) q.inputs r)
           (λ y l. gathered-ones y l)
           (e.readings j is q good)
@@ -173,7 +173,7 @@ block-passed {p} {gates} {c} {words} {sets} b count range l o none =
                 let y : ℕ = g.0 - 1024 * b in
                 let i : y < 1024 = omega (arith, g.1, g.2, range.few) in
                 let x : 1024 * b + y ≡ g.0 = omega (arith, g.1) in
-                let e : readingIn words (take p.reads p.nets) y ≡ reading j is g.0 =
+                let e : reading_in words (take p.reads p.nets) y ≡ reading j is g.0 =
                 l.readings j is q good y i ∙ ap (reading j is) x in
                 let z : bit 16 (get_or sets r 0) ≡ 1 → ⊥ =
                 λ u. none y i (rw e (o.covers j is q good g.0 (rw g.3 u))) in
@@ -220,7 +220,7 @@ pub record Seeing (p : Plan) (gates : List ℕ) (k : ℕ) (before : List ℕ) (c
   pub places : count ≤ 1024
   pub most : next ≤ count
   pub long : length after ≡ 1024
-  pub seen : (j : Job) (is : List ℕ) → ReadsOf j is p gates → all (candidateGood j) is ≡ true
+  pub seen : (j : Job) (is : List ℕ) → ReadsOf j is p gates → all (candidate_good j) is ≡ true
       → BitsTo j is k (min (1024 * b) size) before after × ((q : ℕ) → q < next → bit 16 (get_or after q 0) ≡ 0)
   pub same : SameVectors before after
 
@@ -283,7 +283,7 @@ module _ {p : Plan} {gates before mid : List ℕ} {k count size b next n : ℕ} 
   )
 
   seeing-more : {after : List ℕ} {later : ℕ} → length after ≡ length mid → SameVectors mid after → NextUnseen after next count later
-      → ((j : Job) (is : List ℕ) → ReadsOf j is p gates → all (candidateGood j) is ≡ true → (r : ℕ) → r < 1024
+      → ((j : Job) (is : List ℕ) → ReadsOf j is p gates → all (candidate_good j) is ≡ true → (r : ℕ) → r < 1024
       → (bit 16 (get_or after r 0) ≡ 0) ↔ ((bit 16 (get_or mid r 0) ≡ 0) ⊎ SkippedHere j is r))
       → Seeing p gates k before count size (b + 1) later after
   seeing-more {after} {later} g same o t =

@@ -17,10 +17,10 @@ use Rattle.records.specs.Job.{Job}
 use Rattle.engine.specs.Choice.{any, or_zero}
 use Rattle.engine.specs.Eval.{bit}
 use Rattle.engine.specs.Rectify.{rectifies, Listed}
-use Rattle.engine.specs.Support.{candidateNets}
+use Rattle.engine.specs.Support.{candidate_nets}
 use Rattle.engine.specs.Inner.Guess.{ListTo, OfListed, BlockGuessed, BlockShown, BlockListed}
-use Rattle.engine.specs.Inner.Kernel.{rowValue, FirstZero}
-use Rattle.engine.specs.Inner.List.{Held, lowest, listedFrom, listed_of, startList}
+use Rattle.engine.specs.Inner.Kernel.{row_value, FirstZero}
+use Rattle.engine.specs.Inner.List.{Held, lowest, listed_from, listed_of, start_list}
 use Rattle.engine.specs.Inner.Masks.{rectifiers}
 use Rattle.engine.specs.Inner.Note.{gathered, ListNoted}
 use Rattle.engine.specs.Inner.Plan.{BlockFree, PlannedOf, TurnsOf}
@@ -31,9 +31,9 @@ use Rattle.engine.proofs.Laws.Choice.{or_left, or_right, any-true, any-of-member
 use Rattle.engine.proofs.Laws.Compare.{LookedUp, one-true}
 use Rattle.engine.proofs.Laws.Eval.{bit-lt}
 use Rattle.engine.proofs.Laws.Kernel.{row-replicate}
-use Rattle.engine.proofs.Laws.Leaves.{getD-zeros}
-use Rattle.engine.proofs.Laws.List.{set_holds, zero-listed, listed-cases, listedFrom-still}
-use Rattle.engine.proofs.Laws.Note.{any_next, either-one, rowValue-lt}
+use Rattle.engine.proofs.Laws.Leaves.{get_or-zeros}
+use Rattle.engine.proofs.Laws.List.{set_holds, zero-listed, listed-cases, listed_from-still}
+use Rattle.engine.proofs.Laws.Note.{any_next, either-one, row_value-lt}
 use Rattle.engine.proofs.Laws.Plan.{reads_of, block-free}
 use Rattle.engine.proofs.Laws.Rows.{bit-pow}
 use Rattle.engine.proofs.Laws.Search.{list-noted, list-stuck, list-skip}
@@ -88,13 +88,13 @@ module _ (s : ℕ) where
     pub entries : (r : ℕ) → BothIn (get_or t r 0)
 
   pub table_none : TableIn (replicate 1024 0)
-  table_none = record { long = length-replicate {A = ℕ} 1024 0; entries = λ r. rw (getD-zeros 1024 r) (inl refl, inl refl) }
+  table_none = record { long = length-replicate {A = ℕ} 1024 0; entries = λ r. rw (get_or-zeros 1024 r) (inl refl, inl refl) }
 
   -- the smallest vector that is in both sets, 0 where there is none
-  abbrev lowestOf : ℕ → ℕ
-  lowestOf x = or_zero (lowest (bit_and x s))
+  abbrev lowest_of : ℕ → ℕ
+  lowest_of x = or_zero (lowest (bit_and x s))
 
-  lowest-both : (x : ℕ) → ZeroOrIn s (lowestOf x)
+  lowest-both : (x : ℕ) → ZeroOrIn s (lowest_of x)
   unfolding or_zero
   lowest-both x =
       ⊎_elim
@@ -105,9 +105,9 @@ module _ (s : ℕ) where
       rw (ap or_zero q.1) (inr (l.0, omega (arith, l.1, bit-and v x s, bit-lt v s))))
       (none_or_some (lowest (bit_and x s)))
 
-  pub table-next : (t : List ℕ) (r x y : ℕ) → TableIn t → TableIn (set t r (lowestOf x + 16 * lowestOf y))
+  pub table-next : (t : List ℕ) (r x y : ℕ) → TableIn t → TableIn (set t r (lowest_of x + 16 * lowest_of y))
   table-next t r x y h =
-      let e = lowestOf x + 16 * lowestOf y in
+      let e = lowest_of x + 16 * lowest_of y in
       let q = halves (lowest-lt (bit_and x s)) (lowest-lt (bit_and y s)) in
       record {
         long = length-set t r e ∙ h.long;
@@ -128,7 +128,7 @@ zeros-listed v = table-listed 0 v (set-none _) (table_none 0)
 -- ---- inputs that listed vectors rectify
 
 -- a listed vector is one of the job's
-listed_small : (j : Job) (x v : ℕ) → Mem v (listedFrom (rectifiers j) startList 0 x).vectors → v < 2 ^ j.targets
+listed_small : (j : Job) (x v : ℕ) → Mem v (listed_from (rectifiers j) start_list 0 x).vectors → v < 2 ^ j.targets
 listed_small j x v m =
     ⊎_elim
     (λ (e : v ≡ 0). rw e (pow_pos j.targets))
@@ -139,7 +139,7 @@ listed_small j x v m =
 list-rectified : (j : Job) (v : Vectors) (x k : ℕ)
     → ((y : ℕ) → y < k → (u : ℕ) × ZeroOrListed v u × (rectifies j (x + y) u ≡ true)) → ListTo j x v → ListTo j (x + k) v
 list-rectified j v x k r e =
-    let vs = (listedFrom (rectifiers j) startList 0 x).vectors in
+    let vs = (listed_from (rectifiers j) start_list 0 x).vectors in
     let same : (listed_of v).vectors ≡ vs = ap (λ (l : Listed). l.vectors) e in
     let mem : (u : ℕ) → ZeroOrListed v u → Mem u vs =
     λ u o.
@@ -151,7 +151,7 @@ list-rectified j v x k r e =
     o in
     e
     ∙ sym
-    (listedFrom-still (rectifiers j) x k
+    (listed_from-still (rectifiers j) x k
     (λ z a b.
     let y : ℕ = z - x in
     let d : x + y ≡ z = omega arith in
@@ -179,19 +179,19 @@ list-guessed readings {table} b count {j} {is} {v} g q f o =
 
 -- where the driven row says 1, the vector rectifies the input
 one-rectifies : {p : Plan} {gates : List ℕ} {u : ℕ → ℕ} {words row after : List ℕ} → DrivenRow p gates u words row after
-    → {j : Job} {is : List ℕ} (q : PlannedOf j is p gates) {b : ℕ} → BlockFree j q.live b words → (y : ℕ) → y < 1024 → rowValue row y ≡ 1
+    → {j : Job} {is : List ℕ} (q : PlannedOf j is p gates) {b : ℕ} → BlockFree j q.live b words → (y : ℕ) → y < 1024 → row_value row y ≡ 1
     → {v : ℕ} → u y ≡ v → rectifies j (1024 * b + y) v ≡ true
 one-rectifies d {j} {is} q {b} f y h e {v} l =
     one-true (rectifies j (1024 * b + y) v) (rw (← l) (sym (d.values j is q b f y h) ∙ e))
 
 -- one of the two vectors in each entry
-abbrev pub vectorsAt : List ℕ → ℕ → ℕ → ℕ
-vectorsAt entries at y = gathered entries y / 2 ^ at % 16
+abbrev pub vectors_at : List ℕ → ℕ → ℕ → ℕ
+vectors_at entries at y = gathered entries y / 2 ^ at % 16
 
 module _ {p : Plan} {gates : List ℕ} (readings table entries : List ℕ) (l : LookedUp readings table entries)
-    {words row after : List ℕ} (d : DrivenRow p gates (vectorsAt entries 0) words row after) where
+    {words row after : List ℕ} (d : DrivenRow p gates (vectors_at entries 0) words row after) where
   first-rectifies : {j : Job} {is : List ℕ} (q : PlannedOf j is p gates) {b : ℕ} → BlockFree j q.live b words → (y : ℕ) → y < 1024
-      → rowValue row y ≡ 1 → rectifies j (1024 * b + y) (get_or table (gathered readings y % 1024) 0 % 16) ≡ true
+      → row_value row y ≡ 1 → rectifies j (1024 * b + y) (get_or table (gathered readings y % 1024) 0 % 16) ≡ true
   first-rectifies q f y h e = one-rectifies d q f y h e (ap (λ (k : ℕ). k % 16) (div-one (gathered entries y) ∙ l y h))
 
   -- the first vectors do
@@ -201,17 +201,17 @@ module _ {p : Plan} {gates : List ℕ} (readings table entries : List ℕ) (l : 
       inl (first-rectifies q f y (omega arith) (z.ones y (omega arith)))
 
   -- .. or the second do where they do not
-  pub guessed-either : {row₂ after₂ both : List ℕ} {count r : ℕ} → DrivenRow p gates (vectorsAt entries 4) after row₂ after₂
-      → ((y : ℕ) → y < 1024 → rowValue both y ≡ max (rowValue row y) (rowValue row₂ y)) → FirstZero both r → count ≤ r
+  pub guessed-either : {row₂ after₂ both : List ℕ} {count r : ℕ} → DrivenRow p gates (vectors_at entries 4) after row₂ after₂
+      → ((y : ℕ) → y < 1024 → row_value both y ≡ max (row_value row y) (row_value row₂ y)) → FirstZero both r → count ≤ r
       → BlockGuessed p gates words readings table count
   guessed-either {row₂ = row₂} d₂ e z h j is q b f y k =
       let m = z.most in
       let u : y < 1024 = omega arith in
       ⊎_elim
-      (λ (a : rowValue row y ≡ 1). inl (first-rectifies q f y u a))
-      (λ (a : rowValue row₂ y ≡ 1).
+      (λ (a : row_value row y ≡ 1). inl (first-rectifies q f y u a))
+      (λ (a : row_value row₂ y ≡ 1).
       inr (one-rectifies d₂ q (d.free j is q b f) y u a (ap (λ (k : ℕ). k / 16 % 16) (l y u))))
-      (either-one (rowValue row y) (rowValue row₂ y) (rowValue-lt row y) (rowValue-lt row₂ y) (sym (e y u) ∙ z.ones y (omega arith)))
+      (either-one (row_value row y) (row_value row₂ y) (row_value-lt row y) (row_value-lt row₂ y) (sym (e y u) ∙ z.ones y (omega arith)))
 
 -- ---- a block at listed vectors, one after the other
 
@@ -230,7 +230,7 @@ module _ (p : Plan) (gates before vs : List ℕ) where
   abbrev pub RowShown : List ℕ → Type 0
   RowShown row =
       (j : Job) (is : List ℕ) (q : PlannedOf j is p gates) (b : ℕ) → BlockFree j q.live b before
-      → (y : ℕ) → y < 1024 → rowValue row y ≡ 1
+      → (y : ℕ) → y < 1024 → row_value row y ≡ 1
       → (u : ℕ) × (any (eqb u) vs ≡ true) × (rectifies j (1024 * b + y) u ≡ true)
 
   pub shown-none : RowShown (replicate 16 0)
@@ -239,13 +239,13 @@ module _ (p : Plan) (gates before vs : List ℕ) where
   -- one vector more
   pub shown-next : (row r row' : List ℕ) {words words' : List ℕ} (v : ℕ) → any (eqb v) vs ≡ true → RowShown row → FreeKept p gates before words
       → BlockVector p gates v words words' → RowEqual p words' r
-      → ((y : ℕ) → y < 1024 → rowValue row' y ≡ max (rowValue row y) (rowValue r y)) → RowShown row'
+      → ((y : ℕ) → y < 1024 → row_value row' y ≡ max (row_value row y) (row_value r y)) → RowShown row'
   shown-next row r row' v m s k w e d j is q b f y h o =
       ⊎_elim
-      (λ (t : rowValue row y ≡ 1). s j is q b f y h t)
-      (λ (t : rowValue r y ≡ 1).
+      (λ (t : row_value row y ≡ 1). s j is q b f y h t)
+      (λ (t : row_value r y ≡ 1).
       (v, m, one-true (rectifies j (1024 * b + y) v) (sym (row-rectifies p gates q b (λ y. v) r (w.values j is q b (k j is q b f)) e y h) ∙ t)))
-      (either-one (rowValue row y) (rowValue r y) (rowValue-lt row y) (rowValue-lt r y) (sym (d y h) ∙ o))
+      (either-one (row_value row y) (row_value r y) (row_value-lt row y) (row_value-lt r y) (sym (d y h) ∙ o))
 
 -- a block evaluated at a vector keeps what no target leads to
 pub vector-free : {p : Plan} {gates before words words' : List ℕ} {v : ℕ} → FreeKept p gates before words → BlockVector p gates v words words'
@@ -262,7 +262,7 @@ module _ {p : Plan} {gates : List ℕ} {b count : ℕ} {words readings : List �
   block-guessed h o g =
       record {
         held = h;
-        listed = λ j t l. let q = t.planned in rw (← e) (list-guessed readings b count g q (r.free j (candidateNets j) (reads_of q)) o l);
+        listed = λ j t l. let q = t.planned in rw (← e) (list-guessed readings b count g q (r.free j (candidate_nets j) (reads_of q)) o l);
       }
 
   -- a block on which the listed vectors themselves do
@@ -272,7 +272,7 @@ module _ {p : Plan} {gates : List ℕ} {b count : ℕ} {words readings : List �
       record {
         held = h;
         listed = λ j t l.
-            let is = candidateNets j in
+            let is = candidate_nets j in
             let q = t.planned in
             rw (← e)
             (list-rectified j v (1024 * b) count
@@ -288,7 +288,7 @@ module _ {p : Plan} {gates : List ℕ} {b count : ℕ} {words readings : List �
       record {
         held = n.held;
         listed = λ j t.
-            let is = candidateNets j in
+            let is = candidate_nets j in
             let q = t.planned in
             rw (← e)
             (list-noted j b count (omega arith) (m.sets j is t b (z.values j is q b (k j is q b (r.free j is (reads_of q))))) n);
@@ -296,21 +296,21 @@ module _ {p : Plan} {gates : List ℕ} {b count : ℕ} {words readings : List �
 
 -- the list after the inputs below x, of every job with this plan
 abbrev pub ListsTo : Plan → List ℕ → Vectors → ℕ → Type 0
-ListsTo p gates v x = (j : Job) → TurnsOf j (candidateNets j) p gates → ListTo j x v
+ListsTo p gates v x = (j : Job) → TurnsOf j (candidate_nets j) p gates → ListTo j x v
 
 module _ {p : Plan} {gates : List ℕ} (v : Vectors) where
-  pub lists-start : listed_of v ≡ startList → ListsTo p gates v 0
-  unfolding listedFrom
+  pub lists-start : listed_of v ≡ start_list → ListsTo p gates v 0
+  unfolding listed_from
   lists-start e j q = e
 
   -- blocks in which every vector rectifies every input leave the list
   pub lists-skip : {b r : ℕ} → SettledFrom p gates b r → ListsTo p gates v (1024 * b) → ListsTo p gates v (1024 * (b + r))
   lists-skip {b} {r} s l j q =
-      list-skip j (1024 * b) (1024 * (b + r)) v (omega arith) (s.settled j (candidateNets j) q.planned) (l j q)
+      list-skip j (1024 * b) (1024 * (b + r)) v (omega arith) (s.settled j (candidate_nets j) q.planned) (l j q)
 
   -- once stuck, it is the list of all inputs
   pub lists-stuck : {x : ℕ} → x ≤ 2 ^ p.inputs → v.stuck ≡ true → ListsTo p gates v x → ListsTo p gates v (2 ^ p.inputs)
   lists-stuck {x} h s l j q = list-stuck j x (2 ^ p.inputs) v h s (l j q)
 
-  pub lists-all : ListsTo p gates v (2 ^ p.inputs) → (j : Job) → TurnsOf j (candidateNets j) p gates → ListTo j (2 ^ j.inputs) v
+  pub lists-all : ListsTo p gates v (2 ^ p.inputs) → (j : Job) → TurnsOf j (candidate_nets j) p gates → ListTo j (2 ^ j.inputs) v
   lists-all l j q = rw q.planned.inputs at (l j q)

@@ -16,17 +16,17 @@ use lib.Pow.{pow_mono}
 use lib.Seq.{set-set, get_or-set_same, get_or-set_other, get_or-take, length-take-le, slice}
 use Rattle.records.specs.Bytes.{all}
 use Rattle.records.specs.Gate.{Gate}
-use Rattle.records.specs.Netlist.{netAt, value_of, values}
+use Rattle.records.specs.Netlist.{net_at, value_of, values}
 use Rattle.records.specs.Job.{Job}
-use Rattle.records.specs.Refusal.{gateGood, gatesGood, candidateGood}
+use Rattle.records.specs.Refusal.{gate_good, gates_good, candidate_good}
 use Rattle.records.proofs.Laws.Bytes.{and_both, all_cons}
 use Rattle.engine.specs.Eval.{bit, number_of}
 use Rattle.engine.specs.Support.{reading}
 use Rattle.engine.specs.Inner.Cover.{InCube, CoverHeld, CubeAdded, CoverOf}
 use Rattle.engine.specs.Inner.Given.{GivenCover}
 use Rattle.engine.specs.Inner.Imply.{Binary, Implied, Learns, AllHave, Forces, GateHas, ValuesOf, CubeHas, NoneGives, CubeSorted, Unrefuted}
-use Rattle.engine.specs.Inner.Miter.{miterGates, miterNets, miterValues}
-use Rattle.engine.specs.Inner.Packed.{own, packed, packedFrom, formed, joined, folded, foldedFrom, operation, count_of, operandsOf, fields, codeValue}
+use Rattle.engine.specs.Inner.Miter.{miter_gates, miter_nets, miter_values}
+use Rattle.engine.specs.Inner.Packed.{own, packed, packed_from, formed, joined, folded, folded_from, operation, count_of, operands_of, fields, code_value}
 use Rattle.engine.specs.Inner.Plan.{fanned, PlanHeld, ReadsOf}
 use Rattle.engine.specs.Inner.Ranges.{Completed}
 use Rattle.engine.specs.declared.cover.Cover.{Cover}
@@ -35,12 +35,12 @@ use Rattle.engine.proofs.Laws.BlockRows.{agree-reading}
 use Rattle.engine.proofs.Laws.Choice.{true-or-false, mem-keep}
 use Rattle.engine.proofs.Laws.Cover.{number_bit}
 use Rattle.engine.proofs.Laws.Eval.{get_d_bits, bits-append, bits-bits, values-bits}
-use Rattle.engine.proofs.Laws.FitGates.{valueOf-local, Consistent, consistent-extended}
+use Rattle.engine.proofs.Laws.FitGates.{value_of-local, Consistent, consistent-extended}
 use Rattle.engine.proofs.Laws.FitNets.{mem-at}
 use Rattle.engine.proofs.Laws.Miter.{miter-nets}
 use Rattle.engine.proofs.Laws.Packed.{packed-own, packed-value}
 use Rattle.engine.proofs.Laws.Partial.{gate-completes}
-use Rattle.engine.proofs.Laws.Plan.{leavesOf, base, length-leaves}
+use Rattle.engine.proofs.Laws.Plan.{leaves_of, base, length-leaves}
 use Rattle.engine.proofs.Laws.PlanCode.{fields-next}
 use Rattle.engine.proofs.Laws.Ranges.{ternary-follows}
 use Rattle.engine.proofs.Laws.Run.{good-first, good-rest, same-values}
@@ -50,10 +50,10 @@ use Rattle.engine.proofs.Laws.Support.{reading-lt}
 -- ---- one net more
 
 -- what is known already is the value, so that another is not met
-pub known_same : (known vs : List ℕ) (i v : ℕ) → i < 1024 → Implied known vs → get_or known i 0 < 2 → netAt vs i ≡ v → eqb (get_or known i 0) v ≡ true
+pub known_same : (known vs : List ℕ) (i v : ℕ) → i < 1024 → Implied known vs → get_or known i 0 < 2 → net_at vs i ≡ v → eqb (get_or known i 0) v ≡ true
 known_same known vs i v l m h e = eq-eqb (get_or known i 0) v (sym (m i l h) ∙ e)
 
-pub known_more : (known vs : List ℕ) (i v : ℕ) → i < length known → Implied known vs → netAt vs i ≡ v → Implied (set known i v) vs
+pub known_more : (known vs : List ℕ) (i v : ℕ) → i < length known → Implied known vs → net_at vs i ≡ v → Implied (set known i v) vs
 known_more known vs i v l m e k n h =
     ⊎_elim
     (λ (t : eqb k i ≡ true).
@@ -92,7 +92,7 @@ pub both-never : {P : List ℕ → Type 0} {a b d : List ℕ} {r s : Bool} → L
     → ((vs : List ℕ) → P vs → Implied (set d i 0) vs → ⊥)
     → ((vs : List ℕ) → P vs → Implied (set (set d i 0) i 1) vs → ⊥)
     → (vs : List ℕ) → P vs → Implied a vs → ⊥
-unfolding netAt
+unfolding net_at
 both-never {d = d} f g b e i l low high vs v m =
     let k = g.more vs (f.more vs m v) v in
     let n : i < length d = omega arith in
@@ -104,14 +104,14 @@ both-never {d = d} f g b e i l low high vs v m =
 -- ---- operands
 
 module _ (v : ℕ) (vs : List ℕ) (n rest : ℕ) (h : 0 < n) (a : AllHave v (fields n rest) vs) where
-  abbrev hasV : ℕ → Bool
-  hasV i = eqb (netAt vs i) v
+  abbrev has_v : ℕ → Bool
+  has_v i = eqb (net_at vs i) v
 
-  parts : (hasV (rest % 1024) ≡ true) × (AllHave v (fields (n - 1) (rest / 1024)) vs)
-  parts = all_cons hasV (rest % 1024) (fields (n - 1) (rest / 1024)) (rw (fields-next n rest h) at a)
+  parts : (has_v (rest % 1024) ≡ true) × (AllHave v (fields (n - 1) (rest / 1024)) vs)
+  parts = all_cons has_v (rest % 1024) (fields (n - 1) (rest / 1024)) (rw (fields-next n rest h) at a)
 
-  pub first-has : netAt vs (rest % 1024) ≡ v
-  first-has = eqb-true (netAt vs (rest % 1024)) v parts.0
+  pub first-has : net_at vs (rest % 1024) ≡ v
+  first-has = eqb-true (net_at vs (rest % 1024)) v parts.0
 
   pub rest-have : AllHave v (fields (n - 1) (rest / 1024)) vs
   rest-have = parts.1
@@ -131,68 +131,68 @@ joined-lt op x y h l =
     (true-or-false (eqb op 2))
 
 module _ (op v : ℕ) (both : (x y : ℕ) → x < 2 → y < 2 → joined op x y ≡ v → (x ≡ v) × (y ≡ v)) (vs : List ℕ) (b : Binary vs) where
-  folds-from : (x : ℕ) (is : List ℕ) → x < 2 → foldedFrom op x (map (netAt vs) is) ≡ v → (x ≡ v) × AllHave v is vs
-  unfolding foldedFrom all netAt
+  folds-from : (x : ℕ) (is : List ℕ) → x < 2 → folded_from op x (map (net_at vs) is) ≡ v → (x ≡ v) × AllHave v is vs
+  unfolding folded_from all net_at
   folds-from x [] h e = (e, refl)
   folds-from x (i ∷ is) h e =
-      let r = folds-from (joined op x (netAt vs i)) is (joined-lt op x (netAt vs i) h (b i)) e in
-      let p = both x (netAt vs i) h (b i) r.0 in
-      (p.0, and_both (eqb (netAt vs i) v) (all (λ k. eqb (netAt vs k) v) is) (eq-eqb (netAt vs i) v p.1) r.1)
+      let r = folds-from (joined op x (net_at vs i)) is (joined-lt op x (net_at vs i) h (b i)) e in
+      let p = both x (net_at vs i) h (b i) r.0 in
+      (p.0, and_both (eqb (net_at vs i) v) (all (λ k. eqb (net_at vs k) v) is) (eq-eqb (net_at vs i) v p.1) r.1)
 
-  folds-all : (is : List ℕ) → folded op (map (netAt vs) is) ≡ v → AllHave v is vs
-  unfolding folded all netAt
+  folds-all : (is : List ℕ) → folded op (map (net_at vs) is) ≡ v → AllHave v is vs
+  unfolding folded all net_at
   folds-all [] e = refl
   folds-all (i ∷ is) e =
-      let r = folds-from (netAt vs i) is (b i) e in
-      and_both (eqb (netAt vs i) v) (all (λ k. eqb (netAt vs k) v) is) (eq-eqb (netAt vs i) v r.0) r.1
+      let r = folds-from (net_at vs i) is (b i) e in
+      and_both (eqb (net_at vs i) v) (all (λ k. eqb (net_at vs k) v) is) (eq-eqb (net_at vs i) v r.0) r.1
 
 pub and-forces : (c : ℕ) → operation c ≡ 2 → Forces c 1
 unfolding joined
 and-forces c o vs b e =
-    folds-all 2 1 (λ x y h l f. (omega arith, omega arith)) vs b (operandsOf c) (rw o at e)
+    folds-all 2 1 (λ x y h l f. (omega arith, omega arith)) vs b (operands_of c) (rw o at e)
 
 pub or-forces : (c : ℕ) → operation c ≡ 3 → Forces c 0
 unfolding joined
 or-forces c o vs b e =
-    folds-all 3 0 (λ x y h l f. (omega arith, omega arith)) vs b (operandsOf c) (rw o at e)
+    folds-all 3 0 (λ x y h l f. (omega arith, omega arith)) vs b (operands_of c) (rw o at e)
 
 pub one-forces : (c v : ℕ) → count_of c ≡ 1 → Forces c v
-unfolding folded foldedFrom fields all
+unfolding folded folded_from fields all
 one-forces c v o vs b e =
     rw o
-    (and_both (eqb (netAt vs (c / 131072 % 1024)) v) true (eq-eqb (netAt vs (c / 131072 % 1024)) v (rw o at e)) refl)
+    (and_both (eqb (net_at vs (c / 131072 % 1024)) v) true (eq-eqb (net_at vs (c / 131072 % 1024)) v (rw o at e)) refl)
 
 module _ (op : ℕ) (vs : List ℕ) (b : Binary vs) where
-  folded-from-lt : (x : ℕ) (is : List ℕ) → x < 2 → foldedFrom op x (map (netAt vs) is) < 2
-  unfolding foldedFrom netAt
+  folded-from-lt : (x : ℕ) (is : List ℕ) → x < 2 → folded_from op x (map (net_at vs) is) < 2
+  unfolding folded_from net_at
   folded-from-lt x [] h = h
-  folded-from-lt x (i ∷ is) h = folded-from-lt (joined op x (netAt vs i)) is (joined-lt op x (netAt vs i) h (b i))
+  folded-from-lt x (i ∷ is) h = folded-from-lt (joined op x (net_at vs i)) is (joined-lt op x (net_at vs i) h (b i))
 
-  folded-lt : (is : List ℕ) → folded op (map (netAt vs) is) < 2
-  unfolding folded netAt
+  folded-lt : (is : List ℕ) → folded op (map (net_at vs) is) < 2
+  unfolding folded net_at
   folded-lt [] = omega arith
-  folded-lt (i ∷ is) = folded-from-lt (netAt vs i) is (b i)
+  folded-lt (i ∷ is) = folded-from-lt (net_at vs i) is (b i)
 
 -- a gate's value before its inversion
-pub gate-plain : (c o : ℕ) (vs : List ℕ) → GateHas c vs → netAt vs (own c) ≡ o
-    → folded (operation c) (map (netAt vs) (operandsOf c)) ≡ (o + c % 2) % 2
-unfolding codeValue
+pub gate-plain : (c o : ℕ) (vs : List ℕ) → GateHas c vs → net_at vs (own c) ≡ o
+    → folded (operation c) (map (net_at vs) (operands_of c)) ≡ (o + c % 2) % 2
+unfolding code_value
 gate-plain c o vs g e =
-    let f : ℕ = folded (operation c) (map (netAt vs) (operandsOf c)) in
+    let f : ℕ = folded (operation c) (map (net_at vs) (operands_of c)) in
     let s : (f + c % 2) % 2 ≡ o = sym g.value ∙ e in
-    omega (arith, folded-lt (operation c) vs g.binary (operandsOf c))
+    omega (arith, folded-lt (operation c) vs g.binary (operands_of c))
 
 -- ---- the values of a job's gates
 
 -- values complete what is known of them
 known-completed : (k : ℕ) (vs ks : List ℕ) → k ≤ 1024 → Binary vs → Implied ks vs → Completed k vs ks
-unfolding netAt
+unfolding net_at
 known-completed k vs ks h b m i l = record { bit = b i; kept = λ n. m i (omega arith) n }
 
-packed-gate : (d : ℕ) (g : Gate) (ws : List ℕ) → gateGood d g ≡ true → formed g ≡ true → d < 1024 → Binary ws → netAt ws d ≡ value_of ws g
+packed-gate : (d : ℕ) (g : Gate) (ws : List ℕ) → gate_good d g ≡ true → formed g ≡ true → d < 1024 → Binary ws → net_at ws d ≡ value_of ws g
     → GateHas (packed d g) ws
 packed-gate d g ws good f h b e =
-    let o : netAt ws (own (packed d g)) ≡ value_of ws g = ap (netAt ws) (packed-own d g good f h) ∙ e in
+    let o : net_at ws (own (packed d g)) ≡ value_of ws g = ap (net_at ws) (packed-own d g good f h) ∙ e in
     record {
       binary = b;
       value = o ∙ sym (packed-value d g good f h ws b);
@@ -201,36 +201,36 @@ packed-gate d g ws good f h b e =
           o ∙ (gate-completes d ws ks (known-completed d ws ks (omega arith) b m) g good).kept (rw t at l) ∙ sym t;
     }
 
-packed-gates : (d : ℕ) (gs : List Gate) (ws : List ℕ) → gatesGood d gs ≡ true → all formed gs ≡ true → d + length gs ≤ 1024 → Binary ws
-    → Consistent value_of ws d gs → (c : ℕ) → Mem c (packedFrom d gs) → GateHas c ws
-unfolding packedFrom
+packed-gates : (d : ℕ) (gs : List Gate) (ws : List ℕ) → gates_good d gs ≡ true → all formed gs ≡ true → d + length gs ≤ 1024 → Binary ws
+    → Consistent value_of ws d gs → (c : ℕ) → Mem c (packed_from d gs) → GateHas c ws
+unfolding packed_from
 packed-gates d [] ws a f h b k c m = absurd (not-nil m)
 packed-gates d (g ∷ gs) ws a f h b k c m =
     let t = all_cons formed g gs f in
     ⊎_elim
     (λ (e : c ≡ packed d g).
     rw e
-    (packed-gate d g ws (good-first d g gs a) t.0 (omega arith) b (ap (netAt ws) (sym (add-zero d)) ∙ k.at 0 (omega arith))))
+    (packed-gate d g ws (good-first d g gs a) t.0 (omega arith) b (ap (net_at ws) (sym (add-zero d)) ∙ k.at 0 (omega arith))))
     (λ n.
     packed-gates (suc d) gs ws (good-rest d g gs a) t.1 (omega arith) b
-    record { at = λ r l. let q : suc d + r ≡ d + suc r = omega arith in ap (netAt ws) q ∙ k.at (suc r) (omega arith) }
+    record { at = λ r l. let q : suc d + r ≡ d + suc r = omega arith in ap (net_at ws) q ∙ k.at (suc r) (omega arith) }
     c
     n)
     (cases_cons m)
 
 module _ {j : Job} {is : List ℕ} {p : Plan} {gates : List ℕ} (h : PlanHeld p gates) (q : ReadsOf j is p gates) (x : ℕ) where
-  binary : Binary (miterValues j x 0)
-  unfolding miterValues
-  binary i = get_d_bits (values-bits (leavesOf j x 0) (bits-append (bits-bits j.inputs x) (bits-bits j.targets 0)) (miterGates j)) i
+  binary : Binary (miter_values j x 0)
+  unfolding miter_values
+  binary i = get_d_bits (values-bits (leaves_of j x 0) (bits-append (bits-bits j.inputs x) (bits-bits j.targets 0)) (miter_gates j)) i
 
-  consistent : Consistent value_of (miterValues j x 0) (base j) q.merged
-  unfolding values miterValues
+  consistent : Consistent value_of (miter_values j x 0) (base j) q.merged
+  unfolding values miter_values
   consistent =
-      subst (λ (ws : List ℕ). Consistent value_of ws (base j) q.merged) (same-values q.same (leavesOf j x 0) (length-leaves j x 0))
-      (consistent-extended value_of valueOf-local (leavesOf j x 0) q.merged (base j) (length-leaves j x 0) q.same.good)
+      subst (λ (ws : List ℕ). Consistent value_of ws (base j) q.merged) (same-values q.same (leaves_of j x 0) (length-leaves j x 0))
+      (consistent-extended value_of value_of-local (leaves_of j x 0) q.merged (base j) (length-leaves j x 0) q.same.good)
 
-  pub job-values : ValuesOf gates (get_or p.ends 0 0) (miterValues j x 0)
-  unfolding miterNets
+  pub job-values : ValuesOf gates (get_or p.ends 0 0) (miter_values j x 0)
+  unfolding miter_nets
   job-values = (
     binary,
     λ i l.
@@ -238,28 +238,28 @@ module _ {j : Job} {is : List ℕ} {p : Plan} {gates : List ℕ} (h : PlanHeld p
         let e : get_or (slice 0 n gates) i 0 ≡ get_or gates i 0 = get_or-take n gates i 0 l in
         let t : length (slice 0 n gates) ≡ n = length-take-le n gates (omega (arith, h.within 0, h.long)) in
         let m : Mem (get_or gates i 0) (slice 0 n gates) = rw e at (mem-at (slice 0 n gates) i (omega arith)) in
-        packed-gates (j.inputs + j.targets) q.merged (miterValues j x 0) q.same.good q.same.forms
+        packed-gates (j.inputs + j.targets) q.merged (miter_values j x 0) q.same.good q.same.forms
         (omega (arith, miter-nets j q.good, q.same.long))
         binary
         consistent
         (get_or gates i 0)
-        ((mem-keep (λ c. q.live (own c) && not (fanned j (own c))) (packedFrom (j.inputs + j.targets) q.merged) (get_or gates i 0)).0
+        ((mem-keep (λ c. q.live (own c) && not (fanned j (own c))) (packed_from (j.inputs + j.targets) q.merged) (get_or gates i 0)).0
         (rw q.free at m)).0,
   )
 
   -- the nets read have in them the reading
-  pub job-reading : all (candidateGood j) is ≡ true → number_of (map (netAt (miterValues j x 0)) (take p.reads p.nets)) ≡ reading j is x
+  pub job-reading : all (candidate_good j) is ≡ true → number_of (map (net_at (miter_values j x 0)) (take p.reads p.nets)) ≡ reading j is x
   job-reading f =
-      ap (λ (os : List ℕ). number_of (map (netAt (miterValues j x 0)) os)) q.nets
-      ∙ agree-reading j q.good is f q.live x (miterValues j x 0) (λ i l o. refl) q.live-nets
+      ap (λ (os : List ℕ). number_of (map (net_at (miter_values j x 0)) os)) q.nets
+      ∙ agree-reading j q.good is f q.live x (miter_values j x 0) (λ i l o. refl) q.live-nets
 
 -- ---- the cubes that are left
 
 -- a reading in a cube has its values
 pub cube-has : (nets : List ℕ) (reads value care : ℕ) (vs : List ℕ) → reads ≤ length nets → Binary vs
-    → InCube value care (number_of (map (netAt vs) (take reads nets))) → CubeHas nets reads value care vs
-unfolding netAt
-cube-has nets reads value care vs h b m k l c = sym (number_bit (netAt vs) b nets reads k h l) ∙ m k c
+    → InCube value care (number_of (map (net_at vs) (take reads nets))) → CubeHas nets reads value care vs
+unfolding net_at
+cube-has nets reads value care vs h b m k l c = sym (number_bit (net_at vs) b nets reads k h l) ∙ m k c
 
 module _ {p : Plan} {gates : List ℕ} where
   -- .. of those that are left
@@ -279,7 +279,7 @@ module _ {p : Plan} {gates : List ℕ} where
     module _ (h : PlanHeld p gates)
         (f : (vs : List ℕ) → ValuesOf gates (get_or p.ends 0 0) vs → CubeHas p.nets p.reads value care vs → ⊥) where
       none_in : (vs : List ℕ) → ValuesOf gates (get_or p.ends 0 0) vs
-          → InCube value care (number_of (map (netAt vs) (take p.reads p.nets))) → ⊥
+          → InCube value care (number_of (map (net_at vs) (take p.reads p.nets))) → ⊥
       none_in vs v m = f vs v (cube-has p.nets p.reads value care vs (omega (arith, h.reads, h.nets)) v.0 m)
 
       pub cube-refuted : {c : Cover} → CoverHeld c → CubeSorted p gates value care c c
@@ -299,7 +299,7 @@ module _ {p : Plan} {gates : List ℕ} where
             let e = job-reading h q x good in
             let v = job-values h q x in
             ⊎_elim
-            (λ i. absurd (n.none (miterValues j x 0) v (rw e i)))
-            (λ i. rw e at (m.left (miterValues j x 0) v (rw e i)))
+            (λ i. absurd (n.none (miter_values j x 0) v (rw e i)))
+            (λ i. rw e at (m.left (miter_values j x 0) v (rw e i)))
             (o.covers (reading j is x) few u);
       }

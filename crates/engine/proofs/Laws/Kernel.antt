@@ -14,11 +14,11 @@ use lib.Dec.{eqb}
 use lib.ListN.{length, get_or, set, take, length-take, drop_of_length-le, replicate, get_or-replicate}
 use lib.Seq.{slice, slice-cons}
 use Rattle.records.specs.Bytes.{up_from, tabulate}
-use Rattle.records.specs.Netlist.{netAt}
+use Rattle.records.specs.Netlist.{net_at}
 use Rattle.records.proofs.Laws.Bytes.{get_d_tabulate}
 use Rattle.engine.specs.Eval.{bit}
-use Rattle.engine.specs.Inner.Packed.{fields, own, operandsOf, operation, inverts, joined, foldedFrom, folded, codeValue, evaluated}
-use Rattle.engine.specs.Inner.Kernel.{applied, Filled, rowValue, valueIn, column, NetSet}
+use Rattle.engine.specs.Inner.Packed.{fields, own, operands_of, operation, inverts, joined, folded_from, folded, code_value, evaluated}
+use Rattle.engine.specs.Inner.Kernel.{applied, Filled, row_value, value_in, column, NetSet}
 use Rattle.engine.proofs.Laws.Eval.{bit-lt}
 use Rattle.engine.proofs.Laws.Fill.{fill-at}
 use Rattle.engine.proofs.Laws.Word.{bit-and, bit-or, bit-xor}
@@ -50,8 +50,8 @@ unfolding applied
 applied-last op a b h k = rw (ne_eqb op 2 h, ne_eqb op 3 k)
 
 -- what 16 equal words say of a scenario
-pub row-replicate : (v y : ℕ) → y < 1024 → rowValue (replicate 16 v) y ≡ bit (y % 64) v
-unfolding rowValue
+pub row-replicate : (v y : ℕ) → y < 1024 → row_value (replicate 16 v) y ≡ bit (y % 64) v
+unfolding row_value
 row-replicate v y h = ap (bit (y % 64)) (get_or-replicate {A = ℕ} 16 (y / 64) v 0 (omega arith))
 
 -- ---- a gate's operands, one after the other
@@ -61,8 +61,8 @@ unfoldable pub left : ℕ → ℕ → ℕ → List ℕ → ℕ
 left first op x [] = x
 left first op x (v ∷ vs) = left op op (joined first x v) vs
 
-left-from : (op x : ℕ) (vs : List ℕ) → left op op x vs ≡ foldedFrom op x vs
-unfolding left foldedFrom
+left-from : (op x : ℕ) (vs : List ℕ) → left op op x vs ≡ folded_from op x vs
+unfolding left folded_from
 left-from op x [] = refl
 left-from op x (v ∷ vs) = left-from op (joined op x v) vs
 
@@ -80,12 +80,12 @@ left-next f first op x (suc n) rest h = let e : suc n - 1 ≡ n = omega arith in
 -- the words of the next operand joined
 pub words-next : (words r r' : List ℕ) (first op n rest : ℕ)
     → Filled (λ w. applied first (get_or r w 0) (get_or words (16 * (rest % 1024) + w) 0)) 0 16 r r' → 0 < n → (y : ℕ) → y < 1024
-    → left op op (rowValue r' y) (map (valueIn words y) (fields (n - 1) (rest / 1024)))
-    ≡ left first op (rowValue r y) (map (valueIn words y) (fields n rest))
-unfolding rowValue valueIn
+    → left op op (row_value r' y) (map (value_in words y) (fields (n - 1) (rest / 1024)))
+    ≡ left first op (row_value r y) (map (value_in words y) (fields n rest))
+unfolding row_value value_in
 words-next words r r' first op n rest l h y k =
     rw (fill-at l (y / 64) (omega arith), bit-applied first (y % 64) (get_or r (y / 64) 0) (get_or words (16 * (rest % 1024) + y / 64) 0))
-    (left-next (valueIn words y) first op (bit (y % 64) (get_or r (y / 64) 0)) n rest h)
+    (left-next (value_in words y) first op (bit (y % 64) (get_or r (y / 64) 0)) n rest h)
 
 pub left-none : (f : ℕ → ℕ) (first op x n rest : ℕ) → n ≡ 0 → left first op x (map f (fields n rest)) ≡ x
 unfolding left fields
@@ -101,7 +101,7 @@ place_after i k w l = omega arith
 
 pub net-filled : (i : ℕ) (f g : ℕ → ℕ) (before after : List ℕ) → Filled f (16 * i) 16 before after
     → ((y : ℕ) → y < 1024 → bit (y % 64) (f (y / 64)) ≡ g y) → NetSet i g before after
-unfolding valueIn
+unfolding value_in
 net-filled i f g before after d e =
     record {
       long = d.long;
@@ -116,8 +116,8 @@ net-filled i f g before after d e =
 -- .. of the words r, inverted where x has a 1
 pub net-stored : (i x : ℕ) (r : List ℕ) (g : ℕ → ℕ) (before after : List ℕ)
     → Filled (λ w. bit_xor (get_or r w 0) x) (16 * i) 16 before after
-    → ((y : ℕ) → y < 1024 → (rowValue r y + bit (y % 64) x) % 2 ≡ g y) → NetSet i g before after
-unfolding rowValue
+    → ((y : ℕ) → y < 1024 → (row_value r y + bit (y % 64) x) % 2 ≡ g y) → NetSet i g before after
+unfolding row_value
 net-stored i x r g before after d e =
     net-filled i (λ w. bit_xor (get_or r w 0) x) g before after d (λ y h. bit-sum (y % 64) (get_or r (y / 64) 0) x ∙ e y h)
 
@@ -142,35 +142,35 @@ pub column-set : (i : ℕ) (f : ℕ → ℕ) (before after : List ℕ) → NetSe
     → column after y ≡ set (column before y) i (f y)
 unfolding column tabulate
 column-set i f before after s y h =
-    rw (s.put y h) at (map-set (valueIn before y) (valueIn after y) 0 1024 i i (omega arith) (λ k o. s.kept y k h o))
+    rw (s.put y h) at (map-set (value_in before y) (value_in after y) 0 1024 i i (omega arith) (λ k o. s.kept y k h o))
 
-pub netAt-column : (words : List ℕ) (y i : ℕ) → i < 1024 → netAt (column words y) i ≡ valueIn words y i
-unfolding netAt column
-netAt-column words y i h = get_d_tabulate 1024 (valueIn words y) i 0 h
+pub net_at-column : (words : List ℕ) (y i : ℕ) → i < 1024 → net_at (column words y) i ≡ value_in words y i
+unfolding net_at column
+net_at-column words y i h = get_d_tabulate 1024 (value_in words y) i 0 h
 
 -- a net of ten bits has its value in the column
-map-fields : (words : List ℕ) (y n x : ℕ) → map (valueIn words y) (fields n x) ≡ map (netAt (column words y)) (fields n x)
+map-fields : (words : List ℕ) (y n x : ℕ) → map (value_in words y) (fields n x) ≡ map (net_at (column words y)) (fields n x)
 unfolding fields
 map-fields words y zero x = refl
-map-fields words y (suc n) x = rw (netAt-column words y (x % 1024) (omega arith), map-fields words y n (x / 1024))
+map-fields words y (suc n) x = rw (net_at-column words y (x % 1024) (omega arith), map-fields words y n (x / 1024))
 
 -- ---- one gate more
 
 module _ (c x : ℕ) (r before after : List ℕ) (d : Filled (λ w. bit_xor (get_or r w 0) x) (16 * own c) 16 before after)
-    (e : (y : ℕ) → y < 1024 → rowValue r y ≡ folded (operation c) (map (valueIn before y) (operandsOf c)))
+    (e : (y : ℕ) → y < 1024 → row_value r y ≡ folded (operation c) (map (value_in before y) (operands_of c)))
     (f : (j : ℕ) → j < 64 → bit j x ≡ inverts c) where
-  gate-stored : NetSet (own c) (λ y. codeValue (column before y) c) before after
-  unfolding codeValue
+  gate-stored : NetSet (own c) (λ y. code_value (column before y) c) before after
+  unfolding code_value
   gate-stored =
-      net-stored (own c) x r (λ y. codeValue (column before y) c) before after d
+      net-stored (own c) x r (λ y. code_value (column before y) c) before after d
       (λ y h. rw (e y h, f (y % 64) (omega arith), map-fields before y (c / 16 % 8) (c / 131072)))
 
   pub run-next : (gates : List ℕ) (i to : ℕ) → i < to → to ≤ length gates → c ≡ get_or gates i 0 → (y : ℕ) → y < 1024
-      → evaluated codeValue (column after y) (slice (i + 1) to gates) ≡ evaluated codeValue (column before y) (slice i to gates)
+      → evaluated code_value (column after y) (slice (i + 1) to gates) ≡ evaluated code_value (column before y) (slice i to gates)
   unfolding evaluated
   run-next gates i to n l g y h =
-      rw (slice-cons i to gates 0 n l, ← g, add-one i, column-set (own c) (λ y. codeValue (column before y) c) before after gate-stored y h)
+      rw (slice-cons i to gates 0 n l, ← g, add-one i, column-set (own c) (λ y. code_value (column before y) c) before after gate-stored y h)
 
-pub evaluated-none : (vs gates : List ℕ) (i to : ℕ) → to ≤ i → evaluated codeValue vs (slice i to gates) ≡ vs
+pub evaluated-none : (vs gates : List ℕ) (i to : ℕ) → to ≤ i → evaluated code_value vs (slice i to gates) ≡ vs
 unfolding evaluated
 evaluated-none vs gates i to h = rw (drop_of_length-le (take to gates) {i = i} (simp length-take (omega arith)))

@@ -14,7 +14,7 @@ use lib.Seq.{get_or-set_same, get_or-set_other, get_or-take, length-take-le}
 use Rattle.records.specs.Bytes.{up_from, tabulate}
 use Rattle.engine.specs.Choice.{same}
 use Rattle.engine.specs.Eval.{bit, number_of}
-use Rattle.engine.specs.Inner.Kernel.{Filled, rowValue, valueIn, NetSet, NetsSet, LowestBit, FirstZero}
+use Rattle.engine.specs.Inner.Kernel.{Filled, row_value, value_in, NetSet, NetsSet, LowestBit, FirstZero}
 use Rattle.engine.specs.Inner.Note.{gathered}
 use Rattle.engine.proofs.Laws.Eval.{bit-lt}
 use Rattle.engine.proofs.Laws.Fill.{fill-at}
@@ -25,9 +25,9 @@ use Rattle.engine.proofs.Laws.Word.{bit-and, bit-zero, bit-ones}
 -- ---- rows
 
 -- one word more of a row whose values are to be g
-pub row_next : (g : ℕ → ℕ) (r : List ℕ) (w v : ℕ) → w < length r → ((y : ℕ) → y < 64 * w → rowValue r y ≡ g y)
-    → ((y : ℕ) → y / 64 ≡ w → bit (y % 64) v ≡ g y) → (y : ℕ) → y < 64 * (w + 1) → rowValue (set r w v) y ≡ g y
-unfolding rowValue
+pub row_next : (g : ℕ → ℕ) (r : List ℕ) (w v : ℕ) → w < length r → ((y : ℕ) → y < 64 * w → row_value r y ≡ g y)
+    → ((y : ℕ) → y / 64 ≡ w → bit (y % 64) v ≡ g y) → (y : ℕ) → y < 64 * (w + 1) → row_value (set r w v) y ≡ g y
+unfolding row_value
 row_next g r w v h e f y k =
     ⊎_elim
     (λ (l : 64 * w - y ≡ 0). let q : y / 64 ≡ w = omega arith in
@@ -43,9 +43,9 @@ input-place b y = omega arith
 -- ---- nets set
 
 pub row-stored : (i : ℕ) (r before after : List ℕ) → Filled (λ w. get_or r w 0) (16 * i) 16 before after
-    → NetSet i (rowValue r) before after
-unfolding rowValue
-row-stored i r before after d = net-filled i (λ w. get_or r w 0) (rowValue r) before after d (λ y h. refl)
+    → NetSet i (row_value r) before after
+unfolding row_value
+row-stored i r before after d = net-filled i (λ w. get_or r w 0) (row_value r) before after d (λ y h. refl)
 
 pub net-alike : (i : ℕ) (f g : ℕ → ℕ) (before after : List ℕ) → NetSet i f before after → ((y : ℕ) → y < 1024 → f y ≡ g y)
     → NetSet i g before after
@@ -58,7 +58,7 @@ nets-none at f d =
 -- one net more
 pub nets-next : (at n q : ℕ) (f : ℕ → ℕ → ℕ) (before mid after : List ℕ) → NetsSet at n f before mid → q ≡ at + n
     → NetSet q (λ y. f y n) mid after → NetsSet at (n + 1) f before after
-unfolding valueIn
+unfolding value_in
 nets-next at n q f before mid after s e t =
     record {
       long = t.long ∙ s.long;
@@ -66,7 +66,7 @@ nets-next at n q f before mid after s e t =
           λ y k h l.
           ⊎_elim
           (λ (m : n - k ≡ 0). let i : at + k ≡ q = omega arith in let j : n ≡ k = omega arith in
-          ap (valueIn after y) i ∙ t.put y h ∙ ap (f y) j)
+          ap (value_in after y) i ∙ t.put y h ∙ ap (f y) j)
           (λ (m : 0 < n - k). t.kept y (at + k) h (inl (omega arith)) ∙ s.put y k h (omega arith))
           (eq-zero-or-pos (n - k));
       kept =
@@ -80,32 +80,32 @@ nets-next at n q f before mid after s e t =
 -- ---- rows as numbers
 
 -- the number of a list's values, with zeros up to n of them
-numberOf-padded : (f g : ℕ → ℕ) (a n : ℕ) (is : List ℕ) → length is ≤ n
+number_of-padded : (f g : ℕ → ℕ) (a n : ℕ) (is : List ℕ) → length is ≤ n
     → ((k : ℕ) → k < length is → f (a + k) ≡ g (get_or is k 0)) → ((k : ℕ) → length is ≤ k → f (a + k) ≡ 0)
     → number_of (map f (up_from a n)) ≡ number_of (map g is)
 unfolding number_of up_from
-numberOf-padded f g a zero [] h e z = refl
-numberOf-padded f g a zero (i ∷ is) h e z = let q : ⊥ = omega arith in absurd q
-numberOf-padded f g a (suc n) [] h e z =
+number_of-padded f g a zero [] h e z = refl
+number_of-padded f g a zero (i ∷ is) h e z = let q : ⊥ = omega arith in absurd q
+number_of-padded f g a (suc n) [] h e z =
     let v : f a ≡ 0 = ap f (let q : a ≡ a + 0 = omega arith in q) ∙ z 0 (omega arith) in
-    let r = numberOf-padded f g (suc a) n [] (omega arith) (λ k l. let q : ⊥ = omega arith in absurd q)
+    let r = number_of-padded f g (suc a) n [] (omega arith) (λ k l. let q : ⊥ = omega arith in absurd q)
     (λ k l. let q : suc a + k ≡ a + suc k = omega arith in ap f q ∙ z (suc k) (omega arith)) in
     omega arith
-numberOf-padded f g a (suc n) (i ∷ is) h e z =
+number_of-padded f g a (suc n) (i ∷ is) h e z =
     let v : f a ≡ g i = ap f (let q : a ≡ a + 0 = omega arith in q) ∙ e 0 (omega arith) in
-    let r = numberOf-padded f g (suc a) n is (omega arith)
+    let r = number_of-padded f g (suc a) n is (omega arith)
     (λ k l. let q : suc a + k ≡ a + suc k = omega arith in ap f q ∙ e (suc k) (omega arith))
     (λ k l. let q : suc a + k ≡ a + suc k = omega arith in ap f q ∙ z (suc k) (omega arith)) in
     omega arith
 
-pub getD-zeros : (n k : ℕ) → get_or {A = ℕ} (replicate n 0) k 0 ≡ 0
-getD-zeros zero k = refl
-getD-zeros (suc n) zero = refl
-getD-zeros (suc n) (suc k) = getD-zeros n k
+pub get_or-zeros : (n k : ℕ) → get_or {A = ℕ} (replicate n 0) k 0 ≡ 0
+get_or-zeros zero k = refl
+get_or-zeros (suc n) zero = refl
+get_or-zeros (suc n) (suc k) = get_or-zeros n k
 
-pub valueIn-zero : (n y i : ℕ) → valueIn (replicate n 0) y i ≡ 0
-unfolding valueIn
-valueIn-zero n y i = ap (bit (y % 64)) (getD-zeros n (16 * i + y / 64)) ∙ bit-zero (y % 64)
+pub value_in-zero : (n y i : ℕ) → value_in (replicate n 0) y i ≡ 0
+unfolding value_in
+value_in-zero n y i = ap (bit (y % 64)) (get_or-zeros n (16 * i + y / 64)) ∙ bit-zero (y % 64)
 
 -- f says the value of a net in a scenario
 pub gathered-nets : (f : ℕ → ℕ → ℕ) (nets rows : List ℕ) (count : ℕ) → count ≤ length nets → count ≤ 16
@@ -114,9 +114,9 @@ pub gathered-nets : (f : ℕ → ℕ → ℕ) (nets rows : List ℕ) (count : �
 unfolding gathered tabulate
 gathered-nets f nets rows count h l s y k =
     let n = length-take-le count nets h in
-    numberOf-padded (valueIn rows y) (f y) 0 16 (take count nets) (omega arith)
+    number_of-padded (value_in rows y) (f y) 0 16 (take count nets) (omega arith)
     (λ i o. let p : i < count = omega arith in s.put y i k p ∙ ap (f y) (sym (get_or-take count nets i 0 p)))
-    (λ i o. s.kept y (0 + i) k (inr (omega arith)) ∙ valueIn-zero 256 y (0 + i))
+    (λ i o. s.kept y (0 + i) k (inr (omega arith)) ∙ value_in-zero 256 y (0 + i))
 
 -- ---- equal outputs
 
@@ -144,8 +144,8 @@ bit_kept j x p q h =
 -- .. of 16 words
 pub row_kept : (a b : ℕ) (words r r' : List ℕ)
     → Filled (λ w. bit_and (get_or r w 0) (bit_xor (bit_xor (get_or words (16 * a + w) 0) (get_or words (16 * b + w) 0)) (2 ^ 64 - 1))) 0 16 r r'
-    → (y : ℕ) → y < 1024 → rowValue r' y ≡ cond (eqb (valueIn words y a) (valueIn words y b)) (rowValue r y) 0
-unfolding rowValue valueIn
+    → (y : ℕ) → y < 1024 → row_value r' y ≡ cond (eqb (value_in words y a) (value_in words y b)) (row_value r y) 0
+unfolding row_value value_in
 row_kept a b words r r' l y h =
     ap (bit (y % 64)) (fill-at l (y / 64) (omega arith))
     ∙ bit_kept (y % 64) (get_or r (y / 64) 0) (get_or words (16 * a + y / 64) 0) (get_or words (16 * b + y / 64) 0) (omega arith)
@@ -170,9 +170,9 @@ equal_next f os ps k v v' h l e d =
 -- ---- a row of zeros
 
 -- one word more that is 0
-pub zeros-more : (row : List ℕ) (w : ℕ) → ((y : ℕ) → y < 64 * w → rowValue row y ≡ 0) → get_or row w 0 ≡ 0
-    → (y : ℕ) → y < 64 * (w + 1) → rowValue row y ≡ 0
-unfolding rowValue
+pub zeros-more : (row : List ℕ) (w : ℕ) → ((y : ℕ) → y < 64 * w → row_value row y ≡ 0) → get_or row w 0 ≡ 0
+    → (y : ℕ) → y < 64 * (w + 1) → row_value row y ≡ 0
+unfolding row_value
 zeros-more row w e z y h =
     ⊎_elim
     (λ (l : 64 * w - y ≡ 0). let q : y / 64 ≡ w = omega arith in rw (q, z) (bit-zero (y % 64)))
@@ -187,13 +187,13 @@ bit-set i x v h e l =
     let s : (bit i x + 1) % 2 ≡ v = ap (λ (k : ℕ). (bit i x + k) % 2) (sym (bit-ones i h)) ∙ sym (bit-sum i x (2 ^ 64 - 1)) ∙ e in
     omega (arith, bit-lt i x)
 
-module _ (row : List ℕ) (w r : ℕ) (e : (y : ℕ) → y < 64 * w → rowValue row y ≡ 1)
+module _ (row : List ℕ) (w r : ℕ) (e : (y : ℕ) → y < 64 * w → row_value row y ≡ 1)
     (l : LowestBit (bit_xor (get_or row w 0) (2 ^ 64 - 1)) 64 r) where
-  row_word : (y : ℕ) → y / 64 ≡ w → rowValue row y ≡ bit (y % 64) (get_or row w 0)
-  unfolding rowValue
+  row_word : (y : ℕ) → y / 64 ≡ w → row_value row y ≡ bit (y % 64) (get_or row w 0)
+  unfolding row_value
   row_word y q = ap (λ (k : ℕ). bit (y % 64) (get_or row k 0)) q
 
-  pub ones-more : (y : ℕ) → y < 64 * w + r → rowValue row y ≡ 1
+  pub ones-more : (y : ℕ) → y < 64 * w + r → row_value row y ≡ 1
   ones-more y h =
       let m = l.most in
       ⊎_elim

@@ -17,14 +17,14 @@ use lib.Pow.{pow_pos, pow_mono}
 use Rattle.records.specs.Bytes.{up_from}
 use Rattle.records.specs.Job.{Job}
 use Rattle.engine.specs.Choice.{any, first}
-use Rattle.engine.specs.Eval.{allInputs, allVectors}
-use Rattle.engine.specs.Rectify.{rectifies, unrectified, Listed, rounds, vectorLoop}
+use Rattle.engine.specs.Eval.{all_inputs, all_vectors}
+use Rattle.engine.specs.Rectify.{rectifies, unrectified, Listed, rounds, vector_loop}
 use Rattle.engine.specs.Inner.Masks.{rectifiers}
-use Rattle.engine.specs.Inner.List.{listStep, listedFrom, startList}
+use Rattle.engine.specs.Inner.List.{list_step, listed_from, start_list}
 use Rattle.engine.proofs.Laws.Choice.{not-both, true-or-false, none_or_some, any-true, any-of-member, Least, first-least, first-none-below}
 use Rattle.engine.proofs.Laws.Loop.{rounds-done, rounds-stuck, rounds-again, Listing, listing_start, listing-round, listing-length}
-use Rattle.engine.proofs.Laws.VectorSets.{in_set, inSet-rectifiers, lowest-rectifiers}
-use Rattle.engine.proofs.Laws.List.{walked, walked-holds, eq-or-below, listed-eta, listStep-stuck, listStep-listed, listStep-none, listStep-append, listing, listedFrom-walked}
+use Rattle.engine.proofs.Laws.VectorSets.{in_set, in_set-rectifiers, lowest-rectifiers}
+use Rattle.engine.proofs.Laws.List.{walked, walked-holds, eq-or-below, listed-eta, list_step-stuck, list_step-listed, list_step-none, list_step-append, listing, listed_from-walked}
 
 -- ---- the walk gives the list of the loop's rounds
 
@@ -60,18 +60,18 @@ record Going (j : Job) (x : ℕ) (l : Listed) : Type 0 where
   listing : Listing j l.vectors
   seen : (y : ℕ) → y < x → any (rectifies j y) l.vectors ≡ true
   left : ℕ
-  rest : rounds j (suc left) l.vectors ≡ vectorLoop j
+  rest : rounds j (suc left) l.vectors ≡ vector_loop j
   enough : 2 ^ j.targets ≤ left + length l.vectors
 
 -- .. or it is the result already
 record Ended (j : Job) (l : Listed) : Type 0 where
   at : ℕ
   stuck : l.stuck ≡ some at
-  same : l ≡ vectorLoop j
+  same : l ≡ vector_loop j
 
 module _ (j : Job) (t : j.targets ≤ 4) where
-  going_start : Going j 0 startList
-  unfolding vectorLoop
+  going_start : Going j 0 start_list
+  unfolding vector_loop
   going_start =
       let p = pow_pos j.targets in
       let e : suc (2 ^ j.targets - 1) ≡ 2 ^ j.targets = omega arith in
@@ -88,12 +88,12 @@ module _ (j : Job) (t : j.targets ≤ 4) where
     listed-any : any (in_set (rectifiers j y)) l.vectors ≡ any (rectifies j y) l.vectors
     listed-any =
         any-agree (in_set (rectifiers j y)) (rectifies j y) l.vectors
-        (λ v m. inSet-rectifiers j y v (h.listing.below v m))
+        (λ v m. in_set-rectifiers j y v (h.listing.below v m))
 
     -- the input is rectified by a listed vector
-    going-listed : any (rectifies j y) l.vectors ≡ true → Going j (y + 1) (listStep l (rectifiers j y) y)
+    going-listed : any (rectifies j y) l.vectors ≡ true → Going j (y + 1) (list_step l (rectifiers j y) y)
     going-listed a =
-        rw (listStep-listed l (rectifiers j y) y (listed-any ∙ a))
+        rw (list_step-listed l (rectifiers j y) y (listed-any ∙ a))
         (record {
           going = h.going;
           listing = h.listing;
@@ -106,24 +106,24 @@ module _ (j : Job) (t : j.targets ≤ 4) where
 
     module _ (a : any (rectifies j y) l.vectors ≡ false) where
       -- the loop's next round takes this input
-      next-input : first (unrectified j l.vectors) (allInputs j) ≡ some y
-      unfolding allInputs unrectified
+      next-input : first (unrectified j l.vectors) (all_inputs j) ≡ some y
+      unfolding all_inputs unrectified
       next-input =
           first-of-least (unrectified j l.vectors) (2 ^ j.inputs) y
           (record { below = b; holds = ap not a; smaller = λ z u. ap not (h.seen z u) })
 
-      ended : first (rectifies j y) (allVectors j) ≡ none → Ended j (listStep l (rectifiers j y) y)
+      ended : first (rectifies j y) (all_vectors j) ≡ none → Ended j (list_step l (rectifiers j y) y)
       ended n =
-          rw (listStep-none l (rectifiers j y) y h.going (listed-any ∙ a) (lowest-rectifiers j y t ∙ n))
+          rw (list_step-none l (rectifiers j y) y h.going (listed-any ∙ a) (lowest-rectifiers j y t ∙ n))
           (record {
             at = y;
             stuck = refl;
             same = sym (rounds-stuck j h.left l.vectors y next-input n) ∙ h.rest;
           })
 
-      going-append : (v : ℕ) → first (rectifies j y) (allVectors j) ≡ some v
-          → Going j (y + 1) (listStep l (rectifiers j y) y)
-      unfolding allVectors
+      going-append : (v : ℕ) → first (rectifies j y) (all_vectors j) ≡ some v
+          → Going j (y + 1) (list_step l (rectifiers j y) y)
+      unfolding all_vectors
       going-append v n =
           let ws : List ℕ = l.vectors ++ (v ∷ []) in
           let r = listing-round j l.vectors y v h.listing next-input n in
@@ -132,7 +132,7 @@ module _ (j : Job) (t : j.targets ≤ 4) where
           let c = listing-length j ws r in
           let e : suc (h.left - 1) ≡ h.left = omega (arith, h.enough) in
           rw
-          (listStep-append l (rectifiers j y) y h.going (listed-any ∙ a) v (lowest-rectifiers j y t ∙ n) (omega arith))
+          (list_step-append l (rectifiers j y) y h.going (listed-any ∙ a) v (lowest-rectifiers j y t ∙ n) (omega arith))
           (record {
             going = refl;
             listing = r;
@@ -150,7 +150,7 @@ module _ (j : Job) (t : j.targets ≤ 4) where
             enough = omega (arith, h.enough);
           })
 
-    walk_turn : Going j (y + 1) (listStep l (rectifiers j y) y) ⊎ Ended j (listStep l (rectifiers j y) y)
+    walk_turn : Going j (y + 1) (list_step l (rectifiers j y) y) ⊎ Ended j (list_step l (rectifiers j y) y)
     walk_turn =
         ⊎_elim
         (λ a. inl (going-listed a))
@@ -158,11 +158,11 @@ module _ (j : Job) (t : j.targets ≤ 4) where
         ⊎_elim
         (λ n. inr (ended a n))
         (λ r. inl (going-append a r.0 r.1))
-        (none_or_some (first (rectifies j y) (allVectors j))))
+        (none_or_some (first (rectifies j y) (all_vectors j))))
         (true-or-false (any (rectifies j y) l.vectors))
 
-  walk_end : (l : Listed) → Going j (2 ^ j.inputs) l → l ≡ vectorLoop j
-  unfolding allInputs unrectified
+  walk_end : (l : Listed) → Going j (2 ^ j.inputs) l → l ≡ vector_loop j
+  unfolding all_inputs unrectified
   walk_end l h =
       listed-eta l none h.going
       ∙ sym
@@ -171,15 +171,15 @@ module _ (j : Job) (t : j.targets ≤ 4) where
       ∙ h.rest
 
   -- the list after all inputs is the loop's
-  pub walk-list : listedFrom (rectifiers j) startList 0 (2 ^ j.inputs) ≡ vectorLoop j
+  pub walk-list : listed_from (rectifiers j) start_list 0 (2 ^ j.inputs) ≡ vector_loop j
   walk-list =
       let n : ℕ = 2 ^ j.inputs in
       let w =
-      walked-holds (listing (rectifiers j)) (λ y l. Going j y l ⊎ Ended j l) startList 0 n (inl going_start)
+      walked-holds (listing (rectifiers j)) (λ y l. Going j y l ⊎ Ended j l) start_list 0 n (inl going_start)
       (λ y a b l s.
       ⊎_elim
       (λ (h : Going j y l). walk_turn y (omega arith) l h)
-      (λ (h : Ended j l). inr (rw (listStep-stuck l (rectifiers j y) y h.at h.stuck) h))
+      (λ (h : Ended j l). inr (rw (list_step-stuck l (rectifiers j y) y h.at h.stuck) h))
       s) in
-      listedFrom-walked (rectifiers j) startList 0 n
-      ∙ ⊎_elim (λ h. walk_end (walked (listing (rectifiers j)) startList 0 n) (rw (zero-add n) at h)) (λ h. h.same) w
+      listed_from-walked (rectifiers j) start_list 0 n
+      ∙ ⊎_elim (λ h. walk_end (walked (listing (rectifiers j)) start_list 0 n) (rw (zero-add n) at h)) (λ h. h.same) w

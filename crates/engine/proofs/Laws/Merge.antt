@@ -15,26 +15,26 @@ use lib.Dec.{eqb, ltb}
 use lib.ListN.{length, get_or, take, set, length-set, length-append, get_or-map, get_or-eq_default}
 use lib.Seq.{get_or-take, get_or-set_same, get_or-set_other, take-set-lt, take-take}
 use Rattle.records.specs.Bytes.{all}
-use Rattle.records.specs.Gate.{Gate, gateOf, operands, gateValue}
-use Rattle.records.specs.Netlist.{netAt, extended, value_of, values}
+use Rattle.records.specs.Gate.{Gate, gate_of, operands, gate_value}
+use Rattle.records.specs.Netlist.{net_at, extended, value_of, values}
 use Rattle.records.specs.Job.{Job}
-use Rattle.records.specs.Refusal.{gateGood, gatesGood}
+use Rattle.records.specs.Refusal.{gate_good, gates_good}
 use Rattle.records.specs.Claims.{Below}
 use Rattle.records.proofs.Laws.Bytes.{and_both, all_cons}
-use Rattle.records.proofs.Laws.Gate.{gateGood-parts}
+use Rattle.records.proofs.Laws.Gate.{gate_good-parts}
 use Rattle.engine.specs.Eval.{bits}
 use Rattle.engine.specs.Fit.{moved}
-use Rattle.engine.specs.Inner.Packed.{fields, packed, packedFrom, formed}
-use Rattle.engine.specs.Inner.Renumber.{gateIn, InputsNumbered}
+use Rattle.engine.specs.Inner.Packed.{fields, packed, packed_from, formed}
+use Rattle.engine.specs.Inner.Renumber.{gate_in, InputsNumbered}
 use Rattle.engine.specs.Inner.Tree.{Nets}
-use Rattle.engine.specs.Inner.Miter.{onOperands, SameGates, miterGates, miterGoldens, miterNets, miterValues, codes, MiterRoom, MiterOf, MergedOf}
+use Rattle.engine.specs.Inner.Miter.{on_operands, SameGates, miter_gates, miter_goldens, miter_nets, miter_values, codes, MiterRoom, MiterOf, MergedOf}
 use Rattle.engine.specs.Inner.Merge.{Packs, StandsFor, MergedIn, Chained, GatesMerged}
 use Rattle.engine.specs.declared.merge.MergedGates.{MergedGates}
 use Rattle.engine.specs.declared.miter.Miter.{Miter}
 use Rattle.engine.proofs.Laws.Choice.{true-or-false, all_true, map-agree}
 use Rattle.engine.proofs.Laws.EvalWords.{map-take}
 use Rattle.engine.proofs.Laws.FitCode.{moved-nets}
-use Rattle.engine.proofs.Laws.FitGates.{noGate, good-at, Local, netAt-extended, consistent-extended}
+use Rattle.engine.proofs.Laws.FitGates.{no_gate, good-at, Local, net_at-extended, consistent-extended}
 use Rattle.engine.proofs.Laws.FitNets.{all-mapped, operands-renumbered, renumbered-good}
 use Rattle.engine.proofs.Laws.Fitted.{length-bits}
 use Rattle.engine.proofs.Laws.List.{set_below}
@@ -45,14 +45,14 @@ use Rattle.engine.proofs.Laws.Unpacked.{gates-unpacked}
 
 -- ---- a gate put for another
 
-good-set : (d : ℕ) (gs : List Gate) (i : ℕ) (g : Gate) → gatesGood d gs ≡ true → gateGood (d + i) g ≡ true
-    → gatesGood d (set gs i g) ≡ true
-unfolding gatesGood
+good-set : (d : ℕ) (gs : List Gate) (i : ℕ) (g : Gate) → gates_good d gs ≡ true → gate_good (d + i) g ≡ true
+    → gates_good d (set gs i g) ≡ true
+unfolding gates_good
 good-set d [] i g p q = refl
-good-set d (x ∷ gs) zero g p q = and_both (gateGood d g) (gatesGood (suc d) gs) (rw add-zero at q) (good-rest d x gs p)
+good-set d (x ∷ gs) zero g p q = and_both (gate_good d g) (gates_good (suc d) gs) (rw add-zero at q) (good-rest d x gs p)
 good-set d (x ∷ gs) (suc i) g p q =
     let e : d + suc i ≡ suc d + i = omega arith in
-    and_both (gateGood d x) (gatesGood (suc d) (set gs i g)) (good-first d x gs p)
+    and_both (gate_good d x) (gates_good (suc d) (set gs i g)) (good-first d x gs p)
     (good-set (suc d) gs i g (good-rest d x gs p) (rw e at q))
 
 all_set : (p : Gate → Bool) (gs : List Gate) (i : ℕ) (g : Gate) → all p gs ≡ true → p g ≡ true → all p (set gs i g) ≡ true
@@ -62,38 +62,38 @@ all_set p (x ∷ gs) zero g a q = and_both (p g) (all p gs) q (all_cons p x gs a
 all_set p (x ∷ gs) (suc i) g a q =
     and_both (p x) (all p (set gs i g)) (all_cons p x gs a).0 (all_set p gs i g (all_cons p x gs a).1 q)
 
-packedFrom-set : (d : ℕ) (gs : List Gate) (i : ℕ) (g : Gate)
-    → packedFrom d (set gs i g) ≡ set (packedFrom d gs) i (packed (d + i) g)
-unfolding packedFrom
-packedFrom-set d [] i g = refl
-packedFrom-set d (x ∷ gs) zero g = ap (λ (k : ℕ). packed k g ∷ packedFrom (suc d) gs) (sym (add-zero d))
-packedFrom-set d (x ∷ gs) (suc i) g =
+packed_from-set : (d : ℕ) (gs : List Gate) (i : ℕ) (g : Gate)
+    → packed_from d (set gs i g) ≡ set (packed_from d gs) i (packed (d + i) g)
+unfolding packed_from
+packed_from-set d [] i g = refl
+packed_from-set d (x ∷ gs) zero g = ap (λ (k : ℕ). packed k g ∷ packed_from (suc d) gs) (sym (add-zero d))
+packed_from-set d (x ∷ gs) (suc i) g =
     let e : suc d + i ≡ d + suc i = omega arith in
     ap (λ (l : List ℕ). packed d x ∷ l)
-    (packedFrom-set (suc d) gs i g ∙ ap (λ (k : ℕ). set (packedFrom (suc d) gs) i (packed k g)) e)
+    (packed_from-set (suc d) gs i g ∙ ap (λ (k : ℕ). set (packed_from (suc d) gs) i (packed k g)) e)
 
 module _ (f : List ℕ → Gate → ℕ) (l : Local f) where
   -- what f says of a gate, it says from all that follows too
-  local-extended : (known : List ℕ) (gs : List Gate) (g : Gate) → gateGood (length known) g ≡ true
+  local-extended : (known : List ℕ) (gs : List Gate) (g : Gate) → gate_good (length known) g ≡ true
       → f known g ≡ f (extended f known gs) g
   local-extended known gs g p =
       let n = length known in
       l known (extended f known gs) g
-      (map-agree (netAt known) (netAt (extended f known gs)) (operands g)
+      (map-agree (net_at known) (net_at (extended f known gs)) (operands g)
       (λ i m.
       sym
-      (netAt-extended f known gs i (ltb-true i n (all_true (λ k. ltb k n) (operands g) (gateGood-parts n g p).0 i m)))))
+      (net_at-extended f known gs i (ltb-true i n (all_true (λ k. ltb k n) (operands g) (gate_good-parts n g p).0 i m)))))
 
   -- a gate of which f says the same leaves all as it is
   extended-set : (known : List ℕ) (gs : List Gate) (d i : ℕ) (g : Gate) → length known ≡ d → i < length gs
-      → gatesGood d gs ≡ true → gateGood (d + i) g ≡ true
-      → f (extended f known gs) g ≡ f (extended f known gs) (get_or gs i noGate)
+      → gates_good d gs ≡ true → gate_good (d + i) g ≡ true
+      → f (extended f known gs) g ≡ f (extended f known gs) (get_or gs i no_gate)
       → extended f known (set gs i g) ≡ extended f known gs
   unfolding extended
   extended-set known [] d i g n h p q e = let z : ⊥ = omega arith in absurd z
   extended-set known (x ∷ gs) d zero g n h p q e =
-      let a : gateGood (length known) g ≡ true = rw n (rw add-zero at q) in
-      let b : gateGood (length known) x ≡ true = rw n (good-first d x gs p) in
+      let a : gate_good (length known) g ≡ true = rw n (rw add-zero at q) in
+      let b : gate_good (length known) x ≡ true = rw n (good-first d x gs p) in
       ap (λ (v : ℕ). extended f (known ++ (v ∷ [])) gs)
       (local-extended known (x ∷ gs) g a ∙ e ∙ sym (local-extended known (x ∷ gs) x b))
   extended-set known (x ∷ gs) d (suc i) g n h p q e =
@@ -106,18 +106,18 @@ module _ (f : List ℕ → Gate → ℕ) (l : Local f) where
 
 -- ---- gates that may stand for others
 
-onOperands-local : (F : ℕ → List ℕ → ℕ) → Local (onOperands F)
-onOperands-local F vs ws g e = ap (F g.kind) e
+on_operands-local : (F : ℕ → List ℕ → ℕ) → Local (on_operands F)
+on_operands-local F vs ws g e = ap (F g.kind) e
 
-same_self : (d : ℕ) (gs : List Gate) → gatesGood d gs ≡ true → all formed gs ≡ true → SameGates d gs gs
+same_self : (d : ℕ) (gs : List Gate) → gates_good d gs ≡ true → all formed gs ≡ true → SameGates d gs gs
 same_self d gs p f = record { long = refl; good = p; forms = f; same = λ F leaves e. refl }
 
 stands_self : (d : ℕ) (gs : List Gate) (i : ℕ) → StandsFor d gs i i
 stands_self d gs i = record { before = omega arith; same = λ F leaves e. refl }
 
-formed-gateIn : (c : ℕ) → formed (gateIn c) ≡ true
-unfolding formed gateIn fields
-formed-gateIn c = refl
+formed-gate_in : (c : ℕ) → formed (gate_in c) ≡ true
+unfolding formed gate_in fields
+formed-gate_in c = refl
 
 low-kind : (c : ℕ) → c % 16 ≡ c % 128 % 16
 low-kind c = omega arith
@@ -125,50 +125,50 @@ low-kind c = omega arith
 low_count : (c : ℕ) → c / 16 % 8 ≡ c % 128 / 16
 low_count c = omega arith
 
-pub alike_same : (a b : ℕ) → a % 128 ≡ b % 128 → a / 131072 ≡ b / 131072 → gateIn a ≡ gateIn b
-unfolding gateIn
+pub alike_same : (a b : ℕ) → a % 128 ≡ b % 128 → a / 131072 ≡ b / 131072 → gate_in a ≡ gate_in b
+unfolding gate_in
 alike_same a b p q = rw (low-kind a, low_count a, low-kind b, low_count b, p, q)
 
 module _ {d n : ℕ} {gs : List Gate} {cs ns : List ℕ} (w : MergedIn d n gs cs ns) (e : n ≡ length gs) (r : d + n ≤ 1024) where
-  merged-at : (i : ℕ) → i < n → gateIn (get_or cs i 0) ≡ get_or w.merged i noGate
-  unfolding gateIn fields gateOf
+  merged-at : (i : ℕ) → i < n → gate_in (get_or cs i 0) ≡ get_or w.merged i no_gate
+  unfolding gate_in fields gate_of
   merged-at i h =
-      ap gateIn (sym (get_or-take n cs i 0 h) ∙ ap (λ (xs : List ℕ). get_or xs i 0) w.gates)
-      ∙ sym (get_or-map gateIn (packedFrom d w.merged) i 0)
-      ∙ ap (λ (hs : List Gate). get_or hs i noGate)
+      ap gate_in (sym (get_or-take n cs i 0 h) ∙ ap (λ (xs : List ℕ). get_or xs i 0) w.gates)
+      ∙ sym (get_or-map gate_in (packed_from d w.merged) i 0)
+      ∙ ap (λ (hs : List Gate). get_or hs i no_gate)
       (gates-unpacked d w.merged w.same.good w.same.forms (omega (arith, w.same.long)))
 
   module _ (i : ℕ) (h : i < n) where
     abbrev gate : Gate
-    gate = gateIn (get_or cs i 0)
+    gate = gate_in (get_or cs i 0)
 
-    gate-good : gateGood (d + i) gate ≡ true
+    gate-good : gate_good (d + i) gate ≡ true
     gate-good = rw (merged-at i h) (good-at d w.merged w.same.good i (omega (arith, w.same.long)))
 
     operand_below : (k : ℕ) → Mem k (operands gate) → k < d + i
     operand_below k m =
         ltb-true k (d + i)
-        (all_true (λ x. ltb x (d + i)) (operands gate) (gateGood-parts (d + i) gate gate-good).0 k m)
+        (all_true (λ x. ltb x (d + i)) (operands gate) (gate_good-parts (d + i) gate gate-good).0 k m)
 
-    moved-good : gateGood (d + i) (moved ns gate) ≡ true
+    moved-good : gate_good (d + i) (moved ns gate) ≡ true
     unfolding moved
     moved-good =
-        renumbered-good (netAt ns) gate (d + i) (d + i) gate-good
+        renumbered-good (net_at ns) gate (d + i) (d + i) gate-good
         (λ k m. let b = operand_below k m in omega (arith, (w.stands k (omega arith)).before))
 
     moved-formed : formed (moved ns gate) ≡ true
     unfolding moved
-    moved-formed = formed-mapped (netAt ns) gate ∙ formed-gateIn (get_or cs i 0)
+    moved-formed = formed-mapped (net_at ns) gate ∙ formed-gate_in (get_or cs i 0)
 
-    moved_same : (F : ℕ → List ℕ → ℕ) (leaves : List ℕ) → length leaves ≡ d → let ws = extended (onOperands F) leaves gs in
-        onOperands F ws (moved ns gate) ≡ onOperands F ws gate
+    moved_same : (F : ℕ → List ℕ → ℕ) (leaves : List ℕ) → length leaves ≡ d → let ws = extended (on_operands F) leaves gs in
+        on_operands F ws (moved ns gate) ≡ on_operands F ws gate
     unfolding moved
     moved_same F leaves z =
-        let ws = extended (onOperands F) leaves gs in
+        let ws = extended (on_operands F) leaves gs in
         ap (F gate.kind)
-        (ap (map (netAt ws)) (operands-renumbered (netAt ns) gate)
-        ∙ map-map (netAt ws) (netAt ns) (operands gate)
-        ∙ map-agree (λ k. netAt ws (netAt ns k)) (netAt ws) (operands gate)
+        (ap (map (net_at ws)) (operands-renumbered (net_at ns) gate)
+        ∙ map-map (net_at ws) (net_at ns) (operands gate)
+        ∙ map-agree (λ k. net_at ws (net_at ns k)) (net_at ws) (operands gate)
         (λ k m. let b = operand_below k m in (w.stands k (omega arith)).same F leaves z))
 
     -- gate i with its operands replaced
@@ -189,16 +189,16 @@ module _ {d n : ℕ} {gs : List Gate} {cs ns : List ℕ} (w : MergedIn d n gs cs
                 same =
                     λ F leaves z.
                     let t = s.same F leaves z in
-                    extended-set (onOperands F) (onOperands-local F) leaves hs d i g z l s.good moved-good
-                    (rw t (moved_same F leaves z ∙ ap (onOperands F (extended (onOperands F) leaves gs)) (merged-at i h)))
+                    extended-set (on_operands F) (on_operands-local F) leaves hs d i g z l s.good moved-good
+                    (rw t (moved_same F leaves z ∙ ap (on_operands F (extended (on_operands F) leaves gs)) (merged-at i h)))
                     ∙ t;
               };
-          gates = take-set-lt n cs i c h ∙ ap (λ (xs : List ℕ). set xs i c) w.gates ∙ sym (packedFrom-set d hs i g);
+          gates = take-set-lt n cs i c h ∙ ap (λ (xs : List ℕ). set xs i c) w.gates ∙ sym (packed_from-set d hs i g);
           stands = w.stands;
         }
 
     -- .. which an earlier one is too
-    module _ (k : ℕ) (b : k ≤ i) (same : gateIn (get_or cs k 0) ≡ gate) where
+    module _ (k : ℕ) (b : k ≤ i) (same : gate_in (get_or cs k 0) ≡ gate) where
       stands-earlier : StandsFor d gs (d + i) (d + k)
       stands-earlier =
           record {
@@ -206,8 +206,8 @@ module _ {d n : ℕ} {gs : List Gate} {cs ns : List ℕ} (w : MergedIn d n gs cs
             same =
                 λ F leaves z.
                 let hs = w.merged in
-                let f = onOperands F in
-                let c = consistent-extended f (onOperands-local F) leaves hs d z w.same.good in
+                let f = on_operands F in
+                let c = consistent-extended f (on_operands-local F) leaves hs d z w.same.good in
                 rw (sym (w.same.same F leaves z))
                 (c.at k (omega (arith, w.same.long))
                 ∙ ap (f (extended f leaves hs)) (sym (merged-at k (omega arith)) ∙ same ∙ merged-at i h)
@@ -215,7 +215,7 @@ module _ {d n : ℕ} {gs : List Gate} {cs ns : List ℕ} (w : MergedIn d n gs cs
           }
 
       merged-stands : length ns ≡ 1024 → MergedIn d n gs cs (set ns (d + i) (d + k))
-      unfolding netAt
+      unfolding net_at
       merged-stands q =
           record {
             merged = w.merged;
@@ -268,7 +268,7 @@ pub record Merging (d n : ℕ) (cs₀ : List ℕ) (i : ℕ) (cs ns hs xs : List 
 
 pub merging-none : {d n i : ℕ} {cs ns hs xs : List ℕ} → length cs ≡ 800 → InputsNumbered (d + n) ns → Chained i hs xs
     → Merging d n cs i cs ns hs xs
-unfolding netAt
+unfolding net_at
 merging-none {d} {ns = ns} l q b =
     record {
       long = l;
@@ -300,7 +300,7 @@ module _ {d n i : ℕ} {cs₀ cs ns hs xs : List ℕ} (w : Merging d n cs₀ i c
       }
 
   module _ (h : i < n) where
-    pub merging-moved : {c : ℕ} → c ≡ packed (d + i) (moved ns (gateIn (get_or cs i 0))) → Merging d n cs₀ i (set cs i c) ns hs xs
+    pub merging-moved : {c : ℕ} → c ≡ packed (d + i) (moved ns (gate_in (get_or cs i 0))) → Merging d n cs₀ i (set cs i c) ns hs xs
     merging-moved {c} e =
         record {
           long = length-set cs i c ∙ w.long;
@@ -310,7 +310,7 @@ module _ {d n i : ℕ} {cs₀ cs ns hs xs : List ℕ} (w : Merging d n cs₀ i c
           merged = λ gs p. rw e (merged-moved (w.merged gs p) p.count r i h);
         }
 
-    pub merging-stands : (k : ℕ) → k ≤ i → gateIn (get_or cs k 0) ≡ gateIn (get_or cs i 0) → {v : ℕ} → v ≡ d + k
+    pub merging-stands : (k : ℕ) → k ≤ i → gate_in (get_or cs k 0) ≡ gate_in (get_or cs i 0) → {v : ℕ} → v ≡ d + k
         → Merging d n cs₀ (i + 1) cs (set ns (d + i) v) hs xs
     merging-stands k b s {v} e =
         record {
@@ -331,8 +331,8 @@ merged-self {j} {m} q =
       inputs = q.inputs;
       targets = q.targets;
       count = q.count;
-      merged = miterGates j;
-      same = same_self (j.inputs + j.targets) (miterGates j) (miter-good j q.good) q.forms;
+      merged = miter_gates j;
+      same = same_self (j.inputs + j.targets) (miter_gates j) (miter-good j q.good) q.forms;
       gates = q.gates;
       pairs =
           record {
@@ -357,11 +357,11 @@ replaced m cs os gos =
 
 module _ {m : Miter} {g : MergedGates} (w : GatesMerged (m.inputs + m.targets) m.count m.gates g) {j : Job}
     (q : MiterOf j m) where
-  miter-merged : MergedIn (j.inputs + j.targets) m.count (miterGates j) g.gates g.stands
+  miter-merged : MergedIn (j.inputs + j.targets) m.count (miter_gates j) g.gates g.stands
   unfolding codes
   miter-merged =
       rw (q.inputs, q.targets) at
-      (w.merged (miterGates j)
+      (w.merged (miter_gates j)
       (record {
         count = q.count;
         good = rw (q.inputs, q.targets) (miter-good j q.good);
@@ -370,29 +370,29 @@ module _ {m : Miter} {g : MergedGates} (w : GatesMerged (m.inputs + m.targets) m
       }))
 
   -- nets of the miter
-  module _ (is : List ℕ) (b : all (λ i. ltb i (miterNets j)) is ≡ true) where
-    net-stands : (i : ℕ) → Mem i is → (i < miterNets j) × StandsFor (j.inputs + j.targets) (miterGates j) i (netAt g.stands i)
-    unfolding miterNets
+  module _ (is : List ℕ) (b : all (λ i. ltb i (miter_nets j)) is ≡ true) where
+    net-stands : (i : ℕ) → Mem i is → (i < miter_nets j) × StandsFor (j.inputs + j.targets) (miter_gates j) i (net_at g.stands i)
+    unfolding miter_nets
     net-stands i t =
-        let n = miterNets j in
-        let l : i < miterNets j = ltb-true i n (all_true (λ k. ltb k n) is b i t) in
+        let n = miter_nets j in
+        let l : i < miter_nets j = ltb-true i n (all_true (λ k. ltb k n) is b i t) in
         (l, miter-merged.stands i (omega (arith, q.count)))
 
-    nets-same : (x v : ℕ) → map (netAt (miterValues j x v)) (map (netAt g.stands) is) ≡ map (netAt (miterValues j x v)) is
-    unfolding miterValues values value_of
+    nets-same : (x v : ℕ) → map (net_at (miter_values j x v)) (map (net_at g.stands) is) ≡ map (net_at (miter_values j x v)) is
+    unfolding miter_values values value_of
     nets-same x v =
-        let vs = miterValues j x v in
+        let vs = miter_values j x v in
         let leaves = bits j.inputs x ++ bits j.targets v in
         let l : length leaves ≡ j.inputs + j.targets =
         length-append (bits j.inputs x) (bits j.targets v)
         ∙ omega (arith, length-bits j.inputs x, length-bits j.targets v) in
-        map-map (netAt vs) (netAt g.stands) is
-        ∙ map-agree (λ i. netAt vs (netAt g.stands i)) (netAt vs) is
-        (λ i t. (net-stands i t).1.same gateValue leaves l)
+        map-map (net_at vs) (net_at g.stands) is
+        ∙ map-agree (λ i. net_at vs (net_at g.stands i)) (net_at vs) is
+        (λ i t. (net-stands i t).1.same gate_value leaves l)
 
-    nets-below : all (λ i. ltb i (miterNets j)) (map (netAt g.stands) is) ≡ true
+    nets-below : all (λ i. ltb i (miter_nets j)) (map (net_at g.stands) is) ≡ true
     nets-below =
-        all-mapped (netAt g.stands) (miterNets j) is
+        all-mapped (net_at g.stands) (miter_nets j) is
         (λ i t. let s = net-stands i t in omega (arith, s.1.before))
 
 module _ {m : Miter} (room : MiterRoom m) {g : MergedGates} (w : GatesMerged (m.inputs + m.targets) m.count m.gates g) where
@@ -417,8 +417,8 @@ module _ {m : Miter} (room : MiterRoom m) {g : MergedGates} (w : GatesMerged (m.
         }
 
     -- the first of them
-    moved-first : (is ks : List ℕ) → Moved is ks → (xs : List ℕ) → take m.outs is ≡ xs → take m.outs ks ≡ map (netAt g.stands) xs
-    unfolding netAt
+    moved-first : (is ks : List ℕ) → Moved is ks → (xs : List ℕ) → take m.outs is ≡ xs → take m.outs ks ≡ map (net_at g.stands) xs
+    unfolding net_at
     moved-first is ks h xs z =
         let f : ℕ → ℕ = λ o. get_or g.stands o 0 in
         sym (take-take m.outs 32 ks room.outs)
@@ -432,7 +432,7 @@ module _ {m : Miter} (room : MiterRoom m) {g : MergedGates} (w : GatesMerged (m.
         let a = outputs-nets j q.good in
         let b = goldens-nets j q.good in
         let r = moved-first m.outputs os d j.old.outputs q.outputs in
-        let s = moved-first m.goldens gos e (miterGoldens j) q.goldens in
+        let s = moved-first m.goldens gos e (miter_goldens j) q.goldens in
         record {
           good = q.good;
           inputs = q.inputs;
@@ -444,10 +444,10 @@ module _ {m : Miter} (room : MiterRoom m) {g : MergedGates} (w : GatesMerged (m.
           pairs =
               record {
                 olds = rw r (nets-below w q j.old.outputs a);
-                goldens = rw s (nets-below w q (miterGoldens j) b);
+                goldens = rw s (nets-below w q (miter_goldens j) b);
                 equal =
                     λ x v.
-                    rw (r, s, nets-same w q j.old.outputs a x v, nets-same w q (miterGoldens j) b x v)
+                    rw (r, s, nets-same w q j.old.outputs a x v, nets-same w q (miter_goldens j) b x v)
                     (sym (rectifies-miter j q.good x v));
               };
         }

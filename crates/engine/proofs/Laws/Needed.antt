@@ -12,8 +12,8 @@ use lib.ListN.{length, get_or, length-append, get_or-append}
 use lib.Seq.{get_or-append_seam}
 use Rattle.records.specs.Job.{Job}
 use Rattle.engine.specs.Choice.{any, first}
-use Rattle.engine.specs.Eval.{allInputs, allVectors, oldOutputs, goldenOutputs}
-use Rattle.engine.specs.Rectify.{rectifies, unrectified, rounds, vectorLoop}
+use Rattle.engine.specs.Eval.{all_inputs, all_vectors, old_outputs, golden_outputs}
+use Rattle.engine.specs.Rectify.{rectifies, unrectified, rounds, vector_loop}
 use Rattle.engine.specs.Claims.{WithoutWaste}
 use Rattle.engine.proofs.Laws.Choice.{not-both, none_or_some, any-of-member, first-least}
 use Rattle.engine.proofs.Laws.FitNets.{mem-at}
@@ -31,7 +31,7 @@ distinct-once (v ∷ vs) d (suc a) (suc b) l m e = ap suc (distinct-once vs d.1 
 module _ (j : Job) where
   -- a round, which takes input x, appends v to vs
   abbrev Appends : List ℕ → ℕ → ℕ → Type 0
-  Appends vs x v = (first (unrectified j vs) (allInputs j) ≡ some x) × (first (rectifies j x) (allVectors j) ≡ some v)
+  Appends vs x v = (first (unrectified j vs) (all_inputs j) ≡ some x) × (first (rectifies j x) (all_vectors j) ≡ some v)
 
   -- what each round keeps holds of the list at the end
   rounds-keep : (P : List ℕ → Type 0) → ((vs : List ℕ) (x v : ℕ) → Appends vs x v → P vs → P (vs ++ (v ∷ [])))
@@ -41,29 +41,29 @@ module _ (j : Job) where
   rounds-keep P keep (suc k) vs h =
       ⊎_elim
       (λ e. rw (rounds-done j k vs e) h)
-      (λ (s : (x : ℕ) × (first (unrectified j vs) (allInputs j) ≡ some x)).
+      (λ (s : (x : ℕ) × (first (unrectified j vs) (all_inputs j) ≡ some x)).
       ⊎_elim
       (λ n. rw (rounds-stuck j k vs s.0 s.1 n) h)
-      (λ (t : (v : ℕ) × (first (rectifies j s.0) (allVectors j) ≡ some v)).
+      (λ (t : (v : ℕ) × (first (rectifies j s.0) (all_vectors j) ≡ some v)).
       rw (rounds-again j k vs s.0 t.0 s.1 t.1)
       (rounds-keep P keep k (vs ++ (t.0 ∷ [])) (keep vs s.0 t.0 (s.1, t.1) h)))
-      (none_or_some (first (rectifies j s.0) (allVectors j))))
-      (none_or_some (first (unrectified j vs) (allInputs j)))
+      (none_or_some (first (rectifies j s.0) (all_vectors j))))
+      (none_or_some (first (unrectified j vs) (all_inputs j)))
 
   -- v rectifies an input that none of the vectors at the places of vs before a rectifies
   abbrev NeededAt : List ℕ → ℕ → ℕ → Type 0
   NeededAt vs a v =
       (x : ℕ)
       × (x < 2 ^ j.inputs)
-      × (oldOutputs j x v ≡ goldenOutputs j x)
-      × ((b : ℕ) → b < a → oldOutputs j x (get_or vs b 0) ≡ goldenOutputs j x → ⊥)
+      × (old_outputs j x v ≡ golden_outputs j x)
+      × ((b : ℕ) → b < a → old_outputs j x (get_or vs b 0) ≡ golden_outputs j x → ⊥)
 
   abbrev Needed : List ℕ → Type 0
   Needed vs = (a : ℕ) → 0 < a → a < length vs → NeededAt vs a (get_or vs a 0)
 
   -- an appended vector is needed
   appended-needed : (vs : List ℕ) (x v : ℕ) → Appends vs x v → NeededAt vs (length vs) v
-  unfolding allInputs allVectors unrectified
+  unfolding all_inputs all_vectors unrectified
   appended-needed vs x v s =
       let u = first-least (unrectified j vs) (2 ^ j.inputs) x s.0 in
       let r = first-least (rectifies j x) (2 ^ j.targets) v s.1 in (
@@ -90,14 +90,14 @@ module _ (j : Job) where
       rw (get_or-append vs (v ∷ []) 0 a m) (needed-longer vs v a (get_or vs a 0) (omega arith) (h a p m)))
       (eq-or-lt_of_le (omega (arith, length-append vs (v ∷ []))))
 
-  vectors-needed : Needed (vectorLoop j).vectors
-  unfolding vectorLoop
+  vectors-needed : Needed (vector_loop j).vectors
+  unfolding vector_loop
   vectors-needed = rounds-keep Needed needed-round (2 ^ j.targets) (0 ∷ []) (λ a p l. let f : ⊥ = omega arith in absurd f)
 
-  pub without-waste : WithoutWaste j (vectorLoop j).vectors
+  pub without-waste : WithoutWaste j (vector_loop j).vectors
   without-waste =
       record {
-        once = distinct-once (vectorLoop j).vectors (vectors-distinct j);
+        once = distinct-once (vector_loop j).vectors (vectors-distinct j);
         most = length-vectors-le j;
         needed = vectors-needed;
       }

@@ -19,15 +19,15 @@ use Rattle.records.proofs.Laws.Bytes.{drop-tabulate, drop-tabulate-end}
 use Rattle.engine.specs.Choice.{any}
 use Rattle.engine.specs.Eval.{bit, number_of}
 use Rattle.engine.specs.Rectify.{Listed}
-use Rattle.engine.specs.Inner.List.{listStep, listedFrom, listed_of, Held, Stepped}
+use Rattle.engine.specs.Inner.List.{list_step, listed_from, listed_of, Held, Stepped}
 use Rattle.engine.specs.Inner.Note.{narrowed, gathered, Joined, CoveredTo, ListNoted}
-use Rattle.engine.specs.Inner.Kernel.{valueIn, rowValue, FirstZero}
+use Rattle.engine.specs.Inner.Kernel.{value_in, row_value, FirstZero}
 use Rattle.engine.specs.declared.list.Vectors.{Vectors}
 use Rattle.engine.proofs.Laws.Choice.{any-true, any-of-member}
 use Rattle.engine.proofs.Laws.Eval.{bit-lt}
-use Rattle.engine.proofs.Laws.Rows.{bit-gathered, gathered-lt, valueIn-lt}
+use Rattle.engine.proofs.Laws.Rows.{bit-gathered, gathered-lt, value_in-lt}
 use Rattle.engine.proofs.Laws.VectorSets.{in_set}
-use Rattle.engine.proofs.Laws.List.{listing, walked-still, listedFrom-walked, listedFrom-append, listedFrom-snoc, listStep-listed, listStep-stuck}
+use Rattle.engine.proofs.Laws.List.{listing, walked-still, listed_from-walked, listed_from-append, listed_from-snoc, list_step-listed, list_step-stuck}
 use Rattle.engine.proofs.Laws.Word.{bit-or, bit-zero}
 
 -- ---- sets that a reading does not change
@@ -40,33 +40,33 @@ kept (a ∷ bs) (suc r) s e = ap (λ (cs : List ℕ). a ∷ cs) (kept bs r s e)
 
 -- ---- a set gathered row by row, the last first
 
-pub numberOf-drop-le : (bs : List ℕ) (i : ℕ) → number_of (drop i bs) ≤ number_of bs
+pub number_of-drop-le : (bs : List ℕ) (i : ℕ) → number_of (drop i bs) ≤ number_of bs
 unfolding number_of
-numberOf-drop-le bs zero = omega arith
-numberOf-drop-le [] (suc i) = omega arith
-numberOf-drop-le (b ∷ bs) (suc i) = omega (arith, numberOf-drop-le bs i)
+number_of-drop-le bs zero = omega arith
+number_of-drop-le [] (suc i) = omega arith
+number_of-drop-le (b ∷ bs) (suc i) = omega (arith, number_of-drop-le bs i)
 
 module _ (x : List ℕ) (y : ℕ) where
   -- what is gathered from row i on
   abbrev pub rows_from : ℕ → ℕ
-  rows_from i = number_of (drop i (tabulate 16 (valueIn x y)))
+  rows_from i = number_of (drop i (tabulate 16 (value_in x y)))
 
-  pub rowsFrom-all : rows_from 0 ≡ gathered x y
+  pub rows_from-all : rows_from 0 ≡ gathered x y
   unfolding gathered
-  rowsFrom-all = refl
+  rows_from-all = refl
 
-  pub rowsFrom-none : rows_from 16 ≡ 0
+  pub rows_from-none : rows_from 16 ≡ 0
   unfolding number_of
-  rowsFrom-none = ap number_of (drop-tabulate-end 16 (valueIn x y))
+  rows_from-none = ap number_of (drop-tabulate-end 16 (value_in x y))
 
-  pub rowsFrom-lt : (i : ℕ) → rows_from i < 65536
+  pub rows_from-lt : (i : ℕ) → rows_from i < 65536
   unfolding gathered
-  rowsFrom-lt i = omega (arith, numberOf-drop-le (tabulate 16 (valueIn x y)) i, gathered-lt x y)
+  rows_from-lt i = omega (arith, number_of-drop-le (tabulate 16 (value_in x y)) i, gathered-lt x y)
 
-  pub rowsFrom-turn : (i : ℕ) → i < 16
+  pub rows_from-turn : (i : ℕ) → i < 16
       → 2 * rows_from (i + 1) + get_or x (16 * i + y / 64) 0 / 2 ^ (y % 64) % 2 ≡ rows_from i
-  unfolding number_of valueIn bit
-  rowsFrom-turn i h = omega (arith, ap number_of (drop-tabulate 16 (valueIn x y) i h))
+  unfolding number_of value_in bit
+  rows_from-turn i h = omega (arith, ap number_of (drop-tabulate 16 (value_in x y) i h))
 
 -- ---- the first places of a list
 
@@ -87,7 +87,7 @@ any_next p list i l h =
 -- ---- rows joined
 
 pub joined-none : (masks vs : List ℕ) → Joined masks vs (replicate 16 0)
-unfolding rowValue
+unfolding row_value
 joined-none masks vs y h e =
     let z : bit (y % 64) (get_or (replicate 16 0) (y / 64) 0) ≡ 0 =
     ap (bit (y % 64)) (get_or-replicate 16 (y / 64) 0 0 (omega arith)) ∙ bit-zero (y % 64) in
@@ -100,15 +100,15 @@ either-one (suc a) b h k e = inl (omega arith)
 -- .. of rows, where the words are joined
 joined-row : (masks words next : List ℕ) (v : ℕ)
     → ((w : ℕ) → w < 16 → get_or next w 0 ≡ bit_or (get_or words w 0) (get_or masks (16 * v + w) 0))
-    → (y : ℕ) → y < 1024 → rowValue next y ≡ max (rowValue words y) (valueIn masks y v)
-unfolding rowValue valueIn
+    → (y : ℕ) → y < 1024 → row_value next y ≡ max (row_value words y) (value_in masks y v)
+unfolding row_value value_in
 joined-row masks words next v j y k =
     ap (bit (y % 64)) (j (y / 64) (omega arith))
     ∙ bit-or (y % 64) (get_or words (y / 64) 0) (get_or masks (16 * v + y / 64) 0)
 
-pub rowValue-lt : (r : List ℕ) (y : ℕ) → rowValue r y < 2
-unfolding rowValue
-rowValue-lt r y = bit-lt (y % 64) (get_or r (y / 64) 0)
+pub row_value-lt : (r : List ℕ) (y : ℕ) → row_value r y < 2
+unfolding row_value
+row_value-lt r y = bit-lt (y % 64) (get_or r (y / 64) 0)
 
 pub joined-next : (masks list words next : List ℕ) (i : ℕ) → i < length list → get_or list i 0 < 16
     → ((w : ℕ) → w < 16 → get_or next w 0 ≡ bit_or (get_or words w 0) (get_or masks (16 * get_or list i 0 + w) 0))
@@ -117,9 +117,9 @@ joined-next masks list words next i l h j p y k e =
     let v = get_or list i 0 in
     any_next (in_set (gathered masks y)) list i l
     (⊎_elim
-    (λ (a : rowValue words y ≡ 1). inl (p y k a))
-    (λ (b : valueIn masks y v ≡ 1). inr (eq-eqb (bit v (gathered masks y)) 1 (bit-gathered masks y v h ∙ b)))
-    (either-one (rowValue words y) (valueIn masks y v) (rowValue-lt words y) (valueIn-lt masks y v)
+    (λ (a : row_value words y ≡ 1). inl (p y k a))
+    (λ (b : value_in masks y v ≡ 1). inr (eq-eqb (bit v (gathered masks y)) 1 (bit-gathered masks y v h ∙ b)))
+    (either-one (row_value words y) (value_in masks y v) (row_value-lt words y) (value_in-lt masks y v)
     (sym (joined-row masks words next v j y k) ∙ e)))
 
 -- ---- the next scenario that no listed vector covers
@@ -138,7 +138,7 @@ covered_next masks row v y r p f h =
 
 module _ (masks : List ℕ) (first : ℕ) (v : Vectors) where
   pub list-none : Held v → ListNoted masks first 0 v v
-  unfolding listedFrom
+  unfolding listed_from
   list-none h = record { held = h; listed = λ f g. refl }
 
   pub list-next : (i : ℕ) (u : Vectors) (s : ℕ) (u' : Vectors) → ListNoted masks first i v u → s ≡ gathered masks i
@@ -149,32 +149,32 @@ module _ (masks : List ℕ) (first : ℕ) (v : Vectors) where
         listed = λ f a.
             let e : s ≡ f (first + i) = m ∙ a i (omega arith) in
             t.listed
-            ∙ ap (λ (k : ℕ). listStep (listed_of u) k (first + i)) e
-            ∙ ap (λ (l : Listed). listStep l (f (first + i)) (first + i)) (p.listed f (λ k l. a k (omega arith)))
-            ∙ sym (listedFrom-snoc f (listed_of v) first i);
+            ∙ ap (λ (k : ℕ). list_step (listed_of u) k (first + i)) e
+            ∙ ap (λ (l : Listed). list_step l (f (first + i)) (first + i)) (p.listed f (λ k l. a k (omega arith)))
+            ∙ sym (listed_from-snoc f (listed_of v) first i);
       }
 
   -- scenarios that leave the list as it is
   list-still : (i n : ℕ) (u : Vectors) → i ≤ n → ListNoted masks first i v u
-      → ((y : ℕ) → i ≤ y → y < n → listStep (listed_of u) (gathered masks y) (first + y) ≡ listed_of u) → ListNoted masks first n v u
+      → ((y : ℕ) → i ≤ y → y < n → list_step (listed_of u) (gathered masks y) (first + y) ≡ listed_of u) → ListNoted masks first n v u
   list-still i n u l p h =
       record {
         held = p.held;
         listed = λ f g.
             let k : ℕ = n - i in
             let e : i + k ≡ n = omega arith in
-            let q : listed_of u ≡ listedFrom f (listed_of v) first i = p.listed f (λ y a. g y (omega arith)) in
+            let q : listed_of u ≡ listed_from f (listed_of v) first i = p.listed f (λ y a. g y (omega arith)) in
             let still = walked-still (listing f) (listed_of u) (first + i) k
             (λ z a b.
             let y : ℕ = z - first in
             let d : first + y ≡ z = omega arith in
-            subst (λ (x : ℕ). listStep (listed_of u) (f x) x ≡ listed_of u) d
-            (ap (λ (s : ℕ). listStep (listed_of u) s (first + y)) (sym (g y (omega arith))) ∙ h y (omega arith) (omega arith))) in
+            subst (λ (x : ℕ). list_step (listed_of u) (f x) x ≡ listed_of u) d
+            (ap (λ (s : ℕ). list_step (listed_of u) s (first + y)) (sym (g y (omega arith))) ∙ h y (omega arith) (omega arith))) in
             sym still
-            ∙ sym (listedFrom-walked f (listed_of u) (first + i) k)
-            ∙ ap (λ (l : Listed). listedFrom f l (first + i) k) q
-            ∙ sym (listedFrom-append f (listed_of v) first i k)
-            ∙ ap (listedFrom f (listed_of v) first) e;
+            ∙ sym (listed_from-walked f (listed_of u) (first + i) k)
+            ∙ ap (λ (l : Listed). listed_from f l (first + i) k) q
+            ∙ sym (listed_from-append f (listed_of v) first i k)
+            ∙ ap (listed_from f (listed_of v) first) e;
       }
 
   -- .. as a listed vector covers each
@@ -182,10 +182,10 @@ module _ (masks : List ℕ) (first : ℕ) (v : Vectors) where
       → ListNoted masks first n v u
   list-covered i r n u p c a b =
       list-still i n u a p
-      (λ y k l. listStep-listed (listed_of u) (gathered masks y) (first + y) (c.covered y k (omega arith)))
+      (λ y k l. list_step-listed (listed_of u) (gathered masks y) (first + y) (c.covered y k (omega arith)))
 
   -- .. as an input before had no vector
   pub list-stuck : (i n : ℕ) (u : Vectors) → ListNoted masks first i v u → u.stuck ≡ true → i ≤ n → ListNoted masks first n v u
   unfolding listed_of
   list-stuck i n u p e a =
-      list-still i n u a p (λ y k l. listStep-stuck (listed_of u) (gathered masks y) (first + y) u.input (rw e))
+      list-still i n u a p (λ y k l. list_step-stuck (listed_of u) (gathered masks y) (first + y) u.input (rw e))

@@ -18,20 +18,20 @@ use Rattle.records.specs.Bytes.{up_from}
 use Rattle.records.specs.Job.{Job}
 use Rattle.records.proofs.Laws.Bytes.{tabulate-ext, tabulate-take}
 use Rattle.engine.specs.Choice.{keep, found, or_zero}
-use Rattle.engine.specs.Eval.{bit, allInputs, allVectors}
+use Rattle.engine.specs.Eval.{bit, all_inputs, all_vectors}
 use Rattle.engine.specs.Rectify.{rectifies}
-use Rattle.engine.specs.Support.{reading, giving, shared, sharing, note_of, notesOf}
+use Rattle.engine.specs.Support.{reading, giving, shared, sharing, note_of, notes_of}
 use Rattle.engine.specs.Claims.{SomeGives, RectifyAll, NoteIn}
-use Rattle.engine.specs.Inner.List.{maxVectors, lowest}
+use Rattle.engine.specs.Inner.List.{max_vectors, lowest}
 use Rattle.engine.specs.Inner.Best.{RectifiesAll, SetsOf}
 use Rattle.engine.specs.Inner.Given.{Unseen}
-use Rattle.engine.specs.Inner.Table.{noteFrom}
-use Rattle.engine.proofs.Laws.Choice.{true-or-false, mem-keep, mem_below, mem-upFrom, found_some}
+use Rattle.engine.specs.Inner.Table.{note_from}
+use Rattle.engine.proofs.Laws.Choice.{true-or-false, mem-keep, mem_below, mem-up_from, found_some}
 use Rattle.engine.proofs.Laws.Eval.{bit-lt}
 use Rattle.engine.proofs.Laws.Rows.{bit-ext, bit-pow}
 use Rattle.engine.proofs.Laws.Sets.{found-lowest}
 use Rattle.engine.proofs.Laws.Shift.{bit-mod}
-use Rattle.engine.proofs.Laws.Support.{rectifies-iff-outputs, rectifiesGiving, rectifies-all, all-rectifies, shared-least}
+use Rattle.engine.proofs.Laws.Support.{rectifies-iff-outputs, rectifies_giving, rectifies-all, all-rectifies, shared-least}
 use Rattle.engine.proofs.Laws.VectorSets.{no_bits, lowest-lt, lowest-bit}
 
 -- ---- how many numbers a test keeps
@@ -48,7 +48,7 @@ kept-ascend p a (suc n) x y zs e =
     let i : a ≡ x = cc in
     let r : ks ≡ y ∷ zs = cc in
     let m : Mem y ks = rw r (here refl) in
-    let u = (mem-upFrom (suc a) n y).0 ((mem-keep p (up_from (suc a) n) y).0 m).0 in
+    let u = (mem-up_from (suc a) n y).0 ((mem-keep p (up_from (suc a) n) y).0 m).0 in
     omega (arith, u.0))
     (λ (t : p a ≡ false).
     kept-ascend p (suc a) n x y zs (subst (λ (b : Bool). cond b (a ∷ ks) ks ≡ x ∷ y ∷ zs) t e))
@@ -92,26 +92,26 @@ kept-cases p n = go (keep p (up_from 0 n)) refl
 -- ---- the inputs that give a reading, and the vectors that they share
 
 module _ (j : Job) (is : List ℕ) (r : ℕ) where
-  abbrev passesReading : ℕ → Bool
-  passesReading x = eqb (reading j is x) r
+  abbrev passes_reading : ℕ → Bool
+  passes_reading x = eqb (reading j is x) r
 
   giving-cases : ((length (giving j is r) ≡ 0) × (SomeGives j is r → ⊥)) ⊎ ((length (giving j is r) ≡ 0 → ⊥) × SomeGives j is r)
-  unfolding giving allInputs
+  unfolding giving all_inputs
   giving-cases =
       ⊎_elim
-      (λ (c : KeptNone passesReading (2 ^ j.inputs) (length (giving j is r))).
+      (λ (c : KeptNone passes_reading (2 ^ j.inputs) (length (giving j is r))).
       inl (c.0, λ g. c.1 g.0 g.1 (eq-eqb (reading j is g.0) r g.2)))
       (λ c.
       inr
       (⊎_elim
-      (λ (d : KeptOne passesReading (2 ^ j.inputs) (length (giving j is r))).
+      (λ (d : KeptOne passes_reading (2 ^ j.inputs) (length (giving j is r))).
       let x = d.1.0 in
       ((λ z. let f : ⊥ = omega (arith, d.0) in f), (x, d.1.1, eqb-true (reading j is x) r d.1.2)))
-      (λ (d : KeptTwo passesReading (2 ^ j.inputs) (length (giving j is r))).
+      (λ (d : KeptTwo passes_reading (2 ^ j.inputs) (length (giving j is r))).
       let x = d.1.1 in
       ((λ z. let f : ⊥ = omega (arith, d.0) in f), (x, d.1.3, eqb-true (reading j is x) r d.1.5)))
       c))
-      (kept-cases passesReading (2 ^ j.inputs))
+      (kept-cases passes_reading (2 ^ j.inputs))
 
   -- vector v is one of those that rectify every input giving the reading
   abbrev Shares : ℕ → Type 0
@@ -121,9 +121,9 @@ module _ (j : Job) (is : List ℕ) (r : ℕ) where
       ((k ≡ 0) × ((v : ℕ) → Shares v → ⊥))
       ⊎ (((k ≡ 1) × ((v : ℕ) × Shares v × ((u : ℕ) → Shares u → u ≡ v)))
       ⊎ ((k ≡ 1 → ⊥) × ((u : ℕ) × (v : ℕ) × (u < v) × Shares u × Shares v)))
-  unfolding sharing allVectors rectifiesGiving
+  unfolding sharing all_vectors rectifies_giving
   sharing-cases =
-      let p = rectifiesGiving j is r in
+      let p = rectifies_giving j is r in
       let n = 2 ^ j.targets in
       let k = length (sharing j is r) in
       ⊎_elim
@@ -147,7 +147,7 @@ module _ (j : Job) (is : List ℕ) (r : ℕ) where
 
 -- the set s holds the vectors that are shared at reading r
 module _ (j : Job) (is : List ℕ) (r s : ℕ) (few : j.targets ≤ 4)
-    (h : (v : ℕ) → v < maxVectors → (bit v s ≡ 1) ↔ Shares j is r v) where
+    (h : (v : ℕ) → v < max_vectors → (bit v s ≡ 1) ↔ Shares j is r v) where
   abbrev low : ℕ
   low = or_zero (lowest s)
 
@@ -155,10 +155,10 @@ module _ (j : Job) (is : List ℕ) (r s : ℕ) (few : j.targets ≤ 4)
   abbrev vectors : ℕ
   vectors = s % 65536
 
-  vectors-iff : (v : ℕ) → v < maxVectors → (bit v vectors ≡ 1) ↔ Shares j is r v
+  vectors-iff : (v : ℕ) → v < max_vectors → (bit v vectors ≡ 1) ↔ Shares j is r v
   vectors-iff v l = rw (bit-mod 16 v s l) (h v l)
 
-  shares-small : (v : ℕ) → Shares j is r v → v < maxVectors
+  shares-small : (v : ℕ) → Shares j is r v → v < max_vectors
   shares-small v a = omega (arith, a.0, pow_mono {j = 4} few)
 
   -- a set that is a power of two has one vector
@@ -199,8 +199,8 @@ module _ (j : Job) (is : List ℕ) (r s : ℕ) (few : j.targets ≤ 4)
       (sharing-cases j is r)
 
 module _ (j : Job) (is ss : List ℕ) (h : SetsOf j is ss) (g : Unseen j is ss) where
-  note-of-set : (r : ℕ) → r < 2 ^ length is → noteFrom (get_or ss r 0) ≡ note_of j is r
-  unfolding noteFrom note_of
+  note-of-set : (r : ℕ) → r < 2 ^ length is → note_from (get_or ss r 0) ≡ note_of j is r
+  unfolding note_from note_of
   note-of-set r l =
       let t = get_or ss r 0 in
       let o = bit 16 t in
@@ -214,8 +214,8 @@ module _ (j : Job) (is ss : List ℕ) (h : SetsOf j is ss) (g : Unseen j is ss) 
 
   -- the places that hold the notes of the sets
   pub notes-sets : (ts : List ℕ) → 2 ^ length is ≤ length ts
-      → ((r : ℕ) → r < 2 ^ length is → get_or ts r 0 ≡ noteFrom (get_or ss r 0)) → take (2 ^ length is) ts ≡ notesOf j is
-  unfolding notesOf
+      → ((r : ℕ) → r < 2 ^ length is → get_or ts r 0 ≡ note_from (get_or ss r 0)) → take (2 ^ length is) ts ≡ notes_of j is
+  unfolding notes_of
   notes-sets ts l f =
       sym (tabulate-take 0 ts (2 ^ length is) l)
       ∙ tabulate-ext (2 ^ length is) (λ r. get_or ts r 0) (note_of j is) (λ r m. f r m ∙ note-of-set r m)

@@ -14,11 +14,11 @@ use Rattle.records.specs.Job.{Job}
 use Rattle.records.proofs.Laws.Bytes.{all-below}
 use Rattle.engine.specs.Choice.{same}
 use Rattle.engine.specs.Inner.Merge.{PairsKept}
-use Rattle.engine.specs.Inner.Miter.{miterNets, MiterRoom, MergedOf}
+use Rattle.engine.specs.Inner.Miter.{miter_nets, MiterRoom, MergedOf}
 use Rattle.engine.specs.declared.merge.Pairs.{Pairs}
 use Rattle.engine.specs.declared.miter.Miter.{Miter}
 use Rattle.engine.proofs.Laws.Choice.{all_get_d}
-use Rattle.engine.proofs.Laws.Leaves.{getD-zeros}
+use Rattle.engine.proofs.Laws.Leaves.{get_or-zeros}
 use Rattle.engine.proofs.Laws.List.{set_holds}
 use Rattle.engine.proofs.Laws.Outputs.{same-snoc, map_snoc, same_next}
 
@@ -31,7 +31,7 @@ pairs-none os gs =
       few = omega arith;
       olds = length-replicate {A = ℕ} 32 0;
       goldens = length-replicate {A = ℕ} 32 0;
-      below = λ k h e i. rw (getD-zeros 32 i) (h, h);
+      below = λ k h e i. rw (get_or-zeros 32 i) (h, h);
       equal = λ f. refl;
     }
 
@@ -117,20 +117,20 @@ module _ {m : Miter} {ps : Pairs} (room : MiterRoom m) (k : PairsKept m.outputs 
       }
 
   module _ {j : Job} (q : MergedOf j m) where
-    nets-below : (i : ℕ) → i < m.outs → (get_or m.outputs i 0 < miterNets j) × (get_or m.goldens i 0 < miterNets j)
+    nets-below : (i : ℕ) → i < m.outs → (get_or m.outputs i 0 < miter_nets j) × (get_or m.goldens i 0 < miter_nets j)
     nets-below i h = (
-      first_below (miterNets j) m.outs m.outputs (omega (arith, room.outs, room.outputs)) q.pairs.olds i h,
-      first_below (miterNets j) m.outs m.goldens (omega (arith, room.outs, room.goldens)) q.pairs.goldens i h,
+      first_below (miter_nets j) m.outs m.outputs (omega (arith, room.outs, room.outputs)) q.pairs.olds i h,
+      first_below (miter_nets j) m.outs m.goldens (omega (arith, room.outs, room.goldens)) q.pairs.goldens i h,
     )
 
-    kept-below : (i : ℕ) → i < ps.count → (get_or ps.outputs i 0 < miterNets j) × (get_or ps.goldens i 0 < miterNets j)
-    kept-below i h = k.below (miterNets j) (omega (arith, (nets-below 0 (omega (arith, k.few))).0)) nets-below i
+    kept-below : (i : ℕ) → i < ps.count → (get_or ps.outputs i 0 < miter_nets j) × (get_or ps.goldens i 0 < miter_nets j)
+    kept-below i h = k.below (miter_nets j) (omega (arith, (nets-below 0 (omega (arith, k.few))).0)) nets-below i
 
-    kept-all : (xs : List ℕ) → length xs ≡ 32 → ((i : ℕ) → i < ps.count → get_or xs i 0 < miterNets j)
-        → all (λ i. ltb i (miterNets j)) (take ps.count xs) ≡ true
+    kept-all : (xs : List ℕ) → length xs ≡ 32 → ((i : ℕ) → i < ps.count → get_or xs i 0 < miter_nets j)
+        → all (λ i. ltb i (miter_nets j)) (take ps.count xs) ≡ true
     kept-all xs l b =
         let n = length-take-le ps.count xs (omega (arith, k.few, room.outs)) in
-        all-below (miterNets j) (take ps.count xs)
+        all-below (miter_nets j) (take ps.count xs)
         (λ i h. let u : i < ps.count = omega arith in rw (get_or-take ps.count xs i 0 u) (b i u))
 
     pub paired-of : MergedOf j (paired m ps)

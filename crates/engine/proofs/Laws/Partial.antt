@@ -13,15 +13,15 @@ use lib.ListN.{length, get_or, take, set, length-set, get_or-append}
 use lib.Pow.{high, shr-shr}
 use lib.Seq.{length-take-le, get_or-append-add, get_or-take, take-suc-set, take-nil, append_snoc}
 use Rattle.records.specs.Bytes.{up_from, tabulate, all, placed}
-use Rattle.records.specs.Gate.{Gate, operands, gateValue}
-use Rattle.records.specs.Netlist.{netAt, value_of}
-use Rattle.records.specs.Refusal.{gateGood}
+use Rattle.records.specs.Gate.{Gate, operands, gate_value}
+use Rattle.records.specs.Netlist.{net_at, value_of}
+use Rattle.records.specs.Refusal.{gate_good}
 use Rattle.records.proofs.Laws.Bytes.{all_cons, length-tabulate, get_d_tabulate, tabulate-snoc, placed-nil, length-placed, take-placed, set-placed}
-use Rattle.records.proofs.Laws.Gate.{gateGood-parts}
+use Rattle.records.proofs.Laws.Gate.{gate_good-parts}
 use Rattle.engine.specs.Eval.{bit, bits}
-use Rattle.engine.specs.Ternary.{unknown, ternaryValue, ternaryTable, entry, Completes, CompletesAll}
-use Rattle.engine.specs.Inner.Packed.{fields, kind_of, count_of, operandsOf}
-use Rattle.engine.specs.Inner.Ranges.{known_at, ternaryOf, codeTernary, Completed, partialInput, InRange}
+use Rattle.engine.specs.Ternary.{unknown, ternary_value, ternary_table, entry, Completes, CompletesAll}
+use Rattle.engine.specs.Inner.Packed.{fields, kind_of, count_of, operands_of}
+use Rattle.engine.specs.Inner.Ranges.{known_at, ternary_of, code_ternary, Completed, partial_input, InRange}
 use Rattle.engine.proofs.Laws.Choice.{true-or-false}
 use Rattle.engine.proofs.Laws.Eval.{bit-lt}
 use Rattle.engine.proofs.Laws.Ternary.{entry-table, knowns, knowns-map, ternaries-map, completes-unknown, completes-nil, completes-cons, possible, possible-iff}
@@ -69,57 +69,57 @@ take_min (suc n) (x ∷ xs) =
     let e : min (suc n) (suc (length xs)) ≡ suc (min n (length xs)) = omega arith in rw (e, take_min n xs)
 
 -- what is known of it is its kind's value on what is known of its operands
-pub codeTernary-operands : (nets : List ℕ) (c : ℕ) (xs : List ℕ) → length xs ≡ 4
-    → take (min (count_of c) 4) xs ≡ map (netAt nets) (take 4 (operandsOf c))
-    → ternaryValue (kind_of c) (knowns (count_of c) xs) ≡ codeTernary nets c
-unfolding codeTernary known_at
-codeTernary-operands nets c xs e w =
+pub code_ternary-operands : (nets : List ℕ) (c : ℕ) (xs : List ℕ) → length xs ≡ 4
+    → take (min (count_of c) 4) xs ≡ map (net_at nets) (take 4 (operands_of c))
+    → ternary_value (kind_of c) (knowns (count_of c) xs) ≡ code_ternary nets c
+unfolding code_ternary known_at
+code_ternary-operands nets c xs e w =
     let n = count_of c in
     let t : take n xs ≡ take (min n 4) xs = sym (take_min n xs) ∙ ap (λ (m : ℕ). take (min n m) xs) e in
-    ap (ternaryValue (kind_of c))
-    (knowns-map n xs ∙ ap (map (λ x. min x unknown)) (t ∙ w) ∙ map-map (λ x. min x unknown) (netAt nets) (take 4 (operandsOf c)))
+    ap (ternary_value (kind_of c))
+    (knowns-map n xs ∙ ap (map (λ x. min x unknown)) (t ∙ w) ∙ map-map (λ x. min x unknown) (net_at nets) (take 4 (operands_of c)))
 
 -- .. and, of two operands, the entry of its kind's table at them
-pub codeTernary-two : (nets : List ℕ) (c : ℕ) → count_of c ≡ 2
-    → entry (ternaryTable (kind_of c)) (netAt nets (c / 131072 % 1024)) (netAt nets (c / 131072 / 1024 % 1024)) ≡ codeTernary nets c
-unfolding codeTernary known_at fields entry
-codeTernary-two nets c e =
-    let x = netAt nets (c / 131072 % 1024) in
-    let y = netAt nets (c / 131072 / 1024 % 1024) in
+pub code_ternary-two : (nets : List ℕ) (c : ℕ) → count_of c ≡ 2
+    → entry (ternary_table (kind_of c)) (net_at nets (c / 131072 % 1024)) (net_at nets (c / 131072 / 1024 % 1024)) ≡ code_ternary nets c
+unfolding code_ternary known_at fields entry
+code_ternary-two nets c e =
+    let x = net_at nets (c / 131072 % 1024) in
+    let y = net_at nets (c / 131072 / 1024 % 1024) in
     let a : min (min x 2) 2 ≡ min x 2 = omega arith in
     let b : min (min y 2) 2 ≡ min y 2 = omega arith in
     rw e (rw (a, b) at (entry-table (kind_of c) (min x 2) (min y 2) (omega arith) (omega arith)))
 
 -- ---- a gate
 
-knownAt-le : (nets : List ℕ) (i : ℕ) → known_at nets i ≤ 2
+known_at-le : (nets : List ℕ) (i : ℕ) → known_at nets i ≤ 2
 unfolding known_at
-knownAt-le nets i = omega arith
+known_at-le nets i = omega arith
 
 module _ (net : ℕ) (known nets : List ℕ) (c : Completed net known nets) where
-  operand : (i : ℕ) → i < net → Completes (netAt known i) (known_at nets i)
-  unfolding netAt known_at
+  operand : (i : ℕ) → i < net → Completes (net_at known i) (known_at nets i)
+  unfolding net_at known_at
   operand i h =
       let v = c i h in record { bit = v.bit; kept = λ l. let e = v.kept (omega arith) in omega arith }
 
   operands-complete : (os : List ℕ) → all (λ i. ltb i net) os ≡ true
-      → CompletesAll (map (netAt known) os) (map (known_at nets) os)
+      → CompletesAll (map (net_at known) os) (map (known_at nets) os)
   operands-complete [] e = completes-nil
   operands-complete (o ∷ os) e =
       let t = all_cons (λ i. ltb i net) o os e in
-      completes-cons (netAt known o) (known_at nets o) (map (netAt known) os) (map (known_at nets) os)
+      completes-cons (net_at known o) (known_at nets o) (map (net_at known) os) (map (known_at nets) os)
       (operand o (ltb-true o net t.0))
       (operands-complete os t.1)
 
   -- the value of a good gate completes what is known of it
-  pub gate-completes : (g : Gate) → gateGood net g ≡ true → Completes (value_of known g) (ternaryOf nets g)
-  unfolding value_of ternaryOf
+  pub gate-completes : (g : Gate) → gate_good net g ≡ true → Completes (value_of known g) (ternary_of nets g)
+  unfolding value_of ternary_of
   gate-completes g e =
       let k = g.kind in
-      let vs = map (netAt known) (operands g) in
+      let vs = map (net_at known) (operands g) in
       let xs = map (known_at nets) (operands g) in
-      let t = ternaries-map (known_at nets) (knownAt-le nets) (operands g) in
-      (possible-iff k xs t (gateValue k vs)).0 (possible k xs t vs (operands-complete (operands g) (gateGood-parts net g e).0))
+      let t = ternaries-map (known_at nets) (known_at-le nets) (operands g) in
+      (possible-iff k xs t (gate_value k vs)).0 (possible k xs t vs (operands-complete (operands g) (gate_good-parts net g e).0))
 
 -- ---- leaves: n numbers so far from place at on
 
@@ -144,13 +144,13 @@ module _ (d₀ : List ℕ) (at : ℕ) (g : ℕ → ℕ) where
 -- ---- the places of a range
 
 module _ (low prefix i : ℕ) where
-  pub partialInput-low : i < low → partialInput low prefix i ≡ unknown
-  unfolding partialInput
-  partialInput-low h = let t : ltb i low ≡ true = lt-ltb i low h in rw t
+  pub partial_input-low : i < low → partial_input low prefix i ≡ unknown
+  unfolding partial_input
+  partial_input-low h = let t : ltb i low ≡ true = lt-ltb i low h in rw t
 
-  pub partialInput-high : low ≤ i → partialInput low prefix i ≡ bit (i - low) prefix
-  unfolding partialInput
-  partialInput-high h = let t : ltb i low ≡ false = le-ltb i low h in rw t
+  pub partial_input-high : low ≤ i → partial_input low prefix i ≡ bit (i - low) prefix
+  unfolding partial_input
+  partial_input-high h = let t : ltb i low ≡ false = le-ltb i low h in rw t
 
 below_or_not : (a b : ℕ) → (b ≤ a) ⊎ (a < b)
 below_or_not a b = ⊎_elim (λ t. inr (ltb-true a b t)) (λ t. inl (ltb-false a b t)) (true-or-false (ltb a b))
@@ -167,17 +167,17 @@ bit-prefix low prefix x i r h =
     ap (λ (y : ℕ). y % 2)
     (ap (λ (k : ℕ). x / 2 ^ k) (sym n) ∙ sym (shr-shr x low (i - low)) ∙ ap (λ (y : ℕ). y / 2 ^ (i - low)) d)
 
-pub input-completes : (low prefix x i : ℕ) → InRange low prefix x → Completes (bit i x) (partialInput low prefix i)
+pub input-completes : (low prefix x i : ℕ) → InRange low prefix x → Completes (bit i x) (partial_input low prefix i)
 input-completes low prefix x i r =
     ⊎_elim
     (λ (h : low ≤ i).
-    rw (partialInput-high low prefix i h)
+    rw (partial_input-high low prefix i h)
     (record { bit = bit-lt i x; kept = λ l. bit-prefix low prefix x i r h }))
-    (λ (h : i < low). rw (partialInput-low low prefix i h) (completes-unknown (bit i x) (bit-lt i x)))
+    (λ (h : i < low). rw (partial_input-low low prefix i h) (completes-unknown (bit i x) (bit-lt i x)))
     (below_or_not i low)
 
-getD-second : (xs ys : List ℕ) (n i : ℕ) → length xs ≡ n → get_or (xs ++ ys) (n + i) 0 ≡ get_or ys i 0
-getD-second xs ys n i e = ap (λ (k : ℕ). get_or (xs ++ ys) (k + i) 0) (sym e) ∙ get_or-append-add xs ys i 0
+get_or-second : (xs ys : List ℕ) (n i : ℕ) → length xs ≡ n → get_or (xs ++ ys) (n + i) 0 ≡ get_or ys i 0
+get_or-second xs ys n i e = ap (λ (k : ℕ). get_or (xs ++ ys) (k + i) 0) (sym e) ∙ get_or-append-add xs ys i 0
 
 module _ (d₀ : List ℕ) (at k : ℕ) (g : ℕ → ℕ) (h : at + k ≤ length d₀) where
   -- what stands in the first at + k places
@@ -204,7 +204,7 @@ module _ (d₀ : List ℕ) (at k : ℕ) (g : ℕ → ℕ) (h : at + k ≤ length
       let m : at + j ≡ i = omega arith in
       let b : j < k = omega arith in
       rw (← m)
-      (rw (getD-second vs ws at j e, getD-second (take at d₀) (tabulate k g) at j t, get_d_tabulate k g j 0 b) (f j b)))
+      (rw (get_or-second vs ws at j e, get_or-second (take at d₀) (tabulate k g) at j t, get_d_tabulate k g j 0 b) (f j b)))
       (λ (q : i < at).
       let b : i < length (take at d₀) = omega arith in
       rw (get_or-append vs ws 0 i (omega arith), get_or-append (take at d₀) (tabulate k g) 0 i b, get_or-take at d₀ i 0 q)
@@ -215,12 +215,12 @@ module _ (d₀ : List ℕ) (at k : ℕ) (g : ℕ → ℕ) (h : at + k ≤ length
 
 module _ (n m low prefix : ℕ) (d₀ : List ℕ) (h : n + m ≤ length d₀) where
   inputs-placed : List ℕ
-  inputs-placed = placed d₀ 0 (tabulate n (partialInput low prefix))
+  inputs-placed = placed d₀ 0 (tabulate n (partial_input low prefix))
 
   length-inputs-placed : length inputs-placed ≡ length d₀
   unfolding inputs-placed
   length-inputs-placed =
-      length-placed d₀ 0 (tabulate n (partialInput low prefix)) (omega (arith, length-tabulate n (partialInput low prefix)))
+      length-placed d₀ 0 (tabulate n (partial_input low prefix)) (omega (arith, length-tabulate n (partial_input low prefix)))
 
   targets-placed : List ℕ
   targets-placed = placed inputs-placed n (tabulate m (λ i. unknown))
@@ -237,7 +237,7 @@ module _ (n m low prefix : ℕ) (d₀ : List ℕ) (h : n + m ≤ length d₀) wh
   unfolding bits inputs-placed
   inputs-completed x r =
       rw zero-add at
-      (completed-placed d₀ 0 n (partialInput low prefix) (omega arith) [] (bits n x) refl
+      (completed-placed d₀ 0 n (partial_input low prefix) (omega arith) [] (bits n x) refl
       (λ i l. let f : ⊥ = omega arith in absurd f)
       (λ i l. rw (get_d_tabulate n (λ k. bit k x) i 0 l) (input-completes low prefix x i r)))
 
@@ -252,7 +252,7 @@ module _ (n m low prefix : ℕ) (d₀ : List ℕ) (h : n + m ≤ length d₀) wh
 
 -- inputs and targets loaded: an input of the range and any vector complete their places
 pub leaves-loaded : (n m low prefix : ℕ) (d₀ d₁ d₂ : List ℕ) → n + m ≤ length d₀
-    → d₁ ≡ placed d₀ 0 (tabulate n (partialInput low prefix)) → d₂ ≡ placed d₁ n (tabulate m (λ i. unknown))
+    → d₁ ≡ placed d₀ 0 (tabulate n (partial_input low prefix)) → d₂ ≡ placed d₁ n (tabulate m (λ i. unknown))
     → (length d₂ ≡ length d₀) × ((x v : ℕ) → InRange low prefix x → Completed (n + m) (bits n x ++ bits m v) d₂)
 unfolding targets-placed inputs-placed
 leaves-loaded n m low prefix d₀ d₁ d₂ h p q =

@@ -17,8 +17,8 @@ use Rattle.records.specs.Job.{Job, Candidate}
 use Rattle.records.specs.Refusal.{ascending}
 use Rattle.records.proofs.Laws.Bytes.{false_of}
 use Rattle.records.specs.declared.sheet.Support.{Support}
-use Rattle.engine.specs.Support.{sound, candidateNets, cost, patchGates, earlier, better, chosen}
-use Rattle.engine.specs.Inner.Best.{picked, total, low_first, before, open_at, candidateWeights, SetsOf, GivenBits, SameTo, LeftOut, OpenPick, PricedRoom, PricedOf, PickOf, CountedOf, OpenOf, BestFrom, PickedNets, HeldSupport, Choosable, ChosenOf}
+use Rattle.engine.specs.Support.{sound, candidate_nets, cost, patch_gates, earlier, better, chosen}
+use Rattle.engine.specs.Inner.Best.{picked, total, low_first, before, open_at, candidate_weights, SetsOf, GivenBits, SameTo, LeftOut, OpenPick, PricedRoom, PricedOf, PickOf, CountedOf, OpenOf, BestFrom, PickedNets, HeldSupport, Choosable, ChosenOf}
 use Rattle.engine.specs.declared.best.Pick.{Pick}
 use Rattle.engine.specs.declared.best.Priced.{Priced}
 use Rattle.engine.proofs.Laws.Arena.{same-sets, same-given}
@@ -88,23 +88,23 @@ module _ (j : Job) (is ks : List ℕ) where
 
 module _ (j : Job) where
   abbrev at : ℕ → List ℕ
-  at s = picked (candidateNets j) s
+  at s = picked (candidate_nets j) s
 
   abbrev k : ℕ
-  k = length (candidateNets j)
+  k = length (candidate_nets j)
 
-  length-weights : length (candidateWeights j) ≡ k
-  unfolding candidateWeights candidateNets
+  length-weights : length (candidate_weights j) ≡ k
+  unfolding candidate_weights candidate_nets
   length-weights = length-map j.candidates (λ (c : Candidate). c.weight) ∙ sym (length-map j.candidates (λ (c : Candidate). c.net))
 
-  module _ (ascends : ascending (candidateNets j) ≡ true) where
-    pub cost-at : (s : ℕ) → cost j (at s) ≡ total (picked (candidateWeights j) s)
-    unfolding cost candidateNets candidateWeights
+  module _ (ascends : ascending (candidate_nets j) ≡ true) where
+    pub cost-at : (s : ℕ) → cost j (at s) ≡ total (picked (candidate_weights j) s)
+    unfolding cost candidate_nets candidate_weights
     cost-at s = cost-picked j.candidates s ascends
 
   -- a sound set is part of the open support
-  sound-open : (i s : ℕ) → sound j (at s) ≡ true → sound j (open_at (candidateNets j) i (s / 2 ^ i)) ≡ true
-  sound-open i s e = sound-mono j (at s) (open_at (candidateNets j) i (s / 2 ^ i)) (open-among (candidateNets j) i s) e
+  sound-open : (i s : ℕ) → sound j (at s) ≡ true → sound j (open_at (candidate_nets j) i (s / 2 ^ i)) ≡ true
+  sound-open i s e = sound-mono j (at s) (open_at (candidate_nets j) i (s / 2 ^ i)) (open-among (candidate_nets j) i s) e
 
   -- ---- where gates are counted
 
@@ -113,7 +113,7 @@ module _ (j : Job) where
   counted-before h l =
       record { pick = h; gates = ⊎_elim (λ z. let f : ⊥ = omega arith in absurd f) (λ e. e) h.gates }
 
-  pub counted-now : {p : Pick} {n : ℕ} → PickOf j p → n ≡ patchGates j (at p.set)
+  pub counted-now : {p : Pick} {n : ℕ} → PickOf j p → n ≡ patch_gates j (at p.set)
       → CountedOf j (record { set = p.set; cost = p.cost; len = p.len; gates = n })
   counted-now h e =
       record { pick = record { set = h.set; len = h.len; cost = h.cost; sound = h.sound; gates = inr e }; gates = e }
@@ -121,7 +121,7 @@ module _ (j : Job) where
   -- ---- where the search ends
 
   pub closed-sets : {p : Pick} {ss : List ℕ} → OpenOf j 0 p ss → SetsOf j (at p.set) ss
-  closed-sets {p} h = rw (← open_none (candidateNets j) p.set) h.sets
+  closed-sets {p} h = rw (← open_none (candidate_nets j) p.set) h.sets
 
   module _ {v : Priced} {all : List ℕ} (w : PricedOf j v all) where
     -- a counted pick is chosen before another where its support is
@@ -135,10 +135,10 @@ module _ (j : Job) where
         (λ (t : Bool).
         ltb (cost j x) (cost j y)
         || (eqb (cost j x) (cost j y)
-        && (ltb (patchGates j x) (patchGates j y) || (eqb (patchGates j x) (patchGates j y) && (ltb (length x) (length y) || t)))))
+        && (ltb (patch_gates j x) (patch_gates j y) || (eqb (patch_gates j x) (patch_gates j y) && (ltb (length x) (length y) || t)))))
         (and_same (eqb (length x) (length y)) (low_first 10 a.set b.set) (earlier x y)
         (λ e.
-        low-earlier 10 (candidateNets j) a.set b.set w.few w.ascends p.pick.set q.pick.set
+        low-earlier 10 (candidate_nets j) a.set b.set w.few w.ascends p.pick.set q.pick.set
         (eqb-true (length x) (length y) e))))
 
     -- what is open costs more than the best so far
@@ -150,15 +150,15 @@ module _ (j : Job) where
           kept = better-irrefl j (at b.set);
           least =
               λ t e s.
-              let c = total-from-le i (candidateWeights j) t in
-              let d : total (picked (drop i (candidateWeights j)) (t / 2 ^ i)) ≡ p.cost = rw e (sym h.cost) in
+              let c = total-from-le i (candidate_weights j) t in
+              let d : total (picked (drop i (candidate_weights j)) (t / 2 ^ i)) ≡ p.cost = rw e (sym h.cost) in
               not-better-dearer j (at t) (at b.set) (omega (arith, cost-at w.ascends t, g.cost));
         }
 
     -- nothing is open
     pub closed-pick : {p : Pick} {ss : List ℕ} → OpenOf j 0 p ss → PickOf j p
     closed-pick {p} h =
-        let e = open_none (candidateNets j) p.set in
+        let e = open_none (candidate_nets j) p.set in
         let z : k - 0 ≡ k = omega arith in
         record {
           set = rw z at h.set;
@@ -208,56 +208,56 @@ module _ (j : Job) where
   -- ---- the net below the place
 
   -- a support of n nets that is open up to and with place q, and of which t says whether it has that net
-  module _ (q t s n : ℕ) {ss : List ℕ} (place : q < k) (e : t / 2 ≡ s) (long : n ≡ length (open_at (candidateNets j) (suc q) s))
-      (sets : SetsOf j (open_at (candidateNets j) (suc q) s) ss) where
+  module _ (q t s n : ℕ) {ss : List ℕ} (place : q < k) (e : t / 2 ≡ s) (long : n ≡ length (open_at (candidate_nets j) (suc q) s))
+      (sets : SetsOf j (open_at (candidate_nets j) (suc q) s) ss) where
     abbrev below : List ℕ
-    below = take q (candidateNets j)
+    below = take q (candidate_nets j)
 
     abbrev net : ℕ
-    net = get_or (candidateNets j) q 0
+    net = get_or (candidate_nets j) q 0
 
     abbrev above : List ℕ
-    above = picked (drop (suc q) (candidateNets j)) s
+    above = picked (drop (suc q) (candidate_nets j)) s
 
-    pub kept-nets : t % 2 ≡ 1 → open_at (candidateNets j) q t ≡ open_at (candidateNets j) (suc q) s
-    kept-nets o = open_in (candidateNets j) q place t o ∙ ap (open_at (candidateNets j) (suc q)) e
+    pub kept-nets : t % 2 ≡ 1 → open_at (candidate_nets j) q t ≡ open_at (candidate_nets j) (suc q) s
+    kept-nets o = open_in (candidate_nets j) q place t o ∙ ap (open_at (candidate_nets j) (suc q)) e
 
     module _ (o : t % 2 ≡ 0) where
-      out-nets : open_at (candidateNets j) q t ≡ below ++ above
-      out-nets = open-out (candidateNets j) q place t o ∙ rw e
+      out-nets : open_at (candidate_nets j) q t ≡ below ++ above
+      out-nets = open-out (candidate_nets j) q place t o ∙ rw e
 
-      all-nets : open_at (candidateNets j) (suc q) s ≡ below ++ (net ∷ above)
-      all-nets = open-suc (candidateNets j) q place s
+      all-nets : open_at (candidate_nets j) (suc q) s ≡ below ++ (net ∷ above)
+      all-nets = open-suc (candidate_nets j) q place s
 
       with-sets : SetsOf j (below ++ (net ∷ above)) ss
       with-sets = rw (← all-nets) sets
 
       length-below : length below ≡ q
-      length-below = length-take-le q (candidateNets j) (omega arith)
+      length-below = length-take-le q (candidate_nets j) (omega arith)
 
       few-nets : n - 1 ≡ length (below ++ above)
       few-nets = omega (arith, ap length all-nets, length-append below (net ∷ above), length-append below above)
 
-      pub out-long : n - 1 ≡ length (open_at (candidateNets j) q t)
+      pub out-long : n - 1 ≡ length (open_at (candidate_nets j) q t)
       out-long = few-nets ∙ ap length (sym out-nets)
 
       module _ {b : Bool} {ps : List ℕ} (f : LeftOut ss (n - 1) q b ps) where
-        pub out-sets : b ≡ true → SetsOf j (open_at (candidateNets j) q t) ps
+        pub out-sets : b ≡ true → SetsOf j (open_at (candidate_nets j) q t) ps
         out-sets h =
             rw out-nets
             (left-sets j below net above ss with-sets ps (λ r b. rw length-below (f.filled h r (rw few-nets b)).0))
 
-        pub out-given : (k : ℕ) → b ≡ true → GivenBits j (open_at (candidateNets j) (suc q) s) ss k
-            → GivenBits j (open_at (candidateNets j) q t) ps k
+        pub out-given : (k : ℕ) → b ≡ true → GivenBits j (open_at (candidate_nets j) (suc q) s) ss k
+            → GivenBits j (open_at (candidate_nets j) q t) ps k
         out-given k h g =
             rw out-nets
             (left-given j below net above ss ps (λ r b. rw length-below (f.filled h r (rw few-nets b)).0) k (rw (← all-nets) g))
 
-        pub out-sound : b ≡ true → sound j (open_at (candidateNets j) q t) ≡ true
+        pub out-sound : b ≡ true → sound j (open_at (candidate_nets j) q t) ≡ true
         out-sound h =
             rw out-nets (left-sound j below net above ss with-sets (λ r b. rw length-below (f.filled h r (rw few-nets b)).1))
 
-        pub out-unsound : b ≡ false → sound j (open_at (candidateNets j) q t) ≡ false
+        pub out-unsound : b ≡ false → sound j (open_at (candidate_nets j) q t) ≡ false
         out-unsound h =
             let z = f.empty h in
             rw out-nets
@@ -265,7 +265,7 @@ module _ (j : Job) where
 
   -- the same of a pick
   module _ {q : ℕ} {p : Pick} {ss : List ℕ} (h : OpenOf j (suc q) p ss) where
-    few-weights : q < length (candidateWeights j)
+    few-weights : q < length (candidate_weights j)
     few-weights = omega (arith, h.places, length-weights)
 
     one_place : 2 ^ (k - q) ≡ 2 ^ (k - suc q) * 2
@@ -284,13 +284,13 @@ module _ (j : Job) where
             places = omega (arith, h.places);
             set = omega (arith, h.set, one_place);
             len = out-long q (2 * p.set) p.set p.len h.places half h.len h.sets even;
-            cost = h.cost ∙ sym (total-out (candidateWeights j) q few-weights (2 * p.set) even ∙ rw half);
+            cost = h.cost ∙ sym (total-out (candidate_weights j) q few-weights (2 * p.set) even ∙ rw half);
             sets = out-sets q (2 * p.set) p.set p.len h.places half h.len h.sets even f e;
             sound = out-sound q (2 * p.set) p.set p.len h.places half h.len h.sets even f e;
             gates = refl;
           }
 
-      pub left_not : b ≡ false → sound j (open_at (candidateNets j) q (2 * p.set)) ≡ false
+      pub left_not : b ≡ false → sound j (open_at (candidate_nets j) q (2 * p.set)) ≡ false
       left_not e = out-unsound q (2 * p.set) p.set p.len h.places half h.len h.sets even f e
 
     pub kept-open : {v : Priced} {all : List ℕ} → PricedOf j v all
@@ -299,9 +299,9 @@ module _ (j : Job) where
         let z : (2 * p.set + 1) / 2 ≡ p.set = omega arith in
         let o : (2 * p.set + 1) % 2 ≡ 1 = omega arith in
         let e = kept-nets q (2 * p.set + 1) p.set p.len h.places z h.len h.sets o in
-        let c : total (picked (drop q (candidateWeights j)) (2 * p.set + 1))
-        ≡ get_or (candidateWeights j) q 0 + total (picked (drop (suc q) (candidateWeights j)) p.set) =
-        total-in (candidateWeights j) q few-weights (2 * p.set + 1) o ∙ rw z in
+        let c : total (picked (drop q (candidate_weights j)) (2 * p.set + 1))
+        ≡ get_or (candidate_weights j) q 0 + total (picked (drop (suc q) (candidate_weights j)) p.set) =
+        total-in (candidate_weights j) q few-weights (2 * p.set + 1) o ∙ rw z in
         record {
           places = omega (arith, h.places);
           set = omega (arith, h.set, one_place);
@@ -315,7 +315,7 @@ module _ (j : Job) where
   -- ---- both halves
 
   pub best-split : {q s : ℕ} {b f r : Pick} → BestFrom j q (2 * s + 1) f r
-      → (BestFrom j q (2 * s) b f ⊎ ((sound j (open_at (candidateNets j) q (2 * s)) ≡ false) × (f ≡ b)))
+      → (BestFrom j q (2 * s) b f ⊎ ((sound j (open_at (candidate_nets j) q (2 * s)) ≡ false) × (f ≡ b)))
       → BestFrom j (suc q) s b r
   best-split {q} {s} {b} {f} {r} g o =
       record {
@@ -345,7 +345,7 @@ module _ (j : Job) where
       (g : PickOf j b) (h : OpenOf j (suc q) p ss) (o : LeftOut ss (p.len - 1) q d ps)
       (a : ((d ≡ true) × (OpenOf j q (record { set = 2 * p.set; cost = p.cost; len = p.len - 1; gates = 0 }) ps
       → BestFrom j q (2 * p.set) b f)) ⊎ ((d ≡ false) × (f ≡ b))) where
-    half-best : BestFrom j q (2 * p.set) b f ⊎ ((sound j (open_at (candidateNets j) q (2 * p.set)) ≡ false) × (f ≡ b))
+    half-best : BestFrom j q (2 * p.set) b f ⊎ ((sound j (open_at (candidate_nets j) q (2 * p.set)) ≡ false) × (f ≡ b))
     half-best = ⊎_elim (λ u. inl (u.1 (left_open h o u.0))) (λ u. inr (left_not h o u.0, u.1)) a
 
     half-pick : PickOf j f
@@ -362,22 +362,22 @@ module _ (j : Job) where
 -- those of len nets that are open up to place i, from those of all n
 abbrev pub SetsTo : List ℕ → ℕ → ℕ → ℕ → ℕ → List ℕ → Type 0
 SetsTo ss n s i len ps =
-    (j : Job) → length (candidateNets j) ≡ n → SetsOf j (candidateNets j) ss → sound j (picked (candidateNets j) s) ≡ true
-    → let is = open_at (candidateNets j) i (s / 2 ^ i) in
-    (len ≡ length is) × SetsOf j is ps × ((k : ℕ) → GivenBits j (candidateNets j) ss k → GivenBits j is ps k)
+    (j : Job) → length (candidate_nets j) ≡ n → SetsOf j (candidate_nets j) ss → sound j (picked (candidate_nets j) s) ≡ true
+    → let is = open_at (candidate_nets j) i (s / 2 ^ i) in
+    (len ≡ length is) × SetsOf j is ps × ((k : ℕ) → GivenBits j (candidate_nets j) ss k → GivenBits j is ps k)
 
 pub sets-all : (ss : List ℕ) (n s : ℕ) → SetsTo ss n s n n ss
 sets-all ss n s j e h u =
-    let a : open_at (candidateNets j) n (s / 2 ^ n) ≡ candidateNets j = rw e at (open-all (candidateNets j) (s / 2 ^ length (candidateNets j))) in
+    let a : open_at (candidate_nets j) n (s / 2 ^ n) ≡ candidate_nets j = rw e at (open-all (candidate_nets j) (s / 2 ^ length (candidate_nets j))) in
     (sym (ap length a ∙ e), rw a h, λ k g. rw a g)
 
 -- .. copied into places of their own at the end
 pub sets-none : (ss : List ℕ) (n s len : ℕ) (ps rs : List ℕ) → SetsTo ss n s 0 len ps → SameTo (2 ^ len) ps rs → (j : Job)
-    → length (candidateNets j) ≡ n → SetsOf j (candidateNets j) ss → sound j (picked (candidateNets j) s) ≡ true
-    → SetsOf j (picked (candidateNets j) s) rs
-    × ((k : ℕ) → GivenBits j (candidateNets j) ss k → GivenBits j (picked (candidateNets j) s) rs k)
+    → length (candidate_nets j) ≡ n → SetsOf j (candidate_nets j) ss → sound j (picked (candidate_nets j) s) ≡ true
+    → SetsOf j (picked (candidate_nets j) s) rs
+    × ((k : ℕ) → GivenBits j (candidate_nets j) ss k → GivenBits j (picked (candidate_nets j) s) rs k)
 sets-none ss n s len ps rs f m j e h u =
-    let a : open_at (candidateNets j) 0 (s / 2 ^ 0) ≡ picked (candidateNets j) s = rw (div-one s) (open_none (candidateNets j) s) in
+    let a : open_at (candidate_nets j) 0 (s / 2 ^ 0) ≡ picked (candidate_nets j) s = rw (div-one s) (open_none (candidate_nets j) s) in
     let g = f j e h u in
     let c = rw g.0 at m in
     (rw (← a) (same-sets c g.1), λ k o. rw (← a) (same-given c (g.2 k o)))
@@ -395,7 +395,7 @@ module _ (ss : List ℕ) (n s q len : ℕ) (ps : List ℕ) (l : q < n) (f : Sets
   pub sets-out : {b : Bool} {rs : List ℕ} → s / 2 ^ q % 2 ≡ 0 → LeftOut ps (len - 1) q b rs → SetsTo ss n s q (len - 1) rs
   sets-out {b} o d j e h u =
       let g = f j e h u in
-      let p : q < length (candidateNets j) = omega arith in
+      let p : q < length (candidate_nets j) = omega arith in
       let t : b ≡ true =
       ⊎_elim
       (λ z. z)
@@ -421,18 +421,18 @@ module _ {j : Job} {is ss : List ℕ} {v : Priced} (room : PricedRoom v) (ni : l
   abbrev n : ℕ
   n = v.count
 
-  pub nets-are : candidateNets j ≡ take n is
-  unfolding candidateNets
+  pub nets-are : candidate_nets j ≡ take n is
+  unfolding candidate_nets
   nets-are = ap (map (λ (c : Candidate). c.net)) h.candidates ∙ nets-from n is v.weights (omega (arith, room.few))
 
-  pub nets-many : length (candidateNets j) ≡ n
+  pub nets-many : length (candidate_nets j) ≡ n
   nets-many = ap length nets-are ∙ length-take-le n is (omega (arith, room.few))
 
-  weights-are : candidateWeights j ≡ take n v.weights
-  unfolding candidateWeights
+  weights-are : candidate_weights j ≡ take n v.weights
+  unfolding candidate_weights
   weights-are = ap (map (λ (c : Candidate). c.weight)) h.candidates ∙ weights-from n is v.weights (omega (arith, room.few))
 
-  pub all-sets : SetsOf j (candidateNets j) ss
+  pub all-sets : SetsOf j (candidate_nets j) ss
   all-sets = record { targets = omega (arith, h.targets, room.targets); sets = h.sets.sets }
 
   pub all-priced : PricedOf j v ss
@@ -450,9 +450,9 @@ module _ {j : Job} {is ss : List ℕ} {v : Priced} (room : PricedRoom v) (ni : l
   pub all-pick : {m c : ℕ} → m ≡ 2 ^ n → c ≡ total (take n v.weights)
       → PickOf j (record { set = m - 1; cost = c; len = n; gates = 0 })
   all-pick e o =
-      let a : picked (candidateNets j) (2 ^ n - 1) ≡ candidateNets j = rw nets-many at (picked_all (candidateNets j)) in
-      let b : picked (candidateWeights j) (2 ^ n - 1) ≡ candidateWeights j =
-      rw (length-weights j, nets-many) at (picked_all (candidateWeights j)) in
+      let a : picked (candidate_nets j) (2 ^ n - 1) ≡ candidate_nets j = rw nets-many at (picked_all (candidate_nets j)) in
+      let b : picked (candidate_weights j) (2 ^ n - 1) ≡ candidate_weights j =
+      rw (length-weights j, nets-many) at (picked_all (candidate_weights j)) in
       rw (e, o)
       record {
         set = rw nets-many (omega (arith, pow_pos n));
@@ -466,11 +466,11 @@ module _ {j : Job} {is ss : List ℕ} {v : Priced} (room : PricedRoom v) (ni : l
   pub all-open : OpenOf j n (record { set = 0; cost = 0; len = n; gates = 0 }) ss
   unfolding total picked
   all-open =
-      let a : open_at (candidateNets j) n 0 ≡ candidateNets j = rw nets-many at (open-all (candidateNets j) 0) in
-      let d : drop n (candidateWeights j) ≡ [] = rw (length-weights j, nets-many) at (drop-length (candidateWeights j)) in
+      let a : open_at (candidate_nets j) n 0 ≡ candidate_nets j = rw nets-many at (open-all (candidate_nets j) 0) in
+      let d : drop n (candidate_weights j) ≡ [] = rw (length-weights j, nets-many) at (drop-length (candidate_weights j)) in
       record {
         places = omega (arith, nets-many);
-        set = pow_pos (length (candidateNets j) - n);
+        set = pow_pos (length (candidate_nets j) - n);
         len = sym (ap length a ∙ nets-many);
         cost = rw d;
         sets = rw a all-sets;
@@ -479,16 +479,16 @@ module _ {j : Job} {is ss : List ℕ} {v : Priced} (room : PricedRoom v) (ni : l
       }
 
   module _ {b r : Pick} (g : BestFrom j n 0 b r) where
-    pub best-chosen : picked (candidateNets j) r.set ≡ chosen j
+    pub best-chosen : picked (candidate_nets j) r.set ≡ chosen j
     best-chosen =
-        let ns = candidateNets j in
+        let ns = candidate_nets j in
         chosen-unique j h.sound (picked ns r.set) (picked-subset ns r.set) g.pick.sound
         (λ ls m s.
         let t = subset-picked ns ls m in
         let l : t.0 < 2 ^ n = rw nets-many at t.1 in
         rw t.2 (g.least t.0 (div-eq_of_lt l) (rw t.2 at s)))
 
-    pub chosen_of : {u : Support} {ps : List ℕ} → PickedNets (take n is) r.set u → SetsOf j (picked (candidateNets j) r.set) ps
+    pub chosen_of : {u : Support} {ps : List ℕ} → PickedNets (take n is) r.set u → SetsOf j (picked (candidate_nets j) r.set) ps
         → ChosenOf j u r.cost ps
     chosen_of p s =
         let q : picked (take n is) r.set ≡ chosen j = rw nets-are at best-chosen in

@@ -26,10 +26,10 @@ use lib.Seq.{length-take-le, take-length, drop-length, take-suc, take-suc-set, d
 use Rattle.records.specs.Bytes.{up_from, tabulate}
 use Rattle.records.specs.Job.{Candidate}
 use Rattle.records.specs.Refusal.{ascending}
-use Rattle.records.specs.Service.{candidatesFrom}
-use Rattle.records.specs.Sheet.{weightOf, costOf}
+use Rattle.records.specs.Service.{candidates_from}
+use Rattle.records.specs.Sheet.{weight_of, cost_of}
 use Rattle.records.proofs.Laws.Bytes.{and_left, and_right, false_of}
-use Rattle.records.proofs.Laws.Job.{tabulate-getD}
+use Rattle.records.proofs.Laws.Job.{tabulate-get_or}
 use Rattle.engine.specs.Eval.{bit, bits, number_of}
 use Rattle.engine.specs.Support.{subsets, earlier}
 use Rattle.engine.specs.Inner.Best.{picked, total, low_first, open_at}
@@ -49,28 +49,28 @@ bit-suc i x =
     let e : 1 + i ≡ suc i = omega arith in
     ap (λ (y : ℕ). y % 2) (sym (rw e at (shr-shr x 1 i)))
 
-map-upFrom : (f : ℕ → ℕ) (a n : ℕ) → map f (up_from (suc a) n) ≡ map (λ i. f (suc i)) (up_from a n)
+map-up_from : (f : ℕ → ℕ) (a n : ℕ) → map f (up_from (suc a) n) ≡ map (λ i. f (suc i)) (up_from a n)
 unfolding up_from
-map-upFrom f a zero = refl
-map-upFrom f a (suc n) = ap (λ (l : List ℕ). f (suc a) ∷ l) (map-upFrom f (suc a) n)
+map-up_from f a zero = refl
+map-up_from f a (suc n) = ap (λ (l : List ℕ). f (suc a) ∷ l) (map-up_from f (suc a) n)
 
 pub bits-suc : (k x : ℕ) → bits (suc k) x ≡ x % 2 ∷ bits k (x / 2)
 unfolding bits tabulate up_from
 bits-suc k x =
     let p : map (λ i. bit i x) (up_from 1 k) ≡ map (λ i. bit i (x / 2)) (up_from 0 k) =
-    map-upFrom (λ i. bit i x) 0 k ∙ map-agree (λ i. bit (suc i) x) (λ i. bit i (x / 2)) (up_from 0 k) (λ i m. bit-suc i x) in
+    map-up_from (λ i. bit i x) 0 k ∙ map-agree (λ i. bit (suc i) x) (λ i. bit i (x / 2)) (up_from 0 k) (λ i m. bit-suc i x) in
     let q : bit 0 x ≡ x % 2 = bit-first x in
     cc
 
 -- the bits of a number made of bits
-pub bits-numberOf : {bs : List ℕ} → Bits bs → bits (length bs) (number_of bs) ≡ bs
+pub bits-number_of : {bs : List ℕ} → Bits bs → bits (length bs) (number_of bs) ≡ bs
 unfolding bits tabulate up_from number_of
-bits-numberOf bits-nil = refl
-bits-numberOf (bits-cons {v} {vs} h b) =
+bits-number_of bits-nil = refl
+bits-number_of (bits-cons {v} {vs} h b) =
     let n = number_of vs in
     let p : (v + 2 * n) % 2 ≡ v = omega arith in
     let q : (v + 2 * n) / 2 ≡ n = omega arith in
-    bits-suc (length vs) (v + 2 * n) ∙ rw (p, q, bits-numberOf b)
+    bits-suc (length vs) (v + 2 * n) ∙ rw (p, q, bits-number_of b)
 
 -- ---- picked elements
 
@@ -280,30 +280,30 @@ module _ (a b : ℕ) (t : Bool) where
 
 -- ---- two sets of ascending nets
 
-lowFirst-same : (n a b : ℕ) → a % 2 ≡ b % 2 → low_first (suc n) a b ≡ low_first n (a / 2) (b / 2)
+low_first-same : (n a b : ℕ) → a % 2 ≡ b % 2 → low_first (suc n) a b ≡ low_first n (a / 2) (b / 2)
 unfolding low_first
-lowFirst-same n a b e = rw (eq-eqb (a % 2) (b % 2) e)
+low_first-same n a b e = rw (eq-eqb (a % 2) (b % 2) e)
 
-lowFirst-other : (n a b : ℕ) → (a % 2 ≡ b % 2 → ⊥) → low_first (suc n) a b ≡ eqb (a % 2) 1
+low_first-other : (n a b : ℕ) → (a % 2 ≡ b % 2 → ⊥) → low_first (suc n) a b ≡ eqb (a % 2) 1
 unfolding low_first
-lowFirst-other n a b d = rw (false_of (eqb (a % 2) (b % 2)) (λ e. d (eqb-true (a % 2) (b % 2) e)))
+low_first-other n a b d = rw (false_of (eqb (a % 2) (b % 2)) (λ e. d (eqb-true (a % 2) (b % 2) e)))
 
-lowFirst-equal : (n a : ℕ) → low_first n a a ≡ false
+low_first-equal : (n a : ℕ) → low_first n a a ≡ false
 unfolding low_first
-lowFirst-equal zero a = refl
-lowFirst-equal (suc n) a = lowFirst-same n a a refl ∙ lowFirst-equal n (a / 2)
+low_first-equal zero a = refl
+low_first-equal (suc n) a = low_first-same n a a refl ∙ low_first-equal n (a / 2)
 
 -- place by place
 module _ (a b : ℕ) where
-  abbrev pub lowFrom : ℕ → Bool
-  lowFrom i = low_first (10 - i) (a / 2 ^ i) (b / 2 ^ i)
+  abbrev pub low_from : ℕ → Bool
+  low_from i = low_first (10 - i) (a / 2 ^ i) (b / 2 ^ i)
 
-  pub lowFrom-all : lowFrom 0 ≡ low_first 10 a b
-  lowFrom-all = rw (div-one a, div-one b)
+  pub low_from-all : low_from 0 ≡ low_first 10 a b
+  low_from-all = rw (div-one a, div-one b)
 
-  pub lowFrom-end : (i : ℕ) → 10 ≤ i → lowFrom i ≡ false
+  pub low_from-end : (i : ℕ) → 10 ≤ i → low_from i ≡ false
   unfolding low_first
-  lowFrom-end i h = let e : 10 - i ≡ 0 = omega arith in rw e
+  low_from-end i h = let e : 10 - i ≡ 0 = omega arith in rw e
 
   module _ (i : ℕ) (h : i < 10) where
     left_over : 10 - i ≡ suc (10 - (i + 1))
@@ -312,11 +312,11 @@ module _ (a b : ℕ) where
     half : (x : ℕ) → x / 2 ^ i / 2 ≡ x / 2 ^ (i + 1)
     half x = shr-shr x i 1
 
-    pub lowFrom-same : a / 2 ^ i % 2 ≡ b / 2 ^ i % 2 → lowFrom i ≡ lowFrom (i + 1)
-    lowFrom-same e = rw (left_over, lowFirst-same (10 - (i + 1)) (a / 2 ^ i) (b / 2 ^ i) e, half a, half b)
+    pub low_from-same : a / 2 ^ i % 2 ≡ b / 2 ^ i % 2 → low_from i ≡ low_from (i + 1)
+    low_from-same e = rw (left_over, low_first-same (10 - (i + 1)) (a / 2 ^ i) (b / 2 ^ i) e, half a, half b)
 
-    pub lowFrom-other : (a / 2 ^ i % 2 ≡ b / 2 ^ i % 2 → ⊥) → lowFrom i ≡ eqb (a / 2 ^ i % 2) 1
-    lowFrom-other d = rw left_over (lowFirst-other (10 - (i + 1)) (a / 2 ^ i) (b / 2 ^ i) d)
+    pub low_from-other : (a / 2 ^ i % 2 ≡ b / 2 ^ i % 2 → ⊥) → low_from i ≡ eqb (a / 2 ^ i % 2) 1
+    low_from-other d = rw left_over (low_first-other (10 - (i + 1)) (a / 2 ^ i) (b / 2 ^ i) d)
 
 ascending-tail : (x : ℕ) (xs : List ℕ) → ascending (x ∷ xs) ≡ true → ascending xs ≡ true
 unfolding ascending
@@ -350,7 +350,7 @@ pub low-earlier : (n : ℕ) (is : List ℕ) (a b : ℕ) → length is ≤ n → 
 unfolding picked earlier
 low-earlier n [] a b h s p q e =
     let z : a ≡ b = omega arith in
-    rw z (lowFirst-equal n b)
+    rw z (low_first-equal n b)
 low-earlier zero (i ∷ is) a b h s p q e = let z : ⊥ = omega arith in absurd z
 low-earlier (suc n) (i ∷ is) a b h s p q e =
     let x = picked is (a / 2) in
@@ -365,22 +365,22 @@ low-earlier (suc n) (i ∷ is) a b h s p q e =
     ⊎_elim
     (λ u.
     let l : length x ≡ length y = omega (arith, rw (picked-in i is a o, picked-in i is b u) at e) in
-    lowFirst-same n a b (omega arith) ∙ r l ∙ rw (picked-in i is a o, picked-in i is b u) (sym (equal-first i i (earlier x y) refl)))
+    low_first-same n a b (omega arith) ∙ r l ∙ rw (picked-in i is a o, picked-in i is b u) (sym (equal-first i i (earlier x y) refl)))
     (λ u.
     let l : suc (length x) ≡ length y = rw (picked-in i is a o, picked-out i is b u) at e in
-    lowFirst-other n a b (λ z. let f : ⊥ = omega arith in f) ∙ eq-eqb (a % 2) 1 o
+    low_first-other n a b (λ z. let f : ⊥ = omega arith in f) ∙ eq-eqb (a % 2) 1 o
     ∙ rw (picked-in i is a o, picked-out i is b u) (sym (earlier-below i x y (omega arith) (above (b / 2)))))
     (in-or-out b))
     (λ o.
     ⊎_elim
     (λ u.
     let l : length x ≡ suc (length y) = rw (picked-out i is a o, picked-in i is b u) at e in
-    lowFirst-other n a b (λ z. let f : ⊥ = omega arith in f)
+    low_first-other n a b (λ z. let f : ⊥ = omega arith in f)
     ∙ false_of (eqb (a % 2) 1) (λ z. let f : ⊥ = omega (arith, eqb-true (a % 2) 1 z) in f)
     ∙ rw (picked-out i is a o, picked-in i is b u) (sym (earlier-above i y x (omega arith) (above (a / 2)))))
     (λ u.
     let l : length x ≡ length y = rw (picked-out i is a o, picked-out i is b u) at e in
-    lowFirst-same n a b (omega arith) ∙ r l ∙ rw (picked-out i is a o, picked-out i is b u))
+    low_first-same n a b (omega arith) ∙ r l ∙ rw (picked-out i is a o, picked-out i is b u))
     (in-or-out b))
     (in-or-out a)
 
@@ -388,13 +388,13 @@ low-earlier (suc n) (i ∷ is) a b h s p q e =
 
 -- a candidate below all of the nets has no say in their cost
 cost-skip : (c : Candidate) (cs : List Candidate) (is : List ℕ) → ((i : ℕ) → Mem i is → c.net < i)
-    → costOf (c ∷ cs) is ≡ costOf cs is
-unfolding costOf weightOf
+    → cost_of (c ∷ cs) is ≡ cost_of cs is
+unfolding cost_of weight_of
 cost-skip c cs [] h = refl
 cost-skip c cs (i ∷ is) h =
     let l : c.net < i = h i (here refl) in
     let d : eqb c.net i ≡ false = false_of (eqb c.net i) (λ e. let f : ⊥ = omega (arith, eqb-true c.net i e) in f) in
-    let r : costOf (c ∷ cs) is ≡ costOf cs is = cost-skip c cs is (λ k m. h k (there m)) in
+    let r : cost_of (c ∷ cs) is ≡ cost_of cs is = cost-skip c cs is (λ k m. h k (there m)) in
     rw (d, r)
 
 abbrev nets : List Candidate → List ℕ
@@ -405,14 +405,14 @@ weights cs = map (λ (c : Candidate). c.weight) cs
 
 -- the cost of picked nets is the sum of the weights at their places
 pub cost-picked : (cs : List Candidate) (s : ℕ) → ascending (nets cs) ≡ true
-    → costOf cs (picked (nets cs) s) ≡ total (picked (weights cs) s)
-unfolding picked costOf weightOf total
+    → cost_of cs (picked (nets cs) s) ≡ total (picked (weights cs) s)
+unfolding picked cost_of weight_of total
 cost-picked [] s e = refl
 cost-picked (c ∷ cs) s e =
     let is = picked (nets cs) (s / 2) in
-    let r : costOf cs is ≡ total (picked (weights cs) (s / 2)) =
+    let r : cost_of cs is ≡ total (picked (weights cs) (s / 2)) =
     cost-picked cs (s / 2) (ascending-tail c.net (nets cs) e) in
-    let k : costOf (c ∷ cs) is ≡ costOf cs is =
+    let k : cost_of (c ∷ cs) is ≡ cost_of cs is =
     cost-skip c cs is
     (λ i m. ascending-below c.net (nets cs) e i (subsets-among (nets cs) is (picked-subset (nets cs) (s / 2)) i m)) in
     let q : eqb c.net c.net ≡ true = eq-eqb c.net c.net refl in
@@ -423,10 +423,10 @@ cost-picked (c ∷ cs) s e =
 
 -- the candidates that stand in places
 module _ (k : ℕ) (is ws : List ℕ) where
-  pub nets-from : k ≤ length is → nets (candidatesFrom k is ws) ≡ take k is
-  unfolding candidatesFrom tabulate
-  nets-from h = map-map (λ (c : Candidate). c.net) _ (up_from 0 k) ∙ tabulate-getD is k h
+  pub nets-from : k ≤ length is → nets (candidates_from k is ws) ≡ take k is
+  unfolding candidates_from tabulate
+  nets-from h = map-map (λ (c : Candidate). c.net) _ (up_from 0 k) ∙ tabulate-get_or is k h
 
-  pub weights-from : k ≤ length ws → weights (candidatesFrom k is ws) ≡ take k ws
-  unfolding candidatesFrom tabulate
-  weights-from h = map-map (λ (c : Candidate). c.weight) _ (up_from 0 k) ∙ tabulate-getD ws k h
+  pub weights-from : k ≤ length ws → weights (candidates_from k is ws) ≡ take k ws
+  unfolding candidates_from tabulate
+  weights-from h = map-map (λ (c : Candidate). c.weight) _ (up_from 0 k) ∙ tabulate-get_or ws k h

@@ -11,14 +11,14 @@ use lib.Dec.{ltb, eqb}
 use lib.ListN.{length, get_or, take, drop, set, replicate, length-set, length-append, length-take, length-replicate, get_or-replicate, drop_of_length-le}
 use lib.Seq.{take-suc, drop-cons, take_all, take-append-le, take-take, take_at, take-suc-set, get_or-take, get_or-set_same, get_or-set_other, length-take-le, ext_get_or}
 use Rattle.records.specs.Gate.{disj}
-use Rattle.records.specs.Netlist.{netAt}
+use Rattle.records.specs.Netlist.{net_at}
 use Rattle.records.proofs.Laws.Bytes.{and_both, and-false-left, and-false-right, length-tabulate, get_d_tabulate}
 use Rattle.engine.specs.Choice.{keep}
-use Rattle.engine.specs.Inner.Packed.{fields, own, operandsOf, evaluated}
-use Rattle.engine.specs.Inner.Plan.{codeMark, marked, markedAll, liveFrom, leavesFrom, marksFrom, picked, listAt, listsTo, ListPut, ListsUpTo}
+use Rattle.engine.specs.Inner.Packed.{fields, own, operands_of, evaluated}
+use Rattle.engine.specs.Inner.Plan.{code_mark, marked, marked_all, live_from, leaves_from, marks_from, picked, list_at, lists_to, ListPut, ListsUpTo}
 use Rattle.engine.proofs.Laws.Choice.{true-or-false}
 use Rattle.engine.proofs.Laws.FitCode.{keep_append, keep_one, keep-none}
-use Rattle.engine.proofs.Laws.Marks.{leafMark, leafMark-in, leafMark-out, unmarked-of}
+use Rattle.engine.proofs.Laws.Marks.{leaf_mark, leaf_mark-in, leaf_mark-out, unmarked-of}
 
 -- ---- the operands of a gate, first to last
 
@@ -34,83 +34,83 @@ fields-none n x e = rw e
 -- the greatest mark so far, and those of the operands left
 module _ (vs : List ℕ) where
   abbrev pub MarkLeft : ℕ → ℕ → ℕ → ℕ → Type 0
-  MarkLeft c r n x = max r (disj (map (netAt vs) (fields n x))) ≡ codeMark vs c
+  MarkLeft c r n x = max r (disj (map (net_at vs) (fields n x))) ≡ code_mark vs c
 
   pub mark-all : (c : ℕ) → MarkLeft c 0 (c / 16 % 8) (c / 131072)
-  unfolding codeMark
+  unfolding code_mark
   mark-all c = omega arith
 
   pub mark-next : (c r n x w : ℕ) → 0 < n → w ≡ max r (get_or vs (x % 1024) 0) → MarkLeft c r n x → MarkLeft c w (n - 1) (x / 1024)
-  unfolding disj netAt
+  unfolding disj net_at
   mark-next c r n x w h e m =
-      let d = disj (map (netAt vs) (fields (n - 1) (x / 1024))) in
+      let d = disj (map (net_at vs) (fields (n - 1) (x / 1024))) in
       let s : max w d ≡ max r (max (get_or vs (x % 1024) 0) d) = omega arith in
-      s ∙ sym (ap (λ (l : List ℕ). max r (disj (map (netAt vs) l))) (fields-next n x h)) ∙ m
+      s ∙ sym (ap (λ (l : List ℕ). max r (disj (map (net_at vs) l))) (fields-next n x h)) ∙ m
 
-  pub mark-none : (c r n x : ℕ) → n ≡ 0 → MarkLeft c r n x → r ≡ codeMark vs c
+  pub mark-none : (c r n x : ℕ) → n ≡ 0 → MarkLeft c r n x → r ≡ code_mark vs c
   unfolding disj
   mark-none c r n x e m =
       let z : max r 0 ≡ r = omega arith in
-      sym (ap (λ (l : List ℕ). max r (disj (map (netAt vs) l))) (fields-none n x e) ∙ z) ∙ m
+      sym (ap (λ (l : List ℕ). max r (disj (map (net_at vs) l))) (fields-none n x e) ∙ z) ∙ m
 
 -- ---- leaves with a mark
 
-pub length-leavesFrom : (from k : ℕ) → length (leavesFrom from k) ≡ 1024
-unfolding leavesFrom
-length-leavesFrom from k = length-tabulate 1024 (leafMark from k)
+pub length-leaves_from : (from k : ℕ) → length (leaves_from from k) ≡ 1024
+unfolding leaves_from
+length-leaves_from from k = length-tabulate 1024 (leaf_mark from k)
 
-pub getD-leavesFrom : (from k i : ℕ) → i < 1024 → get_or (leavesFrom from k) i 0 ≡ leafMark from k i
-unfolding leavesFrom
-getD-leavesFrom from k i h = get_d_tabulate 1024 (leafMark from k) i 0 h
+pub get_or-leaves_from : (from k i : ℕ) → i < 1024 → get_or (leaves_from from k) i 0 ≡ leaf_mark from k i
+unfolding leaves_from
+get_or-leaves_from from k i h = get_d_tabulate 1024 (leaf_mark from k) i 0 h
 
-pub leaves_none : (from : ℕ) → replicate 1024 0 ≡ leavesFrom from 0
+pub leaves_none : (from : ℕ) → replicate 1024 0 ≡ leaves_from from 0
 leaves_none from =
     let n = length-replicate {A = ℕ} 1024 0 in
-    ext_get_or 0 (replicate 1024 0) (leavesFrom from 0) (n ∙ sym (length-leavesFrom from 0))
+    ext_get_or 0 (replicate 1024 0) (leaves_from from 0) (n ∙ sym (length-leaves_from from 0))
     (λ i h.
     let l : i < 1024 = omega arith in
     get_or-replicate 1024 i 0 0 l
-    ∙ sym (getD-leavesFrom from 0 i l ∙ leafMark-out from 0 i (split i)))
+    ∙ sym (get_or-leaves_from from 0 i l ∙ leaf_mark-out from 0 i (split i)))
   where
     split : (i : ℕ) → (i < from) ⊎ (from + 0 ≤ i)
     split i =
         ⊎_elim (λ t. inl (ltb-true i from t)) (λ t. let l = ltb-false i from t in inr (omega arith)) (true-or-false (ltb i from))
 
-leafMark-more : (from k i : ℕ) → (i ≡ from + k → ⊥) → leafMark from (k + 1) i ≡ leafMark from k i
-leafMark-more from k i h =
+leaf_mark-more : (from k i : ℕ) → (i ≡ from + k → ⊥) → leaf_mark from (k + 1) i ≡ leaf_mark from k i
+leaf_mark-more from k i h =
     ⊎_elim
-    (λ t. let l = ltb-true i from t in leafMark-out from (k + 1) i (inl l) ∙ sym (leafMark-out from k i (inl l)))
+    (λ t. let l = ltb-true i from t in leaf_mark-out from (k + 1) i (inl l) ∙ sym (leaf_mark-out from k i (inl l)))
     (λ t.
     let l = ltb-false i from t in
     ⊎_elim
     (λ u.
     let m = ltb-true i (from + k) u in
-    leafMark-in from (k + 1) i l (omega arith) ∙ sym (leafMark-in from k i l m))
+    leaf_mark-in from (k + 1) i l (omega arith) ∙ sym (leaf_mark-in from k i l m))
     (λ u.
     let m = ltb-false i (from + k) u in
-    leafMark-out from (k + 1) i (inr (omega (arith, h))) ∙ sym (leafMark-out from k i (inr m)))
+    leaf_mark-out from (k + 1) i (inr (omega (arith, h))) ∙ sym (leaf_mark-out from k i (inr m)))
     (true-or-false (ltb i (from + k))))
     (true-or-false (ltb i from))
 
-pub leaves-next : (from k : ℕ) → from + k < 1024 → set (leavesFrom from k) (from + k) 1 ≡ leavesFrom from (k + 1)
+pub leaves-next : (from k : ℕ) → from + k < 1024 → set (leaves_from from k) (from + k) 1 ≡ leaves_from from (k + 1)
 leaves-next from k h =
-    let n = length-leavesFrom from k in
-    let m = length-set (leavesFrom from k) (from + k) 1 in
-    ext_get_or 0 (set (leavesFrom from k) (from + k) 1) (leavesFrom from (k + 1)) (m ∙ n ∙ sym (length-leavesFrom from (k + 1)))
+    let n = length-leaves_from from k in
+    let m = length-set (leaves_from from k) (from + k) 1 in
+    ext_get_or 0 (set (leaves_from from k) (from + k) 1) (leaves_from from (k + 1)) (m ∙ n ∙ sym (length-leaves_from from (k + 1)))
     (λ i l.
     let b : i < 1024 = omega arith in
     ⊎_elim
     (λ (t : eqb i (from + k) ≡ true).
     let e : i ≡ from + k = eqb-true i (from + k) t in
-    rw e (get_or-set_same (leavesFrom from k) (from + k) 1 0 (omega arith))
-    ∙ sym (leafMark-in from (k + 1) i (omega arith) (omega arith)))
+    rw e (get_or-set_same (leaves_from from k) (from + k) 1 0 (omega arith))
+    ∙ sym (leaf_mark-in from (k + 1) i (omega arith) (omega arith)))
     (λ (t : eqb i (from + k) ≡ false).
     let e : i ≡ from + k → ⊥ = eqb-false i (from + k) t in
-    get_or-set_other (leavesFrom from k) (from + k) i 1 0 e
-    ∙ getD-leavesFrom from k i b
-    ∙ sym (leafMark-more from k i e))
+    get_or-set_other (leaves_from from k) (from + k) i 1 0 e
+    ∙ get_or-leaves_from from k i b
+    ∙ sym (leaf_mark-more from k i e))
     (true-or-false (eqb i (from + k)))
-    ∙ sym (getD-leavesFrom from (k + 1) i b))
+    ∙ sym (get_or-leaves_from from (k + 1) i b))
 
 -- ---- the first n of a list, one after the other
 
@@ -139,79 +139,79 @@ module _ (F : List ℕ → ℕ → ℕ) (vs cs : List ℕ) (n i : ℕ) (h : n �
 -- ---- nets marked
 
 pub marked-of : (ms : List ℕ) (i : ℕ) → (get_or ms i 0 ≡ 0 → ⊥) → marked ms i ≡ true
-unfolding netAt
+unfolding net_at
 marked-of ms i h = rw (ne_eqb (get_or ms i 0) 0 h)
 
-pub length-markedAll : (ms is : List ℕ) → length (markedAll ms is) ≡ length ms
-unfolding markedAll
-length-markedAll ms [] = refl
-length-markedAll ms (i ∷ is) = length-markedAll (set ms i 1) is ∙ length-set ms i 1
+pub length-marked_all : (ms is : List ℕ) → length (marked_all ms is) ≡ length ms
+unfolding marked_all
+length-marked_all ms [] = refl
+length-marked_all ms (i ∷ is) = length-marked_all (set ms i 1) is ∙ length-set ms i 1
 
 module _ (ms is : List ℕ) (n i : ℕ) (h : n ≤ length is) where
-  pub markedAll-next : i < n → markedAll (set ms (get_or is i 0) 1) (drop (i + 1) (take n is)) ≡ markedAll ms (drop i (take n is))
-  unfolding markedAll
-  markedAll-next l = sym (ap (markedAll ms) (left-cons n is h i l))
+  pub marked_all-next : i < n → marked_all (set ms (get_or is i 0) 1) (drop (i + 1) (take n is)) ≡ marked_all ms (drop i (take n is))
+  unfolding marked_all
+  marked_all-next l = sym (ap (marked_all ms) (left-cons n is h i l))
 
-  pub markedAll-end : n ≤ i → markedAll ms (drop i (take n is)) ≡ ms
-  unfolding markedAll
-  markedAll-end l = ap (markedAll ms) (left-none n is h i l)
+  pub marked_all-end : n ≤ i → marked_all ms (drop i (take n is)) ≡ ms
+  unfolding marked_all
+  marked_all-end l = ap (marked_all ms) (left-none n is h i l)
 
 module _ (ms : List ℕ) (n x : ℕ) where
-  pub markedAll-fields : 0 < n → markedAll (set ms (x % 1024) 1) (fields (n - 1) (x / 1024)) ≡ markedAll ms (fields n x)
-  unfolding markedAll
-  markedAll-fields h = sym (ap (markedAll ms) (fields-next n x h))
+  pub marked_all-fields : 0 < n → marked_all (set ms (x % 1024) 1) (fields (n - 1) (x / 1024)) ≡ marked_all ms (fields n x)
+  unfolding marked_all
+  marked_all-fields h = sym (ap (marked_all ms) (fields-next n x h))
 
-  pub markedAll-none : n ≡ 0 → markedAll ms (fields n x) ≡ ms
-  unfolding markedAll
-  markedAll-none e = ap (markedAll ms) (fields-none n x e)
+  pub marked_all-none : n ≡ 0 → marked_all ms (fields n x) ≡ ms
+  unfolding marked_all
+  marked_all-none e = ap (marked_all ms) (fields-none n x e)
 
 -- ---- live gates, last to first
 
-pub length-liveFrom : (ms cs : List ℕ) → length (liveFrom ms cs) ≡ length ms
-unfolding liveFrom
-length-liveFrom ms [] = refl
-length-liveFrom ms (c ∷ cs) =
-    let ls = liveFrom ms cs in
+pub length-live_from : (ms cs : List ℕ) → length (live_from ms cs) ≡ length ms
+unfolding live_from
+length-live_from ms [] = refl
+length-live_from ms (c ∷ cs) =
+    let ls = live_from ms cs in
     ⊎_elim
-    (λ (e : marked ls (own c) ≡ true). rw e (length-markedAll ls (operandsOf c) ∙ length-liveFrom ms cs))
-    (λ (e : marked ls (own c) ≡ false). rw e (length-liveFrom ms cs))
+    (λ (e : marked ls (own c) ≡ true). rw e (length-marked_all ls (operands_of c) ∙ length-live_from ms cs))
+    (λ (e : marked ls (own c) ≡ false). rw e (length-live_from ms cs))
     (true-or-false (marked ls (own c)))
 
 module _ (ms : List ℕ) (c : ℕ) (cs : List ℕ) where
-  pub liveFrom-marked : marked (liveFrom ms cs) (own c) ≡ true → liveFrom ms (c ∷ cs) ≡ markedAll (liveFrom ms cs) (operandsOf c)
-  unfolding liveFrom
-  liveFrom-marked e = rw e
+  pub live_from-marked : marked (live_from ms cs) (own c) ≡ true → live_from ms (c ∷ cs) ≡ marked_all (live_from ms cs) (operands_of c)
+  unfolding live_from
+  live_from-marked e = rw e
 
-  pub liveFrom-unmarked : marked (liveFrom ms cs) (own c) ≡ false → liveFrom ms (c ∷ cs) ≡ liveFrom ms cs
-  unfolding liveFrom
-  liveFrom-unmarked e = rw e
+  pub live_from-unmarked : marked (live_from ms cs) (own c) ≡ false → live_from ms (c ∷ cs) ≡ live_from ms cs
+  unfolding live_from
+  live_from-unmarked e = rw e
 
-pub live-none : (ms cs : List ℕ) (n : ℕ) → n ≤ length cs → ms ≡ liveFrom ms (drop n (take n cs))
-unfolding liveFrom
-live-none ms cs n h = sym (ap (liveFrom ms) (left-none n cs h n (omega arith)))
+pub live-none : (ms cs : List ℕ) (n : ℕ) → n ≤ length cs → ms ≡ live_from ms (drop n (take n cs))
+unfolding live_from
+live-none ms cs n h = sym (ap (live_from ms) (left-none n cs h n (omega arith)))
 
 -- a turn of the loop that goes down: gate k - 1, with the marks that the gates from k on give
-module _ (ms cs ls : List ℕ) (n k : ℕ) (h : n ≤ length cs) (l : 0 < k) (g : k ≤ n) (e : ls ≡ liveFrom ms (drop k (take n cs))) where
+module _ (ms cs ls : List ℕ) (n k : ℕ) (h : n ≤ length cs) (l : 0 < k) (g : k ≤ n) (e : ls ≡ live_from ms (drop k (take n cs))) where
   down-cons : drop (k - 1) (take n cs) ≡ get_or cs (k - 1) 0 ∷ drop k (take n cs)
   down-cons = let m : k - 1 + 1 ≡ k = omega arith in rw m at (left-cons n cs h (k - 1) (omega arith))
 
   pub live-marked : (get_or ls (own (get_or cs (k - 1) 0)) 0 ≡ 0 → ⊥)
-      → markedAll ls (operandsOf (get_or cs (k - 1) 0)) ≡ liveFrom ms (drop (k - 1) (take n cs))
+      → marked_all ls (operands_of (get_or cs (k - 1) 0)) ≡ live_from ms (drop (k - 1) (take n cs))
   live-marked m =
       let c = get_or cs (k - 1) 0 in
-      ap (λ (x : List ℕ). markedAll x (operandsOf c)) e
+      ap (λ (x : List ℕ). marked_all x (operands_of c)) e
       ∙ sym
-      (ap (liveFrom ms) down-cons
-      ∙ liveFrom-marked ms c (drop k (take n cs)) (rw e at (marked-of ls (own c) m)))
+      (ap (live_from ms) down-cons
+      ∙ live_from-marked ms c (drop k (take n cs)) (rw e at (marked-of ls (own c) m)))
 
-  pub live-unmarked : get_or ls (own (get_or cs (k - 1) 0)) 0 ≡ 0 → ls ≡ liveFrom ms (drop (k - 1) (take n cs))
-  unfolding netAt
+  pub live-unmarked : get_or ls (own (get_or cs (k - 1) 0)) 0 ≡ 0 → ls ≡ live_from ms (drop (k - 1) (take n cs))
+  unfolding net_at
   live-unmarked m =
       let c = get_or cs (k - 1) 0 in
       e
       ∙ sym
-      (ap (liveFrom ms) down-cons
-      ∙ liveFrom-unmarked ms c (drop k (take n cs)) (rw e at (unmarked-of ls (own c) m)))
+      (ap (live_from ms) down-cons
+      ∙ live_from-unmarked ms c (drop k (take n cs)) (rw e at (unmarked-of ls (own c) m)))
 
 -- ---- gates picked
 
@@ -231,11 +231,11 @@ module _ (live ms : List ℕ) (led : Bool) where
     sided = beq (not (eqb (get_or ms (own c) 0) 0)) led
 
     pub wanted-true : (get_or live (own c) 0 ≡ 0 → ⊥) → sided ≡ true → wanted c ≡ true
-    unfolding netAt
+    unfolding net_at
     wanted-true a b = and_both (marked live (own c)) _ (marked-of live (own c) a) (sym (beq-cond (marked ms (own c)) led) ∙ b)
 
     pub wanted-false : (get_or live (own c) 0 ≡ 0) ⊎ (sided ≡ false) → wanted c ≡ false
-    unfolding netAt
+    unfolding net_at
     wanted-false s =
         ⊎_elim
         (λ z. and-false-left (marked live (own c)) _ (unmarked-of live (own c) z))
@@ -243,20 +243,20 @@ module _ (live ms : List ℕ) (led : Bool) where
         s
 
   module _ (cs : List ℕ) where
-    abbrev pickedTo : ℕ → List ℕ
-    pickedTo i = picked live ms led (take i cs)
+    abbrev picked_to : ℕ → List ℕ
+    picked_to i = picked live ms led (take i cs)
 
-    take_next : (i : ℕ) → i < length cs → pickedTo (i + 1) ≡ pickedTo i ++ keep wanted (get_or cs i 0 ∷ [])
+    take_next : (i : ℕ) → i < length cs → picked_to (i + 1) ≡ picked_to i ++ keep wanted (get_or cs i 0 ∷ [])
     unfolding picked
     take_next i h =
         ap (keep wanted) (ap (λ (k : ℕ). take k cs) (add-one i) ∙ take-suc cs i 0 h) ∙ keep_append wanted (take i cs) (get_or cs i 0 ∷ [])
 
-    picked-one : (i : ℕ) → i < length cs → wanted (get_or cs i 0) ≡ true → pickedTo (i + 1) ≡ pickedTo i ++ (get_or cs i 0 ∷ [])
-    picked-one i h e = take_next i h ∙ ap (λ (l : List ℕ). pickedTo i ++ l) (keep_one wanted (get_or cs i 0) e)
+    picked-one : (i : ℕ) → i < length cs → wanted (get_or cs i 0) ≡ true → picked_to (i + 1) ≡ picked_to i ++ (get_or cs i 0 ∷ [])
+    picked-one i h e = take_next i h ∙ ap (λ (l : List ℕ). picked_to i ++ l) (keep_one wanted (get_or cs i 0) e)
 
-    picked_none : (i : ℕ) → i < length cs → wanted (get_or cs i 0) ≡ false → pickedTo (i + 1) ≡ pickedTo i
+    picked_none : (i : ℕ) → i < length cs → wanted (get_or cs i 0) ≡ false → picked_to (i + 1) ≡ picked_to i
     picked_none i h e =
-        take_next i h ∙ ap (λ (l : List ℕ). pickedTo i ++ l) (keep-none wanted (get_or cs i 0) e) ∙ append-nil (pickedTo i)
+        take_next i h ∙ ap (λ (l : List ℕ). picked_to i ++ l) (keep-none wanted (get_or cs i 0) e) ∙ append-nil (picked_to i)
 
 -- a front of a list of m places that holds the first m of a longer list, and one element more
 module _ (m : ℕ) (xs out : List ℕ) (end : ℕ) (l : length out ≡ m) (h : end ≤ m) (e : take end out ≡ take m xs) where
@@ -293,13 +293,13 @@ module _ (live ms : List ℕ) (led : Bool) (cs before : List ℕ) (at : ℕ) whe
 
   module _ (out : List ℕ) (end i : ℕ) (p : Picking live ms led cs before at out end i) (h : i < length cs) where
     abbrev front-now : List ℕ
-    front-now = take at before ++ pickedTo live ms led cs i
+    front-now = take at before ++ picked_to live ms led cs i
 
     module _ (e : wanted live ms led (get_or cs i 0) ≡ true) where
-      front-next : take 2400 (front-now ++ (get_or cs i 0 ∷ [])) ≡ take 2400 (take at before ++ pickedTo live ms led cs (i + 1))
+      front-next : take 2400 (front-now ++ (get_or cs i 0 ∷ [])) ≡ take 2400 (take at before ++ picked_to live ms led cs (i + 1))
       front-next =
           ap (take 2400)
-          (append_assoc (take at before) (pickedTo live ms led cs i) (get_or cs i 0 ∷ [])
+          (append_assoc (take at before) (picked_to live ms led cs i) (get_or cs i 0 ∷ [])
           ∙ ap (λ (l : List ℕ). take at before ++ l) (sym (picked-one live ms led cs i h e)))
 
       pub picking-put : end < 2400 → Picking live ms led cs before at (set out end (get_or cs i 0)) (end + 1) (i + 1)
@@ -371,23 +371,23 @@ module _ (list : List ℕ) (at : ℕ) (before : List ℕ) (end : ℕ) (after : L
 
 module _ (inputs targets : ℕ) (live cs : List ℕ) where
   abbrev list : ℕ → List ℕ
-  list = listAt inputs targets live cs
+  list = list_at inputs targets live cs
 
   abbrev up_to : ℕ → List ℕ
-  up_to = listsTo inputs targets live cs
+  up_to = lists_to inputs targets live cs
 
-  upTo-suc : (s : ℕ) → length (up_to (suc s)) ≡ length (up_to s) + length (list (suc s))
-  unfolding listsTo
-  upTo-suc s = length-append (up_to s) (list (suc s))
+  up_to-suc : (s : ℕ) → length (up_to (suc s)) ≡ length (up_to s) + length (list (suc s))
+  unfolding lists_to
+  up_to-suc s = length-append (up_to s) (list (suc s))
 
-  upTo-mono : (s t : ℕ) → t ≤ s → length (up_to t) ≤ length (up_to s)
-  upTo-mono zero t h = let e : t ≡ 0 = omega arith in rw e (omega arith)
-  upTo-mono (suc s) t h =
+  up_to-mono : (s t : ℕ) → t ≤ s → length (up_to t) ≤ length (up_to s)
+  up_to-mono zero t h = let e : t ≡ 0 = omega arith in rw e (omega arith)
+  up_to-mono (suc s) t h =
       ⊎_elim
       (λ (e : eqb t (suc s) ≡ true). let q : t ≡ suc s = eqb-true t (suc s) e in rw q (omega arith))
       (λ (e : eqb t (suc s) ≡ false).
       let q : t ≡ suc s → ⊥ = eqb-false t (suc s) e in
-      omega (arith, upTo-mono s t (omega (arith, q)), upTo-suc s))
+      omega (arith, up_to-mono s t (omega (arith, q)), up_to-suc s))
       (true-or-false (eqb t (suc s)))
 
   pub ends-length : (n : ℕ) (ends gates : List ℕ) → ListsUpTo n inputs targets live cs ends gates → (t : ℕ) → t < n
@@ -398,9 +398,9 @@ module _ (inputs targets : ℕ) (live cs : List ℕ) where
       ∙ length-take 2400 (up_to t)
 
   -- the first list
-  pub lists-none : (ms before : List ℕ) (end : ℕ) (after : List ℕ) → ms ≡ marksFrom cs inputs targets
+  pub lists-none : (ms before : List ℕ) (end : ℕ) (after : List ℕ) → ms ≡ marks_from cs inputs targets
       → ListPut (picked live ms false cs) 0 before end after → ListsUpTo 1 inputs targets live cs (set (replicate 6 0) 0 end) after
-  unfolding listsTo listAt
+  unfolding lists_to list_at
   lists-none ms before end after e p =
       record {
         long = p.long;
@@ -410,12 +410,12 @@ module _ (inputs targets : ℕ) (live cs : List ℕ) where
       }
 
   -- list 1, and those of the targets, from the marks that the code finds
-  pub list-fan : (ms : List ℕ) → ms ≡ marksFrom cs inputs targets → picked live ms true cs ≡ list 1
-  unfolding listAt
+  pub list-fan : (ms : List ℕ) → ms ≡ marks_from cs inputs targets → picked live ms true cs ≡ list 1
+  unfolding list_at
   list-fan ms e = ap (λ (x : List ℕ). picked live x true cs) e
 
-  pub list-led : (t : ℕ) (ms : List ℕ) → ms ≡ marksFrom cs (inputs + t) 1 → picked live ms true cs ≡ list (t + 2)
-  unfolding listAt
+  pub list-led : (t : ℕ) (ms : List ℕ) → ms ≡ marks_from cs (inputs + t) 1 → picked live ms true cs ≡ list (t + 2)
+  unfolding list_at
   list-led t ms e =
       let n : suc (suc t) ≡ t + 2 = omega arith in
       ap (λ (x : List ℕ). picked live x true cs) e ∙ ap list n
@@ -430,7 +430,7 @@ module _ (inputs targets : ℕ) (live cs : List ℕ) where
         let e = get_or ends t 0 in
         let a = ends-length k ends before u t l in
         let b = ends-length k ends before u s (omega arith) in
-        let m : e ≤ at = omega (arith, upTo-mono s t (omega arith)) in
+        let m : e ≤ at = omega (arith, up_to-mono s t (omega arith)) in
         ap (λ (x : ℕ). take x after) (get_or-set_other ends k t end 0 (λ q. omega arith))
         ∙ sym (take-take e at after m)
         ∙ ap (take e) (put-kept (list k) at before end after p (u.within s) u.long)
@@ -438,7 +438,7 @@ module _ (inputs targets : ℕ) (live cs : List ℕ) where
         ∙ u.fronts t l
 
     last : take (get_or (set ends k end) k 0) after ≡ take 2400 (up_to k)
-    unfolding listsTo
+    unfolding lists_to
     last =
         let z : k ≡ suc s = omega arith in
         ap (λ (x : ℕ). take x after) (get_or-set_same ends k end 0 (omega (arith, u.six)))

@@ -15,26 +15,26 @@ use lib.ListN.{length, get_or, take, set, length-append, take-append-drop, drop_
 use lib.Seq.{slice, slice-cons, length-take-le, take_all, take-take, get_or_at, get_or-take}
 use Rattle.records.specs.Bytes.{tabulate, all, placed}
 use Rattle.records.specs.Gate.{Gate, operands}
-use Rattle.records.specs.Netlist.{netAt, extended, value_of, values}
+use Rattle.records.specs.Netlist.{net_at, extended, value_of, values}
 use Rattle.records.specs.Job.{Job}
-use Rattle.records.specs.Refusal.{gateGood, gatesGood}
+use Rattle.records.specs.Refusal.{gate_good, gates_good}
 use Rattle.records.proofs.Laws.Bytes.{and_both, all_cons, length-tabulate, length-placed}
-use Rattle.records.proofs.Laws.Gate.{gateGood-count}
-use Rattle.engine.specs.Inner.Packed.{own, packed, packedFrom, formed, evaluated}
-use Rattle.engine.specs.Inner.Miter.{miterGates, miterNets, miterValues}
+use Rattle.records.proofs.Laws.Gate.{gate_good-count}
+use Rattle.engine.specs.Inner.Packed.{own, packed, packed_from, formed, evaluated}
+use Rattle.engine.specs.Inner.Miter.{miter_gates, miter_nets, miter_values}
 use Rattle.engine.specs.Inner.Plan.{fanned, PlanHeld, PlannedOf}
 use Rattle.engine.specs.declared.plan.Plan.{Plan}
 use Rattle.engine.specs.Eval.{bits}
 use Rattle.engine.specs.Rectify.{rectifies}
-use Rattle.engine.specs.Ternary.{unknown, ternaryValue, Completes}
-use Rattle.engine.specs.Inner.Ranges.{known_at, ternaryOf, codeTernary, Completed, InRange, Known}
+use Rattle.engine.specs.Ternary.{unknown, ternary_value, Completes}
+use Rattle.engine.specs.Inner.Ranges.{known_at, ternary_of, code_ternary, Completed, InRange, Known}
 use Rattle.engine.proofs.Laws.Choice.{mem-keep, same_refl}
 use Rattle.engine.proofs.Laws.Fitted.{length-bits}
 use Rattle.engine.proofs.Laws.Miter.{miter-nets}
 use Rattle.engine.proofs.Laws.Packed.{packed-kind, packed-operands, length-operands}
 use Rattle.engine.proofs.Laws.Partial.{gate-completes, map-take-agree}
-use Rattle.engine.proofs.Laws.FitGates.{netAt-extended}
-use Rattle.engine.proofs.Laws.Plan.{freeOf, closed-free}
+use Rattle.engine.proofs.Laws.FitGates.{net_at-extended}
+use Rattle.engine.proofs.Laws.Plan.{free_of, closed-free}
 use Rattle.engine.proofs.Laws.Run.{evaluated-append, length-evaluated, evaluated-other, keep-ext, good-first, good-rest, own-within, Follows, run-part, same-values}
 
 -- ---- a turn of the loop over gates
@@ -57,26 +57,26 @@ module _ (F : List ℕ → ℕ → ℕ) (vs cs : List ℕ) (i to : ℕ) (l : to 
 
 module _ (vs : List ℕ) (g : Gate) where
   -- what is known of a gate by what stands at its operands
-  ternaryOf-operands : ternaryOf vs g ≡ ternaryValue g.kind (map (λ x. min x unknown) (map (netAt vs) (operands g)))
-  unfolding ternaryOf known_at
-  ternaryOf-operands =
-      ap (ternaryValue g.kind) (sym (map-map (λ x. min x unknown) (netAt vs) (operands g)))
+  ternary_of-operands : ternary_of vs g ≡ ternary_value g.kind (map (λ x. min x unknown) (map (net_at vs) (operands g)))
+  unfolding ternary_of known_at
+  ternary_of-operands =
+      ap (ternary_value g.kind) (sym (map-map (λ x. min x unknown) (net_at vs) (operands g)))
 
-  ternary-packed : (d : ℕ) → gateGood d g ≡ true → formed g ≡ true → d < 1024 → codeTernary vs (packed d g) ≡ ternaryOf vs g
-  unfolding codeTernary ternaryOf
+  ternary-packed : (d : ℕ) → gate_good d g ≡ true → formed g ≡ true → d < 1024 → code_ternary vs (packed d g) ≡ ternary_of vs g
+  unfolding code_ternary ternary_of
   ternary-packed d e f h =
-      let n : length (operands g) ≤ 4 = omega (arith, length-operands d g e f h, gateGood-count d g e) in
+      let n : length (operands g) ≤ 4 = omega (arith, length-operands d g e f h, gate_good-count d g e) in
       rw (packed-kind d g e f h, packed-operands d g e f h, take_all 4 (operands g) n)
 
 -- the packed gate is the gate, on any places
-pub ternary-follows : Follows ternaryOf codeTernary (λ vs. Unit {0})
+pub ternary-follows : Follows ternary_of code_ternary (λ vs. Unit {0})
 ternary-follows =
     record {
       local =
           λ vs ws g h.
-          ternaryOf-operands vs g
-          ∙ ap (λ (us : List ℕ). ternaryValue g.kind (map (λ x. min x unknown) us)) h
-          ∙ sym (ternaryOf-operands ws g);
+          ternary_of-operands vs g
+          ∙ ap (λ (us : List ℕ). ternary_value g.kind (map (λ x. min x unknown) us)) h
+          ∙ sym (ternary_of-operands ws g);
       keeps = λ vs c i. tt;
       packs = λ vs d g i e f h. ternary-packed vs g d e f h;
     }
@@ -97,15 +97,15 @@ completed-append k vs ns v w e f c d i l =
     last q = omega arith
 
 -- whatever values complete what is known of the leaves, the values of all nets complete what is known of them
-pub extended-completed : (d : ℕ) (gs : List Gate) (known nets : List ℕ) → gatesGood d gs ≡ true
+pub extended-completed : (d : ℕ) (gs : List Gate) (known nets : List ℕ) → gates_good d gs ≡ true
     → length known ≡ d → length nets ≡ d → Completed d known nets
-    → Completed (d + length gs) (extended value_of known gs) (extended ternaryOf nets gs)
+    → Completed (d + length gs) (extended value_of known gs) (extended ternary_of nets gs)
 unfolding extended
 extended-completed d [] known nets a e f c = rw add-zero c
 extended-completed d (g ∷ gs) known nets a e f c =
     let n : d + length (g ∷ gs) ≡ suc d + length gs = omega arith in
     let v = value_of known g in
-    let w = ternaryOf nets g in
+    let w = ternary_of nets g in
     rw n
     (extended-completed (suc d) gs (known ++ (v ∷ [])) (nets ++ (w ∷ [])) (good-rest d g gs a)
     (omega (arith, length-append known (v ∷ [])))
@@ -129,22 +129,22 @@ all-take-at q (suc k) (x ∷ xs) l e zero h = (all_cons q x (take k xs) e).0
 all-take-at q (suc k) (x ∷ xs) l e (suc i) h = all-take-at q k xs (omega arith) (all_cons q x (take k xs) e).1 i (omega arith)
 
 module _ (j : Job) (is : List ℕ) (p : Plan) (gates : List ℕ) (o : PlannedOf j is p gates) where
-  abbrev leafCount : ℕ
-  leafCount = j.inputs + j.targets
+  abbrev leaf_count : ℕ
+  leaf_count = j.inputs + j.targets
 
   -- the gates that no target leads to
-  abbrev freeGates : List ℕ
-  freeGates = slice 0 (get_or p.ends 0 0) gates
+  abbrev free_gates : List ℕ
+  free_gates = slice 0 (get_or p.ends 0 0) gates
 
   -- .. and the others
-  abbrev liveGates : List ℕ
-  liveGates = slice 0 (get_or p.ends 1 0) gates
+  abbrev live_gates : List ℕ
+  live_gates = slice 0 (get_or p.ends 1 0) gates
 
-  fits : leafCount + length o.merged ≤ 1024
-  unfolding miterNets
+  fits : leaf_count + length o.merged ≤ 1024
+  unfolding miter_nets
   fits = omega (arith, miter-nets j o.good, o.same.long)
 
-  both-lists : liveGates ≡ freeGates ++ slice (get_or p.ends 0 0) (get_or p.ends 1 0) gates
+  both-lists : live_gates ≡ free_gates ++ slice (get_or p.ends 0 0) (get_or p.ends 1 0) gates
   both-lists =
       let a = get_or p.ends 0 0 in
       let b = get_or p.ends 1 0 in
@@ -153,37 +153,37 @@ module _ (j : Job) (is : List ℕ) (p : Plan) (gates : List ℕ) (o : PlannedOf 
   module _ (nets : List ℕ) (long : length nets ≡ 1024) where
     -- what is known of each net
     abbrev known : List ℕ
-    known = extended ternaryOf (take leafCount nets) o.merged
+    known = extended ternary_of (take leaf_count nets) o.merged
 
     -- .. once the gates that no target leads to are evaluated
-    abbrev freeKnown : List ℕ
-    freeKnown = evaluated codeTernary nets freeGates
+    abbrev free_known : List ℕ
+    free_known = evaluated code_ternary nets free_gates
 
-    leaves-long : length (take leafCount nets) ≡ leafCount
-    leaves-long = length-take-le leafCount nets (omega (arith, fits))
+    leaves-long : length (take leaf_count nets) ≡ leaf_count
+    leaves-long = length-take-le leaf_count nets (omega (arith, fits))
 
-    leaf-known : (i : ℕ) → i < leafCount → netAt nets i ≡ netAt known i
-    unfolding netAt
+    leaf-known : (i : ℕ) → i < leaf_count → net_at nets i ≡ net_at known i
+    unfolding net_at
     leaf-known i h =
-        sym (netAt-extended ternaryOf (take leafCount nets) o.merged i (omega (arith, leaves-long)) ∙ get_or-take leafCount nets i 0 h)
+        sym (net_at-extended ternary_of (take leaf_count nets) o.merged i (omega (arith, leaves-long)) ∙ get_or-take leaf_count nets i 0 h)
 
     -- they drive no leaf
-    leaf-kept : (i : ℕ) → i < leafCount → netAt freeKnown i ≡ netAt nets i
+    leaf-kept : (i : ℕ) → i < leaf_count → net_at free_known i ≡ net_at nets i
     leaf-kept i h =
-        let free = freeOf j o.live in
-        evaluated-other codeTernary nets freeGates i
+        let free = free_of j o.live in
+        evaluated-other code_ternary nets free_gates i
         (λ c m e.
-        let n = ((mem-keep (λ k. free (own k)) (packedFrom leafCount o.merged) c).0 (rw o.lists.free at m)).0 in
-        let w = (own-within leafCount o.merged o.same.good o.same.forms fits c n).0 in
+        let n = ((mem-keep (λ k. free (own k)) (packed_from leaf_count o.merged) c).0 (rw o.lists.free at m)).0 in
+        let w = (own-within leaf_count o.merged o.same.good o.same.forms fits c n).0 in
         omega arith)
 
-    free-known : (i : ℕ) → i < leafCount + length o.merged → freeOf j o.live i ≡ true → netAt freeKnown i ≡ netAt known i
+    free-known : (i : ℕ) → i < leaf_count + length o.merged → free_of j o.live i ≡ true → net_at free_known i ≡ net_at known i
     free-known i l m =
-        let free = freeOf j o.live in
-        ap (λ (cs : List ℕ). netAt (evaluated codeTernary nets cs) i)
+        let free = free_of j o.live in
+        ap (λ (cs : List ℕ). net_at (evaluated code_ternary nets cs) i)
         (o.lists.free
-        ∙ keep-ext (λ c. free (own c)) (λ c. free (own c) && true) (packedFrom leafCount o.merged) (λ c n. sym (and-true (free (own c)))))
-        ∙ run-part ternary-follows free (λ k. true) leafCount o.merged (take leafCount nets) nets o.same.good o.same.forms fits
+        ∙ keep-ext (λ c. free (own c)) (λ c. free (own c) && true) (packed_from leaf_count o.merged) (λ c n. sym (and-true (free (own c)))))
+        ∙ run-part ternary-follows free (λ k. true) leaf_count o.merged (take leaf_count nets) nets o.same.good o.same.forms fits
         (omega arith)
         leaves-long
         (closed-free j o.same o.live o.closed)
@@ -193,21 +193,21 @@ module _ (j : Job) (is : List ℕ) (p : Plan) (gates : List ℕ) (o : PlannedOf 
         l
         m
 
-    live-known : (i : ℕ) → i < leafCount + length o.merged → o.live i ≡ true
-        → netAt (evaluated codeTernary nets liveGates) i ≡ netAt known i
+    live-known : (i : ℕ) → i < leaf_count + length o.merged → o.live i ≡ true
+        → net_at (evaluated code_ternary nets live_gates) i ≡ net_at known i
     live-known i l m =
-        ap (λ (vs : List ℕ). netAt vs i)
-        (ap (evaluated codeTernary nets) both-lists
-        ∙ evaluated-append codeTernary nets freeGates _
-        ∙ ap (evaluated codeTernary freeKnown) o.lists.fan)
-        ∙ run-part ternary-follows o.live (fanned j) leafCount o.merged (take leafCount nets) freeKnown o.same.good o.same.forms fits
-        (omega (arith, length-evaluated codeTernary nets freeGates))
+        ap (λ (vs : List ℕ). net_at vs i)
+        (ap (evaluated code_ternary nets) both-lists
+        ∙ evaluated-append code_ternary nets free_gates _
+        ∙ ap (evaluated code_ternary free_known) o.lists.fan)
+        ∙ run-part ternary-follows o.live (fanned j) leaf_count o.merged (take leaf_count nets) free_known o.same.good o.same.forms fits
+        (omega (arith, length-evaluated code_ternary nets free_gates))
         leaves-long
         o.closed
         tt
         (λ k u w s.
         ⊎_elim
-        (λ (b : k < leafCount). leaf-kept k b ∙ leaf-known k b)
+        (λ (b : k < leaf_count). leaf-kept k b ∙ leaf-known k b)
         (λ (z : fanned j k ≡ false). free-known k u (and_both (o.live k) (not (fanned j k)) w (ap not z)))
         s)
         i
@@ -215,51 +215,51 @@ module _ (j : Job) (is : List ℕ) (p : Plan) (gates : List ℕ) (o : PlannedOf 
         m
 
   -- what is known of a live net is completed by its value, whatever values complete what is known of the leaves
-  live-completed : (leaves nets : List ℕ) → length leaves ≡ leafCount → length nets ≡ 1024
-      → Completed leafCount leaves nets
-      → (i : ℕ) → i < miterNets j → o.live i ≡ true
-      → Completes (netAt (values leaves (miterGates j)) i) (netAt (evaluated codeTernary nets liveGates) i)
-  unfolding miterNets values netAt
+  live-completed : (leaves nets : List ℕ) → length leaves ≡ leaf_count → length nets ≡ 1024
+      → Completed leaf_count leaves nets
+      → (i : ℕ) → i < miter_nets j → o.live i ≡ true
+      → Completes (net_at (values leaves (miter_gates j)) i) (net_at (evaluated code_ternary nets live_gates) i)
+  unfolding miter_nets values net_at
   live-completed leaves nets e f c i l h =
       let t = leaves-long nets f in
-      let n : i < leafCount + length o.merged = omega (arith, o.same.long) in
-      subst (λ (v : ℕ). Completes v (netAt (evaluated codeTernary nets liveGates) i))
-      (ap (λ (vs : List ℕ). netAt vs i) (same-values o.same leaves e))
-      (subst (λ (w : ℕ). Completes (netAt (values leaves o.merged) i) w) (sym (live-known nets f i n h))
-      (extended-completed leafCount o.merged leaves (take leafCount nets) o.same.good e t
-      (λ k u. rw (get_or-take leafCount nets k 0 u) (c k u))
+      let n : i < leaf_count + length o.merged = omega (arith, o.same.long) in
+      subst (λ (v : ℕ). Completes v (net_at (evaluated code_ternary nets live_gates) i))
+      (ap (λ (vs : List ℕ). net_at vs i) (same-values o.same leaves e))
+      (subst (λ (w : ℕ). Completes (net_at (values leaves o.merged) i) w) (sym (live-known nets f i n h))
+      (extended-completed leaf_count o.merged leaves (take leaf_count nets) o.same.good e t
+      (λ k u. rw (get_or-take leaf_count nets k 0 u) (c k u))
       i
       n))
 
   -- outputs that are known, and equal, in the places of all live nets are equal in the values that complete the leaves
-  outputs-settled : (leaves nets : List ℕ) → length leaves ≡ leafCount → length nets ≡ 1024
-      → Completed leafCount leaves nets → PlanHeld p gates
-      → let after = evaluated codeTernary nets liveGates in
+  outputs-settled : (leaves nets : List ℕ) → length leaves ≡ leaf_count → length nets ≡ 1024
+      → Completed leaf_count leaves nets → PlanHeld p gates
+      → let after = evaluated code_ternary nets live_gates in
       ((i : ℕ) → i < p.outs → Known (get_or after (get_or p.outputs i 0) 0) (get_or after (get_or p.goldens i 0) 0))
-      → map (netAt (values leaves (miterGates j))) (take p.outs p.outputs)
-      ≡ map (netAt (values leaves (miterGates j))) (take p.outs p.goldens)
-  unfolding netAt
+      → map (net_at (values leaves (miter_gates j))) (take p.outs p.outputs)
+      ≡ map (net_at (values leaves (miter_gates j))) (take p.outs p.goldens)
+  unfolding net_at
   outputs-settled leaves nets e f c q k =
-      let vs = values leaves (miterGates j) in
-      let after = evaluated codeTernary nets liveGates in
-      let below : ℕ → Bool = λ i. ltb i (miterNets j) in
+      let vs = values leaves (miter_gates j) in
+      let after = evaluated code_ternary nets live_gates in
+      let below : ℕ → Bool = λ i. ltb i (miter_nets j) in
       let a : p.outs ≤ length p.outputs = omega (arith, q.outs, q.outputs) in
       let b : p.outs ≤ length p.goldens = omega (arith, q.outs, q.goldens) in
-      map-take-agree (netAt vs) (netAt vs) p.outs p.outputs p.goldens a b
+      map-take-agree (net_at vs) (net_at vs) p.outs p.outputs p.goldens a b
       (λ i l.
       let u = get_or p.outputs i 0 in
       let w = get_or p.goldens i 0 in
       let z = k i l in
       let y : get_or after w 0 < unknown = omega (arith, z.below, z.equal) in
       (live-completed leaves nets e f c u
-      (ltb-true u (miterNets j) (all-take-at below p.outs p.outputs a o.pairs.olds i l))
+      (ltb-true u (miter_nets j) (all-take-at below p.outs p.outputs a o.pairs.olds i l))
       (all-take-at o.live p.outs p.outputs a o.live-outputs i l)
       ).kept
       z.below
       ∙ z.equal
       ∙ sym
       ((live-completed leaves nets e f c w
-      (ltb-true w (miterNets j) (all-take-at below p.outs p.goldens b o.pairs.goldens i l))
+      (ltb-true w (miter_nets j) (all-take-at below p.outs p.goldens b o.pairs.goldens i l))
       (all-take-at o.live p.outs p.goldens b o.live-goldens i l)
       ).kept
       y))
@@ -269,14 +269,14 @@ module _ (j : Job) (is : List ℕ) (p : Plan) (gates : List ℕ) (o : PlannedOf 
       → ((x v : ℕ) → InRange low prefix x
       → Completed (p.inputs + p.targets) (bits p.inputs x ++ bits p.targets v) nets)
       → PlanHeld p gates
-      → let after = evaluated codeTernary nets liveGates in
+      → let after = evaluated code_ternary nets live_gates in
       ((i : ℕ) → i < p.outs → Known (get_or after (get_or p.outputs i 0) 0) (get_or after (get_or p.goldens i 0) 0))
       → (x v : ℕ) → InRange low prefix x → rectifies j x v ≡ true
-  unfolding miterValues
+  unfolding miter_values
   rectifies-range low prefix nets f c q k x v r =
       let n = j.inputs in
       let m = j.targets in
       let leaves = bits n x ++ bits m v in
       let l : length leaves ≡ n + m = omega (arith, length-append (bits n x) (bits m v), length-bits n x, length-bits m v) in
       let s = outputs-settled leaves nets l f (rw (o.inputs, o.targets) at (c x v r)) q k in
-      sym (o.pairs.equal x v) ∙ rw s (same_refl (map (netAt (values leaves (miterGates j))) (take p.outs p.goldens)))
+      sym (o.pairs.equal x v) ∙ rw s (same_refl (map (net_at (values leaves (miter_gates j))) (take p.outs p.goldens)))

@@ -15,15 +15,15 @@ use lib.Seq.{get_or-set_same, get_or-set_other}
 use Rattle.records.specs.Job.{Job}
 use Rattle.engine.specs.Eval.{bit}
 use Rattle.engine.specs.Rectify.{rectifies}
-use Rattle.engine.specs.Support.{reading, candidateNets}
+use Rattle.engine.specs.Support.{reading, candidate_nets}
 use Rattle.engine.specs.Inner.Masks.{rectifiers}
-use Rattle.engine.specs.Inner.Note.{narrowed, setsFrom}
+use Rattle.engine.specs.Inner.Note.{narrowed, sets_from}
 use Rattle.engine.specs.Inner.Plan.{PlannedOf}
 use Rattle.engine.specs.Inner.Search.{SetsTo, SettledFrom}
 use Rattle.engine.specs.declared.plan.Plan.{Plan}
 use Rattle.engine.proofs.Laws.Choice.{true-or-false}
 use Rattle.engine.proofs.Laws.Eval.{bit-lt}
-use Rattle.engine.proofs.Laws.List.{walked-holds, eq-or-below, narrowing, setsFrom-walked}
+use Rattle.engine.proofs.Laws.List.{walked-holds, eq-or-below, narrowing, sets_from-walked}
 use Rattle.engine.proofs.Laws.Rows.{bit-pow}
 use Rattle.engine.proofs.Laws.Shift.{bit-mod}
 use Rattle.engine.proofs.Laws.VectorSets.{bit-ones, bit-rectifiers, rectifiers-beyond}
@@ -69,7 +69,7 @@ module _ (ss : List ℕ) (r s : ℕ) where
 
 module _ (j : Job) (few : j.targets ≤ 4) where
   abbrev g : ℕ → ℕ
-  g = reading j (candidateNets j)
+  g = reading j (candidate_nets j)
 
   vectors-few : 2 ^ j.targets ≤ 16
   vectors-few = pow_mono {j = 4} few
@@ -138,9 +138,9 @@ module _ (j : Job) (few : j.targets ≤ 4) where
       }
 
   -- after n inputs more
-  pub sets_more : {k : ℕ} (x n : ℕ) {ss ts : List ℕ} → ts ≡ setsFrom (rectifiers j) g ss x n → SetsTo j x k ss → SetsTo j (x + n) k ts
+  pub sets_more : {k : ℕ} (x n : ℕ) {ss ts : List ℕ} → ts ≡ sets_from (rectifiers j) g ss x n → SetsTo j x k ss → SetsTo j (x + n) k ts
   sets_more {k} x n {ss} e p =
-      rw (e ∙ setsFrom-walked (rectifiers j) g ss x n)
+      rw (e ∙ sets_from-walked (rectifiers j) g ss x n)
       (walked-holds (narrowing (rectifiers j) g) (λ y us. SetsTo j y k us) ss x n p (λ y a b us h. sets-turn y us h))
 
 -- ---- inputs that leave the sets
@@ -148,7 +148,7 @@ module _ (j : Job) (few : j.targets ≤ 4) where
 -- each vector in the sets of their readings rectifies them, and an input gave each reading before, or they are in ranges that were skipped
 pub sets-stay : {j : Job} {x y k k' : ℕ} {ss : List ℕ} → x ≤ y → ((i : ℕ) → bit i k' ≡ 0 → bit i k ≡ 0)
     → ((z : ℕ) → x ≤ z → z < y
-    → let s = get_or ss (reading j (candidateNets j) z) 0 in
+    → let s = get_or ss (reading j (candidate_nets j) z) 0 in
     (bit (z / 32768) k' ≡ 0 → bit 16 s ≡ 0) × ((v : ℕ) → v < 16 → bit v s ≡ 1 → rectifies j z v ≡ true))
     → SetsTo j x k ss → SetsTo j y k' ss
 sets-stay {j} {x} {y} {k} {k'} {ss} h m q p =
@@ -170,7 +170,7 @@ sets-stay {j} {x} {y} {k} {k'} {ss} h m q p =
 
 -- the inputs of blocks that need no look are a range
 pub sets-skip : {p : Plan} {gates : List ℕ} {b r k : ℕ} {j : Job} {ss : List ℕ} → SettledFrom p gates b r → 0 < r
-    → PlannedOf j (candidateNets j) p gates → SetsTo j (1024 * b) k ss → SetsTo j (1024 * (b + r)) (bit_or k (2 ^ (b / 32))) ss
+    → PlannedOf j (candidate_nets j) p gates → SetsTo j (1024 * b) k ss → SetsTo j (1024 * (b + r)) (bit_or k (2 ^ (b / 32))) ss
 sets-skip {b = b} {r = r} {k = k} {j = j} f h q =
     let e = f.range h in
     let n : ℕ = 2 ^ (b / 32) in
@@ -179,5 +179,5 @@ sets-skip {b = b} {r = r} {k = k} {j = j} f h q =
       λ a.
           let i : z / 32768 ≡ b / 32 = omega (arith, e.0, e.1) in
           let f : ⊥ = omega (arith, bit-or (z / 32768) k n, (bit-pow (b / 32) (z / 32768)).1 i) in absurd f,
-      λ v c d. f.settled j (candidateNets j) q z v l u,
+      λ v c d. f.settled j (candidate_nets j) q z v l u,
     ))

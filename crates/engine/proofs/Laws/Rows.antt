@@ -13,32 +13,32 @@ use lib.Pow.{mod-pow-add}
 use Rattle.records.specs.Bytes.{up_from, tabulate}
 use Rattle.records.proofs.Laws.Bytes.{tabulate-ext}
 use Rattle.engine.specs.Eval.{bit, bits, number_of}
-use Rattle.engine.specs.Inner.Note.{narrowed, setsFrom, gathered, ColumnMet}
-use Rattle.engine.specs.Inner.Kernel.{valueIn}
+use Rattle.engine.specs.Inner.Note.{narrowed, sets_from, gathered, ColumnMet}
+use Rattle.engine.specs.Inner.Kernel.{value_in}
 use Rattle.engine.specs.Inner.Search.{RowsSay}
 use Rattle.engine.specs.Inner.Turn.{TurnedAt, ColumnsTurned}
-use Rattle.engine.proofs.Laws.AnyOrder.{met, under, setsFrom-met, met-along, met-order}
+use Rattle.engine.proofs.Laws.AnyOrder.{met, under, sets_from-met, met-along, met-order}
 use Rattle.engine.proofs.Laws.Eval.{bit-lt}
 use Rattle.engine.proofs.Laws.Picked.{bit-first, bit-suc, bits-suc}
 use Rattle.engine.proofs.Laws.Shift.{bit-shr, bit-mod}
 use Rattle.engine.proofs.Laws.VectorSets.{bit-tabulate, tabulate-lt}
-use Rattle.engine.proofs.Laws.List.{narrowing, setsFrom-append}
+use Rattle.engine.proofs.Laws.List.{narrowing, sets_from-append}
 use Rattle.engine.proofs.Laws.Word.{bit-zero}
 
 -- ---- what the rows say of a scenario
 
 module _ (x : List ℕ) (y : ℕ) where
-  pub valueIn-lt : (i : ℕ) → valueIn x y i < 2
-  unfolding valueIn
-  valueIn-lt i = bit-lt (y % 64) (get_or x (16 * i + y / 64) 0)
+  pub value_in-lt : (i : ℕ) → value_in x y i < 2
+  unfolding value_in
+  value_in-lt i = bit-lt (y % 64) (get_or x (16 * i + y / 64) 0)
 
   pub gathered-lt : gathered x y < 65536
   unfolding gathered
-  gathered-lt = tabulate-lt 16 (valueIn x y) valueIn-lt
+  gathered-lt = tabulate-lt 16 (value_in x y) value_in-lt
 
-  pub bit-gathered : (i : ℕ) → i < 16 → bit i (gathered x y) ≡ valueIn x y i
+  pub bit-gathered : (i : ℕ) → i < 16 → bit i (gathered x y) ≡ value_in x y i
   unfolding gathered
-  bit-gathered i h = bit-tabulate 16 (valueIn x y) valueIn-lt i h
+  bit-gathered i h = bit-tabulate 16 (value_in x y) value_in-lt i h
 
 -- ---- the transposed rows
 
@@ -46,12 +46,12 @@ pub turned-back : (n : ℕ) (x y : List ℕ) → ColumnsTurned n x y → Columns
 turned-back n x y t w h k i j hk hi hj = sym (t w h k j i hk hj hi)
 
 -- the number made of a number's lowest bits
-pub numberOf-bits : (k x : ℕ) → number_of (bits k x) ≡ x % 2 ^ k
+pub number_of-bits : (k x : ℕ) → number_of (bits k x) ≡ x % 2 ^ k
 unfolding number_of bits tabulate up_from
-numberOf-bits zero x = sym (mod-one x)
-numberOf-bits (suc k) x =
+number_of-bits zero x = sym (mod-one x)
+number_of-bits (suc k) x =
     let m : x % 2 ^ suc k ≡ x / 2 % 2 ^ k * 2 + x % 2 = rw (add-one k) at (mod-pow-add x k 1) in
-    ap number_of (bits-suc k x) ∙ omega (arith, numberOf-bits k (x / 2))
+    ap number_of (bits-suc k x) ∙ omega (arith, number_of-bits k (x / 2))
 
 -- rows have the bits of what they say of a scenario: all of them, and four from row first on
 pub rows_whole : (x : List ℕ) (n : ℕ) → n ≤ 16 → RowsSay x 0 n (gathered x)
@@ -75,10 +75,10 @@ pub bit-ext : (k x y : ℕ) → x < 2 ^ k → y < 2 ^ k → ((i : ℕ) → i < k
 unfolding bits
 bit-ext k x y l m h =
     sym (mod-eq_of_lt l)
-    ∙ sym (numberOf-bits k x)
+    ∙ sym (number_of-bits k x)
     ∙ ap number_of
     (tabulate-ext k (λ i. bit i x) (λ i. bit i y) (λ i u. bit-alike (bit i x) (bit i y) (bit-lt i x) (bit-lt i y) (h i u)))
-    ∙ numberOf-bits k y
+    ∙ number_of-bits k y
     ∙ mod-eq_of_lt m
 
 -- the only bit of a power of two
@@ -104,13 +104,13 @@ digits w b h = (omega arith, omega arith)
 -- a quarter of a transposed word is what the rows say of one scenario
 quarter : (x y : List ℕ) (w : ℕ) → TurnedAt x y w → (k j : ℕ) → k < 4 → j < 16
     → get_or y (16 * j + w) 0 / 2 ^ (16 * k) % 65536 ≡ gathered x (64 * w + (16 * k + j))
-unfolding gathered valueIn bits
+unfolding gathered value_in bits
 quarter x y w t k j hk hj =
     let q = get_or y (16 * j + w) 0 / 2 ^ (16 * k) in
     let d = digits w (16 * k + j) (omega arith) in
-    sym (numberOf-bits 16 q)
+    sym (number_of-bits 16 q)
     ∙ ap number_of
-    (tabulate-ext 16 (λ r. bit r q) (valueIn x (64 * w + (16 * k + j)))
+    (tabulate-ext 16 (λ r. bit r q) (value_in x (64 * w + (16 * k + j)))
     (λ r u. bit-shr r (16 * k) (get_or y (16 * j + w) 0) ∙ t k r j hk u hj ∙ rw (d.0, d.1)))
 
 -- .. and the other way
@@ -127,21 +127,21 @@ mod-small z = omega arith
 
 -- ---- the sets, quarter by quarter
 
-pub setsFrom-length : (f g : ℕ → ℕ) (ss : List ℕ) (x n : ℕ) → length (setsFrom f g ss x n) ≡ length ss
-unfolding setsFrom narrowed
-setsFrom-length f g ss x zero = refl
-setsFrom-length f g ss x (suc n) =
-    setsFrom-length f g (narrowed ss (g x) (f x)) (suc x) n ∙ length-set ss (g x) (bit_and (get_or ss (g x) 0) (f x))
+pub sets_from-length : (f g : ℕ → ℕ) (ss : List ℕ) (x n : ℕ) → length (sets_from f g ss x n) ≡ length ss
+unfolding sets_from narrowed
+sets_from-length f g ss x zero = refl
+sets_from-length f g ss x (suc n) =
+    sets_from-length f g (narrowed ss (g x) (f x)) (suc x) n ∙ length-set ss (g x) (bit_and (get_or ss (g x) 0) (f x))
 
 -- another numbering
-pub setsFrom-agree : (f g h k : ℕ → ℕ) (ss : List ℕ) (x y n : ℕ)
-    → ((i : ℕ) → i < n → (f (x + i) ≡ h (y + i)) × (g (x + i) ≡ k (y + i))) → setsFrom f g ss x n ≡ setsFrom h k ss y n
-unfolding setsFrom
-setsFrom-agree f g h k ss x y zero e = refl
-setsFrom-agree f g h k ss x y (suc n) e =
+pub sets_from-agree : (f g h k : ℕ → ℕ) (ss : List ℕ) (x y n : ℕ)
+    → ((i : ℕ) → i < n → (f (x + i) ≡ h (y + i)) × (g (x + i) ≡ k (y + i))) → sets_from f g ss x n ≡ sets_from h k ss y n
+unfolding sets_from
+sets_from-agree f g h k ss x y zero e = refl
+sets_from-agree f g h k ss x y (suc n) e =
     let d = rw (add-zero x, add-zero y) at (e 0 (omega arith)) in
     rw (d.0, d.1)
-    (setsFrom-agree f g h k (narrowed ss (k y) (h y)) (suc x) (suc y) n
+    (sets_from-agree f g h k (narrowed ss (k y) (h y)) (suc x) (suc y) n
     (λ i l.
     let p : suc x + i ≡ x + suc i = omega arith in
     let q : suc y + i ≡ y + suc i = omega arith in
@@ -175,11 +175,11 @@ turn_of y = 4 * (y % 16) + y / 16
 visit-lt : (n : ℕ) → n < 64 → visit n < 64
 visit-lt n h = omega arith
 
-turnOf-lt : (y : ℕ) → y < 64 → turn_of y < 64
-turnOf-lt y h = omega arith
+turn_of-lt : (y : ℕ) → y < 64 → turn_of y < 64
+turn_of-lt y h = omega arith
 
-visit-turnOf : (y : ℕ) → y < 64 → visit (turn_of y) ≡ y
-visit-turnOf y h = omega arith
+visit-turn_of : (y : ℕ) → y < 64 → visit (turn_of y) ≡ y
+visit-turn_of y h = omega arith
 
 abbrev pub quarters : List ℕ → List ℕ → ℕ → List ℕ → ℕ → List ℕ
 quarters ms rs w ss n = met (narrowing (part 65536 ms w) (part 1024 rs w)) ss (under (λ y. y) n)
@@ -238,9 +238,9 @@ quarters-all ms rs w ss x y t u =
     met-along visit f g (part 65536 ms w) (part 1024 rs w) ss 64
     (λ n l. (part-gathered x ms w n t l, part-reading y rs w n u l))
     ∙ met-order f g visit (λ s. s) ss 64 64 (λ n l. (visit n, visit-lt n l, refl))
-    (λ s l. (turn_of s, turnOf-lt s l, visit-turnOf s l))
-    ∙ sym (setsFrom-met f g ss 64)
-    ∙ setsFrom-agree f g (gathered x) (λ s. gathered y s % 1024) ss 0 (64 * w) 64 (λ i l. rw (zero-add i) (refl, refl))
+    (λ s l. (turn_of s, turn_of-lt s l, visit-turn_of s l))
+    ∙ sym (sets_from-met f g ss 64)
+    ∙ sets_from-agree f g (gathered x) (λ s. gathered y s % 1024) ss 0 (64 * w) 64 (λ i l. rw (zero-add i) (refl, refl))
 
 -- ---- the sets, column by column
 
@@ -248,10 +248,10 @@ quarters-all ms rs w ss x y t u =
 abbrev pub ColumnsMet : ℕ → List ℕ → List ℕ → ℕ → List ℕ → List ℕ → Type 0
 ColumnsMet n ms rs k ss ts =
     (x y : List ℕ) → ColumnsTurned n x ms → ColumnsTurned n y rs
-    → ts ≡ setsFrom (gathered x) (λ s. gathered y s % 1024) ss 0 (64 * k)
+    → ts ≡ sets_from (gathered x) (λ s. gathered y s % 1024) ss 0 (64 * k)
 
 pub columns-none : (n : ℕ) (ms rs ss : List ℕ) → ColumnsMet n ms rs 0 ss ss
-unfolding setsFrom
+unfolding sets_from
 columns-none n ms rs ss x y t u = refl
 
 pub columns-next : (n : ℕ) (ms rs : List ℕ) (w : ℕ) (ss ts us : List ℕ) → w < n → ColumnsMet n ms rs w ss ts
@@ -261,30 +261,30 @@ columns-next n ms rs w ss ts us h p q x y t u =
     let g : ℕ → ℕ = λ s. gathered y s % 1024 in
     let e : 64 * w + 64 ≡ 64 * (w + 1) = omega arith in
     q x y (t w h) (u w h)
-    ∙ ap (λ (vs : List ℕ). setsFrom f g vs (64 * w) 64) (p x y t u)
+    ∙ ap (λ (vs : List ℕ). sets_from f g vs (64 * w) 64) (p x y t u)
     ∙ sym
-    (ap (setsFrom f g ss 0) (sym e)
-    ∙ setsFrom-append f g ss 0 (64 * w) 64
-    ∙ ap (λ (z : ℕ). setsFrom f g (setsFrom f g ss 0 (64 * w)) z 64) (zero-add (64 * w)))
+    (ap (sets_from f g ss 0) (sym e)
+    ∙ sets_from-append f g ss 0 (64 * w) 64
+    ∙ ap (λ (z : ℕ). sets_from f g (sets_from f g ss 0 (64 * w)) z 64) (zero-add (64 * w)))
 
 -- ---- for the callers: a block's inputs among all
 
 -- a block of n that repeats its first c inputs
-pub setsFrom-repeats : (f g : ℕ → ℕ) (ss : List ℕ) (c n : ℕ) → 0 < c → c ≤ n
-    → setsFrom (λ y. f (y % c)) (λ y. g (y % c)) ss 0 n ≡ setsFrom f g ss 0 c
-setsFrom-repeats f g ss c n h l =
-    setsFrom-met (λ y. f (y % c)) (λ y. g (y % c)) ss n
+pub sets_from-repeats : (f g : ℕ → ℕ) (ss : List ℕ) (c n : ℕ) → 0 < c → c ≤ n
+    → sets_from (λ y. f (y % c)) (λ y. g (y % c)) ss 0 n ≡ sets_from f g ss 0 c
+sets_from-repeats f g ss c n h l =
+    sets_from-met (λ y. f (y % c)) (λ y. g (y % c)) ss n
     ∙ met-along (λ y. y % c) f g (λ y. f (y % c)) (λ y. g (y % c)) ss n (λ m u. (refl, refl))
     ∙ met-order f g (λ y. y % c) (λ y. y) ss n c (λ m u. (m % c, mod-lt m h, refl))
     (λ m u. (m, omega arith, mod-eq_of_lt u))
-    ∙ sym (setsFrom-met f g ss c)
+    ∙ sym (sets_from-met f g ss c)
 
 -- the sets after the n inputs from first on, where f and g say what a block's rows say
 pub block-sets : (ms rs ss : List ℕ) (f g : ℕ → ℕ) (first n : ℕ) → ((y : ℕ) → y < n → gathered ms y ≡ f (first + y))
     → ((y : ℕ) → y < n → (gathered rs y ≡ g (first + y)) × (g (first + y) < 1024))
-    → setsFrom (gathered ms) (λ y. gathered rs y % 1024) ss 0 n ≡ setsFrom f g ss first n
+    → sets_from (gathered ms) (λ y. gathered rs y % 1024) ss 0 n ≡ sets_from f g ss first n
 block-sets ms rs ss f g first n p q =
-    setsFrom-agree (gathered ms) (λ y. gathered rs y % 1024) f g ss 0 first n
+    sets_from-agree (gathered ms) (λ y. gathered rs y % 1024) f g ss 0 first n
     (λ i l.
     let d = q i l in
     rw (zero-add i) (p i l, ap (λ (z : ℕ). z % 1024) d.0 ∙ mod-eq_of_lt d.1))

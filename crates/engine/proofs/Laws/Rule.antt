@@ -9,22 +9,22 @@ use native.Mathlib.Omega.{arith}
 use lib.Pow.{pow_mono}
 use lib.ListN.{length, take, length-map}
 use lib.Seq.{length-take-le}
-use Rattle.records.specs.Bytes.{all, bytePair, placed, field}
+use Rattle.records.specs.Bytes.{all, byte_pair, placed, field}
 use Rattle.records.specs.Job.{Job, Candidate}
-use Rattle.records.specs.Refusal.{ascending, candidateGood, candidatesGood}
+use Rattle.records.specs.Refusal.{ascending, candidate_good, candidates_good}
 use Rattle.records.specs.Claims.{PartsGood}
-use Rattle.records.specs.Service.{candidatesFrom, countsOf}
+use Rattle.records.specs.Service.{candidates_from, counts_of}
 use Rattle.records.specs.Inner.{Within}
 use Rattle.records.specs.Parts.{PartsOf}
 use Rattle.records.specs.declared.loading.JobParts.{JobParts}
 use Rattle.records.specs.declared.job.Counts.{Counts}
 use Rattle.records.specs.declared.sheet.Support.{Support}
 use Rattle.records.proofs.Laws.Bytes.{false_of, and_left}
-use Rattle.engine.specs.Rectify.{Listed, vectorLoop}
-use Rattle.engine.specs.Support.{sound, table_of, notesOf, candidateNets, cost, chosen}
-use Rattle.engine.specs.Verdict.{blindReading, fourBytes, judgeSheet, chooseSheet}
-use Rattle.engine.specs.Reply.{judgementOf, choice_of}
-use Rattle.engine.specs.Inner.Sheet.{patchBytes, BytesPut}
+use Rattle.engine.specs.Rectify.{Listed, vector_loop}
+use Rattle.engine.specs.Support.{sound, table_of, notes_of, candidate_nets, cost, chosen}
+use Rattle.engine.specs.Verdict.{blind_reading, four_bytes, judge_sheet, choose_sheet}
+use Rattle.engine.specs.Reply.{judgement_of, choice_of}
+use Rattle.engine.specs.Inner.Sheet.{patch_bytes, BytesPut}
 use Rattle.engine.specs.Inner.List.{listed_of}
 use Rattle.engine.specs.Inner.Guess.{ListTo}
 use Rattle.engine.specs.Inner.Search.{SetsTo}
@@ -49,7 +49,7 @@ use Rattle.engine.proofs.Laws.Sets.{sound-iff-full, blind-of-empty}
 use Rattle.engine.proofs.Laws.Miter.{job-within, candidates-good}
 use Rattle.engine.proofs.Laws.ListLoop.{walk-list}
 use Rattle.engine.proofs.Laws.Search.{listed-stuck, listed_free}
-use Rattle.engine.proofs.Laws.Sheet.{patchBytes-sheet}
+use Rattle.engine.proofs.Laws.Sheet.{patch_bytes-sheet}
 use Rattle.engine.proofs.Laws.Verdict.{judged-unfixable, judged-fixable, chosen-patch, chosen-blind}
 
 -- ---- a reply r of a length and a verdict, whose bytes are put into the buffer
@@ -66,19 +66,19 @@ module _ {R A : Type 0} (r : ℕ → A → R) {u v : A} {xs bs d e : List ℕ} {
 abbrev judgement : ℕ → Judgement → JudgeReply
 judgement n v = record { number = 0; len = n; verdict = v }
 
-judged-put : (j : Job) {v : Judgement} {bs d e : List ℕ} {n : ℕ} → (judgementOf j ≡ v) × (judgeSheet j ≡ bs) → BytesPut d 0 bs e n
+judged-put : (j : Job) {v : Judgement} {bs d e : List ℕ} {n : ℕ} → (judgement_of j ≡ v) × (judge_sheet j ≡ bs) → BytesPut d 0 bs e n
     → JudgedJob j d (judgement n v) e
 judged-put j h w = record { reply = reply-put judgement h w; bytes = bytes-put judgement h w }
 
-module _ (j : Job) (v : Vectors) (h : listed_of v ≡ vectorLoop j) where
+module _ (j : Job) (v : Vectors) (h : listed_of v ≡ vector_loop j) where
   abbrev vectors : List ℕ
   vectors = take v.len v.list
 
-  vectors-of : (vectorLoop j).vectors ≡ vectors
+  vectors-of : (vector_loop j).vectors ≡ vectors
   unfolding listed_of
   vectors-of = ap (λ (l : Listed). l.vectors) (sym h)
 
-  pub unfixable-judged : {d e : List ℕ} {n : ℕ} → v.stuck ≡ true → BytesPut d 0 (field 20 (fourBytes v.input) ++ field 19 vectors) e n
+  pub unfixable-judged : {d e : List ℕ} {n : ℕ} → v.stuck ≡ true → BytesPut d 0 (field 20 (four_bytes v.input) ++ field 19 vectors) e n
       → JudgedJob j d (judgement n (Judgement.Unfixable (record { input = v.input }))) e
   unfixable-judged s =
       let f = judged-unfixable j (ap (λ (l : Listed). l.stuck) (sym h) ∙ listed-stuck v s) in
@@ -95,20 +95,20 @@ module _ (j : Job) (v : Vectors) (h : listed_of v ≡ vectorLoop j) where
 abbrev choice : ℕ → Choice → ChooseReply
 choice n v = record { number = 0; len = n; verdict = v }
 
-chosen-put : (j : Job) {v : Choice} {bs d e : List ℕ} {n : ℕ} → (choice_of j ≡ v) × (chooseSheet j ≡ bs) → BytesPut d 0 bs e n
+chosen-put : (j : Job) {v : Choice} {bs d e : List ℕ} {n : ℕ} → (choice_of j ≡ v) × (choose_sheet j ≡ bs) → BytesPut d 0 bs e n
     → ChosenJob j d (choice n v) e
 chosen-put j h w = record { reply = reply-put choice h w; bytes = bytes-put choice h w }
 
 module _ (j : Job) {d e : List ℕ} {n : ℕ} where
-  pub blind-choice : {r : ℕ} → sound j (candidateNets j) ≡ false → r ≡ blindReading j → BytesPut d 0 (field 21 (bytePair r)) e n
+  pub blind-choice : {r : ℕ} → sound j (candidate_nets j) ≡ false → r ≡ blind_reading j → BytesPut d 0 (field 21 (byte_pair r)) e n
       → ChosenJob j d (choice n (Choice.Blind (record { reading = r }))) e
   blind-choice s q = let f = chosen-blind j s in chosen-put j (f.0 ∙ rw q, f.1 ∙ rw q)
 
-  pub patch-choice : {is t ns : List ℕ} {c : ℕ} → sound j (candidateNets j) ≡ true → is ≡ chosen j → t ≡ table_of j is → c ≡ cost j is
-      → ns ≡ notesOf j is → BytesPut d 0 (patchBytes is t c ns) e n → ChosenJob j d (choice n (Choice.Patch (record { cost = c }))) e
+  pub patch-choice : {is t ns : List ℕ} {c : ℕ} → sound j (candidate_nets j) ≡ true → is ≡ chosen j → t ≡ table_of j is → c ≡ cost j is
+      → ns ≡ notes_of j is → BytesPut d 0 (patch_bytes is t c ns) e n → ChosenJob j d (choice n (Choice.Patch (record { cost = c }))) e
   patch-choice {is} s q a b g =
       let f = chosen-patch j s in
-      chosen-put j (f.0 ∙ rw (b, q), f.1 ∙ sym (patchBytes-sheet j is a b g ∙ rw q))
+      chosen-put j (f.0 ∙ rw (b, q), f.1 ∙ sym (patch_bytes-sheet j is a b g ∙ rw q))
 
 -- ---- the chosen support
 
@@ -119,8 +119,8 @@ module _ {j : Job} {s : Support} {c : ℕ} {ss : List ℕ} (h : ChosenOf j s c s
   pub table-of-chosen : {t : List ℕ} → TableFilled ss s.len t → take (2 ^ s.len) t ≡ table_of j nets
   table-of-chosen f = f.table j (chosen j) h.sets (sym h.len) ∙ ap (table_of j) (sym h.support)
 
-  pub notes-of-chosen : {t : List ℕ} → Unseen j (chosen j) ss → NotesFilled ss s.len t → take (2 ^ s.len) t ≡ notesOf j nets
-  notes-of-chosen u f = f.notes j (chosen j) h.sets u (sym h.len) ∙ ap (notesOf j) (sym h.support)
+  pub notes-of-chosen : {t : List ℕ} → Unseen j (chosen j) ss → NotesFilled ss s.len t → take (2 ^ s.len) t ≡ notes_of j nets
+  notes-of-chosen u f = f.notes j (chosen j) h.sets u (sym h.len) ∙ ap (notes_of j) (sym h.support)
 
   pub cost-of-chosen : c ≡ cost j nets
   cost-of-chosen = h.cost ∙ ap (cost j) (sym h.support)
@@ -142,11 +142,11 @@ readings-many h = pow_mono {j = 10} h
 
 module _ {j : Job} {p : JobParts} (r : PartsOf j p) where
   pub parts-few : p.counts.candidates ≤ 10
-  unfolding countsOf
+  unfolding counts_of
   parts-few = rw r.counts (job-within j r.good).candidates
 
-  pub parts-nets : take p.counts.candidates p.nets ≡ candidateNets j
-  unfolding countsOf candidateNets
+  pub parts-nets : take p.counts.candidates p.nets ≡ candidate_nets j
+  unfolding counts_of candidate_nets
   parts-nets =
       let k = length j.candidates in
       ap (λ (c : Counts). take c.candidates p.nets) r.counts
@@ -154,27 +154,27 @@ module _ {j : Job} {p : JobParts} (r : PartsOf j p) where
       ∙ ap (map (λ (c : Candidate). c.net)) r.candidates
 
 -- no target leads to the chosen nets, as to no candidate
-pub chosen-good : {j : Job} → PartsGood j → sound j (candidateNets j) ≡ true → all (candidateGood j) (chosen j) ≡ true
+pub chosen-good : {j : Job} → PartsGood j → sound j (candidate_nets j) ≡ true → all (candidate_good j) (chosen j) ≡ true
 chosen-good {j} g s =
-    let is = candidateNets j in
-    all-of-members (candidateGood j) (chosen j)
-    (λ i m. all_true (candidateGood j) is (candidates-good j g) i (subsets-among is (chosen j) (chosen-sound j s).1 i m))
+    let is = candidate_nets j in
+    all-of-members (candidate_good j) (chosen j)
+    (λ i m. all_true (candidate_good j) is (candidates-good j g) i (subsets-among is (chosen j) (chosen-sound j s).1 i m))
 
 -- ---- after the walk over all inputs
 
 module _ {j : Job} {p : JobParts} (r : PartsOf j p) where
-  few : Within (countsOf j)
+  few : Within (counts_of j)
   few = job-within j r.good
 
   module _ (v : Vectors) (g : ListTo j (2 ^ j.inputs) v) where
     -- the list is the loop's
-    pub list-loop : listed_of v ≡ vectorLoop j
-    unfolding countsOf
+    pub list-loop : listed_of v ≡ vector_loop j
+    unfolding counts_of
     list-loop = g ∙ walk-list j few.targets
 
     -- where it is stuck, it is at an input
     pub stuck-small : v.stuck ≡ true → v.input < 4294967296
-    unfolding countsOf
+    unfolding counts_of
     stuck-small s =
         let l = ((stuck-iff j v.input).0 (ap (λ (k : Listed). k.stuck) (sym list-loop) ∙ listed-stuck v s)).0 in
         let m : 2 ^ j.inputs ≤ 1048576 = pow_mono {j = 20} few.inputs in
@@ -183,7 +183,7 @@ module _ {j : Job} {p : JobParts} (r : PartsOf j p) where
   -- a reading of all candidates with an empty set is blind
   module _ {ss : List ℕ} {k : ℕ} (g : SetsTo j (2 ^ j.inputs) k ss) {n q : ℕ} (e : n ≡ 2 ^ p.counts.candidates) (f : FirstEmpty ss n q) where
     abbrev is : List ℕ
-    is = candidateNets j
+    is = candidate_nets j
 
     many : 2 ^ length is ≡ n
     many =
@@ -194,7 +194,7 @@ module _ {j : Job} {p : JobParts} (r : PartsOf j p) where
 
     -- readings of at most ten nets stand among the 1,024 places
     small : (i : ℕ) → i < 2 ^ length is → i < 1024
-    unfolding countsOf candidateNets
+    unfolding counts_of candidate_nets
     small i l =
         let c : length is ≤ 10 = omega (arith, length-map j.candidates (λ (c : Candidate). c.net), few.candidates) in
         omega (arith, pow_mono {j = 10} c)
@@ -206,13 +206,13 @@ module _ {j : Job} {p : JobParts} (r : PartsOf j p) where
     rule-given = record { given = λ i l. g.given i (small i l); unmet = λ i l. g.unmet i (small i l) }
 
     all-sets : SetsOf j is ss
-    unfolding countsOf
+    unfolding counts_of
     all-sets = record { targets = few.targets; sets = sets.sets }
 
     empty : FirstEmpty ss (2 ^ length is) q
     empty = rw many f
 
-    pub rule-blind : q < n → (sound j is ≡ false) × (q ≡ blindReading j)
+    pub rule-blind : q < n → (sound j is ≡ false) × (q ≡ blind_reading j)
     rule-blind l =
         let u : sound j is ≡ false =
         false_of (sound j is) (λ t. let z = (sound-iff-full j ss all-sets q empty).1 t ∙ many in let b : ⊥ = omega arith in b) in
@@ -220,13 +220,13 @@ module _ {j : Job} {p : JobParts} (r : PartsOf j p) where
 
     pub rule-sound : {m : ℕ} → m ≡ j.targets → n ≤ q
         → Choosable j p.nets (record { count = p.counts.candidates; weights = p.weights; targets = m }) ss
-    unfolding countsOf candidateNets candidatesGood
+    unfolding counts_of candidate_nets candidates_good
     rule-sound t l =
         let m = f.most in
         let o : q ≡ n = omega arith in
         record {
-          candidates = sym r.candidates ∙ ap (λ (c : Counts). candidatesFrom c.candidates p.nets p.weights) (sym r.counts);
-          ascends = and_left (ascending is) (all (λ (c : Candidate). candidateGood j c.net) j.candidates) r.good.candidates;
+          candidates = sym r.candidates ∙ ap (λ (c : Counts). candidates_from c.candidates p.nets p.weights) (sym r.counts);
+          ascends = and_left (ascending is) (all (λ (c : Candidate). candidate_good j c.net) j.candidates) r.good.candidates;
           targets = sym t;
           sets = sets;
           sound = (sound-iff-full j ss all-sets q empty).0 (o ∙ sym many);

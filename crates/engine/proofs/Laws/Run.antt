@@ -17,28 +17,28 @@ use lib.Dec.{ltb, eqb}
 use lib.ListN.{length, set, length-set, length-append}
 use lib.Seq.{get_or-set_same, get_or-set_other, get_or_at}
 use Rattle.records.specs.Bytes.{all}
-use Rattle.records.specs.Gate.{Gate, operands, gateValue}
-use Rattle.records.specs.Netlist.{netAt, extended, value_of, values}
-use Rattle.records.specs.Refusal.{gateGood, gatesGood}
+use Rattle.records.specs.Gate.{Gate, operands, gate_value}
+use Rattle.records.specs.Netlist.{net_at, extended, value_of, values}
+use Rattle.records.specs.Refusal.{gate_good, gates_good}
 use Rattle.records.proofs.Laws.Bytes.{and_left, and_right, all_cons}
-use Rattle.records.proofs.Laws.Gate.{gateGood-parts}
+use Rattle.records.proofs.Laws.Gate.{gate_good-parts}
 use Rattle.engine.specs.Choice.{keep}
 use Rattle.engine.specs.Inner.Imply.{Binary}
-use Rattle.engine.specs.Inner.Packed.{own, packed, packedFrom, formed, codeValue, evaluated}
+use Rattle.engine.specs.Inner.Packed.{own, packed, packed_from, formed, code_value, evaluated}
 use Rattle.engine.specs.Inner.Miter.{SameGates}
 use Rattle.engine.specs.Inner.Plan.{Closed}
 use Rattle.engine.proofs.Laws.Choice.{true-or-false, and_cases, not-both, all_true, map-agree}
-use Rattle.engine.proofs.Laws.FitGates.{Local, valueOf-local, netAt-extended}
-use Rattle.engine.proofs.Laws.Packed.{packed-own, packed-value, codeValue-lt}
+use Rattle.engine.proofs.Laws.FitGates.{Local, value_of-local, net_at-extended}
+use Rattle.engine.proofs.Laws.Packed.{packed-own, packed-value, code_value-lt}
 
 -- ---- lists extended
 
 -- behind a list extended stands what f says of the first gate
-pub netAt-extended-first : (f : List ℕ → Gate → ℕ) (known : List ℕ) (g : Gate) (gs : List Gate) (d : ℕ) → length known ≡ d
-    → netAt (extended f known (g ∷ gs)) d ≡ f known g
-unfolding extended netAt
-netAt-extended-first f known g gs d e =
-    netAt-extended f (known ++ (f known g ∷ [])) gs d (omega (arith, length-append known (f known g ∷ [])))
+pub net_at-extended-first : (f : List ℕ → Gate → ℕ) (known : List ℕ) (g : Gate) (gs : List Gate) (d : ℕ) → length known ≡ d
+    → net_at (extended f known (g ∷ gs)) d ≡ f known g
+unfolding extended net_at
+net_at-extended-first f known g gs d e =
+    net_at-extended f (known ++ (f known g ∷ [])) gs d (omega (arith, length-append known (f known g ∷ [])))
     ∙ get_or_at known (f known g) [] 0 d e
 
 -- ---- gates run
@@ -55,8 +55,8 @@ module _ (F : List ℕ → ℕ → ℕ) where
   length-evaluated vs (c ∷ cs) = length-evaluated (set vs (own c) (F vs c)) cs ∙ length-set vs (own c) (F vs c)
 
   -- a net that none of them drives stays as it is
-  pub evaluated-other : (vs cs : List ℕ) (i : ℕ) → ((c : ℕ) → Mem c cs → own c ≡ i → ⊥) → netAt (evaluated F vs cs) i ≡ netAt vs i
-  unfolding evaluated netAt
+  pub evaluated-other : (vs cs : List ℕ) (i : ℕ) → ((c : ℕ) → Mem c cs → own c ≡ i → ⊥) → net_at (evaluated F vs cs) i ≡ net_at vs i
+  unfolding evaluated net_at
   evaluated-other vs [] i h = refl
   evaluated-other vs (c ∷ cs) i h =
       evaluated-other (set vs (own c) (F vs c)) cs i (λ d m. h d (there m))
@@ -77,13 +77,13 @@ keep_all p (x ∷ xs) h = rw (h x (here refl), keep_all p xs (λ y m. h y (there
 -- ---- good gates in a row
 
 module _ (d : ℕ) (g : Gate) (gs : List Gate) where
-  pub good-first : gatesGood d (g ∷ gs) ≡ true → gateGood d g ≡ true
-  unfolding gatesGood
-  good-first e = and_left (gateGood d g) (gatesGood (suc d) gs) e
+  pub good-first : gates_good d (g ∷ gs) ≡ true → gate_good d g ≡ true
+  unfolding gates_good
+  good-first e = and_left (gate_good d g) (gates_good (suc d) gs) e
 
-  pub good-rest : gatesGood d (g ∷ gs) ≡ true → gatesGood (suc d) gs ≡ true
-  unfolding gatesGood
-  good-rest e = and_right (gateGood d g) (gatesGood (suc d) gs) e
+  pub good-rest : gates_good d (g ∷ gs) ≡ true → gates_good (suc d) gs ≡ true
+  unfolding gates_good
+  good-rest e = and_right (gate_good d g) (gates_good (suc d) gs) e
 
   module _ (live : ℕ → Bool) (c : Closed live d (g ∷ gs)) where
     pub closed-first : live d ≡ true → all live (operands g) ≡ true
@@ -95,9 +95,9 @@ module _ (d : ℕ) (g : Gate) (gs : List Gate) where
         c (suc i) (omega arith) (ap live n ∙ e)
 
 -- the nets that packed gates drive
-pub own-within : (d : ℕ) (gs : List Gate) → gatesGood d gs ≡ true → all formed gs ≡ true → d + length gs ≤ 1024
-    → (c : ℕ) → Mem c (packedFrom d gs) → (d ≤ own c) × (own c < d + length gs)
-unfolding packedFrom
+pub own-within : (d : ℕ) (gs : List Gate) → gates_good d gs ≡ true → all formed gs ≡ true → d + length gs ≤ 1024
+    → (c : ℕ) → Mem c (packed_from d gs) → (d ≤ own c) × (own c < d + length gs)
+unfolding packed_from
 own-within d [] a b h c m = absurd (not-nil m)
 own-within d (g ∷ gs) a b h c m =
     let t = all_cons formed g gs b in
@@ -116,39 +116,39 @@ own-within d (g ∷ gs) a b h c m =
 pub record Follows (f : List ℕ → Gate → ℕ) (F : List ℕ → ℕ → ℕ) (I : List ℕ → Type 0) : Type 0 where
   pub local : Local f
   pub keeps : (vs : List ℕ) (c : ℕ) → I vs → I (set vs (own c) (F vs c))
-  pub packs : (vs : List ℕ) (d : ℕ) (g : Gate) → I vs → gateGood d g ≡ true → formed g ≡ true → d < 1024
+  pub packs : (vs : List ℕ) (d : ℕ) (g : Gate) → I vs → gate_good d g ≡ true → formed g ≡ true → d < 1024
       → F vs (packed d g) ≡ f vs g
 
 -- the part of the gates gs, which drive d, d + 1, ..: those that are live and changed, packed
 abbrev pub part_of : (ℕ → Bool) → (ℕ → Bool) → ℕ → List Gate → List ℕ
-part_of live changed d gs = keep (λ c. live (own c) && changed (own c)) (packedFrom d gs)
+part_of live changed d gs = keep (λ c. live (own c) && changed (own c)) (packed_from d gs)
 
 -- vs has what T has at the live nets below d, and from there to n at those that are not changed
 abbrev pub Known : (ℕ → Bool) → (ℕ → Bool) → ℕ → ℕ → List ℕ → List ℕ → Type 0
 Known live changed d n vs T =
-    (i : ℕ) → i < n → live i ≡ true → (i < d) ⊎ (changed i ≡ false) → netAt vs i ≡ netAt T i
+    (i : ℕ) → i < n → live i ≡ true → (i < d) ⊎ (changed i ≡ false) → net_at vs i ≡ net_at T i
 
 module _ {f : List ℕ → Gate → ℕ} {F : List ℕ → ℕ → ℕ} {I : List ℕ → Type 0} (r : Follows f F I) where
   module _ (live changed : ℕ → Bool) where
     -- one gate: evaluated, it has what it should
-    first-value : (d : ℕ) (g : Gate) (gs : List Gate) (known vs : List ℕ) → gatesGood d (g ∷ gs) ≡ true
+    first-value : (d : ℕ) (g : Gate) (gs : List Gate) (known vs : List ℕ) → gates_good d (g ∷ gs) ≡ true
         → formed g ≡ true → d < 1024 → length known ≡ d → Closed live d (g ∷ gs) → I vs → live d ≡ true
         → Known live changed d (d + length (g ∷ gs)) vs (extended f known (g ∷ gs))
-        → F vs (packed d g) ≡ netAt (extended f known (g ∷ gs)) d
+        → F vs (packed d g) ≡ net_at (extended f known (g ∷ gs)) d
     first-value d g gs known vs a b h e c v l k =
         r.packs vs d g v (good-first d g gs a) b h
         ∙ r.local vs known g
-        (map-agree (netAt vs) (netAt known) (operands g)
+        (map-agree (net_at vs) (net_at known) (operands g)
         (λ i m.
-        let n = ltb-true i d (all_true (λ i. ltb i d) (operands g) (gateGood-parts d g (good-first d g gs a)).0 i m) in
+        let n = ltb-true i d (all_true (λ i. ltb i d) (operands g) (gate_good-parts d g (good-first d g gs a)).0 i m) in
         k i (omega arith) (all_true live (operands g) (closed-first d g gs live c l) i m) (inl n)
-        ∙ netAt-extended f known (g ∷ gs) i (omega arith)))
-        ∙ sym (netAt-extended-first f known g gs d e)
+        ∙ net_at-extended f known (g ∷ gs) i (omega arith)))
+        ∙ sym (net_at-extended-first f known g gs d e)
 
     -- .. and with it set, one net more is known
-    known-set : (d n : ℕ) (vs T : List ℕ) (w : ℕ) → d < length vs → w ≡ netAt T d → Known live changed d n vs T
+    known-set : (d n : ℕ) (vs T : List ℕ) (w : ℕ) → d < length vs → w ≡ net_at T d → Known live changed d n vs T
         → Known live changed (suc d) n (set vs d w) T
-    unfolding netAt
+    unfolding net_at
     known-set d n vs T w h e k i l m s =
         ⊎_elim
         (λ (t : eqb i d ≡ true).
@@ -179,12 +179,12 @@ module _ {f : List ℕ → Gate → ℕ} {F : List ℕ → ℕ → ℕ} {I : Lis
         (λ o. k i l m (inr o))
         s
 
-    pub run-part : (d : ℕ) (gs : List Gate) (known vs : List ℕ) → gatesGood d gs ≡ true → all formed gs ≡ true
+    pub run-part : (d : ℕ) (gs : List Gate) (known vs : List ℕ) → gates_good d gs ≡ true → all formed gs ≡ true
         → d + length gs ≤ 1024 → 1024 ≤ length vs → length known ≡ d → Closed live d gs → I vs
         → Known live changed d (d + length gs) vs (extended f known gs)
         → (i : ℕ) → i < d + length gs → live i ≡ true
-        → netAt (evaluated F vs (part_of live changed d gs)) i ≡ netAt (extended f known gs) i
-    unfolding packedFrom keep evaluated extended
+        → net_at (evaluated F vs (part_of live changed d gs)) i ≡ net_at (extended f known gs) i
+    unfolding packed_from keep evaluated extended
     run-part d [] known vs a b h s e c v k i l m = k i l m (inl (omega arith))
     run-part d (g ∷ gs) known vs a b h s e c v k i l m =
         let t = all_cons formed g gs b in
@@ -193,7 +193,7 @@ module _ {f : List ℕ → Gate → ℕ} {F : List ℕ → ℕ → ℕ} {I : Lis
         let T = extended f known (g ∷ gs) in
         let more = known ++ (f known g ∷ []) in
         let again : (ws : List ℕ) → 1024 ≤ length ws → I ws → Known live changed (suc d) (d + length (g ∷ gs)) ws T
-        → netAt (evaluated F ws (part_of live changed (suc d) gs)) i ≡ netAt T i =
+        → net_at (evaluated F ws (part_of live changed (suc d) gs)) i ≡ net_at T i =
         λ ws z w q.
         run-part (suc d) gs more ws (good-rest d g gs a) t.1 (omega arith) z
         (omega (arith, length-append known (f known g ∷ [])))
@@ -228,11 +228,11 @@ set-binary (v ∷ vs) zero w h b (suc i) = b (suc i)
 set-binary (v ∷ vs) (suc k) w h b zero = b 0
 set-binary (v ∷ vs) (suc k) w h b (suc i) = set-binary vs k w h (λ n. b (suc n)) i
 
-pub values-follow : Follows value_of codeValue Binary
+pub values-follow : Follows value_of code_value Binary
 values-follow =
     record {
-      local = valueOf-local;
-      keeps = λ vs c b. set-binary vs (own c) (codeValue vs c) (codeValue-lt vs c) b;
+      local = value_of-local;
+      keeps = λ vs c b. set-binary vs (own c) (code_value vs c) (code_value-lt vs c) b;
       packs = λ vs d g b e o h. packed-value d g e o h vs b;
     }
 
@@ -240,4 +240,4 @@ values-follow =
 pub same-values : {d : ℕ} {gs hs : List Gate} → SameGates d gs hs → (leaves : List ℕ) → length leaves ≡ d
     → values leaves hs ≡ values leaves gs
 unfolding values value_of
-same-values s leaves e = s.same gateValue leaves e
+same-values s leaves e = s.same gate_value leaves e

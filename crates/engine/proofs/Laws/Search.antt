@@ -14,13 +14,13 @@ use lib.ListN.{length, take, length-take}
 use lib.Pow.{pow-add, pow_pos, pow_mono}
 use Rattle.records.specs.Job.{Job}
 use Rattle.records.proofs.Laws.Bytes.{tabulate-ext}
-use Rattle.engine.specs.Eval.{bit, bits, oldValues, oldOutputs, goldenOutputs}
+use Rattle.engine.specs.Eval.{bit, bits, old_values, old_outputs, golden_outputs}
 use Rattle.engine.specs.Rectify.{rectifies, Listed}
-use Rattle.engine.specs.Support.{reading, candidateNets}
+use Rattle.engine.specs.Support.{reading, candidate_nets}
 use Rattle.engine.specs.Inner.Guess.{ListTo}
 use Rattle.engine.specs.Inner.Masks.{rectifiers}
-use Rattle.engine.specs.Inner.List.{listed_of, listedFrom, startList}
-use Rattle.engine.specs.Inner.Note.{setsFrom, gathered, filled, ListNoted}
+use Rattle.engine.specs.Inner.List.{listed_of, listed_from, start_list}
+use Rattle.engine.specs.Inner.Note.{sets_from, gathered, filled, ListNoted}
 use Rattle.engine.specs.Inner.Plan.{PlanHeld, ReadsOf}
 use Rattle.engine.specs.Inner.Search.{BlockRange, BlockRead, BlockVector, FreeKept, BlockKept, BlockMasks, BlockMet}
 use Rattle.engine.proofs.Laws.Choice.{true-or-false}
@@ -28,8 +28,8 @@ use Rattle.engine.proofs.Laws.Miter.{candidates-good}
 use Rattle.engine.proofs.Laws.Plan.{reads_of}
 use Rattle.engine.proofs.Laws.ReadingSets.{sets_more, sets-stay}
 use Rattle.engine.proofs.Laws.Shift.{bit-mod}
-use Rattle.engine.proofs.Laws.Rows.{setsFrom-agree, setsFrom-repeats, block-sets, setsFrom-length}
-use Rattle.engine.proofs.Laws.List.{listedFrom-append, stuck-stays, walk-skip-list}
+use Rattle.engine.proofs.Laws.Rows.{sets_from-agree, sets_from-repeats, block-sets, sets_from-length}
+use Rattle.engine.proofs.Laws.List.{listed_from-append, stuck-stays, walk-skip-list}
 use Rattle.engine.proofs.Laws.Support.{reading-lt}
 use Rattle.engine.specs.declared.list.Vectors.{Vectors}
 use Rattle.engine.specs.declared.plan.Plan.{Plan}
@@ -43,15 +43,15 @@ module _ (j : Job) (n x : ℕ) (l : j.inputs ≤ n) where
   bits-low = tabulate-ext j.inputs (λ i. bit i (x % 2 ^ n)) (λ i. bit i x) (λ i h. bit-mod n i x (omega arith))
 
   pub rectifies-low : (v : ℕ) → rectifies j x v ≡ rectifies j (x % 2 ^ n) v
-  unfolding rectifies oldOutputs goldenOutputs oldValues
+  unfolding rectifies old_outputs golden_outputs old_values
   rectifies-low v = rw bits-low
 
   pub rectifiers-low : rectifiers j x ≡ rectifiers j (x % 2 ^ n)
-  unfolding rectifiers rectifies oldOutputs goldenOutputs oldValues
+  unfolding rectifiers rectifies old_outputs golden_outputs old_values
   rectifiers-low = rw bits-low
 
   pub reading-low : (is : List ℕ) → reading j is x ≡ reading j is (x % 2 ^ n)
-  unfolding reading oldValues
+  unfolding reading old_values
   reading-low is = rw bits-low
 
 -- the sets after a block: a whole one, or one that repeats the inputs of a job with fewer
@@ -60,25 +60,25 @@ module _ (j : Job) (is : List ℕ) (f : ℕ → ℕ) (low : (x : ℕ) → f x �
       → ((y : ℕ) → y < 1024 → gathered masks y ≡ f (1024 * b + y))
       → ((y : ℕ) → y < 1024 → gathered readings y ≡ reading j is (1024 * b + y))
       → ((x : ℕ) → reading j is x < 1024)
-      → setsFrom (gathered masks) (λ y. gathered readings y % 1024) ss 0 (filled count) ≡ setsFrom f (reading j is) ss (1024 * b) count
+      → sets_from (gathered masks) (λ y. gathered readings y % 1024) ss 0 (filled count) ≡ sets_from f (reading j is) ss (1024 * b) count
   noted-sets b count masks readings ss r m g l =
       let h = reading j is in
       let n : ℕ = filled count in
       let most : n ≤ 1024 = omega (arith, r.few) in
-      let whole : setsFrom (gathered masks) (λ y. gathered readings y % 1024) ss 0 n ≡ setsFrom f h ss (1024 * b) n =
+      let whole : sets_from (gathered masks) (λ y. gathered readings y % 1024) ss 0 n ≡ sets_from f h ss (1024 * b) n =
       block-sets masks readings ss f h (1024 * b) n (λ y u. m y (omega arith)) (λ y u. (g y (omega arith), l (1024 * b + y))) in
       ⊎_elim
-      (λ (e : count ≡ 1024). let same : n ≡ count = omega arith in whole ∙ ap (setsFrom f h ss (1024 * b)) same)
+      (λ (e : count ≡ 1024). let same : n ≡ count = omega arith in whole ∙ ap (sets_from f h ss (1024 * b)) same)
       (λ (e : (b ≡ 0) × (count ≡ 2 ^ j.inputs)).
       let z : 1024 * b ≡ 0 = omega (arith, e.0) in
       let c = 2 ^ j.inputs in
       let few : c ≤ n = omega (arith, e.1) in
       whole
-      ∙ ap (λ (x : ℕ). setsFrom f h ss x n) z
-      ∙ setsFrom-agree f h (λ y. f (y % c)) (λ y. h (y % c)) ss 0 0 n (λ i u. (low (0 + i), reading-low j j.inputs (0 + i) (omega arith) is))
-      ∙ setsFrom-repeats f h ss c n (pow_pos j.inputs) few
-      ∙ ap (λ (x : ℕ). setsFrom f h ss x c) (sym z)
-      ∙ ap (setsFrom f h ss (1024 * b)) (sym e.1))
+      ∙ ap (λ (x : ℕ). sets_from f h ss x n) z
+      ∙ sets_from-agree f h (λ y. f (y % c)) (λ y. h (y % c)) ss 0 0 n (λ i u. (low (0 + i), reading-low j j.inputs (0 + i) (omega arith) is))
+      ∙ sets_from-repeats f h ss c n (pow_pos j.inputs) few
+      ∙ ap (λ (x : ℕ). sets_from f h ss x c) (sym z)
+      ∙ ap (sets_from f h ss (1024 * b)) (sym e.1))
       r.whole
 
 -- ---- the list
@@ -96,8 +96,8 @@ up_to : {x y : ℕ} → x ≤ y → x + (y - x) ≡ y
 up_to h = omega arith
 
 module _ (j : Job) where
-  list_at : (x y : ℕ) (v : Vectors) → x ≡ y → ListTo j x v → ListTo j y v
-  list_at x y v e p = subst (λ (z : ℕ). ListTo j z v) e p
+  list_at_lem : (x y : ℕ) (v : Vectors) → x ≡ y → ListTo j x v → ListTo j y v
+  list_at_lem x y v e p = subst (λ (z : ℕ). ListTo j z v) e p
 
   -- after a block
   pub list-noted : (b count : ℕ) {masks : List ℕ} {v w : Vectors} → count ≤ 1024
@@ -106,23 +106,23 @@ module _ (j : Job) where
   list-noted b count {masks} {v} {w} few m n p =
       let f = rectifiers j in
       n.listed f (λ y h. m y (omega arith))
-      ∙ ap (λ (k : Listed). listedFrom f k (1024 * b) count) p
+      ∙ ap (λ (k : Listed). listed_from f k (1024 * b) count) p
       ∙ sym
-      (listedFrom-append f startList 0 (1024 * b) count
-      ∙ ap (λ (z : ℕ). listedFrom f (listedFrom f startList 0 (1024 * b)) z count) (zero-add (1024 * b)))
+      (listed_from-append f start_list 0 (1024 * b) count
+      ∙ ap (λ (z : ℕ). listed_from f (listed_from f start_list 0 (1024 * b)) z count) (zero-add (1024 * b)))
 
   module _ (x y : ℕ) (v : Vectors) (h : x ≤ y) where
     -- once stuck, it stays
     pub list-stuck : v.stuck ≡ true → ListTo j x v → ListTo j y v
     list-stuck s p =
         let f = rectifiers j in
-        let e : (listedFrom f startList 0 x).stuck ≡ some v.input = ap (λ (l : Listed). l.stuck) (sym p) ∙ listed-stuck v s in
-        list_at (x + (y - x)) y v (up_to h) (p ∙ sym (stuck-stays f startList x (y - x) v.input e))
+        let e : (listed_from f start_list 0 x).stuck ≡ some v.input = ap (λ (l : Listed). l.stuck) (sym p) ∙ listed-stuck v s in
+        list_at_lem (x + (y - x)) y v (up_to h) (p ∙ sym (stuck-stays f start_list x (y - x) v.input e))
 
     -- inputs that every vector rectifies leave it
     pub list-skip : ((z u : ℕ) → x ≤ z → z < y → rectifies j z u ≡ true) → ListTo j x v → ListTo j y v
     list-skip r p =
-        list_at (x + (y - x)) y v (up_to h)
+        list_at_lem (x + (y - x)) y v (up_to h)
         (p ∙ sym (walk-skip-list j x (y - x) (λ z l b u c. r z u l (omega (arith, up_to h)))))
 
 -- ---- the sets
@@ -141,19 +141,19 @@ reading_small {j} {is} {p} h q x =
 -- ---- the sets after a block
 
 pub met-long : (masks readings ss : List ℕ) (count : ℕ) {ts : List ℕ}
-    → ts ≡ setsFrom (gathered masks) (λ y. gathered readings y % 1024) ss 0 (filled count) → length ts ≡ length ss
-met-long masks readings ss count e = ap length e ∙ setsFrom-length (gathered masks) (λ y. gathered readings y % 1024) ss 0 (filled count)
+    → ts ≡ sets_from (gathered masks) (λ y. gathered readings y % 1024) ss 0 (filled count) → length ts ≡ length ss
+met-long masks readings ss count e = ap length e ∙ sets_from-length (gathered masks) (λ y. gathered readings y % 1024) ss 0 (filled count)
 
 module _ {p : Plan} {gates : List ℕ} (h : PlanHeld p gates) (b count : ℕ) {words readings : List ℕ} (e : BlockRead p gates b words readings) where
   -- from the masks of its inputs
   pub block-met : {w₁ w₂ masks ss ts : List ℕ} → BlockRange p.inputs b count → FreeKept p gates words w₁ → BlockVector p gates 0 w₁ w₂
-      → BlockMasks p gates w₂ masks → ts ≡ setsFrom (gathered masks) (λ y. gathered readings y % 1024) ss 0 (filled count)
+      → BlockMasks p gates w₂ masks → ts ≡ sets_from (gathered masks) (λ y. gathered readings y % 1024) ss 0 (filled count)
       → BlockMet p gates b count ss ts
   block-met {masks = masks} {ss = ss} r k z m n =
       record {
         long = met-long masks readings ss count n;
         sets = λ j s t.
-            let is = candidateNets j in
+            let is = candidate_nets j in
             let q = t.planned in
             sets_more j (omega (arith, h.targets, q.targets)) (1024 * b) count
             (n
@@ -170,7 +170,7 @@ module _ {p : Plan} {gates : List ℕ} (h : PlanHeld p gates) (b count : ℕ) {w
       record {
         long = refl;
         sets = λ j s o.
-            let is = candidateNets j in
+            let is = candidate_nets j in
             let q = o.planned in
             sets-stay (omega arith) (λ i z. z)
             (λ z l u.

@@ -13,10 +13,10 @@ use Rattle.records.specs.Job.{Job}
 use Rattle.engine.specs.Eval.{bit}
 use Rattle.engine.specs.Choice.{same}
 use Rattle.engine.specs.Rectify.{rectifies}
-use Rattle.engine.specs.Inner.Kernel.{Ran, NetSet, NetsSet, valueIn, rowValue}
+use Rattle.engine.specs.Inner.Kernel.{Ran, NetSet, NetsSet, value_in, row_value}
 use Rattle.engine.specs.Inner.Masks.{ordered, turns, Among}
 use Rattle.engine.specs.Inner.Plan.{BlockAt, BlockFree, ReadsOf, PlannedOf, TurnsOf}
-use Rattle.engine.specs.Inner.Cover.{readingIn}
+use Rattle.engine.specs.Inner.Cover.{reading_in}
 use Rattle.engine.specs.Inner.Search.{BlockLoaded, BlockRead, BlockVector, RowsSay, DrivenRow, TargetTurned, BlockMasks, BlockRange, SettledFrom}
 use Rattle.engine.specs.Inner.Note.{gathered}
 use Rattle.engine.specs.Inner.Ranges.{InRange}
@@ -36,14 +36,14 @@ nets-alike s e = record { long = s.long; put = λ y k h l. s.put y k h l ∙ e y
 abbrev pub RowEqual : Plan → List ℕ → List ℕ → Type 0
 RowEqual p words r =
     (y : ℕ) → y < 1024
-    → rowValue r y
-    ≡ cond (same (map (valueIn words y) (take p.outs p.outputs)) (map (valueIn words y) (take p.outs p.goldens))) 1 0
+    → row_value r y
+    ≡ cond (same (map (value_in words y) (take p.outs p.outputs)) (map (value_in words y) (take p.outs p.goldens))) 1 0
 
 module _ (p : Plan) (gates : List ℕ) where
   -- .. which is where the vectors rectify the inputs
   pub row-rectifies : {j : Job} {is : List ℕ} (q : PlannedOf j is p gates) (b : ℕ) (u : ℕ → ℕ) {w : List ℕ} (r : List ℕ)
       → BlockAt j q.live b u w → RowEqual p w r
-      → (y : ℕ) → y < 1024 → rowValue r y ≡ cond (rectifies j (1024 * b + y) (u y)) 1 0
+      → (y : ℕ) → y < 1024 → row_value r y ≡ cond (rectifies j (1024 * b + y) (u y)) 1 0
   row-rectifies q b u r a e y h = e y h ∙ ap (λ (t : Bool). cond t 1 0) (equal-rectifies q a y h)
 
   -- inputs loaded, and the gates run that no target leads to
@@ -55,12 +55,12 @@ module _ (p : Plan) (gates : List ℕ) where
       record {
         long = r.long ∙ s.long ∙ l;
         free = read;
-        readings = λ j is q f y h. ap (λ (os : List ℕ). readingIn w₂ os y) q.nets ∙ read-values q (read j is q) f y h;
+        readings = λ j is q f y h. ap (λ (os : List ℕ). reading_in w₂ os y) q.nets ∙ read-values q (read j is q) f y h;
       }
 
   -- .. and the nets read
   pub block-rows : {b : ℕ} {words rows : List ℕ} → BlockLoaded p gates b words → length rows ≡ 256
-      → ((y : ℕ) → y < 1024 → gathered rows y ≡ readingIn words (take p.reads p.nets) y) → BlockRead p gates b words rows
+      → ((y : ℕ) → y < 1024 → gathered rows y ≡ reading_in words (take p.reads p.nets) y) → BlockRead p gates b words rows
   block-rows l many g =
       record {
         long = l.long;
@@ -88,7 +88,7 @@ module _ (p : Plan) (gates : List ℕ) where
 
   -- .. to the vectors of the rows
   pub row-driven : {w w₁ w₂ : List ℕ} (rows : List ℕ) (first : ℕ) (row : List ℕ)
-      → NetsSet p.inputs p.targets (λ y k. valueIn rows y (first + k)) w w₁
+      → NetsSet p.inputs p.targets (λ y k. value_in rows y (first + k)) w w₁
       → Ran (slice (get_or p.ends 0 0) (get_or p.ends 1 0) gates) w₁ w₂ → RowEqual p w₂ row
       → (u : ℕ → ℕ) → RowsSay rows first p.targets u → DrivenRow p gates u w row w₂
   row-driven {w} {w₁} {w₂} rows first row s r e u n =
@@ -122,17 +122,17 @@ MasksDone p gates u w₀ s w ms =
     → BlockAt j q.planned.live b (λ y. ordered u (s - 1)) w × MasksTo j b u s ms
 
 module _ (p : Plan) (gates : List ℕ) (u : ℕ) (o : u < 4) where
-  pub masks-first : (w r : List ℕ) {ms : List ℕ} → RowEqual p w r → NetSet 0 (rowValue r) (replicate 256 0) ms
+  pub masks-first : (w r : List ℕ) {ms : List ℕ} → RowEqual p w r → NetSet 0 (row_value r) (replicate 256 0) ms
       → MasksDone p gates u w 1 w ms
   masks-first w r {ms} e n j is q b a =
       let z : 0 ≡ ordered u 0 = sym (ordered-none u o) in
       let live = q.planned.live in
       let d : BlockAt j live b (λ y. ordered u 0) w = subst (λ (v : ℕ). BlockAt j live b (λ y. v) w) z a in
-      (d, masks-next j b u o 0 r (masks-none j b u o 0) (omega arith) (subst (λ (v : ℕ). NetSet v (rowValue r) (replicate 256 0) ms) z n) (row-rectifies p gates q.planned b (λ y. ordered u 0) r d e))
+      (d, masks-next j b u o 0 r (masks-none j b u o 0) (omega arith) (subst (λ (v : ℕ). NetSet v (row_value r) (replicate 256 0) ms) z n) (row-rectifies p gates q.planned b (λ y. ordered u 0) r d e))
 
   pub masks-turned : (s : ℕ) {w₀ w w' ms ms' : List ℕ} (r : List ℕ) → p.targets ≤ 4 → Among p.targets u → 0 < s → s < 2 ^ p.targets
       → MasksDone p gates u w₀ s w ms → TargetTurned p gates (turns u s) (ordered u s / 2 ^ turns u s) w w' → RowEqual p w' r
-      → NetSet (ordered u s) (rowValue r) ms ms' → MasksDone p gates u w₀ (s + 1) w' ms'
+      → NetSet (ordered u s) (row_value r) ms ms' → MasksDone p gates u w₀ (s + 1) w' ms'
   masks-turned s {w₀} {w} {w'} {ms} {ms'} r m f z l d t e n j is q b a =
       let few : 2 ^ p.targets ≤ 16 = pow_mono {j = 4} m in
       let k : s < 16 = omega arith in

@@ -14,18 +14,18 @@ use lib.Pow.{pow_mono, shr-shr}
 use lib.ListN.{length, get_or, take, set, length-append}
 use lib.Seq.{length-take-le, get_or-take, get_or-set_same, get_or-set_other, ext_get_or}
 use Rattle.records.specs.Job.{Job}
-use Rattle.records.specs.Netlist.{netAt}
+use Rattle.records.specs.Netlist.{net_at}
 use Rattle.records.proofs.Laws.Bytes.{false_of}
 use Rattle.engine.specs.Choice.{found, or_zero}
-use Rattle.engine.specs.Eval.{bit, number_of, oldValues}
-use Rattle.engine.specs.Support.{reading, shared, sound, table_of, candidateNets}
-use Rattle.engine.specs.Verdict.{blindReading}
-use Rattle.engine.specs.Inner.List.{maxVectors, lowest}
-use Rattle.engine.specs.Inner.Best.{RectifiesAll, SetsOf, NotEmpty, GivenBits, FirstEmpty, spread, joinedAt}
+use Rattle.engine.specs.Eval.{bit, number_of, old_values}
+use Rattle.engine.specs.Support.{reading, shared, sound, table_of, candidate_nets}
+use Rattle.engine.specs.Verdict.{blind_reading}
+use Rattle.engine.specs.Inner.List.{max_vectors, lowest}
+use Rattle.engine.specs.Inner.Best.{RectifiesAll, SetsOf, NotEmpty, GivenBits, FirstEmpty, spread, joined_at}
 use Rattle.engine.proofs.Laws.Choice.{Least, none_or_some, first-least, first-none-below, found_first, not-both}
-use Rattle.engine.proofs.Laws.Eval.{bit-lt, netAt-lt, oldValues-bits}
+use Rattle.engine.proofs.Laws.Eval.{bit-lt, net_at-lt, old_values-bits}
 use Rattle.engine.proofs.Laws.Shift.{bit-mod}
-use Rattle.engine.proofs.Laws.Support.{shared-least, shared-none, sound-iff-found, length-tableOf, getD-tableOf}
+use Rattle.engine.proofs.Laws.Support.{shared-least, shared-none, sound-iff-found, length-table_of, get_or-table_of}
 use Rattle.engine.proofs.Laws.VectorSets.{lowest-some, lowest-bit}
 use Rattle.engine.proofs.Laws.Verdict.{LeastBlind, blind-least, blind-unique, unsound-of-blind}
 use Rattle.engine.proofs.Laws.Word.{bit-and, bit-zero}
@@ -33,18 +33,18 @@ use Rattle.engine.proofs.Laws.Word.{bit-and, bit-zero}
 -- ---- the lowest vector of a set
 
 module _ (t : ℕ) where
-  lowest-least : (v : ℕ) → lowest t ≡ some v → Least (λ u. eqb (bit u t) 1) maxVectors v
+  lowest-least : (v : ℕ) → lowest t ≡ some v → Least (λ u. eqb (bit u t) 1) max_vectors v
   unfolding lowest
-  lowest-least v e = first-least (λ u. eqb (bit u t) 1) maxVectors v e
+  lowest-least v e = first-least (λ u. eqb (bit u t) 1) max_vectors v e
 
-  lowest-none : lowest t ≡ none → (v : ℕ) → v < maxVectors → bit v t ≡ 1 → ⊥
+  lowest-none : lowest t ≡ none → (v : ℕ) → v < max_vectors → bit v t ≡ 1 → ⊥
   unfolding lowest
   lowest-none e v h q =
-      not-both (eq-eqb (bit v t) 1 q) (first-none-below (λ u. eqb (bit u t) 1) maxVectors e v h)
+      not-both (eq-eqb (bit v t) 1 q) (first-none-below (λ u. eqb (bit u t) 1) max_vectors e v h)
 
   pub found-lowest : NotEmpty t → found (lowest t) ≡ true
   unfolding lowest
-  found-lowest h = found_first (λ u. eqb (bit u t) 1) maxVectors h.0 h.1 (eq-eqb (bit h.0 t) 1 h.2)
+  found-lowest h = found_first (λ u. eqb (bit u t) 1) max_vectors h.0 h.1 (eq-eqb (bit h.0 t) 1 h.2)
 
 -- a set whose low 16 bits are not 0 has a vector
 pub holds-some : (t : ℕ) → (t % 65536 ≡ 0 → ⊥) → NotEmpty t
@@ -68,18 +68,18 @@ lowest-empty t z =
 
 -- ---- the shared vector at a reading
 
-few-vectors : (m : ℕ) → m ≤ 4 → 2 ^ m ≤ maxVectors
+few-vectors : (m : ℕ) → m ≤ 4 → 2 ^ m ≤ max_vectors
 few-vectors m h = pow_mono h
 
 -- the set t holds the vectors that rectify every input giving reading r of the nets is
 module _ (j : Job) (is : List ℕ) (r t : ℕ) (few : j.targets ≤ 4)
-    (h : (v : ℕ) → v < maxVectors → (bit v t ≡ 1) ↔ ((v < 2 ^ j.targets) × RectifiesAll j is r v)) where
+    (h : (v : ℕ) → v < max_vectors → (bit v t ≡ 1) ↔ ((v < 2 ^ j.targets) × RectifiesAll j is r v)) where
   shared-least-unique : (u v : ℕ) → shared j is r ≡ some u → lowest t ≡ some v → u ≡ v
   shared-least-unique u v p q =
       let l = shared-least j is r u p in
       let m = lowest-least t v q in
       let n = (h v m.below).0 (eqb-true (bit v t) 1 m.holds) in
-      let w : u < maxVectors = omega (arith, l.below, few-vectors j.targets few) in
+      let w : u < max_vectors = omega (arith, l.below, few-vectors j.targets few) in
       let a : (v < u → ⊥) = λ i. let f = l.smaller v i in not-both (n.1 f.0 f.1 f.2) f.3 in
       let b : (u < v → ⊥) = λ i. not-both (eq-eqb (bit u t) 1 ((h u w).1 (l.below, l.rectifies))) (m.smaller u i) in
       omega arith
@@ -92,7 +92,7 @@ module _ (j : Job) (is : List ℕ) (r t : ℕ) (few : j.targets ≤ 4)
       go (some u) (some v) p q = ap some (shared-least-unique u v p q)
       go (some u) none p q =
           let l = shared-least j is r u p in
-          let w : u < maxVectors = omega (arith, l.below, few-vectors j.targets few) in
+          let w : u < max_vectors = omega (arith, l.below, few-vectors j.targets few) in
           absurd (lowest-none t q u w ((h u w).1 (l.below, l.rectifies)))
       go none (some v) p q =
           let m = lowest-least t v q in
@@ -107,7 +107,7 @@ both_one a b h l = (λ e. (omega arith, omega arith), λ e. omega (arith, e.0, e
 
 -- the set of reading r is t r
 module _ (j : Job) (is : List ℕ) (t : ℕ → ℕ) (few : j.targets ≤ 4)
-    (h : (r v : ℕ) → r < 2 ^ length is → v < maxVectors
+    (h : (r v : ℕ) → r < 2 ^ length is → v < max_vectors
     → (bit v (t r) ≡ 1) ↔ ((v < 2 ^ j.targets) × RectifiesAll j is r v)) where
   shared_at : (r : ℕ) → r < 2 ^ length is → shared j is r ≡ lowest (t r)
   shared_at r l = shared-lowest j is r (t r) few (λ v m. h r v l m)
@@ -130,11 +130,11 @@ module _ (j : Job) (is ss : List ℕ) (h : SetsOf j is ss) where
       → ((r : ℕ) → r < 2 ^ length is → get_or ts r 0 ≡ or_zero (lowest (get_or ss r 0))) → take (2 ^ length is) ts ≡ table_of j is
   table-sets ts l f =
       let e = length-take-le (2 ^ length is) ts l in
-      let n = length-tableOf j is in
+      let n = length-table_of j is in
       ext_get_or 0 (take (2 ^ length is) ts) (table_of j is) (e ∙ sym n)
       (λ r i.
       let b : r < 2 ^ length is = omega arith in
-      get_or-take (2 ^ length is) ts r 0 b ∙ f r b ∙ sym (ap or_zero (shared-sets r b)) ∙ sym (getD-tableOf j is r b))
+      get_or-take (2 ^ length is) ts r 0 b ∙ f r b ∙ sym (ap or_zero (shared-sets r b)) ∙ sym (get_or-table_of j is r b))
 
 -- the table so far: the lowest vectors of the sets below n
 abbrev pub TableTo : List ℕ → List ℕ → ℕ → Type 0
@@ -196,13 +196,13 @@ spread_same (suc i) q r c d h l e =
     omega arith
 
 reading-with : (j : Job) (xs : List ℕ) (x : ℕ) (ks : List ℕ) (y : ℕ)
-    → reading j (xs ++ (x ∷ ks)) y ≡ spread (length xs) (reading j (xs ++ ks) y) + netAt (oldValues j y 0) x * 2 ^ length xs
+    → reading j (xs ++ (x ∷ ks)) y ≡ spread (length xs) (reading j (xs ++ ks) y) + net_at (old_values j y 0) x * 2 ^ length xs
 unfolding reading number_of spread
 reading-with j [] x ks y = omega arith
 reading-with j (z ∷ xs) x ks y =
-    let f : ℕ → ℕ = netAt (oldValues j y 0) in
+    let f : ℕ → ℕ = net_at (old_values j y 0) in
     let q = number_of (map f (xs ++ ks)) in
-    let b : f z < 2 = netAt-lt (oldValues-bits j y 0) z in
+    let b : f z < 2 = net_at-lt (old_values-bits j y 0) z in
     let r = reading-with j xs x ks y in
     let p : f x * 2 ^ suc (length xs) ≡ 2 * (f x * 2 ^ length xs) = rw (pow-suc 2 (length xs)) (twice (f x) (2 ^ length xs)) in
     let m : (f z + 2 * q) % 2 ≡ f z = omega arith in
@@ -228,11 +228,11 @@ module _ (j : Job) (xs : List ℕ) (x : ℕ) (ks ss : List ℕ) where
       let w = spread-lt (length xs) (length others) q (omega (arith, length-append xs ks)) l in
       rw n (omega arith, w)
 
-  bit-joined : (v q : ℕ) → bit v (joinedAt ss (length xs) q) ≡ min (bit v (get_or ss (low q) 0)) (bit v (get_or ss (high q) 0))
-  unfolding joinedAt
+  bit-joined : (v q : ℕ) → bit v (joined_at ss (length xs) q) ≡ min (bit v (get_or ss (low q) 0)) (bit v (get_or ss (high q) 0))
+  unfolding joined_at
   bit-joined v q = bit-and v (get_or ss (low q) 0) (get_or ss (high q) 0)
 
-  joined-one : (v q : ℕ) → (bit v (joinedAt ss (length xs) q) ≡ 1) ↔ ((bit v (get_or ss (low q) 0) ≡ 1) × (bit v (get_or ss (high q) 0) ≡ 1))
+  joined-one : (v q : ℕ) → (bit v (joined_at ss (length xs) q) ≡ 1) ↔ ((bit v (get_or ss (low q) 0) ≡ 1) × (bit v (get_or ss (high q) 0) ≡ 1))
   joined-one v q =
       let a = get_or ss (low q) 0 in
       let b = get_or ss (high q) 0 in
@@ -242,7 +242,7 @@ module _ (j : Job) (xs : List ℕ) (x : ℕ) (ks ss : List ℕ) where
   module _ (y q : ℕ) where
     from-others : (c : ℕ) → c < 2 → reading j (xs ++ (x ∷ ks)) y ≡ low q + c * 2 ^ length xs → reading j others y ≡ q
     from-others c l e =
-        spread_same (length xs) (reading j others y) q (netAt (oldValues j y 0) x) c (netAt-lt (oldValues-bits j y 0) x) l
+        spread_same (length xs) (reading j others y) q (net_at (old_values j y 0) x) c (net_at-lt (old_values-bits j y 0) x) l
         (sym (reading-with j xs x ks y) ∙ e)
 
     from_low : reading j (xs ++ (x ∷ ks)) y ≡ low q → reading j others y ≡ q
@@ -253,16 +253,16 @@ module _ (j : Job) (xs : List ℕ) (x : ℕ) (ks ss : List ℕ) where
 
     with-net : reading j others y ≡ q → (reading j (xs ++ (x ∷ ks)) y ≡ low q) ⊎ (reading j (xs ++ (x ∷ ks)) y ≡ high q)
     with-net e =
-        let v = netAt (oldValues j y 0) x in
+        let v = net_at (old_values j y 0) x in
         let r : reading j (xs ++ (x ∷ ks)) y ≡ low q + v * 2 ^ length xs = reading-with j xs x ks y ∙ rw e in
         ⊎_elim
         (λ (z : v ≡ 1). inr (rw z at r ∙ omega arith))
         (λ (z : v < 1). let o : v ≡ 0 = omega arith in inl (rw o at r ∙ omega arith))
-        (eq-or-lt_of_le (omega (arith, netAt-lt (oldValues-bits j y 0) x)))
+        (eq-or-lt_of_le (omega (arith, net_at-lt (old_values-bits j y 0) x)))
 
   module _ (h : SetsOf j (xs ++ (x ∷ ks)) ss) where
-    joined-iff : (q v : ℕ) → q < 2 ^ length others → v < maxVectors
-        → (bit v (joinedAt ss (length xs) q) ≡ 1) ↔ ((v < 2 ^ j.targets) × RectifiesAll j others q v)
+    joined-iff : (q v : ℕ) → q < 2 ^ length others → v < max_vectors
+        → (bit v (joined_at ss (length xs) q) ≡ 1) ↔ ((v < 2 ^ j.targets) × RectifiesAll j others q v)
     joined-iff q v l m =
         let s = h.sets (low q) v (both-lt q l).0 m in
         let t = h.sets (high q) v (both-lt q l).1 m in
@@ -277,31 +277,31 @@ module _ (j : Job) (xs : List ℕ) (x : ℕ) (ks ss : List ℕ) where
               ),
         )
 
-    pub left-sets : (ps : List ℕ) → ((q : ℕ) → q < 2 ^ length others → get_or ps q 0 ≡ joinedAt ss (length xs) q) → SetsOf j others ps
+    pub left-sets : (ps : List ℕ) → ((q : ℕ) → q < 2 ^ length others → get_or ps q 0 ≡ joined_at ss (length xs) q) → SetsOf j others ps
     left-sets ps f = record { targets = h.targets; sets = λ q v l m. rw (f q l) (joined-iff q v l m) }
 
-    pub left-sound : ((q : ℕ) → q < 2 ^ length others → NotEmpty (joinedAt ss (length xs) q)) → sound j others ≡ true
-    left-sound = sound-at j others (joinedAt ss (length xs)) h.targets joined-iff
+    pub left-sound : ((q : ℕ) → q < 2 ^ length others → NotEmpty (joined_at ss (length xs) q)) → sound j others ≡ true
+    left-sound = sound-at j others (joined_at ss (length xs)) h.targets joined-iff
 
-    pub left-unsound : (q : ℕ) → q < 2 ^ length others → joinedAt ss (length xs) q % 65536 ≡ 0 → sound j others ≡ false
-    left-unsound = unsound-at j others (joinedAt ss (length xs)) h.targets joined-iff
+    pub left-unsound : (q : ℕ) → q < 2 ^ length others → joined_at ss (length xs) q % 65536 ≡ 0 → sound j others ≡ false
+    left-unsound = unsound-at j others (joined_at ss (length xs)) h.targets joined-iff
 
   -- the bits above the vectors are joined too: some input gives reading q of the others where one gives one of both
-  pub left-given : (ps : List ℕ) → ((q : ℕ) → q < 2 ^ length others → get_or ps q 0 ≡ joinedAt ss (length xs) q)
+  pub left-given : (ps : List ℕ) → ((q : ℕ) → q < 2 ^ length others → get_or ps q 0 ≡ joined_at ss (length xs) q)
       → (k : ℕ) → GivenBits j (xs ++ (x ∷ ks)) ss k → GivenBits j others ps k
   left-given ps f k h =
       record {
         given =
             λ q l e.
-            let m = bit-joined maxVectors q in
-            let z : bit maxVectors (joinedAt ss (length xs) q) ≡ 0 = rw (f q l) at e in
+            let m = bit-joined max_vectors q in
+            let z : bit max_vectors (joined_at ss (length xs) q) ≡ 0 = rw (f q l) at e in
             ⊎_elim
             (λ i. let g = h.given (low q) (both-lt q l).0 i in (g.0, g.1, from_low g.0 q g.2))
             (λ i. let g = h.given (high q) (both-lt q l).1 (omega arith) in (g.0, g.1, from-high g.0 q g.2))
-            (eq-zero-or-pos (bit maxVectors (get_or ss (low q) 0)));
+            (eq-zero-or-pos (bit max_vectors (get_or ss (low q) 0)));
         unmet =
             λ q l e y b n d.
-            let u = (joined-one maxVectors q).0 (rw (f q l) at e) in
+            let u = (joined-one max_vectors q).0 (rw (f q l) at e) in
             ⊎_elim
             (h.unmet (low q) (both-lt q l).0 u.0 y b n)
             (h.unmet (high q) (both-lt q l).1 u.1 y b n)
@@ -310,37 +310,37 @@ module _ (j : Job) (xs : List ℕ) (x : ℕ) (ks ss : List ℕ) where
 
 -- ---- the first empty set of all
 
-module _ (j : Job) (ss : List ℕ) (h : SetsOf j (candidateNets j) ss) (r : ℕ)
-    (f : FirstEmpty ss (2 ^ length (candidateNets j)) r) where
-  found_before : (q : ℕ) → q < r → found (shared j (candidateNets j) q) ≡ true
+module _ (j : Job) (ss : List ℕ) (h : SetsOf j (candidate_nets j) ss) (r : ℕ)
+    (f : FirstEmpty ss (2 ^ length (candidate_nets j)) r) where
+  found_before : (q : ℕ) → q < r → found (shared j (candidate_nets j) q) ≡ true
   found_before q l =
       let m = f.most in
-      rw (shared-sets j (candidateNets j) ss h q (omega arith)) (found-lowest (get_or ss q 0) (f.filled q l))
+      rw (shared-sets j (candidate_nets j) ss h q (omega arith)) (found-lowest (get_or ss q 0) (f.filled q l))
 
-  least-blind : r < 2 ^ length (candidateNets j) → LeastBlind j r
+  least-blind : r < 2 ^ length (candidate_nets j) → LeastBlind j r
   unfolding found
   least-blind l =
       record {
         below = l;
-        none-shared = shared-sets j (candidateNets j) ss h r l ∙ lowest-empty (get_or ss r 0) (f.empty l);
+        none-shared = shared-sets j (candidate_nets j) ss h r l ∙ lowest-empty (get_or ss r 0) (f.empty l);
         smaller = λ q i e. not-both (found_before q i) (ap found e);
       }
 
   -- there is none exactly where all candidates together are sound
-  pub sound-iff-full : (r ≡ 2 ^ length (candidateNets j)) ↔ (sound j (candidateNets j) ≡ true)
+  pub sound-iff-full : (r ≡ 2 ^ length (candidate_nets j)) ↔ (sound j (candidate_nets j) ≡ true)
   sound-iff-full = (
-    λ e. (sound-iff-found j (candidateNets j)).1 (λ q l. found_before q (rw e l)),
+    λ e. (sound-iff-found j (candidate_nets j)).1 (λ q l. found_before q (rw e l)),
     λ e.
         ⊎_elim
         (λ i. i)
-        (λ (i : r < 2 ^ length (candidateNets j)). absurd (not-both e (unsound-of-blind j r (least-blind i))))
+        (λ (i : r < 2 ^ length (candidate_nets j)). absurd (not-both e (unsound-of-blind j r (least-blind i))))
         (eq-or-lt_of_le f.most),
   )
 
   -- .. and else it is the blind reading
-  pub blind-of-empty : sound j (candidateNets j) ≡ false → r ≡ blindReading j
+  pub blind-of-empty : sound j (candidate_nets j) ≡ false → r ≡ blind_reading j
   blind-of-empty e =
       ⊎_elim
       (λ i. absurd (not-both (sound-iff-full.0 i) e))
-      (λ (i : r < 2 ^ length (candidateNets j)). blind-unique j r (blindReading j) (least-blind i) (blind-least j e))
+      (λ (i : r < 2 ^ length (candidate_nets j)). blind-unique j r (blind_reading j) (least-blind i) (blind-least j e))
       (eq-or-lt_of_le f.most)

@@ -9,17 +9,17 @@ use native.Mathlib.Omega.{arith}
 use lib.ListN.{length, get_or, take, set, length-append, length-map}
 use lib.Pow.{pow-lt, pow_mono}
 use lib.Seq.{length-take-le, take-append_seam, drop-append_seam}
-use Rattle.records.specs.Bytes.{flat, bytePair, placed, field, whole, nth}
+use Rattle.records.specs.Bytes.{flat, byte_pair, placed, field, whole, nth}
 use Rattle.records.specs.Job.{Job}
-use Rattle.records.specs.Sheet.{notesTag}
+use Rattle.records.specs.Sheet.{notes_tag}
 use Rattle.records.proofs.Laws.Bytes.{take-placed}
-use Rattle.records.proofs.Laws.Job.{Put, sets-placed, placed-then, tabulate-getD, length-field, length-bytePair, length-outputs}
+use Rattle.records.proofs.Laws.Job.{Put, sets-placed, placed-then, tabulate-get_or, length-field, length-byte_pair, length-outputs}
 use Rattle.records.proofs.Laws.Front.{nth-behind, whole_append, whole-front}
 use Rattle.records.proofs.Laws.RoundTrip.{fits-field, body-field, rest-field}
 use Rattle.records.proofs.Laws.Put.{FieldPut, put-field-put}
-use Rattle.engine.specs.Support.{table_of, notesOf, cost}
-use Rattle.engine.specs.Verdict.{fourBytes, patchSheet, longestChoose}
-use Rattle.engine.specs.Inner.Sheet.{BytesPut, patchBytes}
+use Rattle.engine.specs.Support.{table_of, notes_of, cost}
+use Rattle.engine.specs.Verdict.{four_bytes, patch_sheet, longest_choose}
+use Rattle.engine.specs.Inner.Sheet.{BytesPut, patch_bytes}
 
 -- ---- numbers as bytes
 
@@ -36,21 +36,21 @@ shl-pow n h =
 pub pow-table : (n : ℕ) → n ≤ 10 → 2 ^ n ≤ 1024
 pow-table n h = pow_mono h
 
-pub pair-placed : (d : List ℕ) (at x : ℕ) {r : List ℕ} → r ≡ bytePair x → at + 2 ≤ length d
-    → set (set d at (get_or r 0 0)) (at + 1) (get_or r 1 0) ≡ placed d at (bytePair x)
-unfolding bytePair
+pub pair-placed : (d : List ℕ) (at x : ℕ) {r : List ℕ} → r ≡ byte_pair x → at + 2 ≤ length d
+    → set (set d at (get_or r 0 0)) (at + 1) (get_or r 1 0) ≡ placed d at (byte_pair x)
+unfolding byte_pair
 pair-placed d at x e h = rw (e, add-one) (sets-placed d at (x / 256 ∷ x % 256 ∷ []) h)
 
-pub length-nets : (ns : List ℕ) (n : ℕ) → n ≤ length ns → length (flat bytePair (take n ns)) ≡ 2 * n
+pub length-nets : (ns : List ℕ) (n : ℕ) → n ≤ length ns → length (flat byte_pair (take n ns)) ≡ 2 * n
 length-nets ns n h = length-outputs (take n ns) ∙ ap (λ (k : ℕ). 2 * k) (length-take-le n ns h)
 
 -- the pairs of n numbers at the start of a list
 pub pairs-take : (d₀ : List ℕ) {d : List ℕ} (ns : List ℕ) (n : ℕ) → n ≤ length ns → 2 * n ≤ length d₀
-    → Put bytePair (λ k. get_or ns k 0) d₀ 0 d n → take (2 * n) d ≡ flat bytePair (take n ns)
+    → Put byte_pair (λ k. get_or ns k 0) d₀ 0 d n → take (2 * n) d ≡ flat byte_pair (take n ns)
 pairs-take d₀ {d} ns n h m w =
-    let xs : List ℕ = flat bytePair (take n ns) in
+    let xs : List ℕ = flat byte_pair (take n ns) in
     let l : 0 + length xs ≡ 2 * n = zero-add (length xs) ∙ length-nets ns n h in
-    let e : d ≡ placed d₀ 0 xs = w.1 ∙ ap (λ (r : List ℕ). placed d₀ 0 (flat bytePair r)) (tabulate-getD ns n h) in
+    let e : d ≡ placed d₀ 0 xs = w.1 ∙ ap (λ (r : List ℕ). placed d₀ 0 (flat byte_pair r)) (tabulate-get_or ns n h) in
     ap (λ (k : ℕ). take k d) (sym l) ∙ ap (λ (r : List ℕ). take (0 + length xs) r) e ∙ take-placed d₀ 0 xs (omega arith)
 
 -- ---- bytes put one after the other
@@ -90,57 +90,57 @@ module _ (ts a : List ℕ) (t : ℕ) (xs : List ℕ) (w : whole ts a ≡ true) w
 
 -- ---- how many bytes
 
-pub length-fourBytes : (x : ℕ) → length (fourBytes x) ≡ 4
-unfolding fourBytes bytePair
-length-fourBytes x = refl
+pub length-four_bytes : (x : ℕ) → length (four_bytes x) ≡ 4
+unfolding four_bytes byte_pair
+length-four_bytes x = refl
 
 -- where a field ends
 module _ {d d' : List ℕ} {at r : ℕ} (t : ℕ) where
-  pub support-end : (ns : List ℕ) (n : ℕ) → n ≤ length ns → BytesPut d at (field t (flat bytePair (take n ns))) d' r
+  pub support-end : (ns : List ℕ) (n : ℕ) → n ≤ length ns → BytesPut d at (field t (flat byte_pair (take n ns))) d' r
       → r ≡ at + 3 + 2 * n
-  support-end ns n h w = omega (arith, w.end, length-field t (flat bytePair (take n ns)), length-nets ns n h)
+  support-end ns n h w = omega (arith, w.end, length-field t (flat byte_pair (take n ns)), length-nets ns n h)
 
   pub list-end : (xs : List ℕ) (n : ℕ) → n ≤ length xs → BytesPut d at (field t (take n xs)) d' r → r ≡ at + 3 + n
   list-end xs n h w = omega (arith, w.end, length-field t (take n xs), length-take-le n xs h)
 
-  pub number-end : (x : ℕ) → BytesPut d at (field t (fourBytes x)) d' r → r ≡ at + 7
-  number-end x w = omega (arith, w.end, length-field t (fourBytes x), length-fourBytes x)
+  pub number-end : (x : ℕ) → BytesPut d at (field t (four_bytes x)) d' r → r ≡ at + 7
+  number-end x w = omega (arith, w.end, length-field t (four_bytes x), length-four_bytes x)
 
 -- the fields of an unfixable input, of a blind reading and of a patch
-pub length-unfixable : (x : ℕ) (vs : List ℕ) → length (field 20 (fourBytes x) ++ field 19 vs) ≡ 10 + length vs
-length-unfixable x vs = simp (length-append, length-field, length-fourBytes) (omega arith)
+pub length-unfixable : (x : ℕ) (vs : List ℕ) → length (field 20 (four_bytes x) ++ field 19 vs) ≡ 10 + length vs
+length-unfixable x vs = simp (length-append, length-field, length-four_bytes) (omega arith)
 
-pub length-blind : (r : ℕ) → length (field 21 (bytePair r)) ≡ 5
-length-blind r = simp (length-field, length-bytePair)
+pub length-blind : (r : ℕ) → length (field 21 (byte_pair r)) ≡ 5
+length-blind r = simp (length-field, length-byte_pair)
 
-pub length-patchBytes : (is t : List ℕ) (c : ℕ) (ns : List ℕ)
-    → length (patchBytes is t c ns) ≡ 16 + 2 * length is + length t + length ns
-unfolding patchBytes
-length-patchBytes is t c ns = simp (length-append, length-field, length-outputs, length-fourBytes) (omega arith)
+pub length-patch_bytes : (is t : List ℕ) (c : ℕ) (ns : List ℕ)
+    → length (patch_bytes is t c ns) ≡ 16 + 2 * length is + length t + length ns
+unfolding patch_bytes
+length-patch_bytes is t c ns = simp (length-append, length-field, length-outputs, length-four_bytes) (omega arith)
 
 -- ---- a patch put field by field
 
-pub patch-put : {d d₁ d₂ d₃ d₄ : List ℕ} {a b c r : ℕ} → longestChoose ≤ length d
+pub patch-put : {d d₁ d₂ d₃ d₄ : List ℕ} {a b c r : ℕ} → longest_choose ≤ length d
     → (is t : List ℕ) (x : ℕ) (ns : List ℕ) → length is ≤ 10 → length t ≤ 1024 → length ns ≤ 1024
-    → BytesPut d 0 (field 16 (flat bytePair is)) d₁ a → BytesPut d₁ a (field 17 t) d₂ b
-    → BytesPut d₂ b (field 18 (fourBytes x)) d₃ c → BytesPut d₃ c (field notesTag ns) d₄ r
-    → BytesPut d 0 (patchBytes is t x ns) d₄ r
-unfolding patchBytes
+    → BytesPut d 0 (field 16 (flat byte_pair is)) d₁ a → BytesPut d₁ a (field 17 t) d₂ b
+    → BytesPut d₂ b (field 18 (four_bytes x)) d₃ c → BytesPut d₃ c (field notes_tag ns) d₄ r
+    → BytesPut d 0 (patch_bytes is t x ns) d₄ r
+unfolding patch_bytes
 patch-put h is t x ns m n o u₁ u₂ u₃ u₄ =
-    let f₁ : List ℕ = field 16 (flat bytePair is) in
+    let f₁ : List ℕ = field 16 (flat byte_pair is) in
     let f₂ : List ℕ = field 17 t in
-    let f₃ : List ℕ = field 18 (fourBytes x) in
-    let n₁ : length f₁ ≡ 3 + 2 * length is = length-field 16 (flat bytePair is) ∙ rw (length-outputs is) in
+    let f₃ : List ℕ = field 18 (four_bytes x) in
+    let n₁ : length f₁ ≡ 3 + 2 * length is = length-field 16 (flat byte_pair is) ∙ rw (length-outputs is) in
     let n₂ : length f₂ ≡ 3 + length t = length-field 17 t in
-    let n₃ : length f₃ ≡ 7 = length-field 18 (fourBytes x) ∙ rw (length-fourBytes x) in
-    let n₄ = length-field notesTag ns in
+    let n₃ : length f₃ ≡ 7 = length-field 18 (four_bytes x) ∙ rw (length-four_bytes x) in
+    let n₄ = length-field notes_tag ns in
     let n₁₂ = length-append f₁ f₂ in
     let n₁₃ = length-append (f₁ ++ f₂) f₃ in
     put_then (put_then (put_then u₁ (omega arith) u₂) (omega arith) u₃) (omega arith) u₄
 
 -- ---- the patch of the definition
 
-pub patchBytes-sheet : (j : Job) (is : List ℕ) {t : List ℕ} {c : ℕ} {ns : List ℕ} → t ≡ table_of j is → c ≡ cost j is → ns ≡ notesOf j is
-    → patchBytes is t c ns ≡ patchSheet j is
-unfolding patchBytes patchSheet
-patchBytes-sheet j is e f g = rw (e, f, g)
+pub patch_bytes-sheet : (j : Job) (is : List ℕ) {t : List ℕ} {c : ℕ} {ns : List ℕ} → t ≡ table_of j is → c ≡ cost j is → ns ≡ notes_of j is
+    → patch_bytes is t c ns ≡ patch_sheet j is
+unfolding patch_bytes patch_sheet
+patch_bytes-sheet j is e f g = rw (e, f, g)

@@ -9,15 +9,15 @@ use lib.Dec.{eqb, ltb}
 use lib.ListN.{length, take, drop, replicate, length-append}
 use lib.Seq.{take-append_seam}
 use Rattle.records.specs.Bytes.{all, nth}
-use Rattle.records.specs.Job.{Candidate, netsOf}
+use Rattle.records.specs.Job.{Candidate, nets_of}
 use Rattle.records.specs.Refusal.{ascending}
-use Rattle.records.specs.Sheet.{Patch, patch_of, costOf, isCandidate, patchGood}
-use Rattle.records.specs.Service.{candidatesFrom, sheetNumber, sheetReply}
+use Rattle.records.specs.Sheet.{Patch, patch_of, cost_of, is_candidate, patch_good}
+use Rattle.records.specs.Service.{candidates_from, sheet_number, sheet_reply}
 use Rattle.records.specs.declared.sheet.SheetReply.{SheetReply}
 use Rattle.records.proofs.Laws.Bytes.{row_at}
 use Rattle.records.proofs.Laws.Accepted.{sheet-accepts}
 use Rattle.records.proofs.Laws.Sheet.{support-length}
-use Rattle.records.proofs.Laws.SheetShape.{sheetWhole-facts, table-end, table-bytes}
+use Rattle.records.proofs.Laws.SheetShape.{sheet_whole-facts, table-end, table-bytes}
 use Rattle.engine.proofs.Laws.Choice.{cond_of, cond-zero}
 
 -- an accepted sheet's reply: its support is of candidates, and the table stands among the sheet's bytes
@@ -25,42 +25,42 @@ pub record ReadSheet (cs : List Candidate) (p : List ℕ) (r : SheetReply) : Typ
   pub few : r.support.len ≤ length cs
   pub long : r.support.len ≤ length r.support.nets
   pub nets : take r.support.len r.support.nets ≡ (patch_of p).support
-  pub candidates : all (isCandidate cs) (patch_of p).support ≡ true
+  pub candidates : all (is_candidate cs) (patch_of p).support ≡ true
   pub end : r.table + 2 ^ r.support.len ≤ length p
   pub table : take (2 ^ r.support.len) (drop r.table p) ≡ (patch_of p).table
 
 -- ---- the support
 
-good-support : (m : ℕ) (cs : List Candidate) (q : Patch) → patchGood m cs q ≡ true
-    → (ascending q.support ≡ true) × (all (isCandidate cs) q.support ≡ true)
-unfolding patchGood
+good-support : (m : ℕ) (cs : List Candidate) (q : Patch) → patch_good m cs q ≡ true
+    → (ascending q.support ≡ true) × (all (is_candidate cs) q.support ≡ true)
+unfolding patch_good
 good-support m cs q h =
     let t =
     row_at (ascending q.support)
-    (all (isCandidate cs) q.support
+    (all (is_candidate cs) q.support
     ∷ all (λ v. ltb v (2 ^ m)) q.table
-    ∷ eqb q.cost (costOf cs q.support)
+    ∷ eqb q.cost (cost_of cs q.support)
     ∷ [])
     h in
     (t 0, t 1)
 
 module _ (m k : ℕ) (nets weights p : List ℕ) where
-  pub sheet-number : (sheetReply m k nets weights p).number ≡ sheetNumber m k nets weights p
-  unfolding sheetReply
+  pub sheet-number : (sheet_reply m k nets weights p).number ≡ sheet_number m k nets weights p
+  unfolding sheet_reply
   sheet-number =
-      let n = sheetNumber m k nets weights p in
+      let n = sheet_number m k nets weights p in
       cond_of (λ (r : SheetReply). r.number) (eqb n 0) _ _ ∙ cond-zero n
 
-  sheet-accepted : sheetNumber m k nets weights p ≡ 0
-      → ReadSheet (candidatesFrom k nets weights) p (sheetReply m k nets weights p)
-  unfolding sheetReply patch_of
+  sheet-accepted : sheet_number m k nets weights p ≡ 0
+      → ReadSheet (candidates_from k nets weights) p (sheet_reply m k nets weights p)
+  unfolding sheet_reply patch_of
   sheet-accepted n =
-      let cs = candidatesFrom k nets weights in
-      let is = netsOf (nth 0 p) in
+      let cs = candidates_from k nets weights in
+      let is = nets_of (nth 0 p) in
       let a = (sheet-accepts m k nets weights p).0 n in
-      let w = sheetWhole-facts p a.1 in
+      let w = sheet_whole-facts p a.1 in
       let g = good-support m cs (patch_of p) a.2 in
-      rw (eq-eqb (sheetNumber m k nets weights p) 0 n)
+      rw (eq-eqb (sheet_number m k nets weights p) 0 n)
       (record {
         few = support-length cs is g.0 g.1;
         long = omega (arith, length-append is (replicate (10 - length is) 0));
@@ -70,8 +70,8 @@ module _ (m k : ℕ) (nets weights p : List ℕ) where
         table = table-bytes p w;
       })
 
-  pub read-sheet : {r : SheetReply} → r ≡ sheetReply m k nets weights p → r.number ≡ 0
-      → ReadSheet (candidatesFrom k nets weights) p r
+  pub read-sheet : {r : SheetReply} → r ≡ sheet_reply m k nets weights p → r.number ≡ 0
+      → ReadSheet (candidates_from k nets weights) p r
   read-sheet {r} e z =
-      let n : sheetNumber m k nets weights p ≡ 0 = sym sheet-number ∙ ap (λ (x : SheetReply). x.number) (sym e) ∙ z in
-      subst (λ (x : SheetReply). ReadSheet (candidatesFrom k nets weights) p x) (sym e) (sheet-accepted n)
+      let n : sheet_number m k nets weights p ≡ 0 = sym sheet-number ∙ ap (λ (x : SheetReply). x.number) (sym e) ∙ z in
+      subst (λ (x : SheetReply). ReadSheet (candidates_from k nets weights) p x) (sym e) (sheet-accepted n)

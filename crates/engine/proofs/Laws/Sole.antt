@@ -15,7 +15,7 @@ use lib.Pow.{high, pow_mono}
 use Rattle.engine.specs.Choice.{or_zero}
 use Rattle.engine.specs.Eval.{bit}
 use Rattle.engine.specs.Rectify.{rectifies}
-use Rattle.engine.specs.Inner.Kernel.{rowValue, valueIn}
+use Rattle.engine.specs.Inner.Kernel.{row_value, value_in}
 use Rattle.engine.specs.Inner.List.{lowest}
 use Rattle.engine.specs.Inner.Note.{gathered}
 use Rattle.engine.specs.Inner.Search.{sole_of, DrivenRow, SoleTable, BlockKept}
@@ -133,7 +133,7 @@ sole-start o r h =
 -- its set has none
 pub sole-kept : {p : Plan} {gates : List ℕ} (readings table vectors row : List ℕ) {before after : List ℕ}
     → ((y : ℕ) → y < 1024 → gathered vectors y ≡ get_or table (gathered readings y % 1024) 0)
-    → ((y : ℕ) → y < 1024 → valueIn vectors y 5 ≡ 0) → ((y : ℕ) → y < 1024 → max (rowValue row y) (valueIn vectors y 4) ≡ 1)
+    → ((y : ℕ) → y < 1024 → value_in vectors y 5 ≡ 0) → ((y : ℕ) → y < 1024 → max (row_value row y) (value_in vectors y 4) ≡ 1)
     → DrivenRow p gates (gathered vectors) before row after → (ss : List ℕ) → SoleTable ss table → BlockKept p gates readings before ss
 sole-kept readings table vectors row t five four d ss h j is q b f y l =
     let r : ℕ = gathered readings y % 1024 in

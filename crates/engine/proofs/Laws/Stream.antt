@@ -17,30 +17,30 @@ use Rattle.engine.specs.Eval.{bit, number_of}
 use Rattle.engine.specs.Inner.List.{lowest, listed_of, Held, Appended, Stepped}
 use Rattle.engine.specs.declared.list.Vectors.{Vectors}
 use Rattle.engine.proofs.Laws.Choice.{first-here, first-there}
-use Rattle.engine.proofs.Laws.Eval.{bit-lt, bits-map, numberOf-lt}
+use Rattle.engine.proofs.Laws.Eval.{bit-lt, bits-map, number_of-lt}
 use Rattle.engine.proofs.Laws.VectorSets.{in_set, lowest-zero, lowest-some}
-use Rattle.engine.proofs.Laws.List.{set_below, listStep-stuck, listStep-listed, listStep-none, listStep-full, listStep-append}
+use Rattle.engine.proofs.Laws.List.{set_below, list_step-stuck, list_step-listed, list_step-none, list_step-full, list_step-append}
 
 -- ---- gathered bits
 
-pub numberOf-bits-lt : (j k : ℕ) (ws : List ℕ) → length ws ≤ k → number_of (map (bit j) ws) < 2 ^ k
-numberOf-bits-lt j k ws h =
+pub number_of-bits-lt : (j k : ℕ) (ws : List ℕ) → length ws ≤ k → number_of (map (bit j) ws) < 2 ^ k
+number_of-bits-lt j k ws h =
     omega
-    (arith, numberOf-lt (bits-map (bit j) (bit-lt j) ws), ap (λ (n : ℕ). 2 ^ n) (length-map ws (bit j)), pow_mono h)
+    (arith, number_of-lt (bits-map (bit j) (bit-lt j) ws), ap (λ (n : ℕ). 2 ^ n) (length-map ws (bit j)), pow_mono h)
 
 pub gathered-lt : (j count k : ℕ) (ws : List ℕ) → count ≤ k → number_of (map (bit j) (take count ws)) < 2 ^ k
-gathered-lt j count k ws h = numberOf-bits-lt j k (take count ws) (omega (arith, length-take count ws))
+gathered-lt j count k ws h = number_of-bits-lt j k (take count ws) (omega (arith, length-take count ws))
 
 -- ---- the vectors of a set
 
 -- how the code tests whether v is in the set s
-pub inSet-true : (s v : ℕ) → s / 2 ^ v % 2 ≡ 1 → in_set s v ≡ true
+pub in_set-true : (s v : ℕ) → s / 2 ^ v % 2 ≡ 1 → in_set s v ≡ true
 unfolding bit
-inSet-true s v e = eq-eqb (s / 2 ^ v % 2) 1 e
+in_set-true s v e = eq-eqb (s / 2 ^ v % 2) 1 e
 
-pub inSet-false : (s v : ℕ) → (s / 2 ^ v % 2 ≡ 1 → ⊥) → in_set s v ≡ false
+pub in_set-false : (s v : ℕ) → (s / 2 ^ v % 2 ≡ 1 → ⊥) → in_set s v ≡ false
 unfolding bit
-inSet-false s v n = ne_eqb (s / 2 ^ v % 2) 1 n
+in_set-false s v n = ne_eqb (s / 2 ^ v % 2) 1 n
 
 -- a turn of a search: the first with p from v on
 pub first-from-here : (p : ℕ → Bool) (v n : ℕ) → v < n → p v ≡ true → first p (up_from v (n - v)) ≡ some v
@@ -69,12 +69,12 @@ pub places : (xs : List ℕ) (n : ℕ) → length (map (λ (v : ℕ). v) xs) ≡
 places xs n e = sym (length-map xs (λ v. v)) ∙ e
 
 -- the list with x stored behind it
-abbrev pub withVector : Vectors → ℕ → Vectors
-withVector v x =
+abbrev pub with_vector : Vectors → ℕ → Vectors
+with_vector v x =
     record { list = set v.list v.len x; len = v.len + 1; stuck = v.stuck; input = v.input }
 
 pub vector-appended : (v : Vectors) (x : ℕ) → length v.list ≡ 16 → Held v → v.len < 16 → x < 16
-    → Appended v x (withVector v x)
+    → Appended v x (with_vector v x)
 unfolding listed_of
 vector-appended v x n h l b =
     let e : take (v.len + 1) (set v.list v.len x) ≡ take v.len v.list ++ (x ∷ []) =
@@ -90,11 +90,11 @@ module _ (v : Vectors) (s x : ℕ) (h : Held v) where
   unfolding listed_of
   step-stuck e =
       let o : (listed_of v).stuck ≡ some v.input = rw e in
-      record { held = h; listed = sym (listStep-stuck (listed_of v) s x v.input o) }
+      record { held = h; listed = sym (list_step-stuck (listed_of v) s x v.input o) }
 
   pub step-listed : any (in_set s) (take v.len v.list) ≡ true → Stepped v s x v
   unfolding listed_of
-  step-listed a = record { held = h; listed = sym (listStep-listed (listed_of v) s x a) }
+  step-listed a = record { held = h; listed = sym (list_step-listed (listed_of v) s x a) }
 
   module _ (e : v.stuck ≡ false) (a : any (in_set s) (take v.len v.list) ≡ false) where
     going : (listed_of v).stuck ≡ none
@@ -106,7 +106,7 @@ module _ (v : Vectors) (s x : ℕ) (h : Held v) where
     step-none z =
         record {
           held = record { long = h.long; below = h.below };
-          listed = sym (listStep-none (listed_of v) s x going a (ap lowest z ∙ lowest-zero));
+          listed = sym (list_step-none (listed_of v) s x going a (ap lowest z ∙ lowest-zero));
         }
 
     module _ (l : s < 65536) (n : s ≡ 0 → ⊥) where
@@ -117,13 +117,13 @@ module _ (v : Vectors) (s x : ℕ) (h : Held v) where
             held = h;
             listed =
                 sym
-                (listStep-full (listed_of v) s x going a (or_zero (lowest s)) (lowest-some s l n)
+                (list_step-full (listed_of v) s x going a (or_zero (lowest s)) (lowest-some s l n)
                 (omega (arith, length-take v.len v.list)));
           }
 
       pub step-append : (r : Vectors) → v.len < 16 → Appended v (or_zero (lowest s)) r → Stepped v s x r
       unfolding listed_of
       step-append r b p =
-          let q = listStep-append (listed_of v) s x going a (or_zero (lowest s)) (lowest-some s l n)
+          let q = list_step-append (listed_of v) s x going a (or_zero (lowest s)) (lowest-some s l n)
           (omega (arith, length-take v.len v.list)) in
           record { held = p.held; listed = p.listed ∙ (rw going) ∙ sym q }

@@ -21,10 +21,10 @@ use Rattle.records.specs.Claims.{Below}
 use Rattle.records.proofs.Laws.Bytes.{and_left, and_right, and_both}
 use Rattle.engine.specs.Choice.{same}
 use Rattle.engine.specs.Eval.{bit}
-use Rattle.engine.specs.Tree.{constant, column, join_of, buildsLow, buildsHigh, joinGates, tree, treeSize}
-use Rattle.engine.specs.Inner.Packed.{packed, packedFrom}
-use Rattle.engine.specs.Fit.{Trees, treesFrom, trees, newFreeNet}
-use Rattle.engine.specs.Inner.Tree.{GateRoom, GatesPut, TablePart, columnPart, start_by, treeStart, joinSize, JoinRoom, treesSize, supportTrees, TreesPut}
+use Rattle.engine.specs.Tree.{constant, column, join_of, builds_low, builds_high, join_gates, tree, tree_size}
+use Rattle.engine.specs.Inner.Packed.{packed, packed_from}
+use Rattle.engine.specs.Fit.{Trees, trees_from, trees, new_free_net}
+use Rattle.engine.specs.Inner.Tree.{GateRoom, GatesPut, TablePart, column_part, start_by, tree_start, join_size, JoinRoom, trees_size, support_trees, TreesPut}
 use Rattle.engine.specs.declared.tree.Join.{Join}
 use Rattle.engine.specs.declared.tree.Join.TheVariants.{Both}
 use Rattle.engine.specs.declared.tree.TreeStart.{TreeStart}
@@ -32,9 +32,9 @@ use Rattle.engine.specs.declared.tree.TreeStart.TheVariants as TreeStart
 use Rattle.engine.proofs.Laws.Choice.{not-both, true-or-false, same_true, same-iff-equal}
 use Rattle.engine.proofs.Laws.Eval.{bit-lt}
 use Rattle.engine.proofs.Laws.EvalWords.{map-take}
-use Rattle.engine.proofs.Laws.MiterCode.{packedFrom-append}
+use Rattle.engine.proofs.Laws.MiterCode.{packed_from-append}
 use Rattle.engine.proofs.Laws.FitTree.{built, joined, length-joined, length-nets}
-use Rattle.engine.proofs.Laws.Join.{joinSize-bounds}
+use Rattle.engine.proofs.Laws.Join.{join_size-bounds}
 use Rattle.engine.proofs.Laws.Word.{bit-zero}
 
 -- ---- gates in places
@@ -42,7 +42,7 @@ use Rattle.engine.proofs.Laws.Word.{bit-zero}
 -- a gate stored behind the first k
 pub gates-put-one : (base k : ℕ) (cs : List ℕ) → GateRoom base (k + 1) cs → (g : Gate)
     → GatesPut base k cs (g ∷ []) (k + 1) (set cs k (packed (base + k) g))
-unfolding packedFrom
+unfolding packed_from
 gates-put-one base k cs r g =
     record {
       end = refl;
@@ -61,10 +61,10 @@ gates-put-append {base} {count} {r} {s} {cs} {cs'} {cs''} {gs} {hs} p q =
       end = omega (arith, p.end, q.end, length-append gs hs);
       gates =
           q.gates
-          ∙ ap (λ (l : List ℕ). l ++ packedFrom (base + r) hs) p.gates
-          ∙ append_assoc (take count cs) (packedFrom (base + count) gs) (packedFrom (base + r) hs)
-          ∙ ap (λ (n : ℕ). take count cs ++ (packedFrom (base + count) gs ++ packedFrom n hs)) e
-          ∙ ap (λ (l : List ℕ). take count cs ++ l) (sym (packedFrom-append (base + count) gs hs));
+          ∙ ap (λ (l : List ℕ). l ++ packed_from (base + r) hs) p.gates
+          ∙ append_assoc (take count cs) (packed_from (base + count) gs) (packed_from (base + r) hs)
+          ∙ ap (λ (n : ℕ). take count cs ++ (packed_from (base + count) gs ++ packed_from n hs)) e
+          ∙ ap (λ (l : List ℕ). take count cs ++ l) (sym (packed_from-append (base + count) gs hs));
       long = q.long ∙ p.long;
     }
 
@@ -96,7 +96,7 @@ pair-below a b p q (suc (suc (suc (suc i)))) = omega arith
 
 -- no gates put
 pub gates-put-none : (base count : ℕ) (cs : List ℕ) → GatesPut base count cs [] count cs
-unfolding packedFrom
+unfolding packed_from
 gates-put-none base count cs = record { end = sym (add-zero count); gates = sym (append-nil (take count cs)); long = refl }
 
 -- ---- columns
@@ -107,9 +107,9 @@ module _ (tb : List ℕ) (at n t : ℕ) (h : at + n ≤ length tb) where
   length-column =
       length-map (take n (drop at tb)) (bit t) ∙ omega (arith, length-take n (drop at tb), length-drop at tb)
 
-  pub getD-column : (i : ℕ) → i < n → get_or (column (take n (drop at tb)) t) i 0 ≡ bit t (get_or tb (at + i) 0)
+  pub get_or-column : (i : ℕ) → i < n → get_or (column (take n (drop at tb)) t) i 0 ≡ bit t (get_or tb (at + i) 0)
   unfolding column
-  getD-column i l =
+  get_or-column i l =
       ap (λ (d : ℕ). get_or (map (bit t) (take n (drop at tb))) i d) (sym (bit-zero t))
       ∙ get_or-map (bit t) (take n (drop at tb)) i 0
       ∙ ap (bit t) (get_or-take n (drop at tb) i 0 l ∙ get_or-drop at tb i 0)
@@ -129,7 +129,7 @@ module _ (tb : List ℕ) (at n t : ℕ) (h : at + n ≤ length tb) where
   unfolding all
   all-turn x i l =
       let c : List ℕ = column (take n (drop at tb)) t in
-      rw (add-one i, sym (getD-column tb at n t h i l))
+      rw (add-one i, sym (get_or-column tb at n t h i l))
       (ap (all (eqb x)) (drop-cons c i 0 (omega (arith, length-column tb at n t h))))
 
   pub all_end : (x i : ℕ) → n ≤ i → all (eqb x) (drop i (column (take n (drop at tb)) t)) ≡ true
@@ -149,7 +149,7 @@ module _ (tb : List ℕ) (at bt n t : ℕ) (h : at + n ≤ length tb) (k : bt + 
       let d : List ℕ = column (take n (drop bt tb)) t in
       let e = drop-cons c i 0 (omega (arith, length-column tb at n t h)) in
       let f = drop-cons d i 0 (omega (arith, length-column tb bt n t k)) in
-      rw (add-one i, sym (getD-column tb at n t h i l), sym (getD-column tb bt n t k i l))
+      rw (add-one i, sym (get_or-column tb at n t h i l), sym (get_or-column tb bt n t k i l))
       (ap (λ (l : List ℕ). same l (drop i d)) e ∙ ap (same (get_or c i 0 ∷ drop (suc i) c)) f)
 
   pub same_end : (i : ℕ) → n ≤ i
@@ -170,15 +170,15 @@ module _ (tb : List ℕ) (at bt n t : ℕ) (h : at + n ≤ length tb) (k : bt + 
       let d : List ℕ = column (take n (drop bt tb)) t in
       let m : length c ≡ n = length-column tb at n t h in (
         λ e i l.
-            sym (getD-column tb at n t h i l)
+            sym (get_or-column tb at n t h i l)
             ∙ ap (λ (xs : List ℕ). get_or xs i 0) (same_true c d e)
-            ∙ getD-column tb bt n t k i l,
+            ∙ get_or-column tb bt n t k i l,
         λ f.
             (same-iff-equal c d).1
             (ext_get_or 0 c d (m ∙ sym (length-column tb bt n t k))
             (λ i l.
             let b : i < n = omega arith in
-            getD-column tb at n t h i b ∙ f i b ∙ sym (getD-column tb bt n t k i b))),
+            get_or-column tb at n t h i b ∙ f i b ∙ sym (get_or-column tb bt n t k i b))),
       )
 
 -- ---- the halves of a column
@@ -210,13 +210,13 @@ module _ (tb : List ℕ) (at t k : ℕ) where
 
 -- ---- how a tree starts
 
-pub start-zero : (k : ℕ) (col : List ℕ) → all (eqb 0) col ≡ true → treeStart k col ≡ TreeStart.Constant 0
-unfolding treeStart start_by
+pub start-zero : (k : ℕ) (col : List ℕ) → all (eqb 0) col ≡ true → tree_start k col ≡ TreeStart.Constant 0
+unfolding tree_start start_by
 start-zero zero col z = rw z
 start-zero (suc k) col z = rw z
 
-pub start-one : (k : ℕ) (col : List ℕ) → all (eqb 0) col ≡ false → all (eqb 1) col ≡ true → treeStart k col ≡ TreeStart.Constant 1
-unfolding treeStart start_by
+pub start-one : (k : ℕ) (col : List ℕ) → all (eqb 0) col ≡ false → all (eqb 1) col ≡ true → tree_start k col ≡ TreeStart.Constant 1
+unfolding tree_start start_by
 start-one zero col z o = rw z
 start-one (suc k) col z o = rw (z, o)
 
@@ -238,11 +238,11 @@ single-bit tb at t h z =
     all-turn tb at 1 t h 1 0 (omega arith) ∙ and_both _ _ (eq-eqb 1 b e) (all_end tb at 1 t h 1 1 (omega arith))
 
 pub start-halves : (tb : List ℕ) (at k t half : ℕ) → at + 2 ^ k ≤ length tb → half ≡ 2 ^ k / 2
-    → all (eqb 0) (columnPart tb at k t) ≡ false → all (eqb 1) (columnPart tb at k t) ≡ false
+    → all (eqb 0) (column_part tb at k t) ≡ false → all (eqb 1) (column_part tb at k t) ≡ false
     → let low = column (take half (drop at tb)) t in
     let high = column (take half (drop (at + half) tb)) t in
-    treeStart k (columnPart tb at k t) ≡ cond (same low high) TreeStart.Equal (TreeStart.Split (join_of low high))
-unfolding treeStart start_by
+    tree_start k (column_part tb at k t) ≡ cond (same low high) TreeStart.Equal (TreeStart.Split (join_of low high))
+unfolding tree_start start_by
 start-halves tb at zero t half h e z o = absurd (not-both (single-bit tb at t h z) o)
 start-halves tb at (suc k) t half h e z o =
     let n : half ≡ 2 ^ k = omega (arith, two-pow-succ k) in
@@ -263,28 +263,28 @@ unfolding tree branch
 tree-branch k next is col = refl
 
 -- how many gates a half has
-abbrev pub builtSize : Bool → ℕ → ℕ
-builtSize b n = elim b [ true ↦ n | false ↦ 0 ]
+abbrev pub built_size : Bool → ℕ → ℕ
+built_size b n = elim b [ true ↦ n | false ↦ 0 ]
 
-length-built : (b : Bool) (gs : List Gate) → length (built b gs) ≡ builtSize b (length gs)
+length-built : (b : Bool) (gs : List Gate) → length (built b gs) ≡ built_size b (length gs)
 length-built true gs = refl
 length-built false gs = refl
 
-builtSize-le : (b : Bool) (n : ℕ) → builtSize b n ≤ n
-builtSize-le true n = omega arith
-builtSize-le false n = omega arith
+built_size-le : (b : Bool) (n : ℕ) → built_size b n ≤ n
+built_size-le true n = omega arith
+built_size-le false n = omega arith
 
 -- how many gates a tree of two halves has
-abbrev pub joinedSize : Join → ℕ → ℕ → ℕ
-joinedSize j x y = builtSize (buildsLow j) x + builtSize (buildsHigh j) y + joinSize j
+abbrev pub joined_size : Join → ℕ → ℕ → ℕ
+joined_size j x y = built_size (builds_low j) x + built_size (builds_high j) y + join_size j
 
-treeSize-branch : (k : ℕ) (col : List ℕ) → let low = take (2 ^ k) col in
+tree_size-branch : (k : ℕ) (col : List ℕ) → let low = take (2 ^ k) col in
     let high = drop (2 ^ k) col in
-    treeSize (suc k) col
-    ≡ branch (all (eqb 0) col) (all (eqb 1) col) (same low high) 1 1 (treeSize k low)
-    (joinedSize (join_of low high) (treeSize k low) (treeSize k high))
-unfolding treeSize branch joinSize
-treeSize-branch k col = refl
+    tree_size (suc k) col
+    ≡ branch (all (eqb 0) col) (all (eqb 1) col) (same low high) 1 1 (tree_size k low)
+    (joined_size (join_of low high) (tree_size k low) (tree_size k high))
+unfolding tree_size branch join_size
+tree_size-branch k col = refl
 
 -- the four cases
 tests : (z o e : Bool) {Q : Type 0} → (z ≡ true → Q) → (z ≡ false → o ≡ true → Q) → (z ≡ false → o ≡ false → e ≡ true → Q)
@@ -295,48 +295,48 @@ tests false false true p q r s = r refl refl refl
 tests false false false p q r s = s refl refl refl
 
 -- how many gates a tree has
-pub length-tree : (k next : ℕ) (is col : List ℕ) → length (tree k next is col) ≡ treeSize k col
-unfolding tree treeSize branch
+pub length-tree : (k next : ℕ) (is col : List ℕ) → length (tree k next is col) ≡ tree_size k col
+unfolding tree tree_size branch
 length-tree zero next is col = refl
 length-tree (suc k) next is col =
     let low = take (2 ^ k) col in
     let high = drop (2 ^ k) col in
     let j = join_of low high in
     let ls = tree k next is low in
-    let m = next + length (built (buildsLow j) ls) in
+    let m = next + length (built (builds_low j) ls) in
     let hs = tree k m is high in
     tests (all (eqb 0) col) (all (eqb 1) col) (same low high)
-    (λ z. rw (tree-branch k next is col, treeSize-branch k col, z))
-    (λ z o. rw (tree-branch k next is col, treeSize-branch k col, z, o))
-    (λ z o e. rw (tree-branch k next is col, treeSize-branch k col, z, o, e) (length-tree k next is low))
+    (λ z. rw (tree-branch k next is col, tree_size-branch k col, z))
+    (λ z o. rw (tree-branch k next is col, tree_size-branch k col, z, o))
+    (λ z o e. rw (tree-branch k next is col, tree_size-branch k col, z, o, e) (length-tree k next is low))
     (λ z o e.
-    rw (tree-branch k next is col, treeSize-branch k col, z, o, e)
+    rw (tree-branch k next is col, tree_size-branch k col, z, o, e)
     (length-joined j k next is low high
-    ∙ ap (λ (n : ℕ). n + length (built (buildsHigh j) hs) + joinSize j)
-    (length-built (buildsLow j) ls ∙ ap (builtSize (buildsLow j)) (length-tree k next is low))
-    ∙ ap (λ (n : ℕ). builtSize (buildsLow j) (treeSize k low) + n + joinSize j)
-    (length-built (buildsHigh j) hs ∙ ap (builtSize (buildsHigh j)) (length-tree k m is high))))
+    ∙ ap (λ (n : ℕ). n + length (built (builds_high j) hs) + join_size j)
+    (length-built (builds_low j) ls ∙ ap (built_size (builds_low j)) (length-tree k next is low))
+    ∙ ap (λ (n : ℕ). built_size (builds_low j) (tree_size k low) + n + join_size j)
+    (length-built (builds_high j) hs ∙ ap (built_size (builds_high j)) (length-tree k m is high))))
 
 -- a tree has a gate, and at most a leaf for each entry and four gates for each branch
-pub treeSize-bounds : (k : ℕ) (col : List ℕ) → (0 < treeSize k col) × (treeSize k col + 4 ≤ 5 * 2 ^ k)
-unfolding treeSize branch
-treeSize-bounds zero col = (lit< tt, lit≤ tt)
-treeSize-bounds (suc k) col =
+pub tree_size-bounds : (k : ℕ) (col : List ℕ) → (0 < tree_size k col) × (tree_size k col + 4 ≤ 5 * 2 ^ k)
+unfolding tree_size branch
+tree_size-bounds zero col = (lit< tt, lit≤ tt)
+tree_size-bounds (suc k) col =
     let x = take (2 ^ k) col in
     let y = drop (2 ^ k) col in
     let j = join_of x y in
-    let low = treeSize-bounds k x in
-    let high = treeSize-bounds k y in
+    let low = tree_size-bounds k x in
+    let high = tree_size-bounds k y in
     let n = two-pow-succ k in
     let p = pow_pos k in
-    let b = joinSize-bounds j in
-    let l = builtSize-le (buildsLow j) (treeSize k x) in
-    let h = builtSize-le (buildsHigh j) (treeSize k y) in
+    let b = join_size-bounds j in
+    let l = built_size-le (builds_low j) (tree_size k x) in
+    let h = built_size-le (builds_high j) (tree_size k y) in
     tests (all (eqb 0) col) (all (eqb 1) col) (same x y)
-    (λ z. rw (treeSize-branch k col, z) (omega arith, omega arith))
-    (λ z o. rw (treeSize-branch k col, z, o) (omega arith, omega arith))
-    (λ z o e. rw (treeSize-branch k col, z, o, e) (omega arith, omega arith))
-    (λ z o e. rw (treeSize-branch k col, z, o, e) (omega arith, omega arith))
+    (λ z. rw (tree_size-branch k col, z) (omega arith, omega arith))
+    (λ z o. rw (tree_size-branch k col, z, o) (omega arith, omega arith))
+    (λ z o e. rw (tree_size-branch k col, z, o, e) (omega arith, omega arith))
+    (λ z o e. rw (tree_size-branch k col, z, o, e) (omega arith, omega arith))
 
 -- what a start tells of the three tests
 by-constant : (z o e : Bool) (i : Join) (x : ℕ) {Q : Type 0} → start_by z o e i ≡ TreeStart.Constant x → (z ≡ true → x ≡ 0 → Q)
@@ -361,9 +361,9 @@ by-split false true e i j q = let f : ◌≡◌ {A = ℕ} 0 1 = cc in let n : �
 by-split false false true i j q = let f : ◌≡◌ {A = ℕ} 0 1 = cc in let n : ⊥ = omega arith in absurd n
 by-split false false false i j q = (refl, refl, refl, cc)
 
-pub tree-constant : (k next : ℕ) (is col : List ℕ) (x : ℕ) → treeStart k col ≡ TreeStart.Constant x
+pub tree-constant : (k next : ℕ) (is col : List ℕ) (x : ℕ) → tree_start k col ≡ TreeStart.Constant x
     → tree k next is col ≡ constant x ∷ []
-unfolding tree branch treeStart start_by
+unfolding tree branch tree_start start_by
 tree-constant zero next is col x q =
     by-constant (all (eqb 0) col) true true Both x q
     (λ z n. rw (z, n))
@@ -375,7 +375,7 @@ tree-constant (suc k) next is col x q =
     (λ z n. rw (tree-branch k next is col, z, n))
     (λ z o n. rw (tree-branch k next is col, z, o, n))
 
-pub size-constant : (k : ℕ) (col : List ℕ) (x : ℕ) → treeStart k col ≡ TreeStart.Constant x → treeSize k col ≡ 1
+pub size-constant : (k : ℕ) (col : List ℕ) (x : ℕ) → tree_start k col ≡ TreeStart.Constant x → tree_size k col ≡ 1
 size-constant k col x q = sym (length-tree k 0 [] col) ∙ ap length (tree-constant k 0 [] col x q)
 
 -- ---- the size by the halves
@@ -403,10 +403,10 @@ all_same v (x ∷ xs) (y ∷ ys) n e f =
     let c : xs ≡ ys = all_same v xs ys (omega arith) (and_right (eqb v x) _ e) (and_right (eqb v y) _ f) in
     cc
 
-size-zero : (k : ℕ) (col : List ℕ) → all (eqb 0) col ≡ true → treeSize k col ≡ 1
+size-zero : (k : ℕ) (col : List ℕ) → all (eqb 0) col ≡ true → tree_size k col ≡ 1
 size-zero k col z = size-constant k col 0 (start-zero k col z)
 
-size-one : (k : ℕ) (col : List ℕ) → all (eqb 1) col ≡ true → treeSize k col ≡ 1
+size-one : (k : ℕ) (col : List ℕ) → all (eqb 1) col ≡ true → tree_size k col ≡ 1
 size-one k col o =
     ⊎_elim (size-zero k col) (λ z. size-constant k col 1 (start-one k col z o)) (true-or-false (all (eqb 0) col))
 
@@ -418,13 +418,13 @@ module _ (k : ℕ) (col : List ℕ) where
   high_half = drop (2 ^ k) col
 
   -- equal halves have one tree, also where the column is constant
-  pub size_same : same low_half high_half ≡ true → treeSize (suc k) col ≡ treeSize k low_half
+  pub size_same : same low_half high_half ≡ true → tree_size (suc k) col ≡ tree_size k low_half
   unfolding branch
   size_same s =
       tests (all (eqb 0) col) (all (eqb 1) col) (same low_half high_half)
-      (λ z. rw (treeSize-branch k col, z) (sym (size-zero k low_half (all_take (eqb 0) (2 ^ k) col z))))
-      (λ z o. rw (treeSize-branch k col, z, o) (sym (size-one k low_half (all_take (eqb 1) (2 ^ k) col o))))
-      (λ z o e. rw (treeSize-branch k col, z, o, e))
+      (λ z. rw (tree_size-branch k col, z) (sym (size-zero k low_half (all_take (eqb 0) (2 ^ k) col z))))
+      (λ z o. rw (tree_size-branch k col, z, o) (sym (size-one k low_half (all_take (eqb 1) (2 ^ k) col o))))
+      (λ z o e. rw (tree_size-branch k col, z, o, e))
       (λ z o e. absurd (not-both s e))
 
   module _ (long : length col ≡ 2 ^ suc k) (s : same low_half high_half ≡ false) where
@@ -436,84 +436,84 @@ module _ (k : ℕ) (col : List ℕ) where
         not-both ((same-iff-equal low_half high_half).1 (all_same v low_half high_half l (all_take (eqb v) (2 ^ k) col e) (all_drop (eqb v) (2 ^ k) col e))) s
 
     -- halves that differ are joined
-    pub size-joined : treeSize (suc k) col ≡ joinedSize (join_of low_half high_half) (treeSize k low_half) (treeSize k high_half)
+    pub size-joined : tree_size (suc k) col ≡ joined_size (join_of low_half high_half) (tree_size k low_half) (tree_size k high_half)
     unfolding branch
     size-joined =
         tests (all (eqb 0) col) (all (eqb 1) col) (same low_half high_half)
         (λ z. absurd (not-all 0 z))
         (λ z o. absurd (not-all 1 o))
         (λ z o e. absurd (not-both e s))
-        (λ z o e. rw (treeSize-branch k col, z, o, e))
+        (λ z o e. rw (tree_size-branch k col, z, o, e))
 
 -- the tree over no nets is a constant
-pub deep-equal : (k : ℕ) (col : List ℕ) → treeStart k col ≡ TreeStart.Equal → 0 < k
-unfolding treeStart start_by
+pub deep-equal : (k : ℕ) (col : List ℕ) → tree_start k col ≡ TreeStart.Equal → 0 < k
+unfolding tree_start start_by
 deep-equal zero col q = absurd (true≢false (by_equal (all (eqb 0) col) true true Both q).1)
 deep-equal (suc k) col q = omega arith
 
-pub deep-split : (k : ℕ) (col : List ℕ) (j : Join) → treeStart k col ≡ TreeStart.Split j → 0 < k
-unfolding treeStart start_by
+pub deep-split : (k : ℕ) (col : List ℕ) (j : Join) → tree_start k col ≡ TreeStart.Split j → 0 < k
+unfolding tree_start start_by
 deep-split zero col j q = absurd (true≢false (by-split (all (eqb 0) col) true true Both j q).1)
 deep-split (suc k) col j q = omega arith
 
 module _ (tb : List ℕ) (at : ℕ) where
-  pub tree-equal : (k t next : ℕ) (is : List ℕ) → treeStart k (columnPart tb at k t) ≡ TreeStart.Equal
-      → tree k next is (columnPart tb at k t) ≡ tree (k - 1) next is (columnPart tb at (k - 1) t)
-  unfolding treeStart branch
-  tree-equal zero t next is q = let f : ⊥ = omega (arith, deep-equal zero (columnPart tb at zero t) q) in absurd f
+  pub tree-equal : (k t next : ℕ) (is : List ℕ) → tree_start k (column_part tb at k t) ≡ TreeStart.Equal
+      → tree k next is (column_part tb at k t) ≡ tree (k - 1) next is (column_part tb at (k - 1) t)
+  unfolding tree_start branch
+  tree-equal zero t next is q = let f : ⊥ = omega (arith, deep-equal zero (column_part tb at zero t) q) in absurd f
   tree-equal (suc k) t next is q =
-      let col = columnPart tb at (suc k) t in
+      let col = column_part tb at (suc k) t in
       let low = take (2 ^ k) col in
       let high = drop (2 ^ k) col in
       let p = by_equal (all (eqb 0) col) (all (eqb 1) col) (same low high) (join_of low high) q in
       rw (sub-one (suc k), tree-branch k next is col, p.0, p.1, p.2, column-low tb at t k)
 
-  pub size-equal : (k t : ℕ) → treeStart k (columnPart tb at k t) ≡ TreeStart.Equal
-      → treeSize k (columnPart tb at k t) ≡ treeSize (k - 1) (columnPart tb at (k - 1) t)
+  pub size-equal : (k t : ℕ) → tree_start k (column_part tb at k t) ≡ TreeStart.Equal
+      → tree_size k (column_part tb at k t) ≡ tree_size (k - 1) (column_part tb at (k - 1) t)
   size-equal k t q =
-      sym (length-tree k 0 [] (columnPart tb at k t))
+      sym (length-tree k 0 [] (column_part tb at k t))
       ∙ ap length (tree-equal k t 0 [] q)
-      ∙ length-tree (k - 1) 0 [] (columnPart tb at (k - 1) t)
+      ∙ length-tree (k - 1) 0 [] (column_part tb at (k - 1) t)
 
-  pub tree-split : (k t next : ℕ) (is : List ℕ) (j : Join) → treeStart k (columnPart tb at k t) ≡ TreeStart.Split j
-      → tree k next is (columnPart tb at k t)
-      ≡ joined j (k - 1) next is (columnPart tb at (k - 1) t) (columnPart tb (at + 2 ^ (k - 1)) (k - 1) t)
-  unfolding treeStart branch
-  tree-split zero t next is j q = let f : ⊥ = omega (arith, deep-split zero (columnPart tb at zero t) j q) in absurd f
+  pub tree-split : (k t next : ℕ) (is : List ℕ) (j : Join) → tree_start k (column_part tb at k t) ≡ TreeStart.Split j
+      → tree k next is (column_part tb at k t)
+      ≡ joined j (k - 1) next is (column_part tb at (k - 1) t) (column_part tb (at + 2 ^ (k - 1)) (k - 1) t)
+  unfolding tree_start branch
+  tree-split zero t next is j q = let f : ⊥ = omega (arith, deep-split zero (column_part tb at zero t) j q) in absurd f
   tree-split (suc k) t next is j q =
-      let col = columnPart tb at (suc k) t in
+      let col = column_part tb at (suc k) t in
       let low = take (2 ^ k) col in
       let high = drop (2 ^ k) col in
       let p = by-split (all (eqb 0) col) (all (eqb 1) col) (same low high) (join_of low high) j q in
       rw (sub-one (suc k), tree-branch k next is col, p.0, p.1, p.2, p.3, column-low tb at t k, column-high tb at t k)
 
   -- by the sizes of both halves
-  pub size-split : (k t half : ℕ) (j : Join) → treeStart k (columnPart tb at k t) ≡ TreeStart.Split j → half ≡ 2 ^ (k - 1)
-      → treeSize k (columnPart tb at k t)
-      ≡ joinedSize j (treeSize (k - 1) (columnPart tb at (k - 1) t)) (treeSize (k - 1) (columnPart tb (at + half) (k - 1) t))
-  unfolding treeStart branch
-  size-split zero t half j q e = let f : ⊥ = omega (arith, deep-split zero (columnPart tb at zero t) j q) in absurd f
+  pub size-split : (k t half : ℕ) (j : Join) → tree_start k (column_part tb at k t) ≡ TreeStart.Split j → half ≡ 2 ^ (k - 1)
+      → tree_size k (column_part tb at k t)
+      ≡ joined_size j (tree_size (k - 1) (column_part tb at (k - 1) t)) (tree_size (k - 1) (column_part tb (at + half) (k - 1) t))
+  unfolding tree_start branch
+  size-split zero t half j q e = let f : ⊥ = omega (arith, deep-split zero (column_part tb at zero t) j q) in absurd f
   size-split (suc k) t half j q e =
-      let col = columnPart tb at (suc k) t in
+      let col = column_part tb at (suc k) t in
       let low = take (2 ^ k) col in
       let high = drop (2 ^ k) col in
       let p = by-split (all (eqb 0) col) (all (eqb 1) col) (same low high) (join_of low high) j q in
-      rw (e, sub-one (suc k), treeSize-branch k col, p.0, p.1, p.2, p.3, column-low tb at t k, column-high tb at t k)
+      rw (e, sub-one (suc k), tree_size-branch k col, p.0, p.1, p.2, p.3, column-low tb at t k, column-high tb at t k)
 
-pub treeSize-small : (k : ℕ) (col : List ℕ) → k ≤ 10 → treeSize k col < 5120
-treeSize-small k col h =
+pub tree_size-small : (k : ℕ) (col : List ℕ) → k ≤ 10 → tree_size k col < 5120
+tree_size-small k col h =
     let m : 2 ^ k ≤ 2 ^ 10 = pow_mono h in
-    omega (arith, treeSize-bounds k col)
+    omega (arith, tree_size-bounds k col)
 
 -- how many gates a half has, by the test r that it has a tree
-pub half-came : (b : Bool) (n : ℕ) {r : Bool} {x : ℕ} → r ≡ b → ((r ≡ true) × (x ≡ n)) ⊎ ((r ≡ false) × (x ≡ 0)) → x ≡ builtSize b n
+pub half-came : (b : Bool) (n : ℕ) {r : Bool} {x : ℕ} → r ≡ b → ((r ≡ true) × (x ≡ n)) ⊎ ((r ≡ false) × (x ≡ 0)) → x ≡ built_size b n
 half-came b n {r} {x} e =
     ⊎_elim
     (λ (w : (r ≡ true) × (x ≡ n)). rw (sym e, w.0) w.1)
     (λ (w : (r ≡ false) × (x ≡ 0)). rw (sym e, w.0) w.1)
 
-pub half-small : (b : Bool) (k : ℕ) (col : List ℕ) → k ≤ 10 → builtSize b (treeSize k col) < 5120
-half-small b k col h = omega (arith, builtSize-le b (treeSize k col), treeSize-small k col h)
+pub half-small : (b : Bool) (k : ℕ) (col : List ℕ) → k ≤ 10 → built_size b (tree_size k col) < 5120
+half-small b k col h = omega (arith, built_size-le b (tree_size k col), tree_size-small k col h)
 
 -- the halves of a part of the table
 pow-halves : (k : ℕ) → 0 < k → 2 ^ k ≡ 2 ^ (k - 1) + 2 ^ (k - 1)
@@ -534,8 +534,8 @@ part-high {tb} {at} {k} {t} {half} p h e =
 -- ---- trees put
 
 -- a constant is one of the first two kinds
-pub kind-constant : (k : ℕ) (col : List ℕ) (x : ℕ) → treeStart k col ≡ TreeStart.Constant x → x < 2
-unfolding treeStart start_by
+pub kind-constant : (k : ℕ) (col : List ℕ) (x : ℕ) → tree_start k col ≡ TreeStart.Constant x → x < 2
+unfolding tree_start start_by
 kind-constant zero col x q = by-constant (all (eqb 0) col) true true Both x q (λ z n. omega arith) (λ z o n. omega arith)
 kind-constant (suc k) col x q =
     let low = take (2 ^ k) col in
@@ -546,16 +546,16 @@ kind-constant (suc k) col x q =
 
 -- the position behind a tree
 pub tree-end : {base count r : ℕ} {cs cs' : List ℕ} (k next : ℕ) (is col : List ℕ)
-    → GatesPut base count cs (tree k next is col) r cs' → r ≡ count + treeSize k col
+    → GatesPut base count cs (tree k next is col) r cs' → r ≡ count + tree_size k col
 tree-end {count = count} k next is col p = p.end ∙ ap (λ (n : ℕ). count + n) (length-tree k next is col)
 
-pub room-constant : {base : ℕ} {cs : List ℕ} (count k : ℕ) (col : List ℕ) (x : ℕ) → treeStart k col ≡ TreeStart.Constant x
-    → GateRoom base (count + treeSize k col) cs → GateRoom base (count + 1) cs
+pub room-constant : {base : ℕ} {cs : List ℕ} (count k : ℕ) (col : List ℕ) (x : ℕ) → tree_start k col ≡ TreeStart.Constant x
+    → GateRoom base (count + tree_size k col) cs → GateRoom base (count + 1) cs
 room-constant count k col x q n = room-less n (omega (arith, size-constant k col x q))
 
 pub room-equal : {base : ℕ} {cs : List ℕ} (tb : List ℕ) (at k t count : ℕ)
-    → treeStart k (columnPart tb at k t) ≡ TreeStart.Equal → GateRoom base (count + treeSize k (columnPart tb at k t)) cs
-    → GateRoom base (count + treeSize (k - 1) (columnPart tb at (k - 1) t)) cs
+    → tree_start k (column_part tb at k t) ≡ TreeStart.Equal → GateRoom base (count + tree_size k (column_part tb at k t)) cs
+    → GateRoom base (count + tree_size (k - 1) (column_part tb at (k - 1) t)) cs
 room-equal tb at k t count q n = room-less n (omega (arith, size-equal tb at k t q))
 
 -- a half's gates are put where it has a tree, and none where it has not
@@ -569,73 +569,73 @@ half-none {b} {base} {count} {cs} gs e = rw e (gates-put-none base count cs)
 
 -- the position behind a half's gates
 half-end : {base count r : ℕ} {cs cs' : List ℕ} (b : Bool) (k next : ℕ) (is col : List ℕ)
-    → GatesPut base count cs (built b (tree k next is col)) r cs' → r ≡ count + builtSize b (treeSize k col)
+    → GatesPut base count cs (built b (tree k next is col)) r cs' → r ≡ count + built_size b (tree_size k col)
 half-end {count = count} b k next is col p =
     p.end
-    ∙ ap (λ (n : ℕ). count + n) (length-built b (tree k next is col) ∙ ap (builtSize b) (length-tree k next is col))
+    ∙ ap (λ (n : ℕ). count + n) (length-built b (tree k next is col) ∙ ap (built_size b) (length-tree k next is col))
 
 -- .. which is not the first place, where it has a tree
-half-some : (b : Bool) (k count : ℕ) (col : List ℕ) → b ≡ true → 0 < count + builtSize b (treeSize k col)
-half-some b k count col e = rw e (omega (arith, treeSize-bounds k col))
+half-some : (b : Bool) (k count : ℕ) (col : List ℕ) → b ≡ true → 0 < count + built_size b (tree_size k col)
+half-some b k count col e = rw e (omega (arith, tree_size-bounds k col))
 
 -- what a tree over k nets puts of the half from place at on, where it has a tree (b)
 abbrev pub HalfPut : Bool → List ℕ → ℕ → ℕ → ℕ → ℕ → List ℕ → ℕ → List ℕ → ℕ → List ℕ → Type 0
 HalfPut b tb at k t base is count cs r cs' =
-    GatesPut base count cs (built b (tree (k - 1) (base + count) is (columnPart tb at (k - 1) t))) r cs'
+    GatesPut base count cs (built b (tree (k - 1) (base + count) is (column_part tb at (k - 1) t))) r cs'
 
 -- the tree of a column whose halves are joined by j
-module _ (tb : List ℕ) (at k t half base : ℕ) (is : List ℕ) (j : Join) (q : treeStart k (columnPart tb at k t) ≡ TreeStart.Split j)
+module _ (tb : List ℕ) (at k t half base : ℕ) (is : List ℕ) (j : Join) (q : tree_start k (column_part tb at k t) ≡ TreeStart.Split j)
     (e : half ≡ 2 ^ (k - 1)) where
   -- room for the tree is room for each half's, and for the gates that join them
-  pub room-low : (count : ℕ) {cs : List ℕ} → buildsLow j ≡ true → GateRoom base (count + treeSize k (columnPart tb at k t)) cs
-      → GateRoom base (count + treeSize (k - 1) (columnPart tb at (k - 1) t)) cs
+  pub room-low : (count : ℕ) {cs : List ℕ} → builds_low j ≡ true → GateRoom base (count + tree_size k (column_part tb at k t)) cs
+      → GateRoom base (count + tree_size (k - 1) (column_part tb at (k - 1) t)) cs
   room-low count b n =
-      let l = ap (λ (i : Bool). builtSize i (treeSize (k - 1) (columnPart tb at (k - 1) t))) b in
+      let l = ap (λ (i : Bool). built_size i (tree_size (k - 1) (column_part tb at (k - 1) t))) b in
       room-less n (omega (arith, size-split tb at k t half j q e))
 
-  module _ {count low : ℕ} {cs cs₁ : List ℕ} (n : GateRoom base (count + treeSize k (columnPart tb at k t)) cs)
-      (p : HalfPut (buildsLow j) tb at k t base is count cs low cs₁) where
-    low_end : low ≡ count + builtSize (buildsLow j) (treeSize (k - 1) (columnPart tb at (k - 1) t))
-    low_end = half-end (buildsLow j) (k - 1) (base + count) is (columnPart tb at (k - 1) t) p
+  module _ {count low : ℕ} {cs cs₁ : List ℕ} (n : GateRoom base (count + tree_size k (column_part tb at k t)) cs)
+      (p : HalfPut (builds_low j) tb at k t base is count cs low cs₁) where
+    low_end : low ≡ count + built_size (builds_low j) (tree_size (k - 1) (column_part tb at (k - 1) t))
+    low_end = half-end (builds_low j) (k - 1) (base + count) is (column_part tb at (k - 1) t) p
 
-    pub room-high : buildsHigh j ≡ true → GateRoom base (low + treeSize (k - 1) (columnPart tb (at + half) (k - 1) t)) cs₁
+    pub room-high : builds_high j ≡ true → GateRoom base (low + tree_size (k - 1) (column_part tb (at + half) (k - 1) t)) cs₁
     room-high b =
-        let h = ap (λ (i : Bool). builtSize i (treeSize (k - 1) (columnPart tb (at + half) (k - 1) t))) b in
+        let h = ap (λ (i : Bool). built_size i (tree_size (k - 1) (column_part tb (at + half) (k - 1) t))) b in
         room-less (room-kept n p) (omega (arith, size-split tb at k t half j q e, low_end))
 
     pub room-join : {high : ℕ} {cs₂ : List ℕ} (s : ℕ) → s < 1024
-        → HalfPut (buildsHigh j) tb (at + half) k t base is low cs₁ high cs₂ → JoinRoom j s base low high cs₂
+        → HalfPut (builds_high j) tb (at + half) k t base is low cs₁ high cs₂ → JoinRoom j s base low high cs₂
     room-join {high} s h r =
-        let x = treeSize (k - 1) (columnPart tb at (k - 1) t) in
-        let y = treeSize (k - 1) (columnPart tb (at + half) (k - 1) t) in
-        let i : high ≡ low + builtSize (buildsHigh j) y =
-        half-end (buildsHigh j) (k - 1) (base + low) is (columnPart tb (at + half) (k - 1) t) r in
+        let x = tree_size (k - 1) (column_part tb at (k - 1) t) in
+        let y = tree_size (k - 1) (column_part tb (at + half) (k - 1) t) in
+        let i : high ≡ low + built_size (builds_high j) y =
+        half-end (builds_high j) (k - 1) (base + low) is (column_part tb (at + half) (k - 1) t) r in
         record {
           gates = room-less (room-kept (room-kept n p) r) (omega (arith, size-split tb at k t half j q e, low_end));
           chooser = h;
           order = omega arith;
-          low-built = λ b. rw low_end (half-some (buildsLow j) (k - 1) count (columnPart tb at (k - 1) t) b);
-          high-built = λ b. rw i (half-some (buildsHigh j) (k - 1) low (columnPart tb (at + half) (k - 1) t) b);
+          low-built = λ b. rw low_end (half-some (builds_low j) (k - 1) count (column_part tb at (k - 1) t) b);
+          high-built = λ b. rw i (half-some (builds_high j) (k - 1) low (column_part tb (at + half) (k - 1) t) b);
         }
 
     -- the halves' trees and the gates that join them are the tree
-    pub put-split : {high r : ℕ} {cs₂ cs₃ : List ℕ} → HalfPut (buildsHigh j) tb (at + half) k t base is low cs₁ high cs₂
-        → GatesPut base high cs₂ (joinGates j (get_or is (k - 1) 0) (base + low - 1) (base + high)) r cs₃
-        → GatesPut base count cs (tree k (base + count) is (columnPart tb at k t)) r cs₃
+    pub put-split : {high r : ℕ} {cs₂ cs₃ : List ℕ} → HalfPut (builds_high j) tb (at + half) k t base is low cs₁ high cs₂
+        → GatesPut base high cs₂ (join_gates j (get_or is (k - 1) 0) (base + low - 1) (base + high)) r cs₃
+        → GatesPut base count cs (tree k (base + count) is (column_part tb at k t)) r cs₃
     put-split {high} v m =
         let s = get_or is (k - 1) 0 in
-        let ls = built (buildsLow j) (tree (k - 1) (base + count) is (columnPart tb at (k - 1) t)) in
+        let ls = built (builds_low j) (tree (k - 1) (base + count) is (column_part tb at (k - 1) t)) in
         let hs : ℕ → ℕ → List Gate =
-        λ i n. built (buildsHigh j) (tree (k - 1) n is (columnPart tb (at + i) (k - 1) t)) in
+        λ i n. built (builds_high j) (tree (k - 1) n is (column_part tb (at + i) (k - 1) t)) in
         let x : base + low ≡ base + count + length ls = omega (arith, p.end) in
         let y : base + high ≡ base + low + length (hs half (base + low)) = omega (arith, v.end) in
         gates-put-same (gates-put-append (gates-put-append p v) m)
-        (ap (λ (n : ℕ). ls ++ hs half (base + low) ++ joinGates j s (base + low - 1) n) y
-        ∙ ap (λ (n : ℕ). ls ++ hs half n ++ joinGates j s (n - 1) (n + length (hs half n))) x
+        (ap (λ (n : ℕ). ls ++ hs half (base + low) ++ join_gates j s (base + low - 1) n) y
+        ∙ ap (λ (n : ℕ). ls ++ hs half n ++ join_gates j s (n - 1) (n + length (hs half n))) x
         ∙ ap
         (λ (i : ℕ).
         let n = base + count + length ls in
-        ls ++ hs i n ++ joinGates j s (n - 1) (n + length (hs i n)))
+        ls ++ hs i n ++ join_gates j s (n - 1) (n + length (hs i n)))
         e
         ∙ sym (tree-split tb at k t (base + count) is j q))
 
@@ -651,71 +651,71 @@ tree-take (suc k) n next is col h =
     let j = join_of low high in
     let l : k ≤ n = omega arith in
     let p = tree-take k n next is low l in
-    let q = tree-take k n (next + length (built (buildsLow j) (tree k next is low))) is high l in
+    let q = tree-take k n (next + length (built (builds_low j) (tree k next is low))) is high l in
     rw (tree-branch k next (take n is) col, p, q, get_or-take n is k 0 h, tree-branch k next is col)
 
 -- how many gates all trees have
 length-trees : (m j k next : ℕ) (is tb : List ℕ) → length is ≡ k
-    → length (treesFrom m j next is (take (2 ^ k) tb)).gates ≡ treesSize m j k tb
-unfolding treesFrom treesSize
+    → length (trees_from m j next is (take (2 ^ k) tb)).gates ≡ trees_size m j k tb
+unfolding trees_from trees_size
 length-trees zero j k next is tb e = refl
 length-trees (suc m) j k next is tb e =
-    let gs = tree (length is) next is (columnPart tb 0 k j) in
-    let n = length-tree (length is) next is (columnPart tb 0 k j) ∙ ap (λ (i : ℕ). treeSize i (columnPart tb 0 k j)) e in
-    length-append gs (treesFrom m (suc j) (next + length gs) is (take (2 ^ k) tb)).gates
+    let gs = tree (length is) next is (column_part tb 0 k j) in
+    let n = length-tree (length is) next is (column_part tb 0 k j) ∙ ap (λ (i : ℕ). tree_size i (column_part tb 0 k j)) e in
+    length-append gs (trees_from m (suc j) (next + length gs) is (take (2 ^ k) tb)).gates
     ∙ omega (arith, length-trees m (suc j) k (next + length gs) is tb e)
 
 -- .. of a job and k nets, whose table stands at the start of tb
 pub length-patch : (j : Job) (is tb : List ℕ) {k : ℕ} → length is ≡ k
-    → length (trees j is (take (2 ^ k) tb)).gates ≡ treesSize j.targets 0 k tb
+    → length (trees j is (take (2 ^ k) tb)).gates ≡ trees_size j.targets 0 k tb
 unfolding trees
 length-patch j is tb {k} e =
-    length-trees j.targets 0 k _ (map (newFreeNet j) is) tb (length-map is (newFreeNet j) ∙ e)
+    length-trees j.targets 0 k _ (map (new_free_net j) is) tb (length-map is (new_free_net j) ∙ e)
 
-pub treesSize-le : (m j k : ℕ) (tb : List ℕ) → k ≤ 10 → treesSize m j k tb ≤ 5120 * m
-unfolding treesSize
-treesSize-le zero j k tb h = omega arith
-treesSize-le (suc m) j k tb h = omega (arith, treeSize-small k (columnPart tb 0 k j) h, treesSize-le m (suc j) k tb h)
+pub trees_size-le : (m j k : ℕ) (tb : List ℕ) → k ≤ 10 → trees_size m j k tb ≤ 5120 * m
+unfolding trees_size
+trees_size-le zero j k tb h = omega arith
+trees_size-le (suc m) j k tb h = omega (arith, tree_size-small k (column_part tb 0 k j) h, trees_size-le m (suc j) k tb h)
 
 -- one target fewer is left
-pub treesSize-turn : (m j k : ℕ) (tb : List ℕ) → j < m
-    → treesSize (m - j) j k tb ≡ treeSize k (columnPart tb 0 k j) + treesSize (m - (j + 1)) (j + 1) k tb
-unfolding treesSize
-treesSize-turn m j k tb h =
+pub trees_size-turn : (m j k : ℕ) (tb : List ℕ) → j < m
+    → trees_size (m - j) j k tb ≡ tree_size k (column_part tb 0 k j) + trees_size (m - (j + 1)) (j + 1) k tb
+unfolding trees_size
+trees_size-turn m j k tb h =
     let e : m - j ≡ suc (m - (j + 1)) = omega arith in
-    ap (λ (i : ℕ). treesSize i j k tb) e
-    ∙ ap (λ (i : ℕ). treeSize k (columnPart tb 0 k j) + treesSize (m - (j + 1)) i k tb) (sym (add-one j))
+    ap (λ (i : ℕ). trees_size i j k tb) e
+    ∙ ap (λ (i : ℕ). tree_size k (column_part tb 0 k j) + trees_size (m - (j + 1)) i k tb) (sym (add-one j))
 
 -- the gates gs and the trees of the targets behind
 abbrev onto : ℕ → ℕ → ℕ → List ℕ → List ℕ → List Gate → Trees
 onto m j next is tb gs =
-    let r = treesFrom m j (next + length gs) is tb in
+    let r = trees_from m j (next + length gs) is tb in
     record { gates = gs ++ r.gates; nets = (next + length gs - 1) ∷ r.nets }
 
 pub trees-turn : (m j k next : ℕ) (is tb : List ℕ) → j < m → k ≤ length is
-    → treesFrom (m - j) j next (take k is) (take (2 ^ k) tb)
-    ≡ onto (m - (j + 1)) (j + 1) next (take k is) (take (2 ^ k) tb) (tree k next is (columnPart tb 0 k j))
-unfolding treesFrom
+    → trees_from (m - j) j next (take k is) (take (2 ^ k) tb)
+    ≡ onto (m - (j + 1)) (j + 1) next (take k is) (take (2 ^ k) tb) (tree k next is (column_part tb 0 k j))
+unfolding trees_from
 trees-turn m j k next is tb h l =
     let js = take k is in
     let tb' = take (2 ^ k) tb in
     let e : m - j ≡ suc (m - (j + 1)) = omega arith in
-    let g : tree (length js) next js (columnPart tb 0 k j) ≡ tree k next is (columnPart tb 0 k j) =
-    ap (λ (i : ℕ). tree i next js (columnPart tb 0 k j)) (length-take-le k is l)
-    ∙ tree-take k k next is (columnPart tb 0 k j) (omega arith) in
-    ap (λ (i : ℕ). treesFrom i j next js tb') e
+    let g : tree (length js) next js (column_part tb 0 k j) ≡ tree k next is (column_part tb 0 k j) =
+    ap (λ (i : ℕ). tree i next js (column_part tb 0 k j)) (length-take-le k is l)
+    ∙ tree-take k k next is (column_part tb 0 k j) (omega arith) in
+    ap (λ (i : ℕ). trees_from i j next js tb') e
     ∙ ap (onto (m - (j + 1)) (suc j) next js tb') g
-    ∙ ap (λ (i : ℕ). onto (m - (j + 1)) i next js tb' (tree k next is (columnPart tb 0 k j))) (sym (add-one j))
+    ∙ ap (λ (i : ℕ). onto (m - (j + 1)) i next js tb' (tree k next is (column_part tb 0 k j))) (sym (add-one j))
 
 -- the trees of the first t targets are put, r gates stand in the places, and the net of each tree among the numbers ns, from
 -- base on
 pub record Growing (m k base : ℕ) (is tb : List ℕ) (count : ℕ) (ns₀ cs₀ ns cs : List ℕ) (r t : ℕ) : Type 0 where
   pub most : t ≤ m
-  pub gates : take r cs ++ packedFrom (base + r) (treesFrom (m - t) t (base + r) (take k is) (take (2 ^ k) tb)).gates
-      ≡ take count cs₀ ++ packedFrom (base + count) (supportTrees m k (base + count) is tb).gates
-  pub nets : take (base + t) ns ++ (treesFrom (m - t) t (base + r) (take k is) (take (2 ^ k) tb)).nets
-      ≡ take base ns₀ ++ (supportTrees m k (base + count) is tb).nets
-  pub end : r + treesSize (m - t) t k tb ≡ count + treesSize m 0 k tb
+  pub gates : take r cs ++ packed_from (base + r) (trees_from (m - t) t (base + r) (take k is) (take (2 ^ k) tb)).gates
+      ≡ take count cs₀ ++ packed_from (base + count) (support_trees m k (base + count) is tb).gates
+  pub nets : take (base + t) ns ++ (trees_from (m - t) t (base + r) (take k is) (take (2 ^ k) tb)).nets
+      ≡ take base ns₀ ++ (support_trees m k (base + count) is tb).nets
+  pub end : r + trees_size (m - t) t k tb ≡ count + trees_size m 0 k tb
   pub behind : drop (base + t) ns ≡ drop (base + t) ns₀
   pub long : length cs ≡ length cs₀
   pub numbers : length ns ≡ length ns₀
@@ -737,26 +737,26 @@ module _ (m k base : ℕ) (is tb : List ℕ) (count : ℕ) (ns₀ cs₀ : List �
 
 module _ {m k base : ℕ} {is tb : List ℕ} {count : ℕ} {ns₀ cs₀ ns cs : List ℕ} {r t : ℕ}
     (g : Growing m k base is tb count ns₀ cs₀ ns cs r t) where
-  pub growing-room : t < m → GateRoom base (count + treesSize m 0 k tb) cs₀
-      → GateRoom base (r + treeSize k (columnPart tb 0 k t)) cs
+  pub growing-room : t < m → GateRoom base (count + trees_size m 0 k tb) cs₀
+      → GateRoom base (r + tree_size k (column_part tb 0 k t)) cs
   growing-room h n =
-      let e = treesSize-turn m t k tb h in
+      let e = trees_size-turn m t k tb h in
       record { long = g.long ∙ n.long; room = omega arith; nets = omega arith }
 
-  pub growing-net : {r' : ℕ} {cs' : List ℕ} → t < m → GateRoom base (count + treesSize m 0 k tb) cs₀
-      → GatesPut base r cs (tree k (base + r) is (columnPart tb 0 k t)) r' cs' → (0 < r') × (base + r' ≤ 1024)
+  pub growing-net : {r' : ℕ} {cs' : List ℕ} → t < m → GateRoom base (count + trees_size m 0 k tb) cs₀
+      → GatesPut base r cs (tree k (base + r) is (column_part tb 0 k t)) r' cs' → (0 < r') × (base + r' ≤ 1024)
   growing-net h n p =
-      let e = tree-end k (base + r) is (columnPart tb 0 k t) p in
-      (omega (arith, treeSize-bounds k (columnPart tb 0 k t)), omega (arith, (growing-room h n).nets))
+      let e = tree-end k (base + r) is (column_part tb 0 k t) p in
+      (omega (arith, tree_size-bounds k (column_part tb 0 k t)), omega (arith, (growing-room h n).nets))
 
   pub growing-next : {r' : ℕ} {cs' : List ℕ} → t < m → k ≤ length is → base + m ≤ length ns₀
-      → GatesPut base r cs (tree k (base + r) is (columnPart tb 0 k t)) r' cs'
+      → GatesPut base r cs (tree k (base + r) is (column_part tb 0 k t)) r' cs'
       → Growing m k base is tb count ns₀ cs₀ (set ns (base + t) (base + r' - 1)) cs' r' (t + 1)
   growing-next {r'} {cs'} h l b p =
       let js = take k is in
       let tb' = take (2 ^ k) tb in
-      let gs = tree k (base + r) is (columnPart tb 0 k t) in
-      let left : ℕ → Trees = λ i. treesFrom (m - (t + 1)) (t + 1) i js tb' in
+      let gs = tree k (base + r) is (column_part tb 0 k t) in
+      let left : ℕ → Trees = λ i. trees_from (m - (t + 1)) (t + 1) i js tb' in
       let i : base + r' ≡ base + r + length gs = omega (arith, p.end) in
       let turn = trees-turn m t k (base + r) is tb h l in
       let at = base + t in
@@ -767,12 +767,12 @@ module _ {m k base : ℕ} {is tb : List ℕ} {count : ℕ} {ns₀ cs₀ ns cs : 
       record {
         most = omega arith;
         gates =
-            ap (λ (z : ℕ). take r' cs' ++ packedFrom z (left z).gates) i
-            ∙ ap (λ (z : List ℕ). z ++ packedFrom (base + r + length gs) (left (base + r + length gs)).gates) p.gates
-            ∙ append_assoc (take r cs) (packedFrom (base + r) gs)
-            (packedFrom (base + r + length gs) (left (base + r + length gs)).gates)
-            ∙ ap (λ (z : List ℕ). take r cs ++ z) (sym (packedFrom-append (base + r) gs (left (base + r + length gs)).gates))
-            ∙ ap (λ (z : Trees). take r cs ++ packedFrom (base + r) z.gates) (sym turn)
+            ap (λ (z : ℕ). take r' cs' ++ packed_from z (left z).gates) i
+            ∙ ap (λ (z : List ℕ). z ++ packed_from (base + r + length gs) (left (base + r + length gs)).gates) p.gates
+            ∙ append_assoc (take r cs) (packed_from (base + r) gs)
+            (packed_from (base + r + length gs) (left (base + r + length gs)).gates)
+            ∙ ap (λ (z : List ℕ). take r cs ++ z) (sym (packed_from-append (base + r) gs (left (base + r + length gs)).gates))
+            ∙ ap (λ (z : Trees). take r cs ++ packed_from (base + r) z.gates) (sym turn)
             ∙ g.gates;
         nets =
             ap (λ (z : ℕ). take z (set ns at v) ++ (left (base + r')).nets) j
@@ -781,7 +781,7 @@ module _ {m k base : ℕ} {is tb : List ℕ} {count : ℕ} {ns₀ cs₀ ns cs : 
             ∙ ap (λ (z : ℕ). take at ns ++ ((z - 1) ∷ (left z).nets)) i
             ∙ ap (λ (z : Trees). take at ns ++ z.nets) (sym turn)
             ∙ g.nets;
-        end = omega (arith, g.end, treesSize-turn m t k tb h, tree-end k (base + r) is (columnPart tb 0 k t) p);
+        end = omega (arith, g.end, trees_size-turn m t k tb h, tree-end k (base + r) is (column_part tb 0 k t) p);
         behind =
             drop-set-lt (base + (t + 1)) ns at v (omega arith)
             ∙ ap (λ (z : ℕ). drop z ns) w
@@ -794,17 +794,17 @@ module _ {m k base : ℕ} {is tb : List ℕ} {count : ℕ} {ns₀ cs₀ ns cs : 
       }
 
   pub growing-all : m ≤ t → k ≤ length is → TreesPut m k base is tb count ns₀ cs₀ r ns cs
-  unfolding treesFrom treesSize placed packedFrom
+  unfolding trees_from trees_size placed packed_from
   growing-all h l =
       let e : m - t ≡ 0 = omega (arith, g.most) in
       let f : t ≡ m = omega (arith, g.most) in
       let n = length-trees m 0 k (base + count) (take k is) tb (length-take-le k is l) in
-      let ys = (supportTrees m k (base + count) is tb).nets in
+      let ys = (support_trees m k (base + count) is tb).nets in
       let q : base + t ≡ base + length ys = omega (arith, length-nets m 0 (base + count) (take k is) (take (2 ^ k) tb)) in
       record {
         gates =
             record {
-              end = omega (arith, g.end, ap (λ (i : ℕ). treesSize i t k tb) e);
+              end = omega (arith, g.end, ap (λ (i : ℕ). trees_size i t k tb) e);
               gates = sym (append-nil (take r cs)) ∙ (rw e at g.gates);
               long = g.long;
             };

@@ -17,17 +17,17 @@ use Rattle.records.specs.Bytes.{all, tabulate, up_from}
 use Rattle.records.proofs.Laws.Bytes.{and_left, and_right, and_both, false_of, get_d_tabulate}
 use Rattle.engine.specs.Choice.{same}
 use Rattle.engine.specs.Eval.{bit, bits, number_of}
-use Rattle.engine.specs.Tree.{column, join_of, buildsLow, buildsHigh, joinGates, treeSize}
-use Rattle.engine.specs.Inner.Tree.{TablePart, columnPart, joinSize}
+use Rattle.engine.specs.Tree.{column, join_of, builds_low, builds_high, join_gates, tree_size}
+use Rattle.engine.specs.Inner.Tree.{TablePart, column_part, join_size}
 use Rattle.engine.specs.declared.tree.Join.{Join}
 use Rattle.engine.proofs.Laws.Choice.{same_true, same-iff-equal}
-use Rattle.engine.proofs.Laws.Eval.{Bits, bits-map, bit-lt, numberOf-lt}
+use Rattle.engine.proofs.Laws.Eval.{Bits, bits-map, bit-lt, number_of-lt}
 use Rattle.engine.proofs.Laws.Fitted.{length-bits}
-use Rattle.engine.proofs.Laws.Note.{numberOf-drop-le}
-use Rattle.engine.proofs.Laws.Picked.{bits-suc, bits-numberOf}
-use Rattle.engine.proofs.Laws.Rows.{numberOf-bits}
+use Rattle.engine.proofs.Laws.Note.{number_of-drop-le}
+use Rattle.engine.proofs.Laws.Picked.{bits-suc, bits-number_of}
+use Rattle.engine.proofs.Laws.Rows.{number_of-bits}
 use Rattle.engine.proofs.Laws.Shift.{bit-shr, bit-mod}
-use Rattle.engine.proofs.Laws.Tree.{builtSize, joinedSize, size_same, size-joined, length-column, getD-column}
+use Rattle.engine.proofs.Laws.Tree.{built_size, joined_size, size_same, size-joined, length-column, get_or-column}
 
 -- ---- parts of a number's bits
 
@@ -57,7 +57,7 @@ drop_bits m n x =
 
 bits-same : (n x y : ℕ) → x < 2 ^ n → y < 2 ^ n → bits n x ≡ bits n y → x ≡ y
 bits-same n x y h l e =
-    sym (mod-eq_of_lt h) ∙ sym (numberOf-bits n x) ∙ ap number_of e ∙ numberOf-bits n y ∙ mod-eq_of_lt l
+    sym (mod-eq_of_lt h) ∙ sym (number_of-bits n x) ∙ ap number_of e ∙ number_of-bits n y ∙ mod-eq_of_lt l
 
 -- ---- all bits 0, all bits 1
 
@@ -120,8 +120,8 @@ module _ (n x : ℕ) (h : x < 2 ^ n) where
 -- ---- the halves of a number
 
 -- a tree over one net or none is one gate
-pub word-least : (k w : ℕ) → k < 2 → w < 2 ^ 2 ^ k → treeSize k (bits (2 ^ k) w) ≡ 1
-unfolding treeSize all same join_of buildsLow buildsHigh joinGates bit bits tabulate up_from
+pub word-least : (k w : ℕ) → k < 2 → w < 2 ^ 2 ^ k → tree_size k (bits (2 ^ k) w) ≡ 1
+unfolding tree_size all same join_of builds_low builds_high join_gates bit bits tabulate up_from
 word-least zero w h l = refl
 word-least (suc zero) zero h l = refl
 word-least (suc zero) (suc zero) h l = refl
@@ -149,12 +149,12 @@ module _ (k w : ℕ) (h : w < 2 ^ 2 ^ suc k) where
   high_bits : drop (2 ^ k) (bits (2 ^ suc k) w) ≡ bits (2 ^ k) high
   high_bits = rw (two-pow-succ k) (drop_bits (2 ^ k) (2 ^ k) w)
 
-  pub word-equal : low ≡ high → treeSize (suc k) (bits (2 ^ suc k) w) ≡ treeSize k (bits (2 ^ k) low)
+  pub word-equal : low ≡ high → tree_size (suc k) (bits (2 ^ suc k) w) ≡ tree_size k (bits (2 ^ k) low)
   word-equal e =
-      size_same k (bits (2 ^ suc k) w) ((same-iff-equal _ _).1 (low_bits ∙ ap (bits (2 ^ k)) e ∙ sym high_bits)) ∙ ap (treeSize k) low_bits
+      size_same k (bits (2 ^ suc k) w) ((same-iff-equal _ _).1 (low_bits ∙ ap (bits (2 ^ k)) e ∙ sym high_bits)) ∙ ap (tree_size k) low_bits
 
-  pub word_split : (low ≡ high → ⊥) → treeSize (suc k) (bits (2 ^ suc k) w)
-      ≡ joinedSize (join_of (bits (2 ^ k) low) (bits (2 ^ k) high)) (treeSize k (bits (2 ^ k) low)) (treeSize k (bits (2 ^ k) high))
+  pub word_split : (low ≡ high → ⊥) → tree_size (suc k) (bits (2 ^ suc k) w)
+      ≡ joined_size (join_of (bits (2 ^ k) low) (bits (2 ^ k) high)) (tree_size k (bits (2 ^ k) low)) (tree_size k (bits (2 ^ k) high))
   word_split n =
       let col = bits (2 ^ suc k) w in
       let s : same (take (2 ^ k) col) (drop (2 ^ k) col) ≡ false =
@@ -164,8 +164,8 @@ module _ (k w : ℕ) (h : w < 2 ^ 2 ^ suc k) where
 
   -- .. as the code counts
   pub split-size : (low ≡ high → ⊥) → {j : Join} {a b c : ℕ} → j ≡ join_of (bits (2 ^ k) low) (bits (2 ^ k) high)
-      → a ≡ builtSize (buildsLow j) (treeSize k (bits (2 ^ k) low)) → b ≡ builtSize (buildsHigh j) (treeSize k (bits (2 ^ k) high))
-      → c ≡ joinSize j → a + b + c ≡ treeSize (suc k) (bits (2 ^ suc k) w)
+      → a ≡ built_size (builds_low j) (tree_size k (bits (2 ^ k) low)) → b ≡ built_size (builds_high j) (tree_size k (bits (2 ^ k) high))
+      → c ≡ join_size j → a + b + c ≡ tree_size (suc k) (bits (2 ^ suc k) w)
   split-size n e p q r = rw (p, q, r, e) (sym (word_split n))
 
 -- as the code makes the halves: by a mask of h ones, and by a shift
@@ -198,7 +198,7 @@ word_fits k h = pow_mono {j = 64} (pow_mono {j = 6} h)
 
 module _ {tb : List ℕ} {at k t : ℕ} (p : TablePart tb at k t) where
   abbrev col : List ℕ
-  col = columnPart tb at k t
+  col = column_part tb at k t
 
   column-bits : Bits col
   unfolding column
@@ -208,21 +208,21 @@ module _ {tb : List ℕ} {at k t : ℕ} (p : TablePart tb at k t) where
   long = length-column tb at (2 ^ k) t p.within
 
   pub column-lt : number_of col < 2 ^ 2 ^ k
-  column-lt = rw long at (numberOf-lt column-bits)
+  column-lt = rw long at (number_of-lt column-bits)
 
   pub bits-column : bits (2 ^ k) (number_of col) ≡ col
-  bits-column = rw long at (bits-numberOf column-bits)
+  bits-column = rw long at (bits-number_of column-bits)
 
   -- the entries from place i on
   pub column-turn : (i : ℕ) → i < 2 ^ k → number_of (drop i col) ≡ 2 * number_of (drop (i + 1) col) + bit t (get_or tb (at + i) 0)
   unfolding number_of
   column-turn i l =
       rw (add-one i)
-      (ap number_of (drop-cons col i 0 (omega (arith, long))) ∙ omega (arith, getD-column tb at (2 ^ k) t p.within i l))
+      (ap number_of (drop-cons col i 0 (omega (arith, long))) ∙ omega (arith, get_or-column tb at (2 ^ k) t p.within i l))
 
   pub column-end : number_of (drop (2 ^ k) col) ≡ 0
   unfolding number_of
   column-end = ap number_of (drop_of_length-le col {i = 2 ^ k} (omega (arith, long)))
 
   pub column-rest : (i : ℕ) → number_of (drop i col) < 2 ^ 2 ^ k
-  column-rest i = omega (arith, numberOf-drop-le col i, column-lt)
+  column-rest i = omega (arith, number_of-drop-le col i, column-lt)

@@ -85,10 +85,10 @@ abbrev below : ℕ → (ℕ → Bool) → Bool
 below n p = all p (up_from 0 n)
 
 -- numbers below n stay so where a bit below 4 is set
-abbrev putsBelow : ℕ → Bool
-putsBelow n = below 4 (λ e. below 2 (λ t. below n (λ i. ltb (put e t i) n)))
+abbrev puts_below : ℕ → Bool
+puts_below n = below 4 (λ e. below 2 (λ t. below n (λ i. ltb (put e t i) n)))
 
-put-lt : (n : ℕ) → putsBelow n ≡ true → (e t i : ℕ) → e < 4 → t < 2 → i < n → put e t i < n
+put-lt : (n : ℕ) → puts_below n ≡ true → (e t i : ℕ) → e < 4 → t < 2 → i < n → put e t i < n
 put-lt n p e t i h k l =
     ltb-true (put e t i) n
     ((all-iff-below (λ i. ltb (put e t i) n) n).0

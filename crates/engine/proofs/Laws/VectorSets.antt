@@ -17,12 +17,12 @@ use Rattle.records.specs.Bytes.{up_from, tabulate}
 use Rattle.records.specs.Job.{Job}
 use Rattle.records.proofs.Laws.Bytes.{length-tabulate, get_d_tabulate}
 use Rattle.engine.specs.Choice.{first, or_zero}
-use Rattle.engine.specs.Eval.{bit, number_of, allVectors}
+use Rattle.engine.specs.Eval.{bit, number_of, all_vectors}
 use Rattle.engine.specs.Rectify.{rectifies}
 use Rattle.engine.specs.Inner.Masks.{rectifiers}
 use Rattle.engine.specs.Inner.List.{lowest}
 use Rattle.engine.proofs.Laws.Choice.{true-or-false, none_or_some, first-here, first-there, first-least, first-none-below}
-use Rattle.engine.proofs.Laws.Eval.{Bits, bits-nil, bits-cons, bits-map, bit-lt, numberOf-lt}
+use Rattle.engine.proofs.Laws.Eval.{Bits, bits-nil, bits-cons, bits-map, bit-lt, number_of-lt}
 
 -- ---- choices
 
@@ -101,22 +101,22 @@ lowest-bit s v e = let l = first-least (in_set s) 16 v e in (l.below, eqb-true (
 
 -- ---- the bits of a number made of bits
 
-pub bit-numberOf : {bs : List ℕ} → Bits bs → (v : ℕ) → bit v (number_of bs) ≡ get_or bs v 0
+pub bit-number_of : {bs : List ℕ} → Bits bs → (v : ℕ) → bit v (number_of bs) ≡ get_or bs v 0
 unfolding bit number_of
-bit-numberOf bits-nil v = ap (λ (q : ℕ). q % 2) (zero-div (2 ^ v))
-bit-numberOf (bits-cons {v = b} {vs = bs} h t) zero = omega (arith, div-one (b + 2 * number_of bs))
-bit-numberOf (bits-cons {v = b} {vs = bs} h t) (suc v) =
+bit-number_of bits-nil v = ap (λ (q : ℕ). q % 2) (zero-div (2 ^ v))
+bit-number_of (bits-cons {v = b} {vs = bs} h t) zero = omega (arith, div-one (b + 2 * number_of bs))
+bit-number_of (bits-cons {v = b} {vs = bs} h t) (suc v) =
     let n : ℕ = number_of bs in
     let d : (b + 2 * n) / 2 ^ 1 ≡ n = omega arith in
     let e : 1 + v ≡ suc v = one-add v in
     ap (λ (q : ℕ). q % 2)
     (ap (λ (k : ℕ). (b + 2 * n) / 2 ^ k) (sym e) ∙ sym (shr-shr (b + 2 * n) 1 v) ∙ ap (λ (q : ℕ). q / 2 ^ v) d)
-    ∙ bit-numberOf t v
+    ∙ bit-number_of t v
 
 module _ (n : ℕ) (h : ℕ → ℕ) (b : (i : ℕ) → h i < 2) where
   tabulated : (v : ℕ) → bit v (number_of (tabulate n h)) ≡ get_or (tabulate n h) v 0
   unfolding tabulate
-  tabulated v = bit-numberOf (bits-map h b (up_from 0 n)) v
+  tabulated v = bit-number_of (bits-map h b (up_from 0 n)) v
 
   pub bit-tabulate : (v : ℕ) → v < n → bit v (number_of (tabulate n h)) ≡ h v
   bit-tabulate v l = tabulated v ∙ get_d_tabulate n h v 0 l
@@ -129,7 +129,7 @@ module _ (n : ℕ) (h : ℕ → ℕ) (b : (i : ℕ) → h i < 2) where
   unfolding tabulate
   tabulate-lt =
       omega
-      (arith, numberOf-lt (bits-map h b (up_from 0 n)), ap (λ (k : ℕ). 2 ^ k) (length-tabulate n h))
+      (arith, number_of-lt (bits-map h b (up_from 0 n)), ap (λ (k : ℕ). 2 ^ k) (length-tabulate n h))
 
 -- the number whose lowest n bits are 1
 ones-from : (a n : ℕ) → number_of (map (λ i. 1) (up_from a n)) ≡ 2 ^ n - 1
@@ -137,9 +137,9 @@ unfolding number_of up_from
 ones-from a zero = refl
 ones-from a (suc n) = omega (arith, ones-from (suc a) n, pow-suc 2 n, pow_pos n)
 
-numberOf-ones : (n : ℕ) → number_of (tabulate n (λ i. 1)) ≡ 2 ^ n - 1
+number_of-ones : (n : ℕ) → number_of (tabulate n (λ i. 1)) ≡ 2 ^ n - 1
 unfolding tabulate
-numberOf-ones n = ones-from 0 n
+number_of-ones n = ones-from 0 n
 
 -- ---- the set of the vectors that rectify an input
 
@@ -156,7 +156,7 @@ module _ (j : Job) (x : ℕ) where
   member v = cond (rectifies j x v) 1 0
 
   rectifiers-tabulate : rectifiers j x ≡ number_of (tabulate (2 ^ j.targets) member)
-  unfolding rectifiers allVectors tabulate
+  unfolding rectifiers all_vectors tabulate
   rectifiers-tabulate = refl
 
   pub rectifiers-bit : (v : ℕ) → v < 2 ^ j.targets → bit v (rectifiers j x) ≡ cond (rectifies j x v) 1 0
@@ -167,22 +167,22 @@ module _ (j : Job) (x : ℕ) where
   rectifiers-beyond v l =
       ap (bit v) rectifiers-tabulate ∙ bit-beyond (2 ^ j.targets) member (λ i. cond-lt (rectifies j x i)) v l
 
-  pub inSet-rectifiers : (v : ℕ) → v < 2 ^ j.targets → in_set (rectifiers j x) v ≡ rectifies j x v
-  inSet-rectifiers v l = ap (λ (b : ℕ). eqb b 1) (rectifiers-bit v l) ∙ eqb-cond (rectifies j x v)
+  pub in_set-rectifiers : (v : ℕ) → v < 2 ^ j.targets → in_set (rectifiers j x) v ≡ rectifies j x v
+  in_set-rectifiers v l = ap (λ (b : ℕ). eqb b 1) (rectifiers-bit v l) ∙ eqb-cond (rectifies j x v)
 
-  pub inSet-beyond : (v : ℕ) → 2 ^ j.targets ≤ v → in_set (rectifiers j x) v ≡ false
-  inSet-beyond v l = ap (λ (b : ℕ). eqb b 1) (rectifiers-beyond v l)
+  pub in_set-beyond : (v : ℕ) → 2 ^ j.targets ≤ v → in_set (rectifiers j x) v ≡ false
+  in_set-beyond v l = ap (λ (b : ℕ). eqb b 1) (rectifiers-beyond v l)
 
   -- the smallest vector of the set is the first that rectifies
-  pub lowest-rectifiers : j.targets ≤ 4 → lowest (rectifiers j x) ≡ first (rectifies j x) (allVectors j)
-  unfolding lowest allVectors
+  pub lowest-rectifiers : j.targets ≤ 4 → lowest (rectifiers j x) ≡ first (rectifies j x) (all_vectors j)
+  unfolding lowest all_vectors
   lowest-rectifiers t =
       let n : ℕ = 2 ^ j.targets in
       let l : n ≤ 16 = pow_mono t in
       let e : n + (16 - n) ≡ 16 = omega arith in
       ap (λ (k : ℕ). first (in_set (rectifiers j x)) (up_from 0 k)) (sym e)
-      ∙ first-agree (in_set (rectifiers j x)) (rectifies j x) 0 n (16 - n) (λ v a b. inSet-rectifiers v (omega arith))
-      (λ v a. inSet-beyond v (omega arith))
+      ∙ first-agree (in_set (rectifiers j x)) (rectifies j x) 0 n (16 - n) (λ v a b. in_set-rectifiers v (omega arith))
+      (λ v a. in_set-beyond v (omega arith))
 
 pub bit-ones : (n v : ℕ) → (bit v (2 ^ n - 1) ≡ 1) ↔ (v < n)
 bit-ones n v = (
@@ -190,10 +190,10 @@ bit-ones n v = (
       ⊎_elim
       (λ (l : ltb v n ≡ true). ltb-true v n l)
       (λ (l : ltb v n ≡ false).
-      let z = ap (bit v) (sym (numberOf-ones n)) ∙ bit-beyond n (λ i. 1) (λ i. omega arith) v (ltb-false v n l) in
+      let z = ap (bit v) (sym (number_of-ones n)) ∙ bit-beyond n (λ i. 1) (λ i. omega arith) v (ltb-false v n l) in
       let f : ⊥ = omega arith in absurd f)
       (true-or-false (ltb v n)),
-  λ l. ap (bit v) (sym (numberOf-ones n)) ∙ bit-tabulate n (λ i. 1) (λ i. omega arith) v l,
+  λ l. ap (bit v) (sym (number_of-ones n)) ∙ bit-tabulate n (λ i. 1) (λ i. omega arith) v l,
 )
 
 -- of the vectors that rectify input x: those of the set
@@ -203,7 +203,7 @@ bit-rectifiers j x v = (
       ⊎_elim
       (λ (l : ltb v (2 ^ j.targets) ≡ true).
       let b = ltb-true v (2 ^ j.targets) l in
-      (b, sym (inSet-rectifiers j x v b) ∙ eq-eqb (bit v (rectifiers j x)) 1 e))
+      (b, sym (in_set-rectifiers j x v b) ∙ eq-eqb (bit v (rectifiers j x)) 1 e))
       (λ (l : ltb v (2 ^ j.targets) ≡ false).
       let z = rectifiers-beyond j x v (ltb-false v (2 ^ j.targets) l) in
       let f : ⊥ = omega arith in absurd f)

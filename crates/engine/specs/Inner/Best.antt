@@ -10,7 +10,7 @@
 --                          2 ^ 15 inputs that were skipped, bit i of k for range i
 --   FirstEmpty ss n r      r is the least place below n whose set is empty, or n
 --   spread i q             the reading q with a bit 0 put in at place i: of one net more, at place i, whose value is 0
---   joinedAt ss i q        the vectors in the sets of both readings that are q without net i
+--   joined_at ss i q        the vectors in the sets of both readings that are q without net i
 --   SameTo n xs ys         ys is the same as xs at the first n places
 --   Kept n xs ys           .. and as long
 --   ArenaRoom at n xs      the arena xs has room for the sets of n nets from place at on, and behind them for those that leave out one net after
@@ -22,7 +22,7 @@
 --   low_first n a b         of the sets a and b of n candidates, a has the lowest in which they differ
 --   before p q             pick p is chosen before pick q: lower cost, then fewer gates, then fewer nets, then the smaller net
 --   open_at is i s          the nets is up to place i, and of those from there on the ones that are in the set s
---   candidateWeights j     the weights of all candidates
+--   candidate_weights j     the weights of all candidates
 --   OpenPick i p           pick p has room for i candidates more
 --   PricedRoom p           bounds of the struct p
 --   PricedOf j p ss        the struct p has the priced nets of job j, which ascend, and ss are the sets of all of them
@@ -36,15 +36,15 @@
 use Rattle.std.specs.Prelude.{ℕ, zero, suc, ◌+◌, ◌-◌, ◌*◌, ◌/◌, ◌%◌, ◌^◌, ◌≤◌, ◌<◌, ◌≡◌, ◌↔◌, ◌⊎◌, List, [], ◌∷◌, ◌++◌, map, Bool, true, false, cond, ◌&&◌, ◌||◌, ltb, eqb, length, get_or, take, drop}
 use Rattle.std.specs.Int.Bits.{bit_and}
 use Rattle.records.specs.Job.{Job, Candidate}
-use Rattle.records.specs.Refusal.{maxTargets, maxCandidates, ascending}
-use Rattle.records.specs.Service.{candidatesFrom}
+use Rattle.records.specs.Refusal.{max_targets, max_candidates, ascending}
+use Rattle.records.specs.Service.{candidates_from}
 use Rattle.records.specs.declared.sheet.Support.{Support}
 use Rattle.engine.specs.Eval.{bit}
 use Rattle.engine.specs.Claims.{SomeGives}
 use Rattle.engine.specs.Rectify.{rectifies}
-use Rattle.engine.specs.Support.{reading, sound, candidateNets, cost, patchGates, better, chosen}
-use Rattle.engine.specs.Inner.List.{maxVectors}
-use Rattle.engine.specs.Inner.Note.{maxReadings}
+use Rattle.engine.specs.Support.{reading, sound, candidate_nets, cost, patch_gates, better, chosen}
+use Rattle.engine.specs.Inner.List.{max_vectors}
+use Rattle.engine.specs.Inner.Note.{max_readings}
 use Rattle.engine.specs.declared.best.Pick.{Pick}
 use Rattle.engine.specs.declared.best.Priced.{Priced}
 
@@ -58,21 +58,21 @@ abbrev pub RectifiesAll : Job → List ℕ → ℕ → ℕ → Type 0
 RectifiesAll j is r v = (x : ℕ) → x < 2 ^ j.inputs → reading j is x ≡ r → rectifies j x v ≡ true
 
 pub record ReadingSets (j : Job) (ss : List ℕ) : Type 0 where
-  pub long : length ss ≡ maxReadings
-  pub sets : (r v : ℕ) → r < 2 ^ length (candidateNets j) → v < maxVectors
-      → (bit v (get_or ss r 0) ≡ 1) ↔ ((v < 2 ^ j.targets) × RectifiesAll j (candidateNets j) r v)
+  pub long : length ss ≡ max_readings
+  pub sets : (r v : ℕ) → r < 2 ^ length (candidate_nets j) → v < max_vectors
+      → (bit v (get_or ss r 0) ≡ 1) ↔ ((v < 2 ^ j.targets) × RectifiesAll j (candidate_nets j) r v)
 
 pub record SetsOf (j : Job) (is ss : List ℕ) : Type 0 where
-  pub targets : j.targets ≤ maxTargets
-  pub sets : (r v : ℕ) → r < 2 ^ length is → v < maxVectors
+  pub targets : j.targets ≤ max_targets
+  pub sets : (r v : ℕ) → r < 2 ^ length is → v < max_vectors
       → (bit v (get_or ss r 0) ≡ 1) ↔ ((v < 2 ^ j.targets) × RectifiesAll j is r v)
 
 abbrev pub NotEmpty : ℕ → Type 0
-NotEmpty t = (v : ℕ) × (v < maxVectors) × (bit v t ≡ 1)
+NotEmpty t = (v : ℕ) × (v < max_vectors) × (bit v t ≡ 1)
 
 pub record GivenBits (j : Job) (is ss : List ℕ) (k : ℕ) : Type 0 where
-  pub given : (r : ℕ) → r < 2 ^ length is → bit maxVectors (get_or ss r 0) ≡ 0 → SomeGives j is r
-  pub unmet : (r : ℕ) → r < 2 ^ length is → bit maxVectors (get_or ss r 0) ≡ 1
+  pub given : (r : ℕ) → r < 2 ^ length is → bit max_vectors (get_or ss r 0) ≡ 0 → SomeGives j is r
+  pub unmet : (r : ℕ) → r < 2 ^ length is → bit max_vectors (get_or ss r 0) ≡ 1
       → (x : ℕ) → x < 2 ^ j.inputs → bit (x / 32768) k ≡ 0 → reading j is x ≡ r → ⊥
 
 pub record FirstEmpty (ss : List ℕ) (count r : ℕ) : Type 0 where
@@ -86,8 +86,8 @@ unfoldable pub spread : ℕ → ℕ → ℕ
 spread zero q = 2 * q
 spread (suc i) q = q % 2 + 2 * spread i (q / 2)
 
-unfoldable pub joinedAt : List ℕ → ℕ → ℕ → ℕ
-joinedAt ss i q = bit_and (get_or ss (spread i q) 0) (get_or ss (spread i q + 2 ^ i) 0)
+unfoldable pub joined_at : List ℕ → ℕ → ℕ → ℕ
+joined_at ss i q = bit_and (get_or ss (spread i q) 0) (get_or ss (spread i q + 2 ^ i) 0)
 
 abbrev pub SameTo : ℕ → List ℕ → List ℕ → Type 0
 SameTo n xs ys = (k : ℕ) → k < n → get_or ys k 0 ≡ get_or xs k 0
@@ -101,8 +101,8 @@ pub record ArenaRoom (at n : ℕ) (xs : List ℕ) : Type 0 where
   pub long : length xs ≡ 2048
 
 pub record LeftOut (ss : List ℕ) (n i : ℕ) (sound : Bool) (ps : List ℕ) : Type 0 where
-  pub filled : sound ≡ true → (q : ℕ) → q < 2 ^ n → (get_or ps q 0 ≡ joinedAt ss i q) × NotEmpty (joinedAt ss i q)
-  pub empty : sound ≡ false → (q : ℕ) × (q < 2 ^ n) × (joinedAt ss i q % 65536 ≡ 0)
+  pub filled : sound ≡ true → (q : ℕ) → q < 2 ^ n → (get_or ps q 0 ≡ joined_at ss i q) × NotEmpty (joined_at ss i q)
+  pub empty : sound ≡ false → (q : ℕ) × (q < 2 ^ n) × (joined_at ss i q % 65536 ≡ 0)
 
 -- ---- picks
 
@@ -124,70 +124,70 @@ before p q =
     || (eqb p.cost q.cost
     && (ltb p.gates q.gates
     || (eqb p.gates q.gates
-    && (ltb p.len q.len || (eqb p.len q.len && low_first maxCandidates p.set q.set)))))
+    && (ltb p.len q.len || (eqb p.len q.len && low_first max_candidates p.set q.set)))))
 
 unfoldable pub open_at : List ℕ → ℕ → ℕ → List ℕ
 open_at is i s = take i is ++ picked (drop i is) s
 
-unfoldable pub candidateWeights : Job → List ℕ
-candidateWeights j = map (λ (c : Candidate). c.weight) j.candidates
+unfoldable pub candidate_weights : Job → List ℕ
+candidate_weights j = map (λ (c : Candidate). c.weight) j.candidates
 
 pub record OpenPick (i : ℕ) (p : Pick) : Type 0 where
   pub places : i ≤ p.len
-  pub few : p.len ≤ maxCandidates
-  pub set : p.set < 2 ^ (maxCandidates - i)
-  pub cost : p.cost ≤ 65535 * (maxCandidates - i)
+  pub few : p.len ≤ max_candidates
+  pub set : p.set < 2 ^ (max_candidates - i)
+  pub cost : p.cost ≤ 65535 * (max_candidates - i)
 
 pub record PricedRoom (p : Priced) : Type 0 where
-  pub few : p.count ≤ maxCandidates
-  pub targets : p.targets ≤ maxTargets
+  pub few : p.count ≤ max_candidates
+  pub targets : p.targets ≤ max_targets
 
 pub record PricedOf (j : Job) (p : Priced) (ss : List ℕ) : Type 0 where
-  pub count : p.count ≡ length (candidateNets j)
-  pub few : length (candidateNets j) ≤ maxCandidates
-  pub ascends : ascending (candidateNets j) ≡ true
-  pub weights : (i : ℕ) → i < length (candidateNets j) → get_or (candidateWeights j) i 0 ≡ get_or p.weights i 0
+  pub count : p.count ≡ length (candidate_nets j)
+  pub few : length (candidate_nets j) ≤ max_candidates
+  pub ascends : ascending (candidate_nets j) ≡ true
+  pub weights : (i : ℕ) → i < length (candidate_nets j) → get_or (candidate_weights j) i 0 ≡ get_or p.weights i 0
   pub targets : p.targets ≡ j.targets
-  pub sets : SetsOf j (candidateNets j) ss
+  pub sets : SetsOf j (candidate_nets j) ss
 
 pub record PickOf (j : Job) (p : Pick) : Type 0 where
-  pub set : p.set < 2 ^ length (candidateNets j)
-  pub len : p.len ≡ length (picked (candidateNets j) p.set)
-  pub cost : p.cost ≡ cost j (picked (candidateNets j) p.set)
-  pub sound : sound j (picked (candidateNets j) p.set) ≡ true
-  pub gates : (p.gates ≡ 0) ⊎ (p.gates ≡ patchGates j (picked (candidateNets j) p.set))
+  pub set : p.set < 2 ^ length (candidate_nets j)
+  pub len : p.len ≡ length (picked (candidate_nets j) p.set)
+  pub cost : p.cost ≡ cost j (picked (candidate_nets j) p.set)
+  pub sound : sound j (picked (candidate_nets j) p.set) ≡ true
+  pub gates : (p.gates ≡ 0) ⊎ (p.gates ≡ patch_gates j (picked (candidate_nets j) p.set))
 
 pub record CountedOf (j : Job) (p : Pick) : Type 0 where
   pub pick : PickOf j p
-  pub gates : p.gates ≡ patchGates j (picked (candidateNets j) p.set)
+  pub gates : p.gates ≡ patch_gates j (picked (candidate_nets j) p.set)
 
 pub record OpenOf (j : Job) (i : ℕ) (p : Pick) (ss : List ℕ) : Type 0 where
-  pub places : i ≤ length (candidateNets j)
-  pub set : p.set < 2 ^ (length (candidateNets j) - i)
-  pub len : p.len ≡ length (open_at (candidateNets j) i p.set)
-  pub cost : p.cost ≡ total (picked (drop i (candidateWeights j)) p.set)
-  pub sets : SetsOf j (open_at (candidateNets j) i p.set) ss
-  pub sound : sound j (open_at (candidateNets j) i p.set) ≡ true
+  pub places : i ≤ length (candidate_nets j)
+  pub set : p.set < 2 ^ (length (candidate_nets j) - i)
+  pub len : p.len ≡ length (open_at (candidate_nets j) i p.set)
+  pub cost : p.cost ≡ total (picked (drop i (candidate_weights j)) p.set)
+  pub sets : SetsOf j (open_at (candidate_nets j) i p.set) ss
+  pub sound : sound j (open_at (candidate_nets j) i p.set) ≡ true
   pub gates : p.gates ≡ 0
 
 -- ---- the choice
 
 pub record BestFrom (j : Job) (i s : ℕ) (b r : Pick) : Type 0 where
   pub pick : PickOf j r
-  pub kept : better j (picked (candidateNets j) b.set) (picked (candidateNets j) r.set) ≡ false
-  pub least : (t : ℕ) → t / 2 ^ i ≡ s → sound j (picked (candidateNets j) t) ≡ true
-      → better j (picked (candidateNets j) t) (picked (candidateNets j) r.set) ≡ false
+  pub kept : better j (picked (candidate_nets j) b.set) (picked (candidate_nets j) r.set) ≡ false
+  pub least : (t : ℕ) → t / 2 ^ i ≡ s → sound j (picked (candidate_nets j) t) ≡ true
+      → better j (picked (candidate_nets j) t) (picked (candidate_nets j) r.set) ≡ false
 
 pub record HeldSupport (r : Support) : Type 0 where
-  pub few : r.len ≤ maxCandidates
+  pub few : r.len ≤ max_candidates
   pub held : r.len ≤ length r.nets
 
 pub record Choosable (j : Job) (is : List ℕ) (p : Priced) (ss : List ℕ) : Type 0 where
-  pub candidates : j.candidates ≡ candidatesFrom p.count is p.weights
-  pub ascends : ascending (candidateNets j) ≡ true
+  pub candidates : j.candidates ≡ candidates_from p.count is p.weights
+  pub ascends : ascending (candidate_nets j) ≡ true
   pub targets : j.targets ≡ p.targets
   pub sets : ReadingSets j ss
-  pub sound : sound j (candidateNets j) ≡ true
+  pub sound : sound j (candidate_nets j) ≡ true
 
 pub record ChosenOf (j : Job) (s : Support) (c : ℕ) (ss : List ℕ) : Type 0 where
   pub len : s.len ≡ length (chosen j)

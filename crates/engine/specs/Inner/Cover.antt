@@ -8,18 +8,18 @@
 --   CubeAdded c .. d         d has one cube more than c, and the readings of c and of that cube alone
 --   CoverTo ss n e c         the unseen ones of the first n readings are in the cover e or in c
 --   CoverOf ss k e c         .. of the readings of k nets
---   readingIn words is y     the reading of the nets is in scenario y of a block
+--   reading_in words is y     the reading of the nets is in scenario y of a block
 --   GivesNone ..             .. is in no scenario in the cover
 use Rattle.std.specs.Prelude.{ℕ, ◌+◌, ◌^◌, ◌≤◌, ◌<◌, ◌≡◌, ◌⊎◌, List, map, length, get_or}
 use Rattle.engine.specs.Eval.{bit, number_of}
-use Rattle.engine.specs.Inner.Kernel.{valueIn}
-use Rattle.engine.specs.Inner.List.{maxVectors}
+use Rattle.engine.specs.Inner.Kernel.{value_in}
+use Rattle.engine.specs.Inner.List.{max_vectors}
 use Rattle.engine.specs.declared.cover.Cover.{Cover}
 
 pub record NextUnseen (ss : List ℕ) (at n r : ℕ) : Type 0 where
   pub past : at ≤ r
   pub most : r ≤ n
-  pub seen : (q : ℕ) → at ≤ q → q < r → bit maxVectors (get_or ss q 0) ≡ 0
+  pub seen : (q : ℕ) → at ≤ q → q < r → bit max_vectors (get_or ss q 0) ≡ 0
 
 abbrev pub InCube : ℕ → ℕ → ℕ → Type 0
 InCube value care q = (k : ℕ) → bit k care ≡ 1 → bit k q ≡ bit k value
@@ -44,14 +44,14 @@ pub record CubeAdded (c : Cover) (value care : ℕ) (d : Cover) : Type 0 where
   pub only : (q : ℕ) → InCover d q → InCover c q ⊎ InCube value care q
 
 abbrev pub CoverTo : List ℕ → ℕ → Cover → Cover → Type 0
-CoverTo ss n e c = (q : ℕ) → q < n → bit maxVectors (get_or ss q 0) ≡ 1 → InCover e q ⊎ InCover c q
+CoverTo ss n e c = (q : ℕ) → q < n → bit max_vectors (get_or ss q 0) ≡ 1 → InCover e q ⊎ InCover c q
 
 pub record CoverOf (ss : List ℕ) (k : ℕ) (e c : Cover) : Type 0 where
   pub held : CoverHeld c
   pub covers : CoverTo ss (2 ^ k) e c
 
-abbrev pub readingIn : List ℕ → List ℕ → ℕ → ℕ
-readingIn words is y = number_of (map (valueIn words y) is)
+abbrev pub reading_in : List ℕ → List ℕ → ℕ → ℕ
+reading_in words is y = number_of (map (value_in words y) is)
 
 abbrev pub GivesNone : Cover → List ℕ → List ℕ → Type 0
-GivesNone c words is = (y : ℕ) → y < 1024 → InCover c (readingIn words is y) → ⊥
+GivesNone c words is = (y : ℕ) → y < 1024 → InCover c (reading_in words is y) → ⊥

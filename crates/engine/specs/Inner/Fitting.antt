@@ -1,46 +1,46 @@
 -- What fit's private functions require and give (src/fitting.rt). No public contract cites this file. Assumes nothing.
 --
---   numberedTrees, TreesPlaced ..     a tree for each target behind the gates of the new side a, which gives b
---   oldJob, sideJob o os        the part of a job that fit reads, that of the old side o and the outputs os
---   Fittable, patchedCount ..   an old side and a patch; how many gates the patched netlist has
+--   numbered_trees, TreesPlaced ..     a tree for each target behind the gates of the new side a, which gives b
+--   old_job, side_job o os        the part of a job that fit reads, that of the old side o and the outputs os
+--   Fittable, patched_count ..   an old side and a patch; how many gates the patched netlist has
 --   GatesPlaced j is t r        the new side r is the patched netlist
 --   FitGives ..                 what fit replies with a number, and the buffer
---   patchNumber, sheetFitNumber     the number for a patch; for a sheet
+--   patch_number, sheet_fit_number     the number for a patch; for a sheet
 --   OldOf j o, FitReady ..      the old side of a job; its parts too
 use Rattle.std.specs.Prelude.{ℕ, ◌+◌, ◌^◌, ◌/◌, ◌≤◌, ◌<◌, ◌≡◌, true, cond, eqb, length, get_or, take}
 use mathlib.Core.List.{List, [], ◌∷◌, ◌++◌, map, Memᴰ as Mem}
 use Rattle.records.specs.Bytes.{all, placed}
 use Rattle.records.specs.Gate.{Gate}
 use Rattle.records.specs.Job.{Job}
-use Rattle.records.specs.Netlist.{netAt}
-use Rattle.records.specs.Refusal.{firstFailing, oldNets}
-use Rattle.records.specs.Sheet.{patch_of, sheetTests}
+use Rattle.records.specs.Netlist.{net_at}
+use Rattle.records.specs.Refusal.{first_failing, old_nets}
+use Rattle.records.specs.Sheet.{patch_of, sheet_tests}
 use Rattle.records.specs.Parts.{PartsOf}
 use Rattle.records.specs.declared.loading.JobParts.{JobParts}
 use Rattle.records.specs.declared.sheet.Support.{Support}
-use Rattle.engine.specs.Fit.{led, Trees, treesFrom, newNets, fitted, fits}
-use Rattle.engine.specs.Inner.Packed.{packedFrom, formed}
-use Rattle.engine.specs.Inner.Tree.{GatesPut, treesSize}
+use Rattle.engine.specs.Fit.{led, Trees, trees_from, new_nets, fitted, fits}
+use Rattle.engine.specs.Inner.Packed.{packed_from, formed}
+use Rattle.engine.specs.Inner.Tree.{GatesPut, trees_size}
 use Rattle.engine.specs.declared.fitting.FitReply.{FitReply}
 use Rattle.engine.specs.declared.renumber.OldSide.{OldSide}
 use Rattle.engine.specs.declared.renumber.NewSide.{NewSide}
-use Rattle.engine.specs.Inner.Renumber.{OldHeld, oldGates}
+use Rattle.engine.specs.Inner.Renumber.{OldHeld, old_gates}
 
 -- ---- the trees
 
 -- the trees of m targets over the nets is, at their numbers ns, and the table: the first gate drives the net behind n + count
-abbrev pub numberedTrees : ℕ → ℕ → ℕ → List ℕ → List ℕ → List ℕ → Trees
-numberedTrees n m count ns is table = treesFrom m 0 (n + count) (map (λ o. get_or ns o 0) is) table
+abbrev pub numbered_trees : ℕ → ℕ → ℕ → List ℕ → List ℕ → List ℕ → Trees
+numbered_trees n m count ns is table = trees_from m 0 (n + count) (map (λ o. get_or ns o 0) is) table
 
 pub record TreesPlaced (n m : ℕ) (is table : List ℕ) (a b : NewSide) : Type 0 where
-  pub gates : GatesPut n a.count a.gates (numberedTrees n m a.count a.numbers is table).gates b.count b.gates
-  pub nets : b.numbers ≡ placed a.numbers n (numberedTrees n m a.count a.numbers is table).nets
+  pub gates : GatesPut n a.count a.gates (numbered_trees n m a.count a.numbers is table).gates b.count b.gates
+  pub nets : b.numbers ≡ placed a.numbers n (numbered_trees n m a.count a.numbers is table).nets
 
 -- ---- a patch
 
 -- the part of a job that fit reads: inputs, targets, old gates and old outputs
-abbrev pub oldJob : ℕ → ℕ → List Gate → List ℕ → Job
-oldJob n m gs os =
+abbrev pub old_job : ℕ → ℕ → List Gate → List ℕ → Job
+old_job n m gs os =
     record {
       inputs = n;
       targets = m;
@@ -49,8 +49,8 @@ oldJob n m gs os =
       candidates = [];
     }
 
-abbrev pub sideJob : OldSide → List ℕ → Job
-sideJob o os = oldJob o.inputs o.targets (oldGates o) os
+abbrev pub side_job : OldSide → List ℕ → Job
+side_job o os = old_job o.inputs o.targets (old_gates o) os
 
 -- .. with a support of nets that no target leads to and a table over it
 pub record Fittable (o : OldSide) (s : Support) (table : List ℕ) : Type 0 where
@@ -58,17 +58,17 @@ pub record Fittable (o : OldSide) (s : Support) (table : List ℕ) : Type 0 wher
   pub few : s.len ≤ 10
   pub long : s.len ≤ length s.nets
   pub entries : 2 ^ s.len ≤ length table
-  pub free : (i : ℕ) → Mem i (take s.len s.nets) → (i < oldNets (sideJob o [])) × (netAt (led (sideJob o [])) i ≡ 0)
+  pub free : (i : ℕ) → Mem i (take s.len s.nets) → (i < old_nets (side_job o [])) × (net_at (led (side_job o [])) i ≡ 0)
 
 -- the gates that the patched netlist has
-abbrev pub patchedCount : OldSide → Support → List ℕ → ℕ
-patchedCount o s table = o.count + treesSize o.targets 0 s.len table
+abbrev pub patched_count : OldSide → Support → List ℕ → ℕ
+patched_count o s table = o.count + trees_size o.targets 0 s.len table
 
 -- all of them stand at the start of the places, and each old net has its number
 pub record GatesPlaced (j : Job) (is table : List ℕ) (r : NewSide) : Type 0 where
   pub count : r.count ≡ length (fitted j is table).gates
-  pub gates : take r.count r.gates ≡ packedFrom j.inputs (fitted j is table).gates
-  pub numbers : (i : ℕ) → i < oldNets j → get_or r.numbers i 0 ≡ netAt (newNets j is table) i
+  pub gates : take r.count r.gates ≡ packed_from j.inputs (fitted j is table).gates
+  pub numbers : (i : ℕ) → i < old_nets j → get_or r.numbers i 0 ≡ net_at (new_nets j is table) i
 
 -- ---- replies
 
@@ -77,15 +77,15 @@ pub record FitGives (number : ℕ) (bytes d : List ℕ) (r : FitReply) (e : List
   pub reply : r ≡ record { number = number; len = cond (eqb number 0) (length bytes) 0 }
   pub buffer : e ≡ cond (eqb number 0) (placed d 0 bytes) d
 
-abbrev pub patchNumber : Job → List ℕ → List ℕ → ℕ
-patchNumber j is t = cond (fits j is t) 0 9
+abbrev pub patch_number : Job → List ℕ → List ℕ → ℕ
+patch_number j is t = cond (fits j is t) 0 9
 
 -- the number for a good job j and a sheet's bytes p
-unfoldable pub sheetFitNumber : Job → List ℕ → ℕ
-sheetFitNumber j p =
+unfoldable pub sheet_fit_number : Job → List ℕ → ℕ
+sheet_fit_number j p =
     let patch = patch_of p in
-    firstFailing
-    (sheetTests j.targets j.candidates p
+    first_failing
+    (sheet_tests j.targets j.candidates p
     ++ (record { number = 9; passes = fits j patch.support patch.table } ∷ []))
 
 -- the old side of the job j
@@ -94,9 +94,9 @@ pub record OldOf (j : Job) (o : OldSide) : Type 0 where
   pub targets : o.targets ≡ j.targets
   pub count : o.count ≡ length j.old.gates
   pub long : length o.gates ≡ 800
-  pub gates : take o.count o.gates ≡ packedFrom (j.inputs + j.targets) j.old.gates
+  pub gates : take o.count o.gates ≡ packed_from (j.inputs + j.targets) j.old.gates
   pub forms : all formed j.old.gates ≡ true
-  pub marks : (i : ℕ) → i < oldNets j → get_or o.marks i 0 ≡ netAt (led j) i
+  pub marks : (i : ℕ) → i < old_nets j → get_or o.marks i 0 ≡ net_at (led j) i
 
 -- .. and its parts, of some good job
 pub record FitReady (o : OldSide) (p : JobParts) : Type 0 where

@@ -9,20 +9,20 @@ use Rattle.std.specs.Prelude.{ℕ, ◌+◌, ◌-◌, ◌*◌, ◌/◌, ◌%◌, 
 use Rattle.records.specs.Job.{Job}
 use Rattle.engine.specs.Choice.{any}
 use Rattle.engine.specs.Rectify.{rectifies}
-use Rattle.engine.specs.Support.{candidateNets}
+use Rattle.engine.specs.Support.{candidate_nets}
 use Rattle.engine.specs.Inner.Masks.{rectifiers}
-use Rattle.engine.specs.Inner.List.{Held, listed_of, listedFrom, startList}
-use Rattle.engine.specs.Inner.Note.{gathered, maxReadings}
+use Rattle.engine.specs.Inner.List.{Held, listed_of, listed_from, start_list}
+use Rattle.engine.specs.Inner.Note.{gathered, max_readings}
 use Rattle.engine.specs.Inner.Plan.{BlockFree, PlannedOf, TurnsOf}
 use Rattle.engine.specs.declared.list.Vectors.{Vectors}
 use Rattle.engine.specs.declared.plan.Plan.{Plan}
 
 abbrev pub ListTo : Job → ℕ → Vectors → Type 0
-ListTo j x v = listed_of v ≡ listedFrom (rectifiers j) startList 0 x
+ListTo j x v = listed_of v ≡ listed_from (rectifiers j) start_list 0 x
 
 -- an entry holds two vectors, the second 16 times
 pub record OfListed (v : Vectors) (t : List ℕ) : Type 0 where
-  pub long : length t ≡ maxReadings
+  pub long : length t ≡ max_readings
   pub first : (r : ℕ) → (get_or t r 0 % 16 ≡ 0) ⊎ (any (eqb (get_or t r 0 % 16)) (listed_of v).vectors ≡ true)
   pub second : (r : ℕ) → (get_or t r 0 / 16 % 16 ≡ 0) ⊎ (any (eqb (get_or t r 0 / 16 % 16)) (listed_of v).vectors ≡ true)
 
@@ -43,5 +43,5 @@ BlockShown p gates before v count =
 
 pub record BlockListed (p : Plan) (gates : List ℕ) (b : ℕ) (before after : Vectors) : Type 0 where
   pub held : Held after
-  pub listed : (j : Job) → TurnsOf j (candidateNets j) p gates → ListTo j (1024 * b) before
+  pub listed : (j : Job) → TurnsOf j (candidate_nets j) p gates → ListTo j (1024 * b) before
       → ListTo j (1024 * b + min (2 ^ p.inputs - 1024 * b) 1024) after

@@ -14,11 +14,11 @@
 --   Unrefuted p gates c d   d has the readings of c that values of the gates give
 use Rattle.std.specs.Prelude.{ℕ, ◌+◌, ◌≤◌, ◌<◌, ◌≡◌, List, map, Bool, true, eqb, get_or, take}
 use Rattle.records.specs.Bytes.{all}
-use Rattle.records.specs.Netlist.{netAt}
+use Rattle.records.specs.Netlist.{net_at}
 use Rattle.engine.specs.Eval.{bit, number_of}
 use Rattle.engine.specs.Inner.Cover.{InCube, CoverHeld, InCover}
-use Rattle.engine.specs.Inner.Packed.{own, operation, operandsOf, folded, codeValue}
-use Rattle.engine.specs.Inner.Ranges.{codeTernary}
+use Rattle.engine.specs.Inner.Packed.{own, operation, operands_of, folded, code_value}
+use Rattle.engine.specs.Inner.Ranges.{code_ternary}
 use Rattle.engine.specs.declared.cover.Cover.{Cover}
 use Rattle.engine.specs.declared.plan.Plan.{Plan}
 
@@ -26,43 +26,43 @@ abbrev pub Binary : List ℕ → Type 0
 Binary vs = (i : ℕ) → get_or vs i 0 < 2
 
 abbrev pub Implied : List ℕ → List ℕ → Type 0
-Implied known vs = (i : ℕ) → i < 1024 → get_or known i 0 < 2 → netAt vs i ≡ get_or known i 0
+Implied known vs = (i : ℕ) → i < 1024 → get_or known i 0 < 2 → net_at vs i ≡ get_or known i 0
 
 pub record Learns (P : List ℕ → Type 0) (before : List ℕ) (r : Bool) (after : List ℕ) : Type 0 where
   pub well : (vs : List ℕ) → Implied before vs → P vs → r ≡ true
   pub more : (vs : List ℕ) → Implied before vs → P vs → Implied after vs
 
 abbrev pub AllHave : ℕ → List ℕ → List ℕ → Type 0
-AllHave v is vs = all (λ i. eqb (netAt vs i) v) is ≡ true
+AllHave v is vs = all (λ i. eqb (net_at vs i) v) is ≡ true
 
 abbrev pub Forces : ℕ → ℕ → Type 0
-Forces c v = (vs : List ℕ) → Binary vs → folded (operation c) (map (netAt vs) (operandsOf c)) ≡ v → AllHave v (operandsOf c) vs
+Forces c v = (vs : List ℕ) → Binary vs → folded (operation c) (map (net_at vs) (operands_of c)) ≡ v → AllHave v (operands_of c) vs
 
 pub record GateHas (c : ℕ) (vs : List ℕ) : Type 0 where
   pub binary : Binary vs
-  pub value : netAt vs (own c) ≡ codeValue vs c
-  pub known : (ks : List ℕ) → Implied ks vs → codeTernary ks c < 2 → netAt vs (own c) ≡ codeTernary ks c
+  pub value : net_at vs (own c) ≡ code_value vs c
+  pub known : (ks : List ℕ) → Implied ks vs → code_ternary ks c < 2 → net_at vs (own c) ≡ code_ternary ks c
 
 abbrev pub ValuesOf : List ℕ → ℕ → List ℕ → Type 0
 ValuesOf cs n vs = Binary vs × ((i : ℕ) → i < n → GateHas (get_or cs i 0) vs)
 
 abbrev pub CubeHas : List ℕ → ℕ → ℕ → ℕ → List ℕ → Type 0
-CubeHas nets reads value care vs = (k : ℕ) → k < reads → bit k care ≡ 1 → netAt vs (get_or nets k 0) ≡ bit k value
+CubeHas nets reads value care vs = (k : ℕ) → k < reads → bit k care ≡ 1 → net_at vs (get_or nets k 0) ≡ bit k value
 
 pub record NoneGives (p : Plan) (gates : List ℕ) (c : Cover) : Type 0 where
   pub held : CoverHeld c
   pub none : (vs : List ℕ) → ValuesOf gates (get_or p.ends 0 0) vs
-      → InCover c (number_of (map (netAt vs) (take p.reads p.nets))) → ⊥
+      → InCover c (number_of (map (net_at vs) (take p.reads p.nets))) → ⊥
 
 pub record CubeSorted (p : Plan) (gates : List ℕ) (value care : ℕ) (c d : Cover) : Type 0 where
   pub held : CoverHeld d
   pub count : d.count ≤ c.count + 1
   pub kept : (r : ℕ) → InCover c r → InCover d r
   pub left : (vs : List ℕ) → ValuesOf gates (get_or p.ends 0 0) vs
-      → InCube value care (number_of (map (netAt vs) (take p.reads p.nets)))
-      → InCover d (number_of (map (netAt vs) (take p.reads p.nets)))
+      → InCube value care (number_of (map (net_at vs) (take p.reads p.nets)))
+      → InCover d (number_of (map (net_at vs) (take p.reads p.nets)))
 
 pub record Unrefuted (p : Plan) (gates : List ℕ) (c d : Cover) : Type 0 where
   pub held : CoverHeld d
   pub left : (vs : List ℕ) → ValuesOf gates (get_or p.ends 0 0) vs
-      → InCover c (number_of (map (netAt vs) (take p.reads p.nets))) → InCover d (number_of (map (netAt vs) (take p.reads p.nets)))
+      → InCover c (number_of (map (net_at vs) (take p.reads p.nets))) → InCover d (number_of (map (net_at vs) (take p.reads p.nets)))

@@ -2,9 +2,9 @@
 -- No public contract cites this file. Assumes nothing.
 --
 --   lowest s                     the smallest vector of the set s
---   listStep l s x               the vector list after input x, which the vectors s rectify
---   listedFrom f l x k           .. after the k inputs from x on, where f says what rectifies each
---   startList                    what the walk starts from
+--   list_step l s x               the vector list after input x, which the vectors s rectify
+--   listed_from f l x k           .. after the k inputs from x on, where f says what rectifies each
+--   start_list                    what the walk starts from
 --   listed_of v, Held v           the vector list that a struct holds; its places hold vectors
 --   Appended, Stepped            what the code gives for one vector more, and for one input
 use Rattle.std.specs.Prelude.{ℕ, zero, suc, ◌+◌, ◌-◌, ◌≤◌, ◌<◌, ◌≡◌, [], ◌∷◌, ◌++◌, true, false, cond, eqb, ltb, length, get_or, take, set}
@@ -17,17 +17,17 @@ use Rattle.engine.specs.declared.list.Vectors.{Vectors}
 
 -- ---- sets of vectors
 
-abbrev pub maxVectors : ℕ
-maxVectors = 16
+abbrev pub max_vectors : ℕ
+max_vectors = 16
 
 unfoldable pub lowest : ℕ → Option ℕ
-lowest s = first (λ v. eqb (bit v s) 1) (up_from 0 maxVectors)
+lowest s = first (λ v. eqb (bit v s) 1) (up_from 0 max_vectors)
 
 -- ---- the vector list
 
 -- the list is full at 16 vectors, and never needs more
-unfoldable pub listStep : Listed → ℕ → ℕ → Listed
-listStep l s x =
+unfoldable pub list_step : Listed → ℕ → ℕ → Listed
+list_step l s x =
     elim l.stuck [
       | some y ↦ l
       | none ↦
@@ -37,25 +37,25 @@ listStep l s x =
                 elim (lowest s) [
                   | none ↦ record { vectors = l.vectors; stuck = some x }
                   | some v ↦
-                      elim (ltb (length l.vectors) maxVectors)
+                      elim (ltb (length l.vectors) max_vectors)
                       [ true ↦ record { vectors = l.vectors ++ (v ∷ []); stuck = none } | false ↦ l ]
                 ]
           ]
     ]
 
-unfoldable pub listedFrom : (ℕ → ℕ) → Listed → ℕ → ℕ → Listed
-listedFrom f l x zero = l
-listedFrom f l x (suc k) = listedFrom f (listStep l (f x) x) (suc x) k
+unfoldable pub listed_from : (ℕ → ℕ) → Listed → ℕ → ℕ → Listed
+listed_from f l x zero = l
+listed_from f l x (suc k) = listed_from f (list_step l (f x) x) (suc x) k
 
-abbrev pub startList : Listed
-startList = record { vectors = 0 ∷ []; stuck = none }
+abbrev pub start_list : Listed
+start_list = record { vectors = 0 ∷ []; stuck = none }
 
 unfoldable pub listed_of : Vectors → Listed
 listed_of v = record { vectors = take v.len v.list; stuck = cond v.stuck (some v.input) none }
 
 pub record Held (v : Vectors) : Type 0 where
-  pub long : v.len ≤ maxVectors
-  pub below : (i : ℕ) → get_or v.list i 0 < maxVectors
+  pub long : v.len ≤ max_vectors
+  pub below : (i : ℕ) → get_or v.list i 0 < max_vectors
 
 pub record Appended (v : Vectors) (x : ℕ) (after : Vectors) : Type 0 where
   pub held : Held after
@@ -63,4 +63,4 @@ pub record Appended (v : Vectors) (x : ℕ) (after : Vectors) : Type 0 where
 
 pub record Stepped (v : Vectors) (s x : ℕ) (after : Vectors) : Type 0 where
   pub held : Held after
-  pub listed : listed_of after ≡ listStep (listed_of v) s x
+  pub listed : listed_of after ≡ list_step (listed_of v) s x

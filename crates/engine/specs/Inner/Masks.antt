@@ -7,11 +7,11 @@
 --   rank u v         the step at which vector v comes, below 16
 --   turns u s        the target that step s sets anew, from step 1 on
 --   Among m u        target u is one of m, or 0
---   maskAt ..        what the row of vector v says of input x once the steps below s are done
+--   mask_at ..        what the row of vector v says of input x once the steps below s are done
 use Rattle.std.specs.Prelude.{ℕ, ◌+◌, ◌/◌, ◌^◌, ◌<◌, ◌-◌, ◌≡◌, ◌⊎◌, [], ◌∷◌, map, cond, ◌&&◌, eqb, ltb, get_or, set}
 use Rattle.std.specs.Int.Bits.{bit_xor}
 use Rattle.records.specs.Job.{Job}
-use Rattle.engine.specs.Eval.{bit, number_of, allVectors}
+use Rattle.engine.specs.Eval.{bit, number_of, all_vectors}
 use Rattle.engine.specs.Rectify.{rectifies}
 
 unfoldable pub swapped : ℕ → ℕ → ℕ
@@ -31,8 +31,8 @@ turns u s =
 abbrev pub Among : ℕ → ℕ → Type 0
 Among m u = (u ≡ 0) ⊎ (u < m)
 
-unfoldable pub maskAt : Job → ℕ → ℕ → ℕ → ℕ → ℕ
-maskAt j x u s v = cond (ltb (rank u v) s && rectifies j x v) 1 0
+unfoldable pub mask_at : Job → ℕ → ℕ → ℕ → ℕ → ℕ
+mask_at j x u s v = cond (ltb (rank u v) s && rectifies j x v) 1 0
 
 unfoldable pub rectifiers : Job → ℕ → ℕ
-rectifiers j x = number_of (map (λ v. cond (rectifies j x v) 1 0) (allVectors j))
+rectifiers j x = number_of (map (λ v. cond (rectifies j x v) 1 0) (all_vectors j))

@@ -13,31 +13,31 @@ use Rattle.std.specs.Prelude.{ℕ, ◌+◌, ◌≤◌, ◌<◌, ◌≡◌, List,
 use Rattle.records.specs.Bytes.{all}
 use Rattle.records.specs.Claims.{Below}
 use Rattle.records.specs.Gate.{Gate}
-use Rattle.records.specs.Netlist.{netAt, extended}
-use Rattle.records.specs.Refusal.{gatesGood}
+use Rattle.records.specs.Netlist.{net_at, extended}
+use Rattle.records.specs.Refusal.{gates_good}
 use Rattle.engine.specs.Choice.{same}
-use Rattle.engine.specs.Inner.Packed.{packedFrom, formed}
-use Rattle.engine.specs.Inner.Miter.{onOperands, SameGates}
+use Rattle.engine.specs.Inner.Packed.{packed_from, formed}
+use Rattle.engine.specs.Inner.Miter.{on_operands, SameGates}
 use Rattle.engine.specs.Inner.Tree.{Nets}
 use Rattle.engine.specs.declared.merge.MergedGates.{MergedGates}
 use Rattle.engine.specs.declared.merge.Pairs.{Pairs}
 
 pub record Packs (d n : ℕ) (cs : List ℕ) (gs : List Gate) : Type 0 where
   pub count : n ≡ length gs
-  pub good : gatesGood d gs ≡ true
+  pub good : gates_good d gs ≡ true
   pub forms : all formed gs ≡ true
-  pub gates : take n cs ≡ packedFrom d gs
+  pub gates : take n cs ≡ packed_from d gs
 
 pub record StandsFor (d : ℕ) (gs : List Gate) (i k : ℕ) : Type 0 where
   pub before : k ≤ i
   pub same : (F : ℕ → List ℕ → ℕ) (leaves : List ℕ) → length leaves ≡ d
-      → netAt (extended (onOperands F) leaves gs) k ≡ netAt (extended (onOperands F) leaves gs) i
+      → net_at (extended (on_operands F) leaves gs) k ≡ net_at (extended (on_operands F) leaves gs) i
 
 pub record MergedIn (d n : ℕ) (gs : List Gate) (cs ns : List ℕ) : Type 0 where
   pub merged : List Gate
   pub same : SameGates d gs merged
-  pub gates : take n cs ≡ packedFrom d merged
-  pub stands : (i : ℕ) → i < d + n → StandsFor d gs i (netAt ns i)
+  pub gates : take n cs ≡ packed_from d merged
+  pub stands : (i : ℕ) → i < d + n → StandsFor d gs i (net_at ns i)
 
 pub record GatesMerged (d n : ℕ) (cs : List ℕ) (r : MergedGates) : Type 0 where
   pub long : length r.gates ≡ 800

@@ -1,14 +1,14 @@
 -- One netlist of both circuits (the field's miter): inputs, targets, old gates, golden gates (src/miter.rt). No public contract cites
 -- this file. Assumes nothing.
 --
---   shiftedNet n s i     golden net i in the miter: an input keeps its number, a gate's net stands s further on
+--   shifted_net n s i     golden net i in the miter: an input keeps its number, a gate's net stands s further on
 --   shifted n s g        golden gate g there: its used operands shifted
 --   shift_of j            by how much
---   miterGates j, miterGoldens j     the gates of both netlists, old first; the golden outputs' nets
---   miterNets j          how many nets
---   miterValues j x v    the value of each net at input x and vector v
+--   miter_gates j, miter_goldens j     the gates of both netlists, old first; the golden outputs' nets
+--   miter_nets j          how many nets
+--   miter_values j x v    the value of each net at input x and vector v
 --   codes j              the gates packed
---   onOperands F vs g    F of gate g's kind and of what vs has at its operands
+--   on_operands F vs g    F of gate g's kind and of what vs has at its operands
 --   SameGates d gs hs    the gates hs may stand for the gates gs, over d leaves: whatever depends on a gate's kind and on what its operands
 --                        have comes out the same at every net
 --   GateFits g s         gate g, its used operands shifted by s, fits into one number
@@ -23,10 +23,10 @@
 use Rattle.std.specs.Prelude.{ℕ, ◌+◌, ◌≤◌, ◌<◌, ◌≡◌, List, ◌++◌, map, true, cond, ltb, length, get_or, take}
 use Rattle.records.specs.Bytes.{all}
 use Rattle.records.specs.Gate.{Gate, operands, unused}
-use Rattle.records.specs.Netlist.{netAt, extended, values}
-use Rattle.records.specs.Refusal.{gatesGood}
+use Rattle.records.specs.Netlist.{net_at, extended, values}
+use Rattle.records.specs.Refusal.{gates_good}
 use Rattle.records.specs.Job.{Job}
-use Rattle.records.specs.Service.{structSlots, gatesIn, noGate}
+use Rattle.records.specs.Service.{struct_slots, gates_in, no_gate}
 use Rattle.records.specs.Claims.{Below, PartsGood}
 use Rattle.records.specs.Parts.{PartsOf}
 use Rattle.records.specs.declared.gate.Gate.{Gate as GateStruct}
@@ -34,51 +34,51 @@ use Rattle.records.specs.declared.loading.JobParts.{JobParts}
 use Rattle.engine.specs.Choice.{same}
 use Rattle.engine.specs.Eval.{bits}
 use Rattle.engine.specs.Rectify.{rectifies}
-use Rattle.engine.specs.Inner.Packed.{packedFrom, formed}
+use Rattle.engine.specs.Inner.Packed.{packed_from, formed}
 use Rattle.engine.specs.declared.miter.Miter.{Miter}
 
-unfoldable pub shiftedNet : ℕ → ℕ → ℕ → ℕ
-shiftedNet n s i = cond (ltb i n) i (i + s)
+unfoldable pub shifted_net : ℕ → ℕ → ℕ → ℕ
+shifted_net n s i = cond (ltb i n) i (i + s)
 
 unfoldable pub shifted : ℕ → ℕ → Gate → Gate
-shifted n s g = record { kind = g.kind; count = g.count; slots = map (shiftedNet n s) (operands g) ++ unused g }
+shifted n s g = record { kind = g.kind; count = g.count; slots = map (shifted_net n s) (operands g) ++ unused g }
 
 unfoldable pub shift_of : Job → ℕ
 shift_of j = j.targets + length j.old.gates
 
-unfoldable pub miterGates : Job → List Gate
-miterGates j = j.old.gates ++ map (shifted j.inputs (shift_of j)) j.golden.gates
+unfoldable pub miter_gates : Job → List Gate
+miter_gates j = j.old.gates ++ map (shifted j.inputs (shift_of j)) j.golden.gates
 
-unfoldable pub miterGoldens : Job → List ℕ
-miterGoldens j = map (shiftedNet j.inputs (shift_of j)) j.golden.outputs
+unfoldable pub miter_goldens : Job → List ℕ
+miter_goldens j = map (shifted_net j.inputs (shift_of j)) j.golden.outputs
 
-unfoldable pub miterNets : Job → ℕ
-miterNets j = j.inputs + j.targets + length (miterGates j)
+unfoldable pub miter_nets : Job → ℕ
+miter_nets j = j.inputs + j.targets + length (miter_gates j)
 
-unfoldable pub miterValues : Job → ℕ → ℕ → List ℕ
-miterValues j x v = values (bits j.inputs x ++ bits j.targets v) (miterGates j)
+unfoldable pub miter_values : Job → ℕ → ℕ → List ℕ
+miter_values j x v = values (bits j.inputs x ++ bits j.targets v) (miter_gates j)
 
 unfoldable pub codes : Job → List ℕ
-codes j = packedFrom (j.inputs + j.targets) (miterGates j)
+codes j = packed_from (j.inputs + j.targets) (miter_gates j)
 
 -- ---- gates that stand for others
 
-abbrev pub onOperands : (ℕ → List ℕ → ℕ) → List ℕ → Gate → ℕ
-onOperands F vs g = F g.kind (map (netAt vs) (operands g))
+abbrev pub on_operands : (ℕ → List ℕ → ℕ) → List ℕ → Gate → ℕ
+on_operands F vs g = F g.kind (map (net_at vs) (operands g))
 
 pub record SameGates (d : ℕ) (gs hs : List Gate) : Type 0 where
   pub long : length hs ≡ length gs
-  pub good : gatesGood d hs ≡ true
+  pub good : gates_good d hs ≡ true
   pub forms : all formed hs ≡ true
   pub same : (F : ℕ → List ℕ → ℕ) (leaves : List ℕ) → length leaves ≡ d
-      → extended (onOperands F) leaves hs ≡ extended (onOperands F) leaves gs
+      → extended (on_operands F) leaves hs ≡ extended (on_operands F) leaves gs
 
 -- ---- the struct
 
 pub record GateFits (g : GateStruct) (s : ℕ) : Type 0 where
   pub kind : g.kind < 10
   pub count : g.count ≤ 4
-  pub slots : (i : ℕ) → get_or (structSlots g) i 0 + s < 1024
+  pub slots : (i : ℕ) → get_or (struct_slots g) i 0 + s < 1024
 
 pub record GatesFit (gs : List GateStruct) (k s base at : ℕ) (out : List ℕ) : Type 0 where
   pub held : length gs ≡ 400
@@ -86,11 +86,11 @@ pub record GatesFit (gs : List GateStruct) (k s base at : ℕ) (out : List ℕ) 
   pub few : k ≤ 400
   pub room : at + k ≤ 800
   pub nets : base + k ≤ 1024
-  pub gates : (i : ℕ) → i < k → GateFits (get_or gs i noGate) s
+  pub gates : (i : ℕ) → i < k → GateFits (get_or gs i no_gate) s
 
 pub record CodesPut (gs : List GateStruct) (k n s base at : ℕ) (before after : List ℕ) : Type 0 where
   pub long : length after ≡ 800
-  pub codes : take (at + k) after ≡ take at before ++ packedFrom base (map (shifted n s) (gatesIn k gs))
+  pub codes : take (at + k) after ≡ take at before ++ packed_from base (map (shifted n s) (gates_in k gs))
 
 pub record NetsFit (is : List ℕ) (k s : ℕ) : Type 0 where
   pub held : length is ≡ 32
@@ -100,7 +100,7 @@ pub record NetsFit (is : List ℕ) (k s : ℕ) : Type 0 where
 pub record NetsShifted (is : List ℕ) (k n s : ℕ) (r : List ℕ) : Type 0 where
   pub long : length r ≡ 32
   pub below : Below 1024 r
-  pub nets : take k r ≡ map (shiftedNet n s) (take k is)
+  pub nets : take k r ≡ map (shifted_net n s) (take k is)
 
 pub record SomeParts (p : JobParts) : Type 0 where
   pub job : Job
@@ -118,27 +118,27 @@ pub record MiterRoom (m : Miter) : Type 0 where
 
 pub record MiterOf (j : Job) (m : Miter) : Type 0 where
   pub good : PartsGood j
-  pub forms : all formed (miterGates j) ≡ true
+  pub forms : all formed (miter_gates j) ≡ true
   pub inputs : m.inputs ≡ j.inputs
   pub targets : m.targets ≡ j.targets
-  pub count : m.count ≡ length (miterGates j)
+  pub count : m.count ≡ length (miter_gates j)
   pub gates : take m.count m.gates ≡ codes j
   pub outs : m.outs ≡ length j.old.outputs
   pub outputs : take m.outs m.outputs ≡ j.old.outputs
-  pub goldens : take m.outs m.goldens ≡ miterGoldens j
+  pub goldens : take m.outs m.goldens ≡ miter_goldens j
 
 -- .. and nets of the miter
 pub record PairsOf (j : Job) (os gs : List ℕ) : Type 0 where
-  pub olds : all (λ i. ltb i (miterNets j)) os ≡ true
-  pub goldens : all (λ i. ltb i (miterNets j)) gs ≡ true
-  pub equal : (x v : ℕ) → same (map (netAt (miterValues j x v)) os) (map (netAt (miterValues j x v)) gs) ≡ rectifies j x v
+  pub olds : all (λ i. ltb i (miter_nets j)) os ≡ true
+  pub goldens : all (λ i. ltb i (miter_nets j)) gs ≡ true
+  pub equal : (x v : ℕ) → same (map (net_at (miter_values j x v)) os) (map (net_at (miter_values j x v)) gs) ≡ rectifies j x v
 
 pub record MergedOf (j : Job) (m : Miter) : Type 0 where
   pub good : PartsGood j
   pub inputs : m.inputs ≡ j.inputs
   pub targets : m.targets ≡ j.targets
-  pub count : m.count ≡ length (miterGates j)
+  pub count : m.count ≡ length (miter_gates j)
   pub merged : List Gate
-  pub same : SameGates (j.inputs + j.targets) (miterGates j) merged
-  pub gates : take m.count m.gates ≡ packedFrom (j.inputs + j.targets) merged
+  pub same : SameGates (j.inputs + j.targets) (miter_gates j) merged
+  pub gates : take m.count m.gates ≡ packed_from (j.inputs + j.targets) merged
   pub pairs : PairsOf j (take m.outs m.outputs) (take m.outs m.goldens)

@@ -2,7 +2,7 @@
 -- at 16 * i + w; what row i says of input y of the block is its value in scenario y. No public contract cites this file. Assumes nothing.
 --
 --   narrowed ss r s              the sets ss with the one of reading r cut down to its part in s
---   setsFrom f g ss x k          .. after the k inputs from x on, where g says the reading of each
+--   sets_from f g ss x k          .. after the k inputs from x on, where g says the reading of each
 --   gathered x y     the number whose bit i is what row i of x says of scenario y
 --   ColumnMet ..     the sets after the 64 scenarios of a column
 --   filled count     how many scenarios the columns of 64 have that count inputs fill
@@ -16,30 +16,30 @@ use Rattle.records.specs.Bytes.{tabulate}
 use Rattle.engine.specs.Choice.{any, first}
 use Rattle.engine.specs.Eval.{bit, number_of}
 use Rattle.engine.specs.declared.list.Vectors.{Vectors}
-use Rattle.engine.specs.Inner.List.{listed_of, listedFrom, Held}
-use Rattle.engine.specs.Inner.Kernel.{rowValue, valueIn}
+use Rattle.engine.specs.Inner.List.{listed_of, listed_from, Held}
+use Rattle.engine.specs.Inner.Kernel.{row_value, value_in}
 use Rattle.engine.specs.Inner.Turn.{TurnedAt}
 
-abbrev pub maxReadings : ℕ
-maxReadings = 1024
+abbrev pub max_readings : ℕ
+max_readings = 1024
 
 -- ---- the sets of all readings
 
 unfoldable pub narrowed : List ℕ → ℕ → ℕ → List ℕ
 narrowed ss r s = set ss r (bit_and (get_or ss r 0) s)
 
-unfoldable pub setsFrom : (ℕ → ℕ) → (ℕ → ℕ) → List ℕ → ℕ → ℕ → List ℕ
-setsFrom f g ss x zero = ss
-setsFrom f g ss x (suc k) = setsFrom f g (narrowed ss (g x) (f x)) (suc x) k
+unfoldable pub sets_from : (ℕ → ℕ) → (ℕ → ℕ) → List ℕ → ℕ → ℕ → List ℕ
+sets_from f g ss x zero = ss
+sets_from f g ss x (suc k) = sets_from f g (narrowed ss (g x) (f x)) (suc x) k
 
 unfoldable pub gathered : List ℕ → ℕ → ℕ
-gathered x y = number_of (tabulate 16 (valueIn x y))
+gathered x y = number_of (tabulate 16 (value_in x y))
 
 -- the sets ts after column w, from the sets ss: the columns w of ms and of rs are turned ones of masks x and readings y
 abbrev pub ColumnMet : List ℕ → List ℕ → ℕ → List ℕ → List ℕ → Type 0
 ColumnMet ms rs w ss ts =
     (x y : List ℕ) → TurnedAt x ms w → TurnedAt y rs w
-    → ts ≡ setsFrom (gathered x) (λ s. gathered y s % 1024) ss (64 * w) 64
+    → ts ≡ sets_from (gathered x) (λ s. gathered y s % 1024) ss (64 * w) 64
 
 abbrev pub filled : ℕ → ℕ
 filled count = 64 * ((count + 63) / 64)
@@ -50,7 +50,7 @@ Covered masks vs y = any (λ v. eqb (bit v (gathered masks y)) 1) vs ≡ true
 
 -- .. of each scenario of which the row says 1
 abbrev pub Joined : List ℕ → List ℕ → List ℕ → Type 0
-Joined masks vs row = (y : ℕ) → y < 1024 → rowValue row y ≡ 1 → Covered masks vs y
+Joined masks vs row = (y : ℕ) → y < 1024 → row_value row y ≡ 1 → Covered masks vs y
 
 -- .. of each scenario from y on to r, for the list that a struct holds
 pub record CoveredTo (masks : List ℕ) (v : Vectors) (y r : ℕ) : Type 0 where
@@ -64,4 +64,4 @@ Gathers masks first count f = (y : ℕ) → y < count → gathered masks y ≡ f
 -- the list w after the count inputs from first on, from the list v
 pub record ListNoted (masks : List ℕ) (first count : ℕ) (v w : Vectors) : Type 0 where
   pub held : Held w
-  pub listed : (f : ℕ → ℕ) → Gathers masks first count f → listed_of w ≡ listedFrom f (listed_of v) first count
+  pub listed : (f : ℕ → ℕ) → Gathers masks first count f → listed_of w ≡ listed_from f (listed_of v) first count

@@ -1,21 +1,21 @@
 -- Gates in one number, and their values on 0 and 1 (src/packed.rt). No public contract cites this file. Assumes nothing.
 --
 --   fields n x       n numbers of ten bits each, the lowest first
---   kind_of c, count_of c, own c, operandsOf c     a packed gate's parts, from its lowest bit on: its kind (4 bits), how many operands
+--   kind_of c, count_of c, own c, operands_of c     a packed gate's parts, from its lowest bit on: its kind (4 bits), how many operands
 --                    it has (3), the net that it drives (10), the nets of its operands (10 each)
---   slotsNumber ss   operand slots as one number, ten bits each
---   gateWith k n ss  the gate of kind k with n operands and the slots ss
+--   slots_number ss   operand slots as one number, ten bits each
+--   gate_with k n ss  the gate of kind k with n operands and the slots ss
 --   packed d g       gate g, driving net d, in one number
---   packedFrom d gs  the gates gs, which drive d, d + 1, ..
+--   packed_from d gs  the gates gs, which drive d, d + 1, ..
 --   formed g         gate g has all its operand slots
 --   operation c, inverts c     a kind is an operation (from 2 on: and, or, parity) and, if it is odd, an inversion
 --   joined op x y    the operation on two values
 --   folded op vs     the operation over the values vs, first to last; 0 of none
---   codeValue vs c   the value of the packed gate c where the nets have the values vs
+--   code_value vs c   the value of the packed gate c where the nets have the values vs
 --   evaluated F vs cs     what is known of the nets once the packed gates cs, one after the other, have set their own by F
 use Rattle.std.specs.Prelude.{ℕ, zero, suc, ◌+◌, ◌*◌, ◌/◌, ◌%◌, min, max, List, [], ◌∷◌, map, Bool, cond, eqb, length, set}
-use Rattle.records.specs.Gate.{Gate, slotCount}
-use Rattle.records.specs.Netlist.{netAt}
+use Rattle.records.specs.Gate.{Gate, slot_count}
+use Rattle.records.specs.Netlist.{net_at}
 
 unfoldable pub fields : ℕ → ℕ → List ℕ
 fields zero x = []
@@ -30,25 +30,25 @@ count_of c = c / 16 % 8
 abbrev pub own : ℕ → ℕ
 own c = c / 128 % 1024
 
-abbrev pub operandsOf : ℕ → List ℕ
-operandsOf c = fields (count_of c) (c / 131072)
+abbrev pub operands_of : ℕ → List ℕ
+operands_of c = fields (count_of c) (c / 131072)
 
-unfoldable pub slotsNumber : List ℕ → ℕ
-slotsNumber [] = 0
-slotsNumber (s ∷ ss) = s + 1024 * slotsNumber ss
+unfoldable pub slots_number : List ℕ → ℕ
+slots_number [] = 0
+slots_number (s ∷ ss) = s + 1024 * slots_number ss
 
-abbrev pub gateWith : ℕ → ℕ → List ℕ → Gate
-gateWith k n ss = record { kind = k; count = n; slots = ss }
+abbrev pub gate_with : ℕ → ℕ → List ℕ → Gate
+gate_with k n ss = record { kind = k; count = n; slots = ss }
 
 unfoldable pub packed : ℕ → Gate → ℕ
-packed d g = g.kind + 16 * g.count + 128 * d + 131072 * slotsNumber g.slots
+packed d g = g.kind + 16 * g.count + 128 * d + 131072 * slots_number g.slots
 
-unfoldable pub packedFrom : ℕ → List Gate → List ℕ
-packedFrom d [] = []
-packedFrom d (g ∷ gs) = packed d g ∷ packedFrom (suc d) gs
+unfoldable pub packed_from : ℕ → List Gate → List ℕ
+packed_from d [] = []
+packed_from d (g ∷ gs) = packed d g ∷ packed_from (suc d) gs
 
 unfoldable pub formed : Gate → Bool
-formed g = eqb (length g.slots) slotCount
+formed g = eqb (length g.slots) slot_count
 
 -- ---- values
 
@@ -61,16 +61,16 @@ inverts c = c % 2
 unfoldable pub joined : ℕ → ℕ → ℕ → ℕ
 joined op x y = cond (eqb op 2) (min x y) (cond (eqb op 3) (max x y) ((x + y) % 2))
 
-unfoldable pub foldedFrom : ℕ → ℕ → List ℕ → ℕ
-foldedFrom op x [] = x
-foldedFrom op x (v ∷ vs) = foldedFrom op (joined op x v) vs
+unfoldable pub folded_from : ℕ → ℕ → List ℕ → ℕ
+folded_from op x [] = x
+folded_from op x (v ∷ vs) = folded_from op (joined op x v) vs
 
 unfoldable pub folded : ℕ → List ℕ → ℕ
 folded op [] = 0
-folded op (v ∷ vs) = foldedFrom op v vs
+folded op (v ∷ vs) = folded_from op v vs
 
-unfoldable pub codeValue : List ℕ → ℕ → ℕ
-codeValue vs c = (folded (operation c) (map (netAt vs) (operandsOf c)) + inverts c) % 2
+unfoldable pub code_value : List ℕ → ℕ → ℕ
+code_value vs c = (folded (operation c) (map (net_at vs) (operands_of c)) + inverts c) % 2
 
 unfoldable pub evaluated : (List ℕ → ℕ → ℕ) → List ℕ → List ℕ → List ℕ
 evaluated F vs [] = vs

@@ -19,41 +19,41 @@
 use Rattle.std.specs.Prelude.{ℕ, ◌+◌, ◌*◌, ◌/◌, ◌%◌, ◌^◌, ◌≤◌, ◌<◌, ◌≡◌, ◌↔◌, ◌⊎◌, List, eqb, length, get_or, take, true, cond}
 use Rattle.records.specs.Bytes.{all}
 use Rattle.records.specs.Job.{Job}
-use Rattle.records.specs.Refusal.{candidateGood}
+use Rattle.records.specs.Refusal.{candidate_good}
 use Rattle.engine.specs.Choice.{or_zero}
 use Rattle.engine.specs.Eval.{bit}
-use Rattle.engine.specs.Support.{candidateNets, reading}
-use Rattle.engine.specs.Inner.Cover.{readingIn}
+use Rattle.engine.specs.Support.{candidate_nets, reading}
+use Rattle.engine.specs.Inner.Cover.{reading_in}
 use Rattle.engine.specs.Inner.Masks.{rectifiers}
 use Rattle.engine.specs.Rectify.{rectifies}
-use Rattle.engine.specs.Inner.Kernel.{valueIn, rowValue}
-use Rattle.engine.specs.Inner.List.{maxVectors, lowest}
+use Rattle.engine.specs.Inner.Kernel.{value_in, row_value}
+use Rattle.engine.specs.Inner.List.{max_vectors, lowest}
 use Rattle.engine.specs.Inner.Plan.{BlockAt, BlockFree, ReadsOf, PlannedOf, TurnsOf}
-use Rattle.engine.specs.Inner.Note.{gathered, maxReadings}
+use Rattle.engine.specs.Inner.Note.{gathered, max_readings}
 use Rattle.engine.specs.declared.plan.Plan.{Plan}
 
 pub record SetsTo (j : Job) (x k : ℕ) (ss : List ℕ) : Type 0 where
-  pub long : length ss ≡ maxReadings
-  pub sets : (r v : ℕ) → r < maxReadings → v < maxVectors
+  pub long : length ss ≡ max_readings
+  pub sets : (r v : ℕ) → r < max_readings → v < max_vectors
       → (bit v (get_or ss r 0) ≡ 1)
-      ↔ ((v < 2 ^ j.targets) × ((y : ℕ) → y < x → reading j (candidateNets j) y ≡ r → rectifies j y v ≡ true))
-  pub given : (r : ℕ) → r < maxReadings → bit maxVectors (get_or ss r 0) ≡ 0
-      → (y : ℕ) × (y < x) × (reading j (candidateNets j) y ≡ r)
-  pub unmet : (r : ℕ) → r < maxReadings → bit maxVectors (get_or ss r 0) ≡ 1
-      → (y : ℕ) → y < x → bit (y / 32768) k ≡ 0 → reading j (candidateNets j) y ≡ r → ⊥
+      ↔ ((v < 2 ^ j.targets) × ((y : ℕ) → y < x → reading j (candidate_nets j) y ≡ r → rectifies j y v ≡ true))
+  pub given : (r : ℕ) → r < max_readings → bit max_vectors (get_or ss r 0) ≡ 0
+      → (y : ℕ) × (y < x) × (reading j (candidate_nets j) y ≡ r)
+  pub unmet : (r : ℕ) → r < max_readings → bit max_vectors (get_or ss r 0) ≡ 1
+      → (y : ℕ) → y < x → bit (y / 32768) k ≡ 0 → reading j (candidate_nets j) y ≡ r → ⊥
 
 -- the nets read are priced ones, or might be: no target leads to them
 pub record BlockLoaded (p : Plan) (gates : List ℕ) (b : ℕ) (words : List ℕ) : Type 0 where
   pub long : length words ≡ 16384
   pub free : (j : Job) (is : List ℕ) (q : ReadsOf j is p gates) → BlockFree j q.live b words
-  pub readings : (j : Job) (is : List ℕ) → ReadsOf j is p gates → all (candidateGood j) is ≡ true
-      → (y : ℕ) → y < 1024 → readingIn words (take p.reads p.nets) y ≡ reading j is (1024 * b + y)
+  pub readings : (j : Job) (is : List ℕ) → ReadsOf j is p gates → all (candidate_good j) is ≡ true
+      → (y : ℕ) → y < 1024 → reading_in words (take p.reads p.nets) y ≡ reading j is (1024 * b + y)
 
 pub record BlockRead (p : Plan) (gates : List ℕ) (b : ℕ) (words rows : List ℕ) : Type 0 where
   pub long : length words ≡ 16384
   pub many : length rows ≡ 256
   pub free : (j : Job) (is : List ℕ) (q : ReadsOf j is p gates) → BlockFree j q.live b words
-  pub readings : (j : Job) (is : List ℕ) → ReadsOf j is p gates → all (candidateGood j) is ≡ true
+  pub readings : (j : Job) (is : List ℕ) → ReadsOf j is p gates → all (candidate_good j) is ≡ true
       → (y : ℕ) → y < 1024 → gathered rows y ≡ reading j is (1024 * b + y)
 
 pub record BlockVector (p : Plan) (gates : List ℕ) (v : ℕ) (before after : List ℕ) : Type 0 where
@@ -68,21 +68,21 @@ FreeKept p gates before after =
 
 -- the n rows from row first on have the bits of the vectors u
 abbrev pub RowsSay : List ℕ → ℕ → ℕ → (ℕ → ℕ) → Type 0
-RowsSay rows first n u = (y k : ℕ) → y < 1024 → k < n → valueIn rows y (first + k) ≡ bit k (u y)
+RowsSay rows first n u = (y k : ℕ) → y < 1024 → k < n → value_in rows y (first + k) ≡ bit k (u y)
 
 -- bit y of the row is 1 exactly when vector u y rectifies input y of the block
 pub record DrivenRow (p : Plan) (gates : List ℕ) (u : ℕ → ℕ) (before row after : List ℕ) : Type 0 where
   pub long : length after ≡ length before
   pub free : FreeKept p gates before after
   pub values : (j : Job) (is : List ℕ) (q : PlannedOf j is p gates) (b : ℕ) → BlockFree j q.live b before
-      → (y : ℕ) → y < 1024 → rowValue row y ≡ cond (rectifies j (1024 * b + y) (u y)) 1 0
+      → (y : ℕ) → y < 1024 → row_value row y ≡ cond (rectifies j (1024 * b + y) (u y)) 1 0
 
 -- 16 where the set is 0, 32 where it has two or more vectors, or no input gave the reading
 unfoldable pub sole_of : ℕ → ℕ
 sole_of s = cond (eqb s 0) 16 (cond (eqb s (2 ^ or_zero (lowest s))) (or_zero (lowest s)) 32)
 
 abbrev pub SoleTable : List ℕ → List ℕ → Type 0
-SoleTable ss table = (r : ℕ) → r < maxReadings → get_or table r 0 ≡ sole_of (get_or ss r 0)
+SoleTable ss table = (r : ℕ) → r < max_readings → get_or table r 0 ≡ sole_of (get_or ss r 0)
 
 -- an input gave the reading of each input before, and each vector in its set rectifies the input
 abbrev pub BlockKept : Plan → List ℕ → List ℕ → List ℕ → List ℕ → Type 0
@@ -90,7 +90,7 @@ BlockKept p gates readings before ss =
     (j : Job) (is : List ℕ) (q : PlannedOf j is p gates) (b : ℕ) → BlockFree j q.live b before
     → (y : ℕ) → y < 1024
     → let s = get_or ss (gathered readings y % 1024) 0 in
-    (bit maxVectors s ≡ 0) × ((v : ℕ) → v < maxVectors → bit v s ≡ 1 → rectifies j (1024 * b + y) v ≡ true)
+    (bit max_vectors s ≡ 0) × ((v : ℕ) → v < max_vectors → bit v s ≡ 1 → rectifies j (1024 * b + y) v ≡ true)
 
 -- the lowest bit of x is the new bit of target t
 pub record TargetTurned (p : Plan) (gates : List ℕ) (t x : ℕ) (before after : List ℕ) : Type 0 where
@@ -119,5 +119,5 @@ pub record SettledFrom (p : Plan) (gates : List ℕ) (b r : ℕ) : Type 0 where
 
 pub record BlockMet (p : Plan) (gates : List ℕ) (b count : ℕ) (before after : List ℕ) : Type 0 where
   pub long : length after ≡ length before
-  pub sets : (j : Job) (k : ℕ) → TurnsOf j (candidateNets j) p gates → SetsTo j (1024 * b) k before
+  pub sets : (j : Job) (k : ℕ) → TurnsOf j (candidate_nets j) p gates → SetsTo j (1024 * b) k before
       → SetsTo j (1024 * b + count) k after

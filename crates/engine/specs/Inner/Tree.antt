@@ -1,29 +1,29 @@
 -- Building multiplexer trees: gates put into the places of a netlist (src/tree.rt). No public contract cites this file. Assumes nothing.
 --
---   columnPart tb at k t    the column of target t at the 2 ^ k entries of the table tb from place at on
+--   column_part tb at k t    the column of target t at the 2 ^ k entries of the table tb from place at on
 --   TablePart tb at k t     those entries stand in the table, and t is a bit of a byte
---   treeStart k col           how the tree over k nets and the column col starts
---   joinSize j              how many gates join two halves
+--   tree_start k col           how the tree over k nets and the column col starts
+--   join_size j              how many gates join two halves
 --   JoinRoom ..             there is room for the gates that join two halves behind their trees
---   treesSize m j k tb      how many gates the trees of the m targets from target j on have, over k nets and the table tb
+--   trees_size m j k tb      how many gates the trees of the m targets from target j on have, over k nets and the table tb
 --   Nets k ns               each of the first k numbers of ns is one of 1,024 nets
 --   GateRoom base n cs      the places cs hold n gates, and the net base + i of each gate i is one of 1,024
 --   GatesPut base ..        the gates gs now stand behind the first count gates, r gates in all; gate i drives net base + i
---   supportTrees ..         the trees of m targets over the first k nets of is and the table tb, the first gate driving net next
+--   support_trees ..         the trees of m targets over the first k nets of is and the table tb, the first gate driving net next
 --   TreesPut ..             those trees now stand behind the first count gates, and the numbers from base on are their nets
 use Rattle.std.specs.Prelude.{ℕ, zero, suc, ◌+◌, ◌^◌, ◌≤◌, ◌<◌, ◌≡◌, List, ◌++◌, Bool, true, cond, eqb, length, get_or, take, drop}
 use Rattle.records.specs.Bytes.{all, placed}
 use Rattle.records.specs.Gate.{Gate}
 use Rattle.engine.specs.Choice.{same}
-use Rattle.engine.specs.Tree.{join_of, buildsLow, buildsHigh, joinGates, column, treeSize}
-use Rattle.engine.specs.Fit.{Trees, treesFrom}
-use Rattle.engine.specs.Inner.Packed.{packedFrom}
+use Rattle.engine.specs.Tree.{join_of, builds_low, builds_high, join_gates, column, tree_size}
+use Rattle.engine.specs.Fit.{Trees, trees_from}
+use Rattle.engine.specs.Inner.Packed.{packed_from}
 use Rattle.engine.specs.declared.tree.Join.{Join}
 use Rattle.engine.specs.declared.tree.TreeStart.{TreeStart}
 use Rattle.engine.specs.declared.tree.TreeStart.TheVariants as TreeStart
 
-abbrev pub columnPart : List ℕ → ℕ → ℕ → ℕ → List ℕ
-columnPart tb at k t = column (take (2 ^ k) (drop at tb)) t
+abbrev pub column_part : List ℕ → ℕ → ℕ → ℕ → List ℕ
+column_part tb at k t = column (take (2 ^ k) (drop at tb)) t
 
 pub record TablePart (tb : List ℕ) (at k t : ℕ) : Type 0 where
   pub most : k ≤ 10
@@ -34,19 +34,19 @@ pub record TablePart (tb : List ℕ) (at k t : ℕ) : Type 0 where
 unfoldable pub start_by : Bool → Bool → Bool → Join → TreeStart
 start_by z o e j = cond z (TreeStart.Constant 0) (cond o (TreeStart.Constant 1) (cond e TreeStart.Equal (TreeStart.Split j)))
 
-unfoldable pub treeStart : ℕ → List ℕ → TreeStart
-treeStart zero col = cond (all (eqb 0) col) (TreeStart.Constant 0) (TreeStart.Constant 1)
-treeStart (suc k) col =
+unfoldable pub tree_start : ℕ → List ℕ → TreeStart
+tree_start zero col = cond (all (eqb 0) col) (TreeStart.Constant 0) (TreeStart.Constant 1)
+tree_start (suc k) col =
     let low = take (2 ^ k) col in
     let high = drop (2 ^ k) col in
     start_by (all (eqb 0) col) (all (eqb 1) col) (same low high) (join_of low high)
 
-unfoldable pub joinSize : Join → ℕ
-joinSize j = length (joinGates j 0 0 0)
+unfoldable pub join_size : Join → ℕ
+join_size j = length (join_gates j 0 0 0)
 
-unfoldable pub treesSize : ℕ → ℕ → ℕ → List ℕ → ℕ
-treesSize zero j k tb = 0
-treesSize (suc m) j k tb = treeSize k (columnPart tb 0 k j) + treesSize m (suc j) k tb
+unfoldable pub trees_size : ℕ → ℕ → ℕ → List ℕ → ℕ
+trees_size zero j k tb = 0
+trees_size (suc m) j k tb = tree_size k (column_part tb 0 k j) + trees_size m (suc j) k tb
 
 abbrev pub Nets : ℕ → List ℕ → Type 0
 Nets k ns = (i : ℕ) → i < k → get_or ns i 0 < 1024
@@ -58,20 +58,20 @@ pub record GateRoom (base n : ℕ) (cs : List ℕ) : Type 0 where
 
 -- the first low gates end with the low half's tree, the first high with the high half's, where these are built
 pub record JoinRoom (j : Join) (s base low high : ℕ) (cs : List ℕ) : Type 0 where
-  pub gates : GateRoom base (high + joinSize j) cs
+  pub gates : GateRoom base (high + join_size j) cs
   pub chooser : s < 1024
   pub order : low ≤ high
-  pub low-built : buildsLow j ≡ true → 0 < low
-  pub high-built : buildsHigh j ≡ true → 0 < high
+  pub low-built : builds_low j ≡ true → 0 < low
+  pub high-built : builds_high j ≡ true → 0 < high
 
 pub record GatesPut (base count : ℕ) (before : List ℕ) (gs : List Gate) (r : ℕ) (after : List ℕ) : Type 0 where
   pub end : r ≡ count + length gs
-  pub gates : take r after ≡ take count before ++ packedFrom (base + count) gs
+  pub gates : take r after ≡ take count before ++ packed_from (base + count) gs
   pub long : length after ≡ length before
 
-abbrev pub supportTrees : ℕ → ℕ → ℕ → List ℕ → List ℕ → Trees
-supportTrees m k next is tb = treesFrom m 0 next (take k is) (take (2 ^ k) tb)
+abbrev pub support_trees : ℕ → ℕ → ℕ → List ℕ → List ℕ → Trees
+support_trees m k next is tb = trees_from m 0 next (take k is) (take (2 ^ k) tb)
 
 pub record TreesPut (m k base : ℕ) (is tb : List ℕ) (count : ℕ) (ns cs : List ℕ) (r : ℕ) (ns' cs' : List ℕ) : Type 0 where
-  pub gates : GatesPut base count cs (supportTrees m k (base + count) is tb).gates r cs'
-  pub nets : ns' ≡ placed ns base (supportTrees m k (base + count) is tb).nets
+  pub gates : GatesPut base count cs (support_trees m k (base + count) is tb).gates r cs'
+  pub nets : ns' ≡ placed ns base (support_trees m k (base + count) is tb).nets

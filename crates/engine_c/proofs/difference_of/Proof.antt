@@ -1,19 +1,19 @@
 -- `engine_c::difference_of` meets its contract: each case of the result computes. Assumes nothing.
 use borrow.Author.Rules.{rules}
-use Rattle.engine_c.specs.Difference.{differsOf, input_of}
+use Rattle.engine_c.specs.Difference.{differs_of, input_of}
 use Rattle.engine_c.proofs.difference_of.Statement.{statement}
 use Rattle.engine_c.proofs.difference_of.Tie as tie
 
 returns : tie.Need-returns
-unfolding differsOf input_of
+unfolding differs_of input_of
 returns c = search rules
 
 returns-2 : tie.Need-returns-2
-unfolding differsOf input_of
+unfolding differs_of input_of
 returns-2 c = search rules
 
 returns-3 : tie.Need-returns-3
-unfolding differsOf input_of
+unfolding differs_of input_of
 returns-3 c = search rules
 
 pub difference-of-spec : {M : Type 1} → statement M

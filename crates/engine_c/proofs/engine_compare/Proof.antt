@@ -2,7 +2,7 @@
 -- Assumes nothing.
 use mathlib.Core.Path.{◌∙◌, ap}
 use Rattle.engine.specs.declared.comparing.CompareReply.{CompareReply}
-use Rattle.engine_c.specs.Difference.{differsOf, input_of}
+use Rattle.engine_c.specs.Difference.{differs_of, input_of}
 use borrow.Author.Rules.{rules}
 use Rattle.engine_c.proofs.engine_compare.Statement.{statement}
 use Rattle.engine_c.proofs.engine_compare.Tie as tie
@@ -13,7 +13,7 @@ returns c =
     let d = c.difference-of.ensures in (
       ap (λ (r : CompareReply). r.number) e,
       (
-        d.0 ∙ ap (λ (r : CompareReply). differsOf r.result) e,
+        d.0 ∙ ap (λ (r : CompareReply). differs_of r.result) e,
         d.1 ∙ ap (λ (r : CompareReply). input_of r.result) e,
       ),
     )

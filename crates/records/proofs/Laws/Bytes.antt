@@ -108,17 +108,17 @@ drop-take (suc m) n (x ∷ xs) =
 
 -- ---- up_from, tabulate
 
-pub length-upFrom : (a n : ℕ) → length (up_from a n) ≡ n
+pub length-up_from : (a n : ℕ) → length (up_from a n) ≡ n
 unfolding up_from
-length-upFrom a zero = refl
-length-upFrom a (suc n) = ap suc (length-upFrom (suc a) n)
+length-up_from a zero = refl
+length-up_from a (suc n) = ap suc (length-up_from (suc a) n)
 
-pub getD-upFrom : (a n i d : ℕ) → i < n → get_or (up_from a n) i d ≡ a + i
+pub get_or-up_from : (a n i d : ℕ) → i < n → get_or (up_from a n) i d ≡ a + i
 unfolding up_from
-getD-upFrom a (suc n) zero d h = sym (add-zero a)
-getD-upFrom a (suc n) (suc i) d h =
-    getD-upFrom (suc a) n i d (omega arith) ∙ suc-add a i ∙ sym (add-suc a i)
-getD-upFrom a zero i d h = let f : ⊥ = omega arith in absurd f
+get_or-up_from a (suc n) zero d h = sym (add-zero a)
+get_or-up_from a (suc n) (suc i) d h =
+    get_or-up_from (suc a) n i d (omega arith) ∙ suc-add a i ∙ sym (add-suc a i)
+get_or-up_from a zero i d h = let f : ⊥ = omega arith in absurd f
 
 module _ {A : Type 0} where
   get_d_map : {B : Type 0} (g : B → A) (xs : List B) (i : ℕ) (e : B) (d : A) → i < length xs → get_or (map g xs) i d ≡ g (get_or xs i e)
@@ -128,12 +128,12 @@ module _ {A : Type 0} where
 
   pub length-tabulate : (n : ℕ) (f : ℕ → A) → length (tabulate n f) ≡ n
   unfolding tabulate
-  length-tabulate n f = length-map (up_from 0 n) f ∙ length-upFrom 0 n
+  length-tabulate n f = length-map (up_from 0 n) f ∙ length-up_from 0 n
 
   pub get_d_tabulate : (n : ℕ) (f : ℕ → A) (i : ℕ) (d : A) → i < n → get_or (tabulate n f) i d ≡ f i
   unfolding tabulate
   get_d_tabulate n f i d h =
-      get_d_map f (up_from 0 n) i 0 d (omega (arith, length-upFrom 0 n)) ∙ ap f (getD-upFrom 0 n i 0 h ∙ zero-add i)
+      get_d_map f (up_from 0 n) i 0 d (omega (arith, length-up_from 0 n)) ∙ ap f (get_or-up_from 0 n i 0 h ∙ zero-add i)
 
   -- a turn of a loop over a numbered list: what is left from i on starts with its i-th element
   pub drop-tabulate : (n : ℕ) (f : ℕ → A) (i : ℕ) → i < n → drop i (tabulate n f) ≡ f i ∷ drop (i + 1) (tabulate n f)
@@ -168,12 +168,12 @@ module _ {A : Type 0} where
   unfolding tabulate
   tabulate-ext n f g h = map-ext f g 0 n (λ i l. h i (omega arith))
 
-  map-upFrom-snoc : (f : ℕ → A) (a n : ℕ) → map f (up_from a (suc n)) ≡ map f (up_from a n) ++ (f (a + n) ∷ [])
+  map-up_from-snoc : (f : ℕ → A) (a n : ℕ) → map f (up_from a (suc n)) ≡ map f (up_from a n) ++ (f (a + n) ∷ [])
   unfolding up_from
-  map-upFrom-snoc f a zero = rw add-zero
-  map-upFrom-snoc f a (suc n) =
+  map-up_from-snoc f a zero = rw add-zero
+  map-up_from-snoc f a (suc n) =
       let e : suc a + n ≡ a + suc n = omega arith in
-      ap (λ (l : List A). f a ∷ l) (map-upFrom-snoc f (suc a) n)
+      ap (λ (l : List A). f a ∷ l) (map-up_from-snoc f (suc a) n)
       ∙ ap (λ (k : ℕ). f a ∷ map f (up_from (suc a) n) ++ (f k ∷ [])) e
 
   -- one element more
@@ -181,7 +181,7 @@ module _ {A : Type 0} where
   unfolding tabulate
   tabulate-snoc n f =
       ap (λ (k : ℕ). map f (up_from 0 k)) (add-one n)
-      ∙ map-upFrom-snoc f 0 n
+      ∙ map-up_from-snoc f 0 n
       ∙ ap (λ (k : ℕ). map f (up_from 0 n) ++ (f k ∷ [])) (zero-add n)
 
   -- each element of a numbered list turned into another

@@ -13,10 +13,10 @@ use Rattle.records.specs.Bytes.{tabulate, flat, placed}
 use Rattle.records.specs.Gate.{Gate}
 use Rattle.records.specs.Netlist.{Netlist}
 use Rattle.records.specs.Job.{job_of}
-use Rattle.records.specs.Refusal.{firstFailing}
-use Rattle.records.specs.Service.{SidePlaces, Places, sidePlaces, places, gateFrom, struct_of, sideCountsOf, countsOf, noCounts, sideRoomy, roomy, filledSide, filled, readNumber, readReply, readPlaces, gatesIn, netlistFrom, jobFrom, sideHeld, held, writeReply, writtenBytes}
-use Rattle.records.specs.Columns.{SideColumns, Columns, sideColumns, columns, sideColumnsRoomy, columnsRoomy, sideColumnsFilled, columnsFilled, columnsNumber, columnsReply, columnsAfter, gatesFrom, columnsNetlist, columnsJob, sideColumnsHeld, columnsHeld, columnsWriteNumber, columnsWriteReply, columnsWritten}
-use Rattle.records.specs.Inner.{countsWithin, Within, noGate, noGates, refusedRead, columnsHold, ColumnsHold, structSlots, Split, structsFrom}
+use Rattle.records.specs.Refusal.{first_failing}
+use Rattle.records.specs.Service.{SidePlaces, Places, side_places, places, gate_from, struct_of, side_counts_of, counts_of, no_counts, side_roomy, roomy, filled_side, filled, read_number, read_reply, read_places, gates_in, netlist_from, job_from, side_held, held, write_reply, written_bytes}
+use Rattle.records.specs.Columns.{SideColumns, Columns, side_columns, columns, side_columns_roomy, columns_roomy, side_columns_filled, columns_filled, columns_number, columns_reply, columns_after, gates_from, columns_netlist, columns_job, side_columns_held, columns_held, columns_write_number, columns_write_reply, columns_written}
+use Rattle.records.specs.Inner.{counts_within, Within, no_gate, no_gates, refused_read, columns_hold, ColumnsHold, struct_slots, Split, structs_from}
 use Rattle.records.specs.declared.gate.Gate.{Gate as GateStruct}
 use Rattle.records.specs.declared.columns.GatesRead.{GatesRead}
 use Rattle.records.specs.declared.job.SideCounts.{SideCounts}
@@ -24,30 +24,30 @@ use Rattle.records.specs.declared.job.Counts.{Counts}
 use Rattle.records.specs.declared.reading.ReadReply.{ReadReply}
 use Rattle.records.specs.declared.writing.WriteReply.{WriteReply}
 use Rattle.records.proofs.Laws.Bytes.{row_at, and_left, false_of, length-tabulate, map-tabulate, tabulate-take, placed-nil}
-use Rattle.records.proofs.Laws.Counts.{columnsHold-facts, countsWithin-facts, countsWithin-countsOf}
+use Rattle.records.proofs.Laws.Counts.{columns_hold-facts, counts_within-facts, counts_within-counts_of}
 use Rattle.records.proofs.Laws.Job.{sets-placed, Filled, Put, length-placed-front, take-placed-front}
 use Rattle.records.proofs.Laws.RoundTrip.{All, Four}
-use Rattle.records.proofs.Laws.Accepted.{four-jobOf, read-accepts, read-refuses, read-counts, read-places}
+use Rattle.records.proofs.Laws.Accepted.{four-job_of, read-accepts, read-refuses, read-counts, read-places}
 use Rattle.records.proofs.Laws.ReadColumns.{slots-structs, sides-held, columns-write}
 use Rattle.records.proofs.Laws.Reply.{write-counts}
 
 -- ---- gate structs and columns
 
-pub length-noGates : length noGates ≡ 400
-unfolding noGates
-length-noGates = length-replicate 400 noGate
+pub length-no_gates : length no_gates ≡ 400
+unfolding no_gates
+length-no_gates = length-replicate 400 no_gate
 
 -- the gates that columns must hold, at most m, from a list of so many
-pub splits_of : (most m count k n s : ℕ) → count ≤ most → count ≤ m → columnsHold m k n s ≡ true → ColumnsHold most count k n s
+pub splits_of : (most m count k n s : ℕ) → count ≤ most → count ≤ m → columns_hold m k n s ≡ true → ColumnsHold most count k n s
 splits_of most m count k n s h l e =
-    let t = columnsHold-facts m k n s e in
+    let t = columns_hold-facts m k n s e in
     record { gates = h; kinds = omega (arith, t.0); counts = omega (arith, t.1); slots = omega (arith, t.2) }
 
 -- a gate's stores to the slots
 pub slots-placed : (d : List ℕ) (at : ℕ) (g : GateStruct) → at + 4 ≤ length d
     → set (set (set (set d at g.first) (at + 1) g.second) (at + 2) g.third) (at + 3) g.fourth
-    ≡ placed d at (structSlots g)
-unfolding structSlots
+    ≡ placed d at (struct_slots g)
+unfolding struct_slots
 slots-placed d at g h =
     let e : at + 2 ≡ suc (suc at) = omega arith in
     let f : at + 3 ≡ suc (suc (suc at)) = omega arith in
@@ -55,28 +55,28 @@ slots-placed d at g h =
 
 -- a loop that has put what F gives for the first gates at a column's start
 module _ (gs : List GateStruct) (d₀ d : List ℕ) (i count : ℕ) (e : i ≡ count) (h : count ≤ length gs) where
-  taken-split : (F : List GateStruct → List ℕ) → d ≡ placed d₀ 0 (F (tabulate i (λ k. get_or gs k noGate)))
+  taken-split : (F : List GateStruct → List ℕ) → d ≡ placed d₀ 0 (F (tabulate i (λ k. get_or gs k no_gate)))
       → d ≡ placed d₀ 0 (F (take count gs))
-  taken-split F w = w ∙ ap (λ (z : List GateStruct). placed d₀ 0 (F z)) (rw e (tabulate-take noGate gs count h))
+  taken-split F w = w ∙ ap (λ (z : List GateStruct). placed d₀ 0 (F z)) (rw e (tabulate-take no_gate gs count h))
 
-  pub column-split : (f : GateStruct → ℕ) → Filled d₀ d i (λ k. f (get_or gs k noGate)) → d ≡ placed d₀ 0 (map f (take count gs))
+  pub column-split : (f : GateStruct → ℕ) → Filled d₀ d i (λ k. f (get_or gs k no_gate)) → d ≡ placed d₀ 0 (map f (take count gs))
   column-split f w =
-      taken-split (map f) (w.1 ∙ ap (placed d₀ 0) (sym (map-tabulate i (λ k. get_or gs k noGate) f)))
+      taken-split (map f) (w.1 ∙ ap (placed d₀ 0) (sym (map-tabulate i (λ k. get_or gs k no_gate) f)))
 
-  pub slots-split : Put structSlots (λ k. get_or gs k noGate) d₀ 0 d i → d ≡ placed d₀ 0 (flat structSlots (take count gs))
-  slots-split w = taken-split (flat structSlots) w.1
+  pub slots-split : Put struct_slots (λ k. get_or gs k no_gate) d₀ 0 d i → d ≡ placed d₀ 0 (flat struct_slots (take count gs))
+  slots-split w = taken-split (flat struct_slots) w.1
 
 -- a netlist's columns once the first gates are split into them: as filled from a netlist, or as they were
 module _ (q : SideColumns) {gs : List GateStruct} {count : ℕ} {ks ns ss : List ℕ}
     (t : Split gs count q.kinds q.counts q.slots ks ns ss) (os : List ℕ) where
   side-filled : (l : Netlist) → All Four l.gates → take count gs ≡ map struct_of l.gates
-      → os ≡ placed q.outputs 0 l.outputs → sideColumns ks ns ss os ≡ sideColumnsFilled q l
-  unfolding sideColumnsFilled struct_of
+      → os ≡ placed q.outputs 0 l.outputs → side_columns ks ns ss os ≡ side_columns_filled q l
+  unfolding side_columns_filled struct_of
   side-filled l w e o =
       rw (
         column (map (λ (g : GateStruct). g.kind)) _ _ _ (map-map (λ (g : GateStruct). g.kind) struct_of l.gates) t.kinds,
         column (map (λ (g : GateStruct). g.count)) _ _ _ (map-map (λ (g : GateStruct). g.count) struct_of l.gates) t.counts,
-        column (flat structSlots) _ _ _ (slots-structs l.gates w) t.slots,
+        column (flat struct_slots) _ _ _ (slots-structs l.gates w) t.slots,
         o,
       )
     where
@@ -84,13 +84,13 @@ module _ (q : SideColumns) {gs : List GateStruct} {count : ℕ} {ks ns ss : List
           → d' ≡ placed d 0 (F (take count gs)) → d' ≡ placed d 0 xs
       column F d d' xs h p = p ∙ ap (λ (z : List GateStruct). placed d 0 (F z)) e ∙ ap (placed d 0) h
 
-  side_left : count ≡ 0 → os ≡ q.outputs → sideColumns ks ns ss os ≡ q
+  side_left : count ≡ 0 → os ≡ q.outputs → side_columns ks ns ss os ≡ q
   unfolding flat
   side_left z o =
       rw (
         column (map (λ (g : GateStruct). g.kind)) refl _ _ t.kinds,
         column (map (λ (g : GateStruct). g.count)) refl _ _ t.counts,
-        column (flat structSlots) refl _ _ t.slots,
+        column (flat struct_slots) refl _ _ t.slots,
         o,
       )
     where
@@ -99,77 +99,77 @@ module _ (q : SideColumns) {gs : List GateStruct} {count : ℕ} {ks ns ss : List
           p ∙ ap (λ (n : ℕ). placed d 0 (F (take n gs))) z ∙ ap (placed d 0) h ∙ placed-nil d 0
 
 -- the columns of q hold n gates
-abbrev pub sideHolds : SideColumns → ℕ → Bool
-sideHolds q n = columnsHold n (length q.kinds) (length q.counts) (length q.slots)
+abbrev pub side_holds : SideColumns → ℕ → Bool
+side_holds q n = columns_hold n (length q.kinds) (length q.counts) (length q.slots)
 
 -- ---- read_columns
 
-side-roomy : (q : SideColumns) → sideColumnsRoomy q ≡ (sideHolds q 400 && leb 32 (length q.outputs))
-unfolding sideColumnsRoomy columnsHold
+side-roomy : (q : SideColumns) → side_columns_roomy q ≡ (side_holds q 400 && leb 32 (length q.outputs))
+unfolding side_columns_roomy columns_hold
 side-roomy q = refl
 
 module _ (p : Columns) where
   -- the places that read_columns hands to read
-  abbrev pub readInto : Places
-  readInto =
-      places (sidePlaces noGates p.old.outputs) (sidePlaces noGates p.golden.outputs) p.nets p.weights
+  abbrev pub read_into : Places
+  read_into =
+      places (side_places no_gates p.old.outputs) (side_places no_gates p.golden.outputs) p.nets p.weights
 
-  roomy-rows : columnsRoomy p ≡ true → (sideHolds p.old 400 ≡ true) × (sideHolds p.golden 400 ≡ true)
-  unfolding columnsRoomy
+  roomy-rows : columns_roomy p ≡ true → (side_holds p.old 400 ≡ true) × (side_holds p.golden 400 ≡ true)
+  unfolding columns_roomy
   roomy-rows h =
       let t =
-      row_at (sideColumnsRoomy p.old)
-      (sideColumnsRoomy p.golden ∷ leb 10 (length p.nets) ∷ leb 10 (length p.weights) ∷ [])
+      row_at (side_columns_roomy p.old)
+      (side_columns_roomy p.golden ∷ leb 10 (length p.nets) ∷ leb 10 (length p.weights) ∷ [])
       h in (
         and_left _ (leb 32 (length p.old.outputs)) (sym (side-roomy p.old) ∙ t 0),
         and_left _ (leb 32 (length p.golden.outputs)) (sym (side-roomy p.golden) ∙ t 1),
       )
 
   module _ (s : List ℕ) where
-    columns-small : columnsRoomy p ≡ false → (refusedRead 1 ≡ columnsReply p s) × (p ≡ columnsAfter p s)
-    unfolding refusedRead columnsReply columnsAfter columnsNumber firstFailing
+    columns-small : columns_roomy p ≡ false → (refused_read 1 ≡ columns_reply p s) × (p ≡ columns_after p s)
+    unfolding refused_read columns_reply columns_after columns_number first_failing
     columns-small e = (rw e, rw e)
 
-    pub small-old : sideHolds p.old 400 ≡ false → (refusedRead 1 ≡ columnsReply p s) × (p ≡ columnsAfter p s)
-    small-old e = columns-small (false_of (columnsRoomy p) (λ t. true≢false (sym (roomy-rows t).0 ∙ e)))
+    pub small-old : side_holds p.old 400 ≡ false → (refused_read 1 ≡ columns_reply p s) × (p ≡ columns_after p s)
+    small-old e = columns-small (false_of (columns_roomy p) (λ t. true≢false (sym (roomy-rows t).0 ∙ e)))
 
-    pub small-golden : sideHolds p.golden 400 ≡ false → (refusedRead 1 ≡ columnsReply p s) × (p ≡ columnsAfter p s)
-    small-golden e = columns-small (false_of (columnsRoomy p) (λ t. true≢false (sym (roomy-rows t).1 ∙ e)))
+    pub small-golden : side_holds p.golden 400 ≡ false → (refused_read 1 ≡ columns_reply p s) × (p ≡ columns_after p s)
+    small-golden e = columns-small (false_of (columns_roomy p) (λ t. true≢false (sym (roomy-rows t).1 ∙ e)))
 
-  module _ (h : sideHolds p.old 400 ≡ true) (g : sideHolds p.golden 400 ≡ true) where
-    roomy-readInto : columnsRoomy p ≡ roomy readInto
-    unfolding columnsRoomy roomy sideRoomy
-    roomy-readInto = rw (side-roomy p.old, side-roomy p.golden, h, g, length-noGates)
+  module _ (h : side_holds p.old 400 ≡ true) (g : side_holds p.golden 400 ≡ true) where
+    roomy-read_into : columns_roomy p ≡ roomy read_into
+    unfolding columns_roomy roomy side_roomy
+    roomy-read_into = rw (side-roomy p.old, side-roomy p.golden, h, g, length-no_gates)
 
-    number-readInto : (s : List ℕ) → columnsNumber p s ≡ readNumber readInto s
-    unfolding columnsNumber readNumber
-    number-readInto s = rw roomy-readInto
+    number-read_into : (s : List ℕ) → columns_number p s ≡ read_number read_into s
+    unfolding columns_number read_number
+    number-read_into s = rw roomy-read_into
 
 -- what read finds of a netlist: its gates stand at the start of gs
 record Found (q : SideColumns) (l : Netlist) (gs : List GateStruct) (count : ℕ) (os : List ℕ) : Type 0 where
   pub counted : count ≡ length (map struct_of l.gates)
-  pub gates : gs ≡ placed noGates 0 (map struct_of l.gates)
+  pub gates : gs ≡ placed no_gates 0 (map struct_of l.gates)
   pub outputs : os ≡ placed q.outputs 0 l.outputs
 
 module _ {q : SideColumns} {l : Netlist} {gs : List GateStruct} {count : ℕ} {os : List ℕ} (f : Found q l gs count os) where
   found-le : count ≤ length gs
-  found-le = rw (f.counted, f.gates) (length-placed-front noGates (map struct_of l.gates))
+  found-le = rw (f.counted, f.gates) (length-placed-front no_gates (map struct_of l.gates))
 
   found_take : take count gs ≡ map struct_of l.gates
-  found_take = rw (f.counted, f.gates) (take-placed-front noGates (map struct_of l.gates))
+  found_take = rw (f.counted, f.gates) (take-placed-front no_gates (map struct_of l.gates))
 
 -- once read is done: its reply and gates, and the outputs and candidates it leaves
-module _ (p : Columns) (s : List ℕ) (r : GatesRead) {b d n w : List ℕ} (e : r.reply ≡ readReply (readInto p) s)
-    (f : places (sidePlaces r.old b) (sidePlaces r.golden d) n w ≡ readPlaces (readInto p) s) where
-  module _ (z : readNumber (readInto p) s ≡ 0) where
-    counts-read : r.reply.counts ≡ countsOf (job_of s)
-    counts-read = ap (λ (x : ReadReply). x.counts) e ∙ read-counts (readInto p) s z
+module _ (p : Columns) (s : List ℕ) (r : GatesRead) {b d n w : List ℕ} (e : r.reply ≡ read_reply (read_into p) s)
+    (f : places (side_places r.old b) (side_places r.golden d) n w ≡ read_places (read_into p) s) where
+  module _ (z : read_number (read_into p) s ≡ 0) where
+    counts-read : r.reply.counts ≡ counts_of (job_of s)
+    counts-read = ap (λ (x : ReadReply). x.counts) e ∙ read-counts (read_into p) s z
 
-    places-read : places (sidePlaces r.old b) (sidePlaces r.golden d) n w ≡ filled (readInto p) (job_of s)
-    places-read = f ∙ read-places (readInto p) s z
+    places-read : places (side_places r.old b) (side_places r.golden d) n w ≡ filled (read_into p) (job_of s)
+    places-read = f ∙ read-places (read_into p) s z
 
     found-old : Found p.old (job_of s).old r.old r.reply.counts.old.gates b
-    unfolding countsOf sideCountsOf filled filledSide
+    unfolding counts_of side_counts_of filled filled_side
     found-old =
         record {
           counted = ap (λ (x : Counts). x.old.gates) counts-read ∙ sym (length-map (job_of s).old.gates struct_of);
@@ -178,7 +178,7 @@ module _ (p : Columns) (s : List ℕ) (r : GatesRead) {b d n w : List ℕ} (e : 
         }
 
     found-golden : Found p.golden (job_of s).golden r.golden r.reply.counts.golden.gates d
-    unfolding countsOf sideCountsOf filled filledSide
+    unfolding counts_of side_counts_of filled filled_side
     found-golden =
         record {
           counted = ap (λ (x : Counts). x.golden.gates) counts-read ∙ sym (length-map (job_of s).golden.gates struct_of);
@@ -189,81 +189,81 @@ module _ (p : Columns) (s : List ℕ) (r : GatesRead) {b d n w : List ℕ} (e : 
     within-read : Within r.reply.counts
     within-read =
         rw counts-read
-        (countsWithin-facts (countsOf (job_of s)) (countsWithin-countsOf (job_of s) ∙ ((read-accepts (readInto p) s).0 z).2.counts))
+        (counts_within-facts (counts_of (job_of s)) (counts_within-counts_of (job_of s) ∙ ((read-accepts (read_into p) s).0 z).2.counts))
 
-  module _ (z : readNumber (readInto p) s ≡ 0 → ⊥) where
-    counts-refused : r.reply.counts ≡ noCounts
-    counts-refused = ap (λ (x : ReadReply). x.counts) e ∙ (read-refuses (readInto p) s z).0
+  module _ (z : read_number (read_into p) s ≡ 0 → ⊥) where
+    counts-refused : r.reply.counts ≡ no_counts
+    counts-refused = ap (λ (x : ReadReply). x.counts) e ∙ (read-refuses (read_into p) s z).0
 
-    places-refused : places (sidePlaces r.old b) (sidePlaces r.golden d) n w ≡ readInto p
-    places-refused = f ∙ (read-refuses (readInto p) s z).1
+    places-refused : places (side_places r.old b) (side_places r.golden d) n w ≡ read_into p
+    places-refused = f ∙ (read-refuses (read_into p) s z).1
 
     old-refused : r.reply.counts.old.gates ≡ 0
-    unfolding noCounts
+    unfolding no_counts
     old-refused = ap (λ (x : Counts). x.old.gates) counts-refused
 
     golden-refused : r.reply.counts.golden.gates ≡ 0
-    unfolding noCounts
+    unfolding no_counts
     golden-refused = ap (λ (x : Counts). x.golden.gates) counts-refused
 
   gates-read : (r.reply.counts.old.gates ≤ length r.old)
       × (r.reply.counts.old.gates ≤ 400)
       × (r.reply.counts.golden.gates ≤ length r.golden)
       × (r.reply.counts.golden.gates ≤ 400)
-  gates-read = pick (eqb (readNumber (readInto p) s) 0) refl
+  gates-read = pick (eqb (read_number (read_into p) s) 0) refl
     where
-      pick : (t : Bool) → eqb (readNumber (readInto p) s) 0 ≡ t
+      pick : (t : Bool) → eqb (read_number (read_into p) s) 0 ≡ t
           → (r.reply.counts.old.gates ≤ length r.old)
           × (r.reply.counts.old.gates ≤ 400)
           × (r.reply.counts.golden.gates ≤ length r.golden)
           × (r.reply.counts.golden.gates ≤ 400)
       pick true h =
-          let z = eqb-true (readNumber (readInto p) s) 0 h in
+          let z = eqb-true (read_number (read_into p) s) 0 h in
           let w = within-read z in
           (found-le (found-old z), w.old.gates, found-le (found-golden z), w.golden.gates)
       pick false h =
-          let z = eqb-false (readNumber (readInto p) s) 0 h in
+          let z = eqb-false (read_number (read_into p) s) 0 h in
           rw (old-refused z, golden-refused z) (omega arith, omega arith, omega arith, omega arith)
 
-  pub old-splits : sideHolds p.old 400 ≡ true
+  pub old-splits : side_holds p.old 400 ≡ true
       → ColumnsHold (length r.old) r.reply.counts.old.gates
       (length p.old.kinds) (length p.old.counts) (length p.old.slots)
   old-splits h = splits_of _ 400 _ _ _ _ gates-read.0 gates-read.1 h
 
-  pub golden-splits : sideHolds p.golden 400 ≡ true
+  pub golden-splits : side_holds p.golden 400 ≡ true
       → ColumnsHold (length r.golden) r.reply.counts.golden.gates
       (length p.golden.kinds) (length p.golden.counts) (length p.golden.slots)
   golden-splits h = splits_of _ 400 _ _ _ _ gates-read.2 gates-read.3 h
 
   -- the reply and the columns, once the gates are split
-  pub read-columns-ends : {ks ns ss gks gns gss : List ℕ} → sideHolds p.old 400 ≡ true → sideHolds p.golden 400 ≡ true
+  pub read-columns-ends : {ks ns ss gks gns gss : List ℕ} → side_holds p.old 400 ≡ true → side_holds p.golden 400 ≡ true
       → Split r.old r.reply.counts.old.gates p.old.kinds p.old.counts p.old.slots ks ns ss
       → Split r.golden r.reply.counts.golden.gates p.golden.kinds p.golden.counts p.golden.slots gks gns gss
-      → (r.reply ≡ columnsReply p s)
-      × (columns (sideColumns ks ns ss b) (sideColumns gks gns gss d) n w ≡ columnsAfter p s)
-  unfolding readReply columnsReply columnsAfter columnsFilled filled
+      → (r.reply ≡ columns_reply p s)
+      × (columns (side_columns ks ns ss b) (side_columns gks gns gss d) n w ≡ columns_after p s)
+  unfolding read_reply columns_reply columns_after columns_filled filled
   read-columns-ends {ks} {ns} {ss} {gks} {gns} {gss} h g o k =
-      (e ∙ rw (number-readInto p h g s), pick (eqb (readNumber (readInto p) s) 0) refl)
+      (e ∙ rw (number-read_into p h g s), pick (eqb (read_number (read_into p) s) 0) refl)
     where
-      pick : (t : Bool) → eqb (readNumber (readInto p) s) 0 ≡ t
-          → columns (sideColumns ks ns ss b) (sideColumns gks gns gss d) n w ≡ columnsAfter p s
+      pick : (t : Bool) → eqb (read_number (read_into p) s) 0 ≡ t
+          → columns (side_columns ks ns ss b) (side_columns gks gns gss d) n w ≡ columns_after p s
       pick true t =
-          let z = eqb-true (readNumber (readInto p) s) 0 t in
+          let z = eqb-true (read_number (read_into p) s) 0 t in
           let f₁ = found-old z in
           let f₂ = found-golden z in
           rw (
-            number-readInto p h g s,
+            number-read_into p h g s,
             t,
-            side-filled p.old o b (job_of s).old (four-jobOf s).old (found_take f₁) f₁.outputs,
-            side-filled p.golden k d (job_of s).golden (four-jobOf s).golden (found_take f₂) f₂.outputs,
+            side-filled p.old o b (job_of s).old (four-job_of s).old (found_take f₁) f₁.outputs,
+            side-filled p.golden k d (job_of s).golden (four-job_of s).golden (found_take f₂) f₂.outputs,
             ap (λ (x : Places). x.nets) (places-read z),
             ap (λ (x : Places). x.weights) (places-read z),
           )
       pick false t =
-          let z = eqb-false (readNumber (readInto p) s) 0 t in
+          let z = eqb-false (read_number (read_into p) s) 0 t in
           let q = places-refused z in
           rw (
-            number-readInto p h g s,
+            number-read_into p h g s,
             t,
             side_left p.old o b (old-refused z) (ap (λ (x : Places). x.old.outputs) q),
             side_left p.golden k d (golden-refused z) (ap (λ (x : Places). x.golden.outputs) q),
@@ -274,100 +274,100 @@ module _ (p : Columns) (s : List ℕ) (r : GatesRead) {b d n w : List ℕ} (e : 
 -- ---- write_columns
 
 side-held : (k : SideCounts) (q : SideColumns)
-    → sideColumnsHeld k q ≡ (sideHolds q k.gates && leb k.outputs (length q.outputs))
-unfolding sideColumnsHeld columnsHold
+    → side_columns_held k q ≡ (side_holds q k.gates && leb k.outputs (length q.outputs))
+unfolding side_columns_held columns_hold
 side-held k q = refl
 
 -- a netlist's gates joined from its columns
-abbrev pub joinedSide : SideCounts → SideColumns → SidePlaces
-joinedSide k q = sidePlaces (placed noGates 0 (structsFrom k.gates q.kinds q.counts q.slots)) q.outputs
+abbrev pub joined_side : SideCounts → SideColumns → SidePlaces
+joined_side k q = side_places (placed no_gates 0 (structs_from k.gates q.kinds q.counts q.slots)) q.outputs
 
 module _ (k : SideCounts) (q : SideColumns) where
-  joined-count : k.gates ≡ length (structsFrom k.gates q.kinds q.counts q.slots)
-  unfolding structsFrom
+  joined-count : k.gates ≡ length (structs_from k.gates q.kinds q.counts q.slots)
+  unfolding structs_from
   joined-count = sym (length-tabulate k.gates _)
 
-  joined-room : k.gates ≤ length (joinedSide k q).gates
-  joined-room = omega (arith, joined-count, length-placed-front noGates (structsFrom k.gates q.kinds q.counts q.slots))
+  joined-room : k.gates ≤ length (joined_side k q).gates
+  joined-room = omega (arith, joined-count, length-placed-front no_gates (structs_from k.gates q.kinds q.counts q.slots))
 
-  held-joined : sideHolds q k.gates ≡ true → sideHeld k (joinedSide k q) ≡ sideColumnsHeld k q
-  unfolding sideHeld
+  held-joined : side_holds q k.gates ≡ true → side_held k (joined_side k q) ≡ side_columns_held k q
+  unfolding side_held
   held-joined h = rw (le-leb _ _ joined-room, side-held k q, h)
 
-  gates-joined : gatesIn k.gates (joinedSide k q).gates ≡ gatesFrom k.gates q.kinds q.counts q.slots
-  unfolding gatesIn gatesFrom gateFrom structsFrom
+  gates-joined : gates_in k.gates (joined_side k q).gates ≡ gates_from k.gates q.kinds q.counts q.slots
+  unfolding gates_in gates_from gate_from structs_from
   gates-joined =
-      let gs = structsFrom k.gates q.kinds q.counts q.slots in
-      ap (λ (n : ℕ). map gateFrom (take n (placed noGates 0 gs))) joined-count
-      ∙ ap (map gateFrom) (take-placed-front noGates gs)
-      ∙ map-tabulate k.gates _ gateFrom
+      let gs = structs_from k.gates q.kinds q.counts q.slots in
+      ap (λ (n : ℕ). map gate_from (take n (placed no_gates 0 gs))) joined-count
+      ∙ ap (map gate_from) (take-placed-front no_gates gs)
+      ∙ map-tabulate k.gates _ gate_from
 
 module _ (c : Counts) (p : Columns) where
   -- the places that write_columns hands to write
-  abbrev pub writtenFrom : Places
-  writtenFrom = places (joinedSide c.old p.old) (joinedSide c.golden p.golden) p.nets p.weights
+  abbrev pub written_from : Places
+  written_from = places (joined_side c.old p.old) (joined_side c.golden p.golden) p.nets p.weights
 
-  held_rows : columnsHeld c p ≡ true
-      → (sideHolds p.old c.old.gates ≡ true) × (sideHolds p.golden c.golden.gates ≡ true)
+  held_rows : columns_held c p ≡ true
+      → (side_holds p.old c.old.gates ≡ true) × (side_holds p.golden c.golden.gates ≡ true)
   held_rows h =
       let t = sides-held c p h in (
         and_left _ (leb c.old.outputs (length p.old.outputs)) (sym (side-held c.old p.old) ∙ t.0),
         and_left _ (leb c.golden.outputs (length p.golden.outputs)) (sym (side-held c.golden p.golden) ∙ t.1),
       )
 
-  job-written : jobFrom c writtenFrom ≡ columnsJob c p
-  unfolding jobFrom netlistFrom columnsJob columnsNetlist
+  job-written : job_from c written_from ≡ columns_job c p
+  unfolding job_from netlist_from columns_job columns_netlist
   job-written = rw (gates-joined c.old p.old, gates-joined c.golden p.golden)
 
   module _ (d : List ℕ) where
     -- columns and the gates joined from them hold one job: they are written alike
-    written-columns : sideHolds p.old c.old.gates ≡ true → sideHolds p.golden c.golden.gates ≡ true
-        → (columnsWriteReply c p d ≡ writeReply c writtenFrom d) × (columnsWritten c p d ≡ writtenBytes c writtenFrom d)
-    unfolding held columnsHeld
+    written-columns : side_holds p.old c.old.gates ≡ true → side_holds p.golden c.golden.gates ≡ true
+        → (columns_write_reply c p d ≡ write_reply c written_from d) × (columns_written c p d ≡ written_bytes c written_from d)
+    unfolding held columns_held
     written-columns h g =
-        columns-write c p writtenFrom d (sym job-written)
+        columns-write c p written_from d (sym job-written)
         (sym (rw (held-joined c.old p.old h, held-joined c.golden p.golden g)))
 
     -- the reply and the buffer, once write is done with the joined gates
-    pub write-columns-ends : sideHolds p.old c.old.gates ≡ true → sideHolds p.golden c.golden.gates ≡ true
+    pub write-columns-ends : side_holds p.old c.old.gates ≡ true → side_holds p.golden c.golden.gates ≡ true
         → (gs hs : List GateStruct) {r : WriteReply} {d' : List ℕ}
-        → gs ≡ (joinedSide c.old p.old).gates → hs ≡ (joinedSide c.golden p.golden).gates
-        → let q = places (sidePlaces gs p.old.outputs) (sidePlaces hs p.golden.outputs) p.nets p.weights in
-        (r ≡ writeReply c q d) × (d' ≡ writtenBytes c q d)
-        → (r ≡ columnsWriteReply c p d) × (d' ≡ columnsWritten c p d)
+        → gs ≡ (joined_side c.old p.old).gates → hs ≡ (joined_side c.golden p.golden).gates
+        → let q = places (side_places gs p.old.outputs) (side_places hs p.golden.outputs) p.nets p.weights in
+        (r ≡ write_reply c q d) × (d' ≡ written_bytes c q d)
+        → (r ≡ columns_write_reply c p d) × (d' ≡ columns_written c p d)
     write-columns-ends h g gs hs x y e =
         let w = written-columns h g in (e.0 ∙ rw (x, y) (sym w.0), e.1 ∙ rw (x, y) (sym w.1))
 
-    put_other : (n : ℕ) → columnsWriteNumber c p d ≡ n → (n ≡ 0 → ⊥)
-        → (record { number = n; len = 0 } ≡ columnsWriteReply c p d) × (d ≡ columnsWritten c p d)
-    unfolding columnsWriteReply columnsWritten
+    put_other : (n : ℕ) → columns_write_number c p d ≡ n → (n ≡ 0 → ⊥)
+        → (record { number = n; len = 0 } ≡ columns_write_reply c p d) × (d ≡ columns_written c p d)
+    unfolding columns_write_reply columns_written
     put_other n e h = (rw (e, ne_eqb n 0 h), rw (e, ne_eqb n 0 h))
 
-    pub put-short : length d < 8188 → (record { number = 1; len = 0 } ≡ columnsWriteReply c p d) × (d ≡ columnsWritten c p d)
-    unfolding columnsWriteNumber firstFailing
+    pub put-short : length d < 8188 → (record { number = 1; len = 0 } ≡ columns_write_reply c p d) × (d ≡ columns_written c p d)
+    unfolding columns_write_number first_failing
     put-short h = put_other 1 (rw (lt-leb 8188 (length d) h)) (λ z. omega arith)
 
     module _ (l : 8188 ≤ length d) where
-      unheld : columnsHeld c p ≡ false → (record { number = 3; len = 0 } ≡ columnsWriteReply c p d) × (d ≡ columnsWritten c p d)
-      unfolding columnsWriteNumber firstFailing
+      unheld : columns_held c p ≡ false → (record { number = 3; len = 0 } ≡ columns_write_reply c p d) × (d ≡ columns_written c p d)
+      unfolding columns_write_number first_failing
       unheld e = put_other 3 (rw (le-leb 8188 (length d) l, e)) (λ z. omega arith)
 
-      pub unheld-old : sideHolds p.old c.old.gates ≡ false
-          → (record { number = 3; len = 0 } ≡ columnsWriteReply c p d) × (d ≡ columnsWritten c p d)
-      unheld-old e = unheld (false_of (columnsHeld c p) (λ t. true≢false (sym (held_rows t).0 ∙ e)))
+      pub unheld-old : side_holds p.old c.old.gates ≡ false
+          → (record { number = 3; len = 0 } ≡ columns_write_reply c p d) × (d ≡ columns_written c p d)
+      unheld-old e = unheld (false_of (columns_held c p) (λ t. true≢false (sym (held_rows t).0 ∙ e)))
 
-      pub unheld-golden : sideHolds p.golden c.golden.gates ≡ false
-          → (record { number = 3; len = 0 } ≡ columnsWriteReply c p d) × (d ≡ columnsWritten c p d)
-      unheld-golden e = unheld (false_of (columnsHeld c p) (λ t. true≢false (sym (held_rows t).1 ∙ e)))
+      pub unheld-golden : side_holds p.golden c.golden.gates ≡ false
+          → (record { number = 3; len = 0 } ≡ columns_write_reply c p d) × (d ≡ columns_written c p d)
+      unheld-golden e = unheld (false_of (columns_held c p) (λ t. true≢false (sym (held_rows t).1 ∙ e)))
 
       -- a count outside its range is 3, whether or not the columns hold the counts
-      pub put-counts : countsWithin c ≡ false → (record { number = 3; len = 0 } ≡ columnsWriteReply c p d) × (d ≡ columnsWritten c p d)
-      put-counts e = pick (columnsHeld c p) refl
+      pub put-counts : counts_within c ≡ false → (record { number = 3; len = 0 } ≡ columns_write_reply c p d) × (d ≡ columns_written c p d)
+      put-counts e = pick (columns_held c p) refl
         where
-          pick : (b : Bool) → columnsHeld c p ≡ b → (record { number = 3; len = 0 } ≡ columnsWriteReply c p d) × (d ≡ columnsWritten c p d)
+          pick : (b : Bool) → columns_held c p ≡ b → (record { number = 3; len = 0 } ≡ columns_write_reply c p d) × (d ≡ columns_written c p d)
           pick false h = unheld h
           pick true h =
               let t = held_rows h in
               let w = written-columns t.0 t.1 in
-              let v = write-counts c writtenFrom d l e in
+              let v = write-counts c written_from d l e in
               (v.0 ∙ sym w.0, v.1 ∙ sym w.1)

@@ -8,9 +8,9 @@ use borrow.Author.Tests.{le-leb, lt-leb, leb-true, leb-false, eqb-true, eq-eqb}
 use lib.Dec.{leb, eqb}
 use lib.ListN.{get_or}
 use Rattle.records.specs.Job.{Job}
-use Rattle.records.specs.Refusal.{sideCountsGood, countsGood}
-use Rattle.records.specs.Service.{sideCountsOf, countsOf, noCounts}
-use Rattle.records.specs.Inner.{checkOf, lengthsGood, sideWithin, countsWithin, SideWithin, Within, startsOf, gateSpans, room, holds, columnsHold}
+use Rattle.records.specs.Refusal.{side_counts_good, counts_good}
+use Rattle.records.specs.Service.{side_counts_of, counts_of, no_counts}
+use Rattle.records.specs.Inner.{check_of, lengths_good, side_within, counts_within, SideWithin, Within, starts_of, gate_spans, room, holds, columns_hold}
 use Rattle.records.specs.declared.field.Check.TheVariants.{Passed, Failed}
 use Rattle.records.specs.declared.job.SideCounts.{SideCounts}
 use Rattle.records.specs.declared.job.Counts.{Counts}
@@ -18,84 +18,84 @@ use Rattle.records.proofs.Laws.Bytes.{row_at, and_both, false_of}
 
 -- ---- a check's answer
 
-pub passed : (b : Bool) → b ≡ true → Passed ≡ checkOf b
-unfolding checkOf
+pub passed : (b : Bool) → b ≡ true → Passed ≡ check_of b
+unfolding check_of
 passed b h = rw h
 
-pub failed-of : (b : Bool) → b ≡ false → Failed ≡ checkOf b
-unfolding checkOf
+pub failed-of : (b : Bool) → b ≡ false → Failed ≡ check_of b
+unfolding check_of
 failed-of b h = rw h
 
-pub failed : (b : Bool) → (b ≡ true → ⊥) → Failed ≡ checkOf b
+pub failed : (b : Bool) → (b ≡ true → ⊥) → Failed ≡ check_of b
 failed b h = failed-of b (false_of b h)
 
-pub passes : (b : Bool) → checkOf b ≡ Passed → b ≡ true
-unfolding checkOf
+pub passes : (b : Bool) → check_of b ≡ Passed → b ≡ true
+unfolding check_of
 passes true h = refl
 passes false h = let z : ◌≡◌ {A = ℕ} 0 1 = cc in let f : ⊥ = omega arith in absurd f
 
-pub fails : (b : Bool) → checkOf b ≡ Failed → b ≡ false
-unfolding checkOf
+pub fails : (b : Bool) → check_of b ≡ Failed → b ≡ false
+unfolding check_of
 fails false h = refl
 fails true h = let z : ◌≡◌ {A = ℕ} 0 1 = cc in let f : ⊥ = omega arith in absurd f
 
 -- ---- counts within their ranges
 
-pub sideWithin-facts : (c : SideCounts) → sideWithin c ≡ true → SideWithin c
-unfolding sideWithin
-sideWithin-facts c h =
+pub side_within-facts : (c : SideCounts) → side_within c ≡ true → SideWithin c
+unfolding side_within
+side_within-facts c h =
     let t = row_at (leb c.gates 400) (leb 1 c.outputs ∷ leb c.outputs 32 ∷ []) h in
     record { gates = leb-true _ _ (t 0); some = leb-true _ _ (t 1); outputs = leb-true _ _ (t 2) }
 
-pub sideWithin-true : (c : SideCounts) → SideWithin c → sideWithin c ≡ true
-unfolding sideWithin
-sideWithin-true c h =
+pub side_within-true : (c : SideCounts) → SideWithin c → side_within c ≡ true
+unfolding side_within
+side_within-true c h =
     and_both _ _ (and_both _ _ (le-leb _ _ h.gates) (le-leb _ _ h.some)) (le-leb _ _ h.outputs)
 
-pub countsWithin-facts : (c : Counts) → countsWithin c ≡ true → Within c
-unfolding countsWithin
-countsWithin-facts c h =
+pub counts_within-facts : (c : Counts) → counts_within c ≡ true → Within c
+unfolding counts_within
+counts_within-facts c h =
     let t =
     row_at (leb c.inputs 20)
-    (leb c.targets 4 ∷ sideWithin c.old ∷ sideWithin c.golden ∷ leb c.candidates 10 ∷ [])
+    (leb c.targets 4 ∷ side_within c.old ∷ side_within c.golden ∷ leb c.candidates 10 ∷ [])
     h in
     record {
       inputs = leb-true _ _ (t 0);
       targets = leb-true _ _ (t 1);
-      old = sideWithin-facts c.old (t 2);
-      golden = sideWithin-facts c.golden (t 3);
+      old = side_within-facts c.old (t 2);
+      golden = side_within-facts c.golden (t 3);
       candidates = leb-true _ _ (t 4);
     }
 
-pub countsWithin-true : (c : Counts) → Within c → countsWithin c ≡ true
-unfolding countsWithin
-countsWithin-true c h =
+pub counts_within-true : (c : Counts) → Within c → counts_within c ≡ true
+unfolding counts_within
+counts_within-true c h =
     and_both _ _
     (and_both _ _
     (and_both _ _
     (and_both _ _ (le-leb _ _ h.inputs) (le-leb _ _ h.targets))
-    (sideWithin-true c.old h.old))
-    (sideWithin-true c.golden h.golden))
+    (side_within-true c.old h.old))
+    (side_within-true c.golden h.golden))
     (le-leb _ _ h.candidates)
 
-pub countsWithin-countsOf : (j : Job) → countsWithin (countsOf j) ≡ countsGood j
-unfolding countsWithin countsOf countsGood sideWithin sideCountsOf sideCountsGood
-countsWithin-countsOf j = refl
+pub counts_within-counts_of : (j : Job) → counts_within (counts_of j) ≡ counts_good j
+unfolding counts_within counts_of counts_good side_within side_counts_of side_counts_good
+counts_within-counts_of j = refl
 
 -- where gates stand, by counts within their ranges and by none
 pub spans-within : (c : Counts) → Within c
-    → gateSpans c
+    → gate_spans c
     ≡ record {
-      old = (startsOf c).old;
+      old = (starts_of c).old;
       old_count = c.old.gates;
-      golden = (startsOf c).golden;
+      golden = (starts_of c).golden;
       golden_count = c.golden.gates;
     }
-unfolding gateSpans
-spans-within c h = rw (countsWithin-true c h)
+unfolding gate_spans
+spans-within c h = rw (counts_within-true c h)
 
-pub spans-none : gateSpans noCounts ≡ record { old = 0; old_count = 0; golden = 0; golden_count = 0 }
-unfolding gateSpans noCounts countsWithin sideWithin
+pub spans-none : gate_spans no_counts ≡ record { old = 0; old_count = 0; golden = 0; golden_count = 0 }
+unfolding gate_spans no_counts counts_within side_within
 spans-none = refl
 
 -- ---- the lengths of a job's fields
@@ -108,9 +108,9 @@ pub record LengthsGood (ns : List ℕ) : Type 0 where
   pub goldens : get_or ns 4 0 % 2 ≡ 0
   pub candidates : get_or ns 5 0 % 4 ≡ 0
 
-pub lengthsGood-facts : (ns : List ℕ) → lengthsGood ns ≡ true → LengthsGood ns
-unfolding lengthsGood
-lengthsGood-facts ns h =
+pub lengths_good-facts : (ns : List ℕ) → lengths_good ns ≡ true → LengthsGood ns
+unfolding lengths_good
+lengths_good-facts ns h =
     let t =
     row_at (eqb (get_or ns 0 0) 2)
     (eqb (get_or ns 1 0 % 10) 0
@@ -129,9 +129,9 @@ lengthsGood-facts ns h =
       candidates = eqb-true _ _ (t 5);
     }
 
-pub lengthsGood-true : (ns : List ℕ) → LengthsGood ns → lengthsGood ns ≡ true
-unfolding lengthsGood
-lengthsGood-true ns h =
+pub lengths_good-true : (ns : List ℕ) → LengthsGood ns → lengths_good ns ≡ true
+unfolding lengths_good
+lengths_good-true ns h =
     and_both _ _
     (and_both _ _
     (and_both _ _
@@ -196,9 +196,9 @@ module _ (n : Counts) (a b c d e f : ℕ) where
   holds-true =
       six-true n.old.gates a n.old.outputs b n.golden.gates c n.golden.outputs d n.candidates e n.candidates f
 
-pub columnsHold-facts : (count k n s : ℕ) → columnsHold count k n s ≡ true → (count ≤ k) × (count ≤ n) × (4 * count ≤ s)
-unfolding columnsHold
-columnsHold-facts count k n s h =
+pub columns_hold-facts : (count k n s : ℕ) → columns_hold count k n s ≡ true → (count ≤ k) × (count ≤ n) × (4 * count ≤ s)
+unfolding columns_hold
+columns_hold-facts count k n s h =
     let t = row_at (leb count k) (leb count n ∷ leb (4 * count) s ∷ []) h in
     (leb-true _ _ (t 0), leb-true _ _ (t 1), leb-true _ _ (t 2))
 
@@ -210,6 +210,6 @@ leb-quarter count s = pick (leb (4 * count) s) refl
     pick true e = let h = leb-true (4 * count) s e in le-leb count (s / 4) (omega arith)
     pick false e = let h = leb-false (4 * count) s e in lt-leb count (s / 4) (omega arith)
 
-pub columnsHold-quarter : (count k n s : ℕ) → (leb count k && leb count n && leb count (s / 4)) ≡ columnsHold count k n s
-unfolding columnsHold
-columnsHold-quarter count k n s = rw (leb-quarter count s)
+pub columns_hold-quarter : (count k n s : ℕ) → (leb count k && leb count n && leb count (s / 4)) ≡ columns_hold count k n s
+unfolding columns_hold
+columns_hold-quarter count k n s = rw (leb-quarter count s)

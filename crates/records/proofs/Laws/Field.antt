@@ -9,8 +9,8 @@ use borrow.Author.Tests.{lt-leb, le-leb, eq-eqb, ne_eqb, leb-true, eqb-true}
 use lib.Dec.{leb, eqb}
 use lib.ListN.{length, get_or, take, drop, length-drop}
 use lib.Seq.{get_or-drop, drop-drop, length-take-le}
-use Rattle.records.specs.Bytes.{word, bodyLength, body, rest, fits, whole, nth}
-use Rattle.records.specs.Inner.{start_of, fieldAt, end_of}
+use Rattle.records.specs.Bytes.{word, body_length, body, rest, fits, whole, nth}
+use Rattle.records.specs.Inner.{start_of, field_at, end_of}
 use Rattle.records.specs.declared.field.Field.{Field}
 use Rattle.records.specs.declared.field.Field.TheVariants.{Body, Missing}
 use Rattle.records.proofs.Laws.Bytes.{and_left, and_right, and_both, and-false-left, and-false-right}
@@ -21,14 +21,14 @@ pub word-drop : (s : List ℕ) (a i : ℕ) → word (drop a s) i ≡ word s (a +
 unfolding word
 word-drop s a i = rw (get_or-drop a s i 0, get_or-drop a s (i + 1) 0, ← add_assoc a i 1)
 
-pub bodyLength-drop : (s : List ℕ) (at : ℕ) → bodyLength (drop at s) ≡ word s (at + 1)
-unfolding bodyLength
-bodyLength-drop s at = word-drop s at 1
+pub body_length-drop : (s : List ℕ) (at : ℕ) → body_length (drop at s) ≡ word s (at + 1)
+unfolding body_length
+body_length-drop s at = word-drop s at 1
 
 module _ (s : List ℕ) (at t : ℕ) where
   fits-drop : fits t (drop at s) ≡ (leb 3 (length s - at) && eqb (get_or s at 0) t && leb (3 + word s (at + 1)) (length s - at))
   unfolding fits
-  fits-drop = rw (length-drop at s, bodyLength-drop s at, get_or-drop at s 0 0, add-zero at)
+  fits-drop = rw (length-drop at s, body_length-drop s at, get_or-drop at s 0 0, add-zero at)
 
   pub fits-short : length s < at + 3 → fits t (drop at s) ≡ false
   fits-short h =
@@ -64,61 +64,61 @@ skip (suc k) s = skip k (rest s)
 
 unfoldable pub position_of : ℕ → List ℕ → ℕ
 position_of zero s = 0
-position_of (suc k) s = 3 + bodyLength s + position_of k (rest s)
+position_of (suc k) s = 3 + body_length s + position_of k (rest s)
 
-pub positionOf-zero : (s : List ℕ) → position_of 0 s ≡ 0
+pub position_of-zero : (s : List ℕ) → position_of 0 s ≡ 0
 unfolding position_of
-positionOf-zero s = refl
+position_of-zero s = refl
 
-pub startOf-position : (k : ℕ) (s : List ℕ) → start_of k s ≡ position_of k s + 3
+pub start_of-position : (k : ℕ) (s : List ℕ) → start_of k s ≡ position_of k s + 3
 unfolding start_of position_of
-startOf-position zero s = refl
-startOf-position (suc k) s =
-    let e = startOf-position k (rest s) in
+start_of-position zero s = refl
+start_of-position (suc k) s =
+    let e = start_of-position k (rest s) in
     omega arith
 
 pub skip-drop : (k : ℕ) (s : List ℕ) → skip k s ≡ drop (position_of k s) s
 unfolding skip position_of rest
 skip-drop zero s = refl
-skip-drop (suc k) s = skip-drop k (rest s) ∙ drop-drop (position_of k (rest s)) (3 + bodyLength s) s
+skip-drop (suc k) s = skip-drop k (rest s) ∙ drop-drop (position_of k (rest s)) (3 + body_length s) s
 
-pub positionOf-suc : (k : ℕ) (s : List ℕ) → position_of (suc k) s ≡ position_of k s + 3 + bodyLength (skip k s)
+pub position_of-suc : (k : ℕ) (s : List ℕ) → position_of (suc k) s ≡ position_of k s + 3 + body_length (skip k s)
 unfolding position_of skip
-positionOf-suc zero s = omega arith
-positionOf-suc (suc k) s =
-    let e = positionOf-suc k (rest s) in
+position_of-suc zero s = omega arith
+position_of-suc (suc k) s =
+    let e = position_of-suc k (rest s) in
     omega arith
 
-pub positionOf-next : (k : ℕ) (s : List ℕ) (at : ℕ) → at ≡ position_of k s → position_of (suc k) s ≡ at + 3 + word s (at + 1)
-positionOf-next k s at e =
-    rw e (positionOf-suc k s ∙ ap (λ (n : ℕ). position_of k s + 3 + n) (ap bodyLength (skip-drop k s) ∙ bodyLength-drop s (position_of k s)))
+pub position_of-next : (k : ℕ) (s : List ℕ) (at : ℕ) → at ≡ position_of k s → position_of (suc k) s ≡ at + 3 + word s (at + 1)
+position_of-next k s at e =
+    rw e (position_of-suc k s ∙ ap (λ (n : ℕ). position_of k s + 3 + n) (ap body_length (skip-drop k s) ∙ body_length-drop s (position_of k s)))
 
-positionOf-le : (k n : ℕ) (s : List ℕ) → k ≤ n → position_of k s ≤ position_of n s
+position_of-le : (k n : ℕ) (s : List ℕ) → k ≤ n → position_of k s ≤ position_of n s
 unfolding position_of
-positionOf-le zero n s h = omega arith
-positionOf-le (suc k) zero s h = let f : ⊥ = omega arith in absurd f
-positionOf-le (suc k) (suc n) s h = omega (arith, positionOf-le k n (rest s) (omega arith))
+position_of-le zero n s h = omega arith
+position_of-le (suc k) zero s h = let f : ⊥ = omega arith in absurd f
+position_of-le (suc k) (suc n) s h = omega (arith, position_of-le k n (rest s) (omega arith))
 
 -- where a field's length reaches past the end, so do the fields up to any later one
 pub position_past : (k n : ℕ) (s : List ℕ) (at : ℕ) → at ≡ position_of k s → k < n → length s < at + 3 + word s (at + 1)
     → length s + 3 < start_of n s
 position_past k n s at e h l =
-    omega (arith, positionOf-next k s at e, positionOf-le (suc k) n s (omega arith), startOf-position n s)
+    omega (arith, position_of-next k s at e, position_of-le (suc k) n s (omega arith), start_of-position n s)
 
 pub nth-body : (k : ℕ) (s : List ℕ) → nth k s ≡ body (skip k s)
 unfolding nth skip
 nth-body zero s = refl
 nth-body (suc k) s = nth-body k (rest s)
 
-pub fits-room : (t : ℕ) (s : List ℕ) → fits t s ≡ true → 3 + bodyLength s ≤ length s
+pub fits-room : (t : ℕ) (s : List ℕ) → fits t s ≡ true → 3 + body_length s ≤ length s
 unfolding fits
 fits-room t s h = leb-true _ _ (and_right (leb 3 (length s) && eqb (get_or s 0 0) t) _ h)
 
-pub length-body : (s : List ℕ) → 3 + bodyLength s ≤ length s → length (body s) ≡ bodyLength s
+pub length-body : (s : List ℕ) → 3 + body_length s ≤ length s → length (body s) ≡ body_length s
 unfolding body
-length-body s h = length-take-le (bodyLength s) (drop 3 s) (omega (arith, length-drop 3 s))
+length-body s h = length-take-le (body_length s) (drop 3 s) (omega (arith, length-drop 3 s))
 
-pub length-nth : (k t : ℕ) (s : List ℕ) → fits t (skip k s) ≡ true → length (nth k s) ≡ bodyLength (skip k s)
+pub length-nth : (k t : ℕ) (s : List ℕ) → fits t (skip k s) ≡ true → length (nth k s) ≡ body_length (skip k s)
 length-nth k t s h = ap length (nth-body k s) ∙ length-body (skip k s) (fits-room t (skip k s) h)
 
 whole-fits : (ts s : List ℕ) (k : ℕ) → whole ts s ≡ true → k < length ts → fits (get_or ts k 0) (skip k s) ≡ true
@@ -134,30 +134,30 @@ whole-end [] s w = sym (eqb-true (length s) 0 w)
 whole-end (t ∷ ts) s w =
     let r = fits-room t s (and_left (fits t s) (whole ts (rest s)) w) in
     let e = whole-end ts (rest s) (and_right (fits t s) (whole ts (rest s)) w) in
-    omega (arith, length-drop (3 + bodyLength s) s)
+    omega (arith, length-drop (3 + body_length s) s)
 
 module _ (ts s : List ℕ) (w : whole ts s ≡ true) (k : ℕ) (h : k < length ts) where
-  nth-length : length (nth k s) ≡ bodyLength (skip k s)
+  nth-length : length (nth k s) ≡ body_length (skip k s)
   nth-length = length-nth k (get_or ts k 0) s (whole-fits ts s k w h)
 
-  pub startOf-suc : start_of (suc k) s ≡ start_of k s + length (nth k s) + 3
-  startOf-suc =
-      omega (arith, nth-length, startOf-position k s, startOf-position (suc k) s, positionOf-suc k s)
+  pub start_of-suc : start_of (suc k) s ≡ start_of k s + length (nth k s) + 3
+  start_of-suc =
+      omega (arith, nth-length, start_of-position k s, start_of-position (suc k) s, position_of-suc k s)
 
-  pub startOf-le : start_of k s + length (nth k s) ≤ length s
-  startOf-le =
+  pub start_of-le : start_of k s + length (nth k s) ≤ length s
+  start_of-le =
       let l = ap length (skip-drop k s) in
       let r = fits-room (get_or ts k 0) (skip k s) (whole-fits ts s k w h) in
-      omega (arith, nth-length, startOf-position k s, length-drop (position_of k s) s)
+      omega (arith, nth-length, start_of-position k s, length-drop (position_of k s) s)
 
   -- the part of a whole record between a field's bounds is the field's bytes
   pub nth-slice : take (length (nth k s)) (drop (start_of k s) s) ≡ nth k s
   unfolding body
   nth-slice =
       ap (λ (n : ℕ). take n (drop (start_of k s) s)) nth-length
-      ∙ ap (λ (n : ℕ). take (bodyLength (skip k s)) (drop n s)) (startOf-position k s)
-      ∙ ap (λ (l : List ℕ). take (bodyLength (skip k s)) l) (sym (drop-drop 3 (position_of k s) s))
-      ∙ ap (λ (l : List ℕ). take (bodyLength (skip k s)) (drop 3 l)) (sym (skip-drop k s))
+      ∙ ap (λ (n : ℕ). take (body_length (skip k s)) (drop n s)) (start_of-position k s)
+      ∙ ap (λ (l : List ℕ). take (body_length (skip k s)) l) (sym (drop-drop 3 (position_of k s) s))
+      ∙ ap (λ (l : List ℕ). take (body_length (skip k s)) (drop 3 l)) (sym (skip-drop k s))
       ∙ sym (nth-body k s)
 
 -- ---- what reading a field answers
@@ -171,19 +171,19 @@ pick-missing false x y e = refl
 pick-missing true x y e = let z : ◌≡◌ {A = ℕ} 0 1 = cc in let f : ⊥ = omega arith in absurd f
 
 module _ (s : List ℕ) (at t : ℕ) where
-  pub fieldAt-body : (a b : ℕ) → fieldAt s at t ≡ Body a b
-      → (fits t (drop at s) ≡ true) × (a ≡ at + 3) × (b ≡ bodyLength (drop at s))
-  unfolding fieldAt
-  fieldAt-body a b e = pick-body (fits t (drop at s)) (at + 3) (bodyLength (drop at s)) a b e
+  pub field_at-body : (a b : ℕ) → field_at s at t ≡ Body a b
+      → (fits t (drop at s) ≡ true) × (a ≡ at + 3) × (b ≡ body_length (drop at s))
+  unfolding field_at
+  field_at-body a b e = pick-body (fits t (drop at s)) (at + 3) (body_length (drop at s)) a b e
 
-  pub fieldAt-missing : fieldAt s at t ≡ Missing → fits t (drop at s) ≡ false
-  unfolding fieldAt
-  fieldAt-missing e = pick-missing (fits t (drop at s)) (at + 3) (bodyLength (drop at s)) e
+  pub field_at-missing : field_at s at t ≡ Missing → fits t (drop at s) ≡ false
+  unfolding field_at
+  field_at-missing e = pick-missing (fits t (drop at s)) (at + 3) (body_length (drop at s)) e
 
   -- the field found ends within the bytes
-  pub end-within : (f : Field) → fieldAt s at t ≡ f → end_of f ≤ length s
+  pub end-within : (f : Field) → field_at s at t ≡ f → end_of f ≤ length s
   unfolding end_of
   end-within Missing e = omega arith
   end-within (Body a b) e =
-      let f = fieldAt-body a b e in
+      let f = field_at-body a b e in
       omega (arith, f.1, f.2, fits-room t (drop at s) f.0, length-drop at s)

@@ -9,7 +9,7 @@ use borrow.Author.Tests.{le-leb, lt-leb, leb-true, leb-false, eqb-true}
 use lib.Dec.{leb}
 use lib.ListN.{length, get_or, take, drop, length-take, length-drop, length-append, get_or-append}
 use lib.Seq.{get_or-take, take-take, drop-drop, drop-append-le, take-append_seam}
-use Rattle.records.specs.Bytes.{all, word, bodyLength, body, rest, fits, whole, nth}
+use Rattle.records.specs.Bytes.{all, word, body_length, body, rest, fits, whole, nth}
 use Rattle.records.proofs.Laws.Bytes.{and_left, and_right, and_assoc, drop-take}
 use Rattle.records.proofs.Laws.Field.{skip-drop, position_of, fits-room, nth-body}
 
@@ -24,42 +24,42 @@ leb-min a n l h = pick (leb a l) refl
 
 module _ (s : List ℕ) (p : ℕ) where
   abbrev cut : List ℕ
-  cut = take (3 + bodyLength s + p) s
+  cut = take (3 + body_length s + p) s
 
-  bodyLength-cut : bodyLength cut ≡ bodyLength s
-  unfolding bodyLength word
-  bodyLength-cut =
+  body_length-cut : body_length cut ≡ body_length s
+  unfolding body_length word
+  body_length-cut =
       let n = 3 + word s 1 + p in
       rw (get_or-take n s 1 0 (omega arith), get_or-take n s 2 0 (omega arith))
 
   rest-cut : rest cut ≡ take p (rest s)
   unfolding rest
-  rest-cut = rw bodyLength-cut (drop-take (3 + bodyLength s) p s)
+  rest-cut = rw body_length-cut (drop-take (3 + body_length s) p s)
 
   body-cut : body cut ≡ body s
   unfolding body
   body-cut =
-      let n : 3 + bodyLength s + p ≡ 3 + (bodyLength s + p) = omega arith in
-      rw bodyLength-cut
-      (ap (λ (k : ℕ). take (bodyLength s) (drop 3 (take k s))) n
-      ∙ ap (take (bodyLength s)) (drop-take 3 (bodyLength s + p) s)
-      ∙ take-take (bodyLength s) (bodyLength s + p) (drop 3 s) (omega arith))
+      let n : 3 + body_length s + p ≡ 3 + (body_length s + p) = omega arith in
+      rw body_length-cut
+      (ap (λ (k : ℕ). take (body_length s) (drop 3 (take k s))) n
+      ∙ ap (take (body_length s)) (drop-take 3 (body_length s + p) s)
+      ∙ take-take (body_length s) (body_length s + p) (drop 3 s) (omega arith))
 
   fits_cut : (t : ℕ) → fits t cut ≡ fits t s
   unfolding fits
   fits_cut t =
-      rw (bodyLength-cut, length-take (3 + bodyLength s + p) s, get_or-take (3 + bodyLength s + p) s 0 0 (omega arith), leb-min 3 (3 + bodyLength s + p) (length s) (omega arith), leb-min (3 + bodyLength s) (3 + bodyLength s + p) (length s) (omega arith))
+      rw (body_length-cut, length-take (3 + body_length s + p) s, get_or-take (3 + body_length s + p) s 0 0 (omega arith), leb-min 3 (3 + body_length s + p) (length s) (omega arith), leb-min (3 + body_length s) (3 + body_length s + p) (length s) (omega arith))
       refl
 
 -- ---- a cut behind the first n fields
 
-pub positionOf-cut : (n k : ℕ) (s : List ℕ) → k ≤ n → position_of k (take (position_of n s) s) ≡ position_of k s
+pub position_of-cut : (n k : ℕ) (s : List ℕ) → k ≤ n → position_of k (take (position_of n s) s) ≡ position_of k s
 unfolding position_of
-positionOf-cut n zero s h = refl
-positionOf-cut zero (suc k) s h = let f : ⊥ = omega arith in absurd f
-positionOf-cut (suc n) (suc k) s h =
+position_of-cut n zero s h = refl
+position_of-cut zero (suc k) s h = let f : ⊥ = omega arith in absurd f
+position_of-cut (suc n) (suc k) s h =
     let p = position_of n (rest s) in
-    rw (bodyLength-cut s p, rest-cut s p, positionOf-cut n k (rest s) (omega arith)) refl
+    rw (body_length-cut s p, rest-cut s p, position_of-cut n k (rest s) (omega arith)) refl
 
 pub nth_cut : (n k : ℕ) (s : List ℕ) → k < n → nth k (take (position_of n s) s) ≡ nth k s
 unfolding position_of nth
@@ -80,21 +80,21 @@ unfolding whole position_of rest
 whole_append [] us s = refl
 whole_append (t ∷ ts) us s =
     let p = position_of (length ts) (rest s) in
-    rw (fits_cut s p t, rest-cut s p, whole_append ts us (rest s), ← drop-drop p (3 + bodyLength s) s)
+    rw (fits_cut s p t, rest-cut s p, whole_append ts us (rest s), ← drop-drop p (3 + body_length s) s)
     (sym (and_assoc (fits t s) (whole ts (take p (rest s))) (whole us (drop p (rest s)))))
 
 -- whole fields end where they do, whatever stands behind them
-bodyLength-append : (a b : List ℕ) → 3 ≤ length a → bodyLength (a ++ b) ≡ bodyLength a
-unfolding bodyLength word
-bodyLength-append a b h = rw (get_or-append a b 0 1 (omega arith), get_or-append a b 0 2 (omega arith))
+body_length-append : (a b : List ℕ) → 3 ≤ length a → body_length (a ++ b) ≡ body_length a
+unfolding body_length word
+body_length-append a b h = rw (get_or-append a b 0 1 (omega arith), get_or-append a b 0 2 (omega arith))
 
-rest-append : (a b : List ℕ) → 3 + bodyLength a ≤ length a → rest (a ++ b) ≡ rest a ++ b
+rest-append : (a b : List ℕ) → 3 + body_length a ≤ length a → rest (a ++ b) ≡ rest a ++ b
 unfolding rest
-rest-append a b h = rw (bodyLength-append a b (omega arith)) (drop-append-le (3 + bodyLength a) a b h)
+rest-append a b h = rw (body_length-append a b (omega arith)) (drop-append-le (3 + body_length a) a b h)
 
-length_rest : (a : List ℕ) → length (rest a) ≡ length a - (3 + bodyLength a)
+length_rest : (a : List ℕ) → length (rest a) ≡ length a - (3 + body_length a)
 unfolding rest
-length_rest a = length-drop (3 + bodyLength a) a
+length_rest a = length-drop (3 + body_length a) a
 
 pub whole-front : (ts a b : List ℕ) → whole ts a ≡ true → position_of (length ts) (a ++ b) ≡ length a
 unfolding whole position_of
@@ -102,7 +102,7 @@ whole-front [] a b w = sym (eqb-true (length a) 0 w)
 whole-front (t ∷ ts) a b w =
     let r = fits-room t a (and_left (fits t a) (whole ts (rest a)) w) in
     let e = whole-front ts (rest a) b (and_right (fits t a) (whole ts (rest a)) w) in
-    rw (bodyLength-append a b (omega arith), rest-append a b r) (omega (arith, e, length_rest a))
+    rw (body_length-append a b (omega arith), rest-append a b r) (omega (arith, e, length_rest a))
 
 -- .. and so are they
 pub nth-front : (ts a b : List ℕ) → whole ts a ≡ true → (k : ℕ) → k < length ts → nth k (a ++ b) ≡ nth k a
@@ -115,7 +115,7 @@ nth-front ts a b w k h =
 
 fits-tag : (t : ℕ) (s : List ℕ) → fits t s ≡ true → get_or s 0 0 ≡ t
 unfolding fits
-fits-tag t s h = eqb-true _ _ (and_right (leb 3 (length s)) _ (and_left _ (leb (3 + bodyLength s) (length s)) h))
+fits-tag t s h = eqb-true _ _ (and_right (leb 3 (length s)) _ (and_left _ (leb (3 + body_length s) (length s)) h))
 
 -- what holds of each tag of a record holds of that field's
 pub whole-behind : (p : ℕ → Bool) (t : ℕ) (ts us a b : List ℕ) → whole ts a ≡ true → fits t b ≡ true → whole us (a ++ b) ≡ true

@@ -9,16 +9,16 @@ use native.Mathlib.Numerals.{add-one}
 use native.Mathlib.Omega.{arith}
 use lib.ListN.{length, get_or, take, drop, set, length-append, length-set, length-map, get_or-append}
 use lib.Seq.{length-take-le, take-suc, take-append_seam, drop-append_seam, sets, sets-eq}
-use Rattle.records.specs.Bytes.{up_from, tabulate, flat, bytePair, placed, field}
-use Rattle.records.specs.Gate.{Gate, gateOf}
-use Rattle.records.specs.Job.{Job, Candidate, gateBytes, candidateBytes, jobBytes}
-use Rattle.records.specs.Refusal.{longestJob}
-use Rattle.records.specs.Service.{SidePlaces, Places, gateFrom, sideCountsOf, countsOf, gatesIn, netlistFrom, candidatesFrom, jobFrom, sideHeld, held}
-use Rattle.records.specs.Inner.{Within, gatesBytes, holds}
+use Rattle.records.specs.Bytes.{up_from, tabulate, flat, byte_pair, placed, field}
+use Rattle.records.specs.Gate.{Gate, gate_of}
+use Rattle.records.specs.Job.{Job, Candidate, gate_bytes, candidate_bytes, job_bytes}
+use Rattle.records.specs.Refusal.{longest_job}
+use Rattle.records.specs.Service.{SidePlaces, Places, gate_from, side_counts_of, counts_of, gates_in, netlist_from, candidates_from, job_from, side_held, held}
+use Rattle.records.specs.Inner.{Within, gates_bytes, holds}
 use Rattle.records.specs.declared.gate.Gate.{Gate as GateStruct}
 use Rattle.records.specs.declared.job.SideCounts.{SideCounts}
 use Rattle.records.specs.declared.job.Counts.{Counts}
-use Rattle.records.proofs.Laws.Bytes.{length-upFrom, length-tabulate, tabulate-snoc, placed-nil, length-placed, placed-placed, set-placed}
+use Rattle.records.proofs.Laws.Bytes.{length-up_from, length-tabulate, tabulate-snoc, placed-nil, length-placed, placed-placed, set-placed}
 use Rattle.records.proofs.Laws.Counts.{holds-facts, holds-true}
 
 -- ---- flat
@@ -54,15 +54,15 @@ pub length-flat-tabulate : {A : Type 0} (f : A → List ℕ) (k : ℕ) (g : ℕ 
     → (n : ℕ) → length (flat f (tabulate n g)) ≡ k * n
 unfolding tabulate
 length-flat-tabulate f k g e n =
-    length-flat-map f g k e (up_from 0 n) ∙ ap (λ (m : ℕ). k * m) (length-upFrom 0 n)
+    length-flat-map f g k e (up_from 0 n) ∙ ap (λ (m : ℕ). k * m) (length-up_from 0 n)
 
-pub tabulate-getD : (xs : List ℕ) (n : ℕ) → n ≤ length xs → tabulate n (λ i. get_or xs i 0) ≡ take n xs
+pub tabulate-get_or : (xs : List ℕ) (n : ℕ) → n ≤ length xs → tabulate n (λ i. get_or xs i 0) ≡ take n xs
 unfolding tabulate up_from
-tabulate-getD xs zero h = refl
-tabulate-getD xs (suc n) h =
+tabulate-get_or xs zero h = refl
+tabulate-get_or xs (suc n) h =
     ap (λ (k : ℕ). tabulate k (λ i. get_or xs i 0)) (sym (add-one n))
     ∙ tabulate-snoc n (λ i. get_or xs i 0)
-    ∙ ap (λ (l : List ℕ). l ++ (get_or xs n 0 ∷ [])) (tabulate-getD xs n (omega arith))
+    ∙ ap (λ (l : List ℕ). l ++ (get_or xs n 0 ∷ [])) (tabulate-get_or xs n (omega arith))
     ∙ sym (take-suc xs n 0 (omega arith))
 
 -- ---- records of one size, one after the other
@@ -89,8 +89,8 @@ module _ {A : Type 0} (d xs : List A) where
   pub drop-placed-front : drop (length xs) (placed d 0 xs) ≡ drop (length xs) d
   drop-placed-front = rw placed-front (drop-append_seam xs (drop (length xs) d))
 
-  pub getD-placed-front : (i : ℕ) (a : A) → i < length xs → get_or (placed d 0 xs) i a ≡ get_or xs i a
-  getD-placed-front i a h =
+  pub get_or-placed-front : (i : ℕ) (a : A) → i < length xs → get_or (placed d 0 xs) i a ≡ get_or xs i a
+  get_or-placed-front i a h =
       ap (λ (l : List A). get_or l i a) placed-front ∙ get_or-append xs (drop (length xs) d) a i h
 
 -- ---- stores
@@ -121,33 +121,33 @@ placed-then d at xs ys p q h e f =
 
 -- a gate's stores, a candidate's, a field's
 pub gate-placed : (d : List ℕ) {d₁ d₂ d₃ d₄ : List ℕ} (p k n w x y z : ℕ) → p + 10 ≤ length d
-    → d₁ ≡ placed (set (set d p k) (p + 1) n) (p + 2) (bytePair w)
-    → d₂ ≡ placed d₁ (p + 4) (bytePair x) → d₃ ≡ placed d₂ (p + 6) (bytePair y) → d₄ ≡ placed d₃ (p + 8) (bytePair z)
-    → d₄ ≡ placed d p (gateBytes (gateOf k n w x y z))
-unfolding gateBytes gateOf bytePair flat
+    → d₁ ≡ placed (set (set d p k) (p + 1) n) (p + 2) (byte_pair w)
+    → d₂ ≡ placed d₁ (p + 4) (byte_pair x) → d₃ ≡ placed d₂ (p + 6) (byte_pair y) → d₄ ≡ placed d₃ (p + 8) (byte_pair z)
+    → d₄ ≡ placed d p (gate_bytes (gate_of k n w x y z))
+unfolding gate_bytes gate_of byte_pair flat
 gate-placed d p k n w x y z h e₁ e₂ e₃ e₄ =
     let s : set (set d p k) (p + 1) n ≡ placed d p (k ∷ n ∷ []) =
     rw add-one (sets-placed d p (k ∷ n ∷ []) (omega arith)) in
-    placed-then d p (k ∷ n ∷ flat bytePair (w ∷ x ∷ y ∷ [])) (bytePair z) (p + 8) refl (omega arith)
-    (placed-then d p (k ∷ n ∷ flat bytePair (w ∷ x ∷ [])) (bytePair y) (p + 6) refl (omega arith)
-    (placed-then d p (k ∷ n ∷ bytePair w) (bytePair x) (p + 4) refl (omega arith)
-    (placed-then d p (k ∷ n ∷ []) (bytePair w) (p + 2) refl (omega arith) s e₁)
+    placed-then d p (k ∷ n ∷ flat byte_pair (w ∷ x ∷ y ∷ [])) (byte_pair z) (p + 8) refl (omega arith)
+    (placed-then d p (k ∷ n ∷ flat byte_pair (w ∷ x ∷ [])) (byte_pair y) (p + 6) refl (omega arith)
+    (placed-then d p (k ∷ n ∷ byte_pair w) (byte_pair x) (p + 4) refl (omega arith)
+    (placed-then d p (k ∷ n ∷ []) (byte_pair w) (p + 2) refl (omega arith) s e₁)
     e₂)
     e₃)
     e₄
 
 pub candidate-placed : (d : List ℕ) {d₁ d₂ : List ℕ} (p : ℕ) (c : Candidate) → p + 4 ≤ length d
-    → d₁ ≡ placed d p (bytePair c.net) → d₂ ≡ placed d₁ (p + 2) (bytePair c.weight)
-    → d₂ ≡ placed d p (candidateBytes c)
-unfolding candidateBytes bytePair
-candidate-placed d p c h e f = placed-then d p (bytePair c.net) (bytePair c.weight) (p + 2) refl (omega arith) e f
+    → d₁ ≡ placed d p (byte_pair c.net) → d₂ ≡ placed d₁ (p + 2) (byte_pair c.weight)
+    → d₂ ≡ placed d p (candidate_bytes c)
+unfolding candidate_bytes byte_pair
+candidate-placed d p c h e f = placed-then d p (byte_pair c.net) (byte_pair c.weight) (p + 2) refl (omega arith) e f
 
 pub field-placed : (d : List ℕ) {d₁ d₂ : List ℕ} (at t n : ℕ) (xs : List ℕ) (p : ℕ) → n ≡ length xs → p ≡ at + 3
-    → at + 3 + n ≤ length d → d₁ ≡ placed d at (t ∷ bytePair n) → d₂ ≡ placed d₁ p xs
+    → at + 3 + n ≤ length d → d₁ ≡ placed d at (t ∷ byte_pair n) → d₂ ≡ placed d₁ p xs
     → d₂ ≡ placed d at (field t xs)
-unfolding field bytePair
+unfolding field byte_pair
 field-placed d at t n xs p m q h e f =
-    placed-then d at (t ∷ bytePair (length xs)) xs p q (omega arith) (rw m at e) f
+    placed-then d at (t ∷ byte_pair (length xs)) xs p q (omega arith) (rw m at e) f
 
 -- ---- loops that fill a list d₀; d is what stands there now
 
@@ -193,47 +193,47 @@ module _ {A : Type 0} (f : A → List ℕ) (g : ℕ → A) (d₀ : List ℕ) (at
 -- ---- how many bytes
 
 pub length-field : (t : ℕ) (xs : List ℕ) → length (field t xs) ≡ 3 + length xs
-unfolding field bytePair
+unfolding field byte_pair
 length-field t xs = omega arith
 
-pub length-bytePair : (x : ℕ) → length (bytePair x) ≡ 2
-unfolding bytePair
-length-bytePair x = refl
+pub length-byte_pair : (x : ℕ) → length (byte_pair x) ≡ 2
+unfolding byte_pair
+length-byte_pair x = refl
 
-pub length-gateBytes : (g : Gate) → length g.slots ≡ 4 → length (gateBytes g) ≡ 10
-unfolding gateBytes
-length-gateBytes g e = omega (arith, length-flat bytePair 2 length-bytePair g.slots)
+pub length-gate_bytes : (g : Gate) → length g.slots ≡ 4 → length (gate_bytes g) ≡ 10
+unfolding gate_bytes
+length-gate_bytes g e = omega (arith, length-flat byte_pair 2 length-byte_pair g.slots)
 
-pub length-structBytes : (g : GateStruct) → length (gateBytes (gateFrom g)) ≡ 10
-unfolding gateFrom gateOf
-length-structBytes g = length-gateBytes (gateFrom g) refl
+pub length-struct_bytes : (g : GateStruct) → length (gate_bytes (gate_from g)) ≡ 10
+unfolding gate_from gate_of
+length-struct_bytes g = length-gate_bytes (gate_from g) refl
 
-pub length-candidateBytes : (c : Candidate) → length (candidateBytes c) ≡ 4
-unfolding candidateBytes bytePair
-length-candidateBytes c = refl
+pub length-candidate_bytes : (c : Candidate) → length (candidate_bytes c) ≡ 4
+unfolding candidate_bytes byte_pair
+length-candidate_bytes c = refl
 
 -- gates that have four operand slots take ten bytes each
 abbrev pub TenEach : List Gate → Type 0
-TenEach gs = length (flat gateBytes gs) ≡ 10 * length gs
+TenEach gs = length (flat gate_bytes gs) ≡ 10 * length gs
 
-ten-each : (gs : List GateStruct) → TenEach (map gateFrom gs)
+ten-each : (gs : List GateStruct) → TenEach (map gate_from gs)
 ten-each gs =
-    length-flat-map gateBytes gateFrom 10 length-structBytes gs
-    ∙ ap (λ (m : ℕ). 10 * m) (sym (length-map gs gateFrom))
+    length-flat-map gate_bytes gate_from 10 length-struct_bytes gs
+    ∙ ap (λ (m : ℕ). 10 * m) (sym (length-map gs gate_from))
 
-pub length-outputs : (xs : List ℕ) → length (flat bytePair xs) ≡ 2 * length xs
-length-outputs = length-flat bytePair 2 length-bytePair
+pub length-outputs : (xs : List ℕ) → length (flat byte_pair xs) ≡ 2 * length xs
+length-outputs = length-flat byte_pair 2 length-byte_pair
 
-pub length-candidates : (cs : List Candidate) → length (flat candidateBytes cs) ≡ 4 * length cs
-length-candidates = length-flat candidateBytes 4 length-candidateBytes
+pub length-candidates : (cs : List Candidate) → length (flat candidate_bytes cs) ≡ 4 * length cs
+length-candidates = length-flat candidate_bytes 4 length-candidate_bytes
 
-abbrev pub jobSize : Counts → ℕ
-jobSize c = 20 + 10 * c.old.gates + 2 * c.old.outputs + 10 * c.golden.gates + 2 * c.golden.outputs + 4 * c.candidates
+abbrev pub job_size : Counts → ℕ
+job_size c = 20 + 10 * c.old.gates + 2 * c.old.outputs + 10 * c.golden.gates + 2 * c.golden.outputs + 4 * c.candidates
 
-pub length-jobBytes : (j : Job) → TenEach j.old.gates → TenEach j.golden.gates
-    → length (jobBytes j) ≡ jobSize (countsOf j)
-unfolding jobBytes countsOf sideCountsOf
-length-jobBytes j e e' =
+pub length-job_bytes : (j : Job) → TenEach j.old.gates → TenEach j.golden.gates
+    → length (job_bytes j) ≡ job_size (counts_of j)
+unfolding job_bytes counts_of side_counts_of
+length-job_bytes j e e' =
     simp (length-append, length-field)
     (omega (
       arith,
@@ -259,7 +259,7 @@ module _ (c : Counts) (p : Places) where
   pub held-holds : held c p
       ≡ holds c (length p.old.gates) (length p.old.outputs) (length p.golden.gates) (length p.golden.outputs)
       (length p.nets) (length p.weights)
-  unfolding held sideHeld holds
+  unfolding held side_held holds
   held-holds = refl
 
   pub held-bounds : held c p ≡ true → JobBounds c p
@@ -280,41 +280,41 @@ module _ (c : Counts) (p : Places) where
 -- ---- what stands in places: how many parts, how many bytes
 
 module _ (k : ℕ) (gs : List GateStruct) where
-  ten-in : TenEach (gatesIn k gs)
-  unfolding gatesIn
+  ten-in : TenEach (gates_in k gs)
+  unfolding gates_in
   ten-in = ten-each (take k gs)
 
   module _ (h : k ≤ length gs) where
-    pub length-gatesIn : length (gatesIn k gs) ≡ k
-    unfolding gatesIn
-    length-gatesIn = length-map (take k gs) gateFrom ∙ length-take-le k gs h
+    pub length-gates_in : length (gates_in k gs) ≡ k
+    unfolding gates_in
+    length-gates_in = length-map (take k gs) gate_from ∙ length-take-le k gs h
 
-    pub length-gatesBytes : length (gatesBytes k gs) ≡ 10 * k
-    unfolding gatesBytes
-    length-gatesBytes = ten-in ∙ rw length-gatesIn
+    pub length-gates_bytes : length (gates_bytes k gs) ≡ 10 * k
+    unfolding gates_bytes
+    length-gates_bytes = ten-in ∙ rw length-gates_in
 
-pub length-candidatesFrom : (k : ℕ) (ns ws : List ℕ) → length (candidatesFrom k ns ws) ≡ k
-unfolding candidatesFrom
-length-candidatesFrom k ns ws = length-tabulate k _
+pub length-candidates_from : (k : ℕ) (ns ws : List ℕ) → length (candidates_from k ns ws) ≡ k
+unfolding candidates_from
+length-candidates_from k ns ws = length-tabulate k _
 
 module _ {c : Counts} {p : Places} (b : JobBounds c p) where
   -- places that hold the counts have parts of these counts
-  pub countsOf-jobFrom : countsOf (jobFrom c p) ≡ c
-  unfolding countsOf sideCountsOf jobFrom netlistFrom
-  countsOf-jobFrom =
+  pub counts_of-job_from : counts_of (job_from c p) ≡ c
+  unfolding counts_of side_counts_of job_from netlist_from
+  counts_of-job_from =
       rw (
-        length-gatesIn c.old.gates p.old.gates b.old.gates,
+        length-gates_in c.old.gates p.old.gates b.old.gates,
         length-take-le c.old.outputs p.old.outputs b.old.outputs,
-        length-gatesIn c.golden.gates p.golden.gates b.golden.gates,
+        length-gates_in c.golden.gates p.golden.gates b.golden.gates,
         length-take-le c.golden.outputs p.golden.outputs b.golden.outputs,
-        length-candidatesFrom c.candidates p.nets p.weights,
+        length-candidates_from c.candidates p.nets p.weights,
       )
 
-  pub length-jobFrom : length (jobBytes (jobFrom c p)) ≡ jobSize c
-  unfolding jobFrom netlistFrom
-  length-jobFrom =
-      length-jobBytes (jobFrom c p) (ten-in c.old.gates p.old.gates) (ten-in c.golden.gates p.golden.gates)
-      ∙ ap jobSize countsOf-jobFrom
+  pub length-job_from : length (job_bytes (job_from c p)) ≡ job_size c
+  unfolding job_from netlist_from
+  length-job_from =
+      length-job_bytes (job_from c p) (ten-in c.old.gates p.old.gates) (ten-in c.golden.gates p.golden.gates)
+      ∙ ap job_size counts_of-job_from
 
-  pub jobFrom-short : Within c → length (jobBytes (jobFrom c p)) ≤ longestJob
-  jobFrom-short w = omega (arith, length-jobFrom)
+  pub job_from-short : Within c → length (job_bytes (job_from c p)) ≤ longest_job
+  job_from-short w = omega (arith, length-job_from)

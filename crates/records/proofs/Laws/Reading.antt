@@ -10,10 +10,10 @@ use lib.Dec.{eqb}
 use lib.ListN.{length, get_or, drop, length-take, length-drop}
 use lib.Seq.{get_or-take, get_or-drop}
 use Rattle.records.specs.Bytes.{word, placed, nth}
-use Rattle.records.specs.Gate.{gateOf}
-use Rattle.records.specs.Job.{Candidate, gateAt, gatesOf, netsOf, candidateAt, candidatesOf, netlistOf, job_of}
-use Rattle.records.specs.Service.{Places, sidePlaces, places, slot_of, struct_of, noCounts, filledSide, filled, readNumber, readReply, readPlaces}
-use Rattle.records.specs.Inner.{Laid, startsOf, wordColumn, struct_at, structsAt, gateSpans, room, replyIn, placedIf, RestFits, RestFilled}
+use Rattle.records.specs.Gate.{gate_of}
+use Rattle.records.specs.Job.{Candidate, gate_at, gates_of, nets_of, candidate_at, candidates_of, netlist_of, job_of}
+use Rattle.records.specs.Service.{Places, side_places, places, slot_of, struct_of, no_counts, filled_side, filled, read_number, read_reply, read_places}
+use Rattle.records.specs.Inner.{Laid, starts_of, word_column, struct_at, structs_at, gate_spans, room, reply_in, placed_if, RestFits, RestFilled}
 use Rattle.records.specs.declared.gate.Gate.{Gate as GateStruct}
 use Rattle.records.specs.declared.gates.GateSpans.{GateSpans}
 use Rattle.records.specs.declared.job.Counts.{Counts}
@@ -23,7 +23,7 @@ use Rattle.records.proofs.Laws.Bytes.{tabulate-ext, map-tabulate}
 use Rattle.records.proofs.Laws.Counts.{spans-within, spans-none, room-facts}
 use Rattle.records.proofs.Laws.Gates.{structs-none}
 use Rattle.records.proofs.Laws.Shape.{laid-counts, stands, IsPart, Parts, parts}
-use Rattle.records.proofs.Laws.Reply.{roomy-room, readReply-replyIn, reply-laid}
+use Rattle.records.proofs.Laws.Reply.{roomy-room, read_reply-reply_in, reply-laid}
 
 -- ---- the gates of field n
 
@@ -40,8 +40,8 @@ module _ {s : List ℕ} {n at to : ℕ} (p : IsPart s n at to) where
   unfolding word
   word_in i j e h = rw (byte-in i j e (omega arith), byte-in (i + 1) (j + 1) (omega arith) h)
 
-  struct-in : (i : ℕ) → i < length (nth n s) / 10 → struct_at s (at + 10 * i) ≡ struct_of (gateAt (nth n s) i)
-  unfolding struct_at struct_of gateAt gateOf slot_of
+  struct-in : (i : ℕ) → i < length (nth n s) / 10 → struct_at s (at + 10 * i) ≡ struct_of (gate_at (nth n s) i)
+  unfolding struct_at struct_of gate_at gate_of slot_of
   struct-in i h =
       rw (
         byte-in (10 * i) (at + 10 * i) refl (omega arith),
@@ -52,19 +52,19 @@ module _ {s : List ℕ} {n at to : ℕ} (p : IsPart s n at to) where
         word_in (10 * i + 8) (at + 10 * i + 8) (omega arith) (omega arith),
       )
 
-  structs-in : (count : ℕ) → count ≡ length (nth n s) / 10 → structsAt s at count ≡ map struct_of (gatesOf (nth n s))
-  unfolding structsAt gatesOf
+  structs-in : (count : ℕ) → count ≡ length (nth n s) / 10 → structs_at s at count ≡ map struct_of (gates_of (nth n s))
+  unfolding structs_at gates_of
   structs-in count e =
-      rw e (tabulate-ext (length (nth n s) / 10) (λ i. struct_at s (at + 10 * i)) (λ i. struct_of (gateAt (nth n s) i)) struct-in)
-      ∙ sym (map-tabulate (length (nth n s) / 10) (gateAt (nth n s)) struct_of)
+      rw e (tabulate-ext (length (nth n s) / 10) (λ i. struct_at s (at + 10 * i)) (λ i. struct_of (gate_at (nth n s) i)) struct-in)
+      ∙ sym (map-tabulate (length (nth n s) / 10) (gate_at (nth n s)) struct_of)
 
 -- the gate spans of a whole job
-module _ (s : List ℕ) (c : Counts) (l : Laid s c) (k : GateSpans) (g : k ≡ gateSpans c) where
+module _ (s : List ℕ) (c : Counts) (l : Laid s c) (k : GateSpans) (g : k ≡ gate_spans c) where
   laid-spans : k
       ≡ record {
-        old = (startsOf c).old;
+        old = (starts_of c).old;
         old_count = c.old.gates;
-        golden = (startsOf c).golden;
+        golden = (starts_of c).golden;
         golden_count = c.golden.gates;
       }
   laid-spans = g ∙ spans-within c l.within
@@ -73,16 +73,16 @@ module _ (s : List ℕ) (c : Counts) (l : Laid s c) (k : GateSpans) (g : k ≡ g
       × (k.old_count ≤ 400)
       × (k.golden + 10 * k.golden_count ≤ length s)
       × (k.golden_count ≤ 400)
-  unfolding startsOf
+  unfolding starts_of
   spans-end =
-      let t = (stands s c l (startsOf c) refl).room in
+      let t = (stands s c l (starts_of c) refl).room in
       rw laid-spans (omega arith, l.within.old.gates, omega arith, l.within.golden.gates)
 
-  spans-gates : (structsAt s k.old k.old_count ≡ map struct_of (job_of s).old.gates)
-      × (structsAt s k.golden k.golden_count ≡ map struct_of (job_of s).golden.gates)
-  unfolding job_of netlistOf
+  spans-gates : (structs_at s k.old k.old_count ≡ map struct_of (job_of s).old.gates)
+      × (structs_at s k.golden k.golden_count ≡ map struct_of (job_of s).golden.gates)
+  unfolding job_of netlist_of
   spans-gates =
-      let t = parts s c l (startsOf c) refl in
+      let t = parts s c l (starts_of c) refl in
       let n = laid-counts s c l in
       rw laid-spans (
         structs-in t.old c.old.gates (ap (λ (x : Counts). x.old.gates) n),
@@ -92,30 +92,30 @@ module _ (s : List ℕ) (c : Counts) (l : Laid s c) (k : GateSpans) (g : k ≡ g
 -- ---- the words of field n
 
 module _ {s : List ℕ} {n at to : ℕ} (p : IsPart s n at to) where
-  pub nets-in : (count : ℕ) → count ≡ length (nth n s) / 2 → wordColumn s 2 at count ≡ netsOf (nth n s)
-  unfolding wordColumn netsOf
+  pub nets-in : (count : ℕ) → count ≡ length (nth n s) / 2 → word_column s 2 at count ≡ nets_of (nth n s)
+  unfolding word_column nets_of
   nets-in count e =
       rw e
       (tabulate-ext (length (nth n s) / 2) (λ i. word s (2 * i + at)) (λ i. word (nth n s) (2 * i))
       (λ i h. word_in p (2 * i) (2 * i + at) (omega arith) (omega arith)))
 
   candidate-nets-in : (count : ℕ) → count ≡ length (nth n s) / 4
-      → wordColumn s 4 at count ≡ map (λ (c : Candidate). c.net) (candidatesOf (nth n s))
-  unfolding wordColumn candidatesOf candidateAt
+      → word_column s 4 at count ≡ map (λ (c : Candidate). c.net) (candidates_of (nth n s))
+  unfolding word_column candidates_of candidate_at
   candidate-nets-in count e =
       rw e
       (tabulate-ext (length (nth n s) / 4) (λ i. word s (4 * i + at)) (λ i. word (nth n s) (4 * i))
       (λ i h. word_in p (4 * i) (4 * i + at) (omega arith) (omega arith)))
-      ∙ sym (map-tabulate (length (nth n s) / 4) (candidateAt (nth n s)) (λ (c : Candidate). c.net))
+      ∙ sym (map-tabulate (length (nth n s) / 4) (candidate_at (nth n s)) (λ (c : Candidate). c.net))
 
   weights-in : (count : ℕ) → count ≡ length (nth n s) / 4
-      → wordColumn s 4 (at + 2) count ≡ map (λ (c : Candidate). c.weight) (candidatesOf (nth n s))
-  unfolding wordColumn candidatesOf candidateAt
+      → word_column s 4 (at + 2) count ≡ map (λ (c : Candidate). c.weight) (candidates_of (nth n s))
+  unfolding word_column candidates_of candidate_at
   weights-in count e =
       rw e
       (tabulate-ext (length (nth n s) / 4) (λ i. word s (4 * i + (at + 2))) (λ i. word (nth n s) (4 * i + 2))
       (λ i h. word_in p (4 * i + 2) (4 * i + (at + 2)) (omega arith) (omega arith)))
-      ∙ sym (map-tabulate (length (nth n s) / 4) (candidateAt (nth n s)) (λ (c : Candidate). c.weight))
+      ∙ sym (map-tabulate (length (nth n s) / 4) (candidate_at (nth n s)) (λ (c : Candidate). c.weight))
 
   pub part_room : at + length (nth n s) ≤ length s
   part_room = omega (arith, p, length-take (to - at) (drop at s), length-drop at s, ap length p.is)
@@ -160,12 +160,12 @@ module _ (r : ReadReply) (s : List ℕ) {b d e f : ℕ} (h : RestFits r s b d e 
 -- .. and what it leaves
 module _ (r : ReadReply) (s b d e f : List ℕ) where
   pub rest-filled : r.number ≡ 0 → Laid s r.counts → (a : Starts) → Parts s a → {b' d' e' f' : List ℕ}
-      → b' ≡ placed b 0 (wordColumn s 2 a.outputs r.counts.old.outputs)
-      → d' ≡ placed d 0 (wordColumn s 2 a.goldens r.counts.golden.outputs)
-      → e' ≡ placed e 0 (wordColumn s 4 a.candidates r.counts.candidates)
-      → f' ≡ placed f 0 (wordColumn s 4 (a.candidates + 2) r.counts.candidates)
+      → b' ≡ placed b 0 (word_column s 2 a.outputs r.counts.old.outputs)
+      → d' ≡ placed d 0 (word_column s 2 a.goldens r.counts.golden.outputs)
+      → e' ≡ placed e 0 (word_column s 4 a.candidates r.counts.candidates)
+      → f' ≡ placed f 0 (word_column s 4 (a.candidates + 2) r.counts.candidates)
       → RestFilled r (job_of s) b d e f b' d' e' f'
-  unfolding placedIf job_of netlistOf
+  unfolding placed_if job_of netlist_of
   rest-filled z l a t p q u w =
       let n = laid-counts s r.counts l in
       record {
@@ -176,7 +176,7 @@ module _ (r : ReadReply) (s b d e f : List ℕ) where
       }
 
   pub rest-left : (r.number ≡ 0 → ⊥) → RestFilled r (job_of s) b d e f b d e f
-  unfolding placedIf
+  unfolding placed_if
   rest-left h =
       let n = ne_eqb r.number 0 h in
       record { old = rw n; golden = rw n; nets = rw n; weights = rw n }
@@ -184,15 +184,15 @@ module _ (r : ReadReply) (s b d e f : List ℕ) where
 -- ---- read
 
 -- the counts of a refused job
-none-counted : (b : Bool) (s : List ℕ) → eqb (replyIn b s).number 0 ≡ false → (replyIn b s).counts ≡ noCounts
-unfolding replyIn
+none-counted : (b : Bool) (s : List ℕ) → eqb (reply_in b s).number 0 ≡ false → (reply_in b s).counts ≡ no_counts
+unfolding reply_in
 none-counted b s h = rw h
 
 module _ (p : Places) (s : List ℕ) where
   -- the reply of read's check
   abbrev pub checked : ReadReply
   checked =
-      replyIn
+      reply_in
       (room (length p.old.gates) (length p.old.outputs) (length p.golden.gates) (length p.golden.outputs) (length p.nets) (length p.weights))
       s
 
@@ -209,14 +209,14 @@ module _ (p : Places) (s : List ℕ) where
         let a = reply-laid _ s (ap (λ (x : ReadReply). x.number) (sym e) ∙ z) in
         (rw e a.1, room-facts _ _ _ _ _ _ a.0)
 
-    refused : eqb r.number 0 ≡ false → r.counts ≡ noCounts
+    refused : eqb r.number 0 ≡ false → r.counts ≡ no_counts
     refused h = rw e (none-counted _ s (rw e at h))
 
-    spans-refused : (k : GateSpans) → k ≡ gateSpans r.counts → eqb r.number 0 ≡ false
+    spans-refused : (k : GateSpans) → k ≡ gate_spans r.counts → eqb r.number 0 ≡ false
         → k ≡ record { old = 0; old_count = 0; golden = 0; golden_count = 0 }
-    spans-refused k g h = g ∙ ap gateSpans (refused h) ∙ spans-none
+    spans-refused k g h = g ∙ ap gate_spans (refused h) ∙ spans-none
 
-  pub spans_fit : (r : ReadReply) (k : GateSpans) → r ≡ checked → k ≡ gateSpans r.counts
+  pub spans_fit : (r : ReadReply) (k : GateSpans) → r ≡ checked → k ≡ gate_spans r.counts
       → (k.old + 10 * k.old_count ≤ length s)
       × (k.old_count ≤ length p.old.gates)
       × (k.golden + 10 * k.golden_count ≤ length s)
@@ -245,21 +245,21 @@ module _ (p : Places) (s : List ℕ) where
         weights = λ z. (accepted r e z).1.5;
       }
 
-  checked-reply : checked ≡ readReply p s
-  checked-reply = sym (readReply-replyIn p s ∙ ap (λ (t : Bool). replyIn t s) (roomy-room p))
+  checked-reply : checked ≡ read_reply p s
+  checked-reply = sym (read_reply-reply_in p s ∙ ap (λ (t : Bool). reply_in t s) (roomy-room p))
 
-  pub read-ends : (r : ReadReply) (k : GateSpans) (gs hs : List GateStruct) (b d n w : List ℕ) → r ≡ checked → k ≡ gateSpans r.counts
-      → gs ≡ placed p.old.gates 0 (structsAt s k.old k.old_count)
-      → hs ≡ placed p.golden.gates 0 (structsAt s k.golden k.golden_count)
+  pub read-ends : (r : ReadReply) (k : GateSpans) (gs hs : List GateStruct) (b d n w : List ℕ) → r ≡ checked → k ≡ gate_spans r.counts
+      → gs ≡ placed p.old.gates 0 (structs_at s k.old k.old_count)
+      → hs ≡ placed p.golden.gates 0 (structs_at s k.golden k.golden_count)
       → RestFilled r (job_of s) p.old.outputs p.golden.outputs p.nets p.weights b d n w
-      → (r ≡ readReply p s) × (places (sidePlaces gs b) (sidePlaces hs d) n w ≡ readPlaces p s)
-  unfolding readReply readPlaces filled filledSide placedIf
+      → (r ≡ read_reply p s) × (places (side_places gs b) (side_places hs d) n w ≡ read_places p s)
+  unfolding read_reply read_places filled filled_side placed_if
   read-ends r k gs hs b d n w e g x y f = (e ∙ checked-reply, pick (eqb r.number 0) refl)
     where
-      same : readNumber p s ≡ r.number
+      same : read_number p s ≡ r.number
       same = ap (λ (t : ReadReply). t.number) (sym (e ∙ checked-reply))
 
-      pick : (t : Bool) → eqb r.number 0 ≡ t → places (sidePlaces gs b) (sidePlaces hs d) n w ≡ readPlaces p s
+      pick : (t : Bool) → eqb r.number 0 ≡ t → places (side_places gs b) (side_places hs d) n w ≡ read_places p s
       pick true h =
           let t = spans-gates s r.counts (accepted r e (eqb-true r.number 0 h)).0 k g in
           rw (same, x, y, f.old, f.golden, f.nets, f.weights, t.0, t.1, h)

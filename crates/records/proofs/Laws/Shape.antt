@@ -9,11 +9,11 @@ use lib.Dec.{eqb, ltb}
 use lib.ListN.{length, get_or, take, drop}
 use lib.Seq.{get_or-take, get_or-drop}
 use Rattle.records.specs.Bytes.{up_from, all, whole, nth}
-use Rattle.records.specs.Netlist.{netAt, fanout}
-use Rattle.records.specs.Job.{Candidate, jobTags, gatesOf, netsOf, candidatesOf, netlistOf, jobWhole, job_of}
-use Rattle.records.specs.Refusal.{gatesGood, netlistsGood, oldNets, goldenNets, outputsGood, ascending, candidateGood, candidatesGood, countsGood, firstFailing, partTests, jobTests, jobRefusal}
-use Rattle.records.specs.Service.{sideCountsOf, countsOf}
-use Rattle.records.specs.Inner.{start_of, startsOf, checkOf, countedFrom, shape_of, lengthsGood, Walks, Laid, unmarkedAscending, checkedOf}
+use Rattle.records.specs.Netlist.{net_at, fanout}
+use Rattle.records.specs.Job.{Candidate, job_tags, gates_of, nets_of, candidates_of, netlist_of, job_whole, job_of}
+use Rattle.records.specs.Refusal.{gates_good, netlists_good, old_nets, golden_nets, outputs_good, ascending, candidate_good, candidates_good, counts_good, first_failing, part_tests, job_tests, job_refusal}
+use Rattle.records.specs.Service.{side_counts_of, counts_of}
+use Rattle.records.specs.Inner.{start_of, starts_of, check_of, counted_from, shape_of, lengths_good, Walks, Laid, unmarked_ascending, checked_of}
 use Rattle.records.specs.declared.field.Check.TheVariants.{Passed, Failed}
 use Rattle.records.specs.declared.field.Walk.{Walk}
 use Rattle.records.specs.declared.job.Shape.TheVariants as Shape
@@ -21,11 +21,11 @@ use Rattle.records.specs.declared.job.Checked.TheVariants.{Accepted, Refused}
 use Rattle.records.specs.declared.job.Counts.{Counts}
 use Rattle.records.specs.declared.job.Starts.{Starts}
 use Rattle.records.proofs.Laws.Bytes.{row_at, and_both, false_of, all-ext, length-tabulate}
-use Rattle.records.proofs.Laws.Counts.{LengthsGood, lengthsGood-facts, lengthsGood-true, passes, fails}
-use Rattle.records.proofs.Laws.Field.{startOf-suc, startOf-le, nth-slice}
+use Rattle.records.proofs.Laws.Counts.{LengthsGood, lengths_good-facts, lengths_good-true, passes, fails}
+use Rattle.records.proofs.Laws.Field.{start_of-suc, start_of-le, nth-slice}
 
 pub record JobWhole (s : List ℕ) : Type 0 where
-  pub fields : whole jobTags s ≡ true
+  pub fields : whole job_tags s ≡ true
   pub sizes : length (nth 0 s) ≡ 2
   pub old : length (nth 1 s) % 10 ≡ 0
   pub outputs : length (nth 2 s) % 2 ≡ 0
@@ -33,11 +33,11 @@ pub record JobWhole (s : List ℕ) : Type 0 where
   pub goldens : length (nth 4 s) % 2 ≡ 0
   pub candidates : length (nth 5 s) % 4 ≡ 0
 
-pub jobWhole-facts : (s : List ℕ) → jobWhole s ≡ true → JobWhole s
-unfolding jobWhole
-jobWhole-facts s h =
+pub job_whole-facts : (s : List ℕ) → job_whole s ≡ true → JobWhole s
+unfolding job_whole
+job_whole-facts s h =
     let t =
-    row_at (whole jobTags s)
+    row_at (whole job_tags s)
     (eqb (length (nth 0 s)) 2
     ∷ eqb (length (nth 1 s) % 10) 0
     ∷ eqb (length (nth 2 s) % 2) 0
@@ -56,9 +56,9 @@ jobWhole-facts s h =
       candidates = eqb-true _ _ (t 6);
     }
 
-pub jobWhole-true : (s : List ℕ) → JobWhole s → jobWhole s ≡ true
-unfolding jobWhole
-jobWhole-true s h =
+pub job_whole-true : (s : List ℕ) → JobWhole s → job_whole s ≡ true
+unfolding job_whole
+job_whole-true s h =
     and_both _ _
     (and_both _ _
     (and_both _ _
@@ -71,32 +71,32 @@ jobWhole-true s h =
 
 -- ---- counts
 
-pub length-gatesOf : (s : List ℕ) → length (gatesOf s) ≡ length s / 10
-unfolding gatesOf
-length-gatesOf s = length-tabulate (length s / 10) _
+pub length-gates_of : (s : List ℕ) → length (gates_of s) ≡ length s / 10
+unfolding gates_of
+length-gates_of s = length-tabulate (length s / 10) _
 
-pub length-netsOf : (s : List ℕ) → length (netsOf s) ≡ length s / 2
-unfolding netsOf
-length-netsOf s = length-tabulate (length s / 2) _
+pub length-nets_of : (s : List ℕ) → length (nets_of s) ≡ length s / 2
+unfolding nets_of
+length-nets_of s = length-tabulate (length s / 2) _
 
-pub length-candidatesOf : (s : List ℕ) → length (candidatesOf s) ≡ length s / 4
-unfolding candidatesOf
-length-candidatesOf s = length-tabulate (length s / 4) _
+pub length-candidates_of : (s : List ℕ) → length (candidates_of s) ≡ length s / 4
+unfolding candidates_of
+length-candidates_of s = length-tabulate (length s / 4) _
 
 module _ (s : List ℕ) (w : JobWhole s) where
   -- the first field's bytes stand at 3 and 4
   pub sizes-room : 5 ≤ length s
   unfolding start_of
-  sizes-room = omega (arith, w.sizes, startOf-le jobTags s w.fields 0 (omega arith))
+  sizes-room = omega (arith, w.sizes, start_of-le job_tags s w.fields 0 (omega arith))
 
   sizes-at : (i : ℕ) → i < 2 → get_or (nth 0 s) i 0 ≡ get_or s (3 + i) 0
   unfolding start_of
   sizes-at i h =
-      ap (λ (l : List ℕ). get_or l i 0) (sym (nth-slice jobTags s w.fields 0 (omega arith)))
+      ap (λ (l : List ℕ). get_or l i 0) (sym (nth-slice job_tags s w.fields 0 (omega arith)))
       ∙ get_or-take (length (nth 0 s)) (drop 3 s) i 0 (omega (arith, w.sizes))
       ∙ get_or-drop 3 s i 0
 
-  pub counts-at : countsOf (job_of s)
+  pub counts-at : counts_of (job_of s)
       ≡ record {
         inputs = get_or s 3 0;
         targets = get_or s 4 0;
@@ -104,19 +104,19 @@ module _ (s : List ℕ) (w : JobWhole s) where
         golden = record { gates = length (nth 3 s) / 10; outputs = length (nth 4 s) / 2 };
         candidates = length (nth 5 s) / 4;
       }
-  unfolding countsOf sideCountsOf job_of netlistOf
+  unfolding counts_of side_counts_of job_of netlist_of
   counts-at =
       rw
-      (length-gatesOf (nth 1 s), length-netsOf (nth 2 s), length-gatesOf (nth 3 s), length-netsOf (nth 4 s), length-candidatesOf (nth 5 s), sizes-at 0 (omega arith), sizes-at 1 (omega arith))
+      (length-gates_of (nth 1 s), length-nets_of (nth 2 s), length-gates_of (nth 3 s), length-nets_of (nth 4 s), length-candidates_of (nth 5 s), sizes-at 0 (omega arith), sizes-at 1 (omega arith))
 
 -- ---- what a walk says of a job
 
 module _ (s : List ℕ) (w : Walk) (h : Walks s 1 6 w) where
-  walk-fields : w.check ≡ checkOf (whole jobTags s)
+  walk-fields : w.check ≡ check_of (whole job_tags s)
   unfolding up_from
   walk-fields = h.check
 
-  walk-lens : whole jobTags s ≡ true → (k : ℕ) → k < 6 → get_or w.lens k 0 ≡ length (nth k s)
+  walk-lens : whole job_tags s ≡ true → (k : ℕ) → k < 6 → get_or w.lens k 0 ≡ length (nth k s)
   unfolding up_from
   walk-lens t k l = h.lens t k l
 
@@ -134,7 +134,7 @@ module _ (s : List ℕ) (w : Walk) (h : Walks s 1 6 w) where
 
   whole-of-lengths : w.check ≡ Passed → LengthsGood w.lens → JobWhole s
   whole-of-lengths p g =
-      let f = passes (whole jobTags s) (sym walk-fields ∙ p) in
+      let f = passes (whole job_tags s) (sym walk-fields ∙ p) in
       let n = walk-lens f in
       record {
         fields = f;
@@ -146,31 +146,31 @@ module _ (s : List ℕ) (w : Walk) (h : Walks s 1 6 w) where
         candidates = ap (λ (x : ℕ). x % 4) (sym (n 5 (omega arith))) ∙ g.candidates;
       }
 
-  pub broken-of-walk : w.check ≡ Failed → jobWhole s ≡ false
+  pub broken-of-walk : w.check ≡ Failed → job_whole s ≡ false
   broken-of-walk p =
-      false_of (jobWhole s) (λ t. true≢false (sym (jobWhole-facts s t).fields ∙ fails (whole jobTags s) (sym walk-fields ∙ p)))
+      false_of (job_whole s) (λ t. true≢false (sym (job_whole-facts s t).fields ∙ fails (whole job_tags s) (sym walk-fields ∙ p)))
 
-  broken-of-lengths : lengthsGood w.lens ≡ false → jobWhole s ≡ false
+  broken-of-lengths : lengths_good w.lens ≡ false → job_whole s ≡ false
   broken-of-lengths e =
-      false_of (jobWhole s) (λ t. true≢false (sym (lengthsGood-true w.lens (lengths-of-whole (jobWhole-facts s t))) ∙ e))
+      false_of (job_whole s) (λ t. true≢false (sym (lengths_good-true w.lens (lengths-of-whole (job_whole-facts s t))) ∙ e))
 
   -- past the walk there is a first field
   pub walk-room : w.check ≡ Passed → 5 ≤ length s
   unfolding start_of
   walk-room p =
-      omega (arith, startOf-le jobTags s (passes (whole jobTags s) (sym walk-fields ∙ p)) 1 (omega arith))
+      omega (arith, start_of-le job_tags s (passes (whole job_tags s) (sym walk-fields ∙ p)) 1 (omega arith))
 
   -- the shape, from the walk
-  pub walk-counts : w.check ≡ Passed → (n m : ℕ) → n ≡ get_or s 3 0 → m ≡ get_or s 4 0 → countedFrom w.lens n m ≡ shape_of s
-  unfolding shape_of countedFrom
-  walk-counts p n m en em = pick (lengthsGood w.lens) refl
+  pub walk-counts : w.check ≡ Passed → (n m : ℕ) → n ≡ get_or s 3 0 → m ≡ get_or s 4 0 → counted_from w.lens n m ≡ shape_of s
+  unfolding shape_of counted_from
+  walk-counts p n m en em = pick (lengths_good w.lens) refl
     where
-      pick : (b : Bool) → lengthsGood w.lens ≡ b → countedFrom w.lens n m ≡ shape_of s
+      pick : (b : Bool) → lengths_good w.lens ≡ b → counted_from w.lens n m ≡ shape_of s
       pick false e = rw (e, broken-of-lengths e)
       pick true e =
-          let j = whole-of-lengths p (lengthsGood-facts w.lens e) in
+          let j = whole-of-lengths p (lengths_good-facts w.lens e) in
           let l = walk-lens j.fields in
-          rw (e, jobWhole-true s j, counts-at s j, en, em, l 1 (omega arith), l 2 (omega arith), l 3 (omega arith), l 4 (omega arith), l 5 (omega arith))
+          rw (e, job_whole-true s j, counts-at s j, en, em, l 1 (omega arith), l 2 (omega arith), l 3 (omega arith), l 4 (omega arith), l 5 (omega arith))
 
 -- ---- where the parts of a whole job stand
 
@@ -198,8 +198,8 @@ records-four g n e h = omega arith
 
 -- below the number of nets, a mark and the fanout are the same
 unmarked : (n m i : ℕ) (marks fan : List ℕ) → n ≡ m → take n marks ≡ fan
-    → (ltb i n && eqb (netAt marks i) 0) ≡ (ltb i m && eqb (netAt fan i) 0)
-unfolding netAt
+    → (ltb i n && eqb (net_at marks i) 0) ≡ (ltb i m && eqb (net_at fan i) 0)
+unfolding net_at
 unmarked n m i marks fan e f = rw (← e, ← f) (below (ltb i n) refl)
   where
     below : (b : Bool) → ltb i n ≡ b → (ltb i n && eqb (get_or marks i 0) 0) ≡ (ltb i n && eqb (get_or (take n marks) i 0) 0)
@@ -208,7 +208,7 @@ unmarked n m i marks fan e f = rw (← e, ← f) (below (ltb i n) refl)
 
 module _ (s : List ℕ) (c : Counts) (l : Laid s c) where
   pub laid-whole : JobWhole s
-  laid-whole = jobWhole-facts s l.whole
+  laid-whole = job_whole-facts s l.whole
 
   pub laid-counts : c
       ≡ record {
@@ -236,10 +236,10 @@ module _ (s : List ℕ) (c : Counts) (l : Laid s c) where
   candidates-bytes = records-four _ _ (ap (λ (x : Counts). x.candidates) laid-counts) laid-whole.candidates
 
   next_start : (k : ℕ) → k < 6 → start_of (suc k) s ≡ start_of k s + length (nth k s) + 3
-  next_start k h = startOf-suc jobTags s laid-whole.fields k h
+  next_start k h = start_of-suc job_tags s laid-whole.fields k h
 
-  starts-stand : Stands s (startsOf c)
-  unfolding startsOf start_of
+  starts-stand : Stands s (starts_of c)
+  unfolding starts_of start_of
   starts-stand =
       let z = laid-whole.sizes in
       let s₁ : start_of 1 s ≡ 8 = omega (arith, next_start 0 (omega arith)) in
@@ -252,7 +252,7 @@ module _ (s : List ℕ) (c : Counts) (l : Laid s c) where
       let n₃ = golden-bytes in
       let n₄ = goldens-bytes in
       let n₅ = candidates-bytes in
-      let e = startOf-le jobTags s laid-whole.fields 5 (omega arith) in
+      let e = start_of-le job_tags s laid-whole.fields 5 (omega arith) in
       record {
         old = sym s₁;
         old-end = omega arith;
@@ -267,7 +267,7 @@ module _ (s : List ℕ) (c : Counts) (l : Laid s c) where
         room = omega arith;
       }
 
-  pub stands : (r : Starts) → r ≡ startsOf c → Stands s r
+  pub stands : (r : Starts) → r ≡ starts_of c → Stands s r
   stands r e = rw e starts-stand
 
   -- the part of the job between a field's bounds is the field's bytes
@@ -276,44 +276,44 @@ module _ (s : List ℕ) (c : Counts) (l : Laid s c) where
       let n : b - a ≡ length (nth k s) = omega arith in
       ap (λ (x : ℕ). take x (drop a s)) n
       ∙ ap (λ (x : ℕ). take (length (nth k s)) (drop x s)) p
-      ∙ nth-slice jobTags s laid-whole.fields k h
+      ∙ nth-slice job_tags s laid-whole.fields k h
 
   pub laid-inputs : c.inputs ≡ (job_of s).inputs
-  unfolding countsOf
+  unfolding counts_of
   laid-inputs = ap (λ (x : Counts). x.inputs) l.counts
 
   pub laid-targets : c.targets ≡ (job_of s).targets
-  unfolding countsOf
+  unfolding counts_of
   laid-targets = ap (λ (x : Counts). x.targets) l.counts
 
   -- the checks of the two gate fields, one after the other
-  pub netlists-checks : netlistsGood (job_of s)
-      ≡ (gatesGood (c.inputs + c.targets) (gatesOf (nth 1 s)) && gatesGood c.inputs (gatesOf (nth 3 s)))
-  unfolding netlistsGood netlistOf job_of
+  pub netlists-checks : netlists_good (job_of s)
+      ≡ (gates_good (c.inputs + c.targets) (gates_of (nth 1 s)) && gates_good c.inputs (gates_of (nth 3 s)))
+  unfolding netlists_good netlist_of job_of
   netlists-checks = rw (laid-inputs, laid-targets)
 
   -- the checks of the two output fields, and of their counts
-  pub outputs-checks : outputsGood (job_of s)
-      ≡ (all (λ i. ltb i (c.inputs + c.targets + c.old.gates)) (netsOf (nth 2 s))
-      && all (λ i. ltb i (c.inputs + c.golden.gates)) (netsOf (nth 4 s))
+  pub outputs-checks : outputs_good (job_of s)
+      ≡ (all (λ i. ltb i (c.inputs + c.targets + c.old.gates)) (nets_of (nth 2 s))
+      && all (λ i. ltb i (c.inputs + c.golden.gates)) (nets_of (nth 4 s))
       && eqb c.old.outputs c.golden.outputs)
-  unfolding outputsGood oldNets goldenNets countsOf sideCountsOf netlistOf job_of
+  unfolding outputs_good old_nets golden_nets counts_of side_counts_of netlist_of job_of
   outputs-checks =
       rw
       (laid-inputs, laid-targets, ap (λ (x : Counts). x.old.gates) l.counts, ap (λ (x : Counts). x.golden.gates) l.counts, ap (λ (x : Counts). x.old.outputs) l.counts, ap (λ (x : Counts). x.golden.outputs) l.counts)
 
-  pub laid-nets : c.inputs + c.targets + c.old.gates ≡ oldNets (job_of s)
-  unfolding oldNets countsOf sideCountsOf
+  pub laid-nets : c.inputs + c.targets + c.old.gates ≡ old_nets (job_of s)
+  unfolding old_nets counts_of side_counts_of
   laid-nets = rw (laid-inputs, laid-targets, ap (λ (x : Counts). x.old.gates) l.counts)
 
   -- marks that are the fanout on the old nets decide the check of the candidates
   pub candidates-check : (marks : List ℕ) (n : ℕ) → n ≡ c.inputs + c.targets + c.old.gates
-      → take n marks ≡ fanout c.inputs c.targets (gatesOf (nth 1 s))
-      → unmarkedAscending n marks (candidatesOf (nth 5 s)) ≡ candidatesGood (job_of s)
-  unfolding unmarkedAscending candidatesGood candidateGood netlistOf job_of
+      → take n marks ≡ fanout c.inputs c.targets (gates_of (nth 1 s))
+      → unmarked_ascending n marks (candidates_of (nth 5 s)) ≡ candidates_good (job_of s)
+  unfolding unmarked_ascending candidates_good candidate_good netlist_of job_of
   candidates-check marks n e f =
-      ap (λ (b : Bool). ascending (map (λ (x : Candidate). x.net) (candidatesOf (nth 5 s))) && b)
-      (all-ext _ _ (λ (x : Candidate). unmarked n (oldNets (job_of s)) x.net marks _ (e ∙ laid-nets) (f ∙ rw (laid-inputs, laid-targets))) (candidatesOf (nth 5 s)))
+      ap (λ (b : Bool). ascending (map (λ (x : Candidate). x.net) (candidates_of (nth 5 s))) && b)
+      (all-ext _ _ (λ (x : Candidate). unmarked n (old_nets (job_of s)) x.net marks _ (e ∙ laid-nets) (f ∙ rw (laid-inputs, laid-targets))) (candidates_of (nth 5 s)))
 
   pub laid-old : c.old.gates ≡ length (nth 1 s) / 10
   laid-old = ap (λ (x : Counts). x.old.gates) laid-counts
@@ -329,36 +329,36 @@ pick-broken false x e = refl
 pick-broken true x e = let z : ◌≡◌ {A = ℕ} 0 1 = cc in let f : ⊥ = omega arith in absurd f
 
 module _ (s : List ℕ) where
-  pub shape-whole : (c : Counts) → shape_of s ≡ Shape.Whole c → (jobWhole s ≡ true) × (c ≡ countsOf (job_of s))
+  pub shape-whole : (c : Counts) → shape_of s ≡ Shape.Whole c → (job_whole s ≡ true) × (c ≡ counts_of (job_of s))
   unfolding shape_of
-  shape-whole c e = pick-whole (jobWhole s) (countsOf (job_of s)) c e
+  shape-whole c e = pick-whole (job_whole s) (counts_of (job_of s)) c e
 
-  pub refused-two : shape_of s ≡ Shape.Broken → Refused 2 ≡ checkedOf s
-  unfolding shape_of checkedOf jobRefusal jobTests partTests firstFailing
-  refused-two e = rw (pick-broken (jobWhole s) (countsOf (job_of s)) e)
+  pub refused-two : shape_of s ≡ Shape.Broken → Refused 2 ≡ checked_of s
+  unfolding shape_of checked_of job_refusal job_tests part_tests first_failing
+  refused-two e = rw (pick-broken (job_whole s) (counts_of (job_of s)) e)
 
-  module _ (w : jobWhole s ≡ true) where
-    pub refused-three : countsGood (job_of s) ≡ false → Refused 3 ≡ checkedOf s
-    unfolding checkedOf jobRefusal jobTests partTests firstFailing
+  module _ (w : job_whole s ≡ true) where
+    pub refused-three : counts_good (job_of s) ≡ false → Refused 3 ≡ checked_of s
+    unfolding checked_of job_refusal job_tests part_tests first_failing
     refused-three e = rw (w, e)
 
-    module _ (c : countsGood (job_of s) ≡ true) where
-      pub refused-four : netlistsGood (job_of s) ≡ false → Refused 4 ≡ checkedOf s
-      unfolding checkedOf jobRefusal jobTests partTests firstFailing
+    module _ (c : counts_good (job_of s) ≡ true) where
+      pub refused-four : netlists_good (job_of s) ≡ false → Refused 4 ≡ checked_of s
+      unfolding checked_of job_refusal job_tests part_tests first_failing
       refused-four e = rw (w, c, e)
 
-      module _ (g : netlistsGood (job_of s) ≡ true) where
-        pub refused-five : outputsGood (job_of s) ≡ false → Refused 5 ≡ checkedOf s
-        unfolding checkedOf jobRefusal jobTests partTests firstFailing
+      module _ (g : netlists_good (job_of s) ≡ true) where
+        pub refused-five : outputs_good (job_of s) ≡ false → Refused 5 ≡ checked_of s
+        unfolding checked_of job_refusal job_tests part_tests first_failing
         refused-five e = rw (w, c, g, e)
 
-        module _ (o : outputsGood (job_of s) ≡ true) where
-          pub refused-six : candidatesGood (job_of s) ≡ false → Refused 6 ≡ checkedOf s
-          unfolding checkedOf jobRefusal jobTests partTests firstFailing
+        module _ (o : outputs_good (job_of s) ≡ true) where
+          pub refused-six : candidates_good (job_of s) ≡ false → Refused 6 ≡ checked_of s
+          unfolding checked_of job_refusal job_tests part_tests first_failing
           refused-six e = rw (w, c, g, o, e)
 
-          pub accepted : candidatesGood (job_of s) ≡ true → Accepted (countsOf (job_of s)) ≡ checkedOf s
-          unfolding checkedOf jobRefusal jobTests partTests firstFailing
+          pub accepted : candidates_good (job_of s) ≡ true → Accepted (counts_of (job_of s)) ≡ checked_of s
+          unfolding checked_of job_refusal job_tests part_tests first_failing
           accepted e = rw (w, c, g, o, e)
 
 -- ---- the parts of a job between its starts
@@ -385,11 +385,11 @@ module _ (s : List ℕ) (c : Counts) (l : Laid s c) where
   is-part k a b h p q =
       record {
         ordered = omega arith;
-        within = omega (arith, startOf-le jobTags s (laid-whole s c l).fields k h);
+        within = omega (arith, start_of-le job_tags s (laid-whole s c l).fields k h);
         is = part s c l k a b h p q;
       }
 
-  pub parts : (r : Starts) → r ≡ startsOf c → Parts s r
+  pub parts : (r : Starts) → r ≡ starts_of c → Parts s r
   parts r e =
       let t = stands s c l r e in
       record {

@@ -13,19 +13,19 @@ use lib.ListN.{length, get_or, take, drop, set, replicate, length-drop, drop_of_
 use lib.Pow.{pow_mono}
 use lib.Seq.{drop-cons, get_or-take, get_or-drop, length-take-le, take-suc, take-length, set_at, append_snoc}
 use Rattle.records.specs.Bytes.{up_from, tabulate, all, word}
-use Rattle.records.specs.Job.{Candidate, netsOf}
-use Rattle.records.specs.Refusal.{ascending, maxCandidates}
-use Rattle.records.specs.Sheet.{weightOf, costOf, isCandidate}
-use Rattle.records.specs.Service.{candidatesFrom}
-use Rattle.records.specs.Inner.{wordColumn, found_from, foundIn, supportOf, tenPlaces}
+use Rattle.records.specs.Job.{Candidate, nets_of}
+use Rattle.records.specs.Refusal.{ascending, max_candidates}
+use Rattle.records.specs.Sheet.{weight_of, cost_of, is_candidate}
+use Rattle.records.specs.Service.{candidates_from}
+use Rattle.records.specs.Inner.{word_column, found_from, found_in, support_of, ten_places}
 use Rattle.records.specs.declared.sheet.Found.{Found}
 use Rattle.records.specs.declared.sheet.Found.TheVariants.{At, Nowhere}
 use Rattle.records.specs.declared.sheet.Costs.{Costs}
 use Rattle.records.specs.declared.sheet.Costs.TheVariants.{Sum, Unfit}
 use Rattle.records.proofs.Laws.Bytes.{and_left, and_right, and-false-right, length-tabulate, get_d_tabulate}
-use Rattle.records.proofs.Laws.Job.{tabulate-getD}
-use Rattle.records.proofs.Laws.Shape.{length-netsOf}
-use Rattle.records.proofs.Laws.Refusal.{ascendingFrom, ascending-from}
+use Rattle.records.proofs.Laws.Job.{tabulate-get_or}
+use Rattle.records.proofs.Laws.Shape.{length-nets_of}
+use Rattle.records.proofs.Laws.Refusal.{ascending_from, ascending-from}
 
 -- what is left of a list from i on starts with its i-th element
 drop-next : (xs : List ℕ) (i : ℕ) → i < length xs → drop i xs ≡ get_or xs i 0 ∷ drop (i + 1) xs
@@ -47,22 +47,22 @@ power-short k h = at (leb k 15) refl
 
 -- ---- nets in bytes
 
-pub column-at : (s : List ℕ) (size at n i : ℕ) → i < n → get_or (wordColumn s size at n) i 0 ≡ word s (size * i + at)
-unfolding wordColumn
+pub column-at : (s : List ℕ) (size at n i : ℕ) → i < n → get_or (word_column s size at n) i 0 ≡ word s (size * i + at)
+unfolding word_column
 column-at s size at n i h = get_d_tabulate n (λ j. word s (size * j + at)) i 0 h
 
-pub length-column : (s : List ℕ) (size at n : ℕ) → length (wordColumn s size at n) ≡ n
-unfolding wordColumn
+pub length-column : (s : List ℕ) (size at n : ℕ) → length (word_column s size at n) ≡ n
+unfolding word_column
 length-column s size at n = length-tabulate n (λ j. word s (size * j + at))
 
-pub net-at : (s : List ℕ) (i : ℕ) → i < length s / 2 → get_or (netsOf s) i 0 ≡ word s (2 * i)
-unfolding netsOf
+pub net-at : (s : List ℕ) (i : ℕ) → i < length s / 2 → get_or (nets_of s) i 0 ≡ word s (2 * i)
+unfolding nets_of
 net-at s i h = get_d_tabulate (length s / 2) (λ j. word s (2 * j)) i 0 h
 
 -- ---- ten places that fill from the front
 
 unfoldable pub ten : List ℕ → ℕ → List ℕ
-ten xs i = take i xs ++ replicate (maxCandidates - i) 0
+ten xs i = take i xs ++ replicate (max_candidates - i) 0
 
 pub ten-next : (xs : List ℕ) (i : ℕ) → i < length xs → i < 10 → set (ten xs i) i (get_or xs i 0) ≡ ten xs (i + 1)
 unfolding ten
@@ -75,8 +75,8 @@ ten-next xs i h l =
     ∙ ap (λ (ys : List ℕ). ys ++ more) (sym (take-suc xs i 0 h))
     ∙ ap (λ (k : ℕ). take k xs ++ more) (sym (add-one i))
 
-pub ten-all : (xs : List ℕ) → record { nets = ten xs (length xs); len = length xs } ≡ tenPlaces xs
-unfolding ten tenPlaces
+pub ten-all : (xs : List ℕ) → record { nets = ten xs (length xs); len = length xs } ≡ ten_places xs
+unfolding ten ten_places
 ten-all xs = rw take-length
 
 -- ---- tests over the rest of a list
@@ -132,8 +132,8 @@ module _ (nets : List ℕ) (count net i : ℕ) (l : count ≤ length nets) where
 -- net is a candidate of cs, of weight v, and k is below n
 pub record Stands (cs : List Candidate) (net v k n : ℕ) : Type 0 where
   pub below : k < n
-  pub candidate : isCandidate cs net ≡ true
-  pub weight : weightOf cs net ≡ v
+  pub candidate : is_candidate cs net ≡ true
+  pub weight : weight_of cs net ≡ v
 
 module _ (nets weights : List ℕ) (net : ℕ) where
   candidates : ℕ → ℕ → List Candidate
@@ -147,13 +147,13 @@ module _ (nets weights : List ℕ) (net : ℕ) where
       → cond b (At a) (found (suc a) n) ≡ At k
       → (found (suc a) n ≡ At k → Stands (candidates (suc a) n) net (get_or weights k 0) k (suc a + n))
       → (k < a + suc n)
-      × (b || isCandidate (candidates (suc a) n) net ≡ true)
-      × (cond b (get_or weights a 0) (weightOf (candidates (suc a) n) net) ≡ get_or weights k 0)
+      × (b || is_candidate (candidates (suc a) n) net ≡ true)
+      × (cond b (get_or weights a 0) (weight_of (candidates (suc a) n) net) ≡ get_or weights k 0)
   stands-cons true a n k e later = let p : a ≡ k = cc in (omega arith, refl, ap (λ (i : ℕ). get_or weights i 0) p)
   stands-cons false a n k e later = (omega (arith, (later e).below), (later e).candidate, (later e).weight)
 
   stands : (n a k : ℕ) → found a n ≡ At k → Stands (candidates a n) net (get_or weights k 0) k (a + n)
-  unfolding found candidates up_from found_from isCandidate weightOf
+  unfolding found candidates up_from found_from is_candidate weight_of
   stands zero a k e = let z : ◌≡◌ {A = ℕ} 0 1 = cc in absurd (omega arith)
   stands (suc n) a k e =
       let all = stands-cons (eqb (get_or nets a 0) net) a n k e (stands n (suc a) k) in
@@ -161,67 +161,67 @@ module _ (nets weights : List ℕ) (net : ℕ) where
 
   nowhere-cons : (b : Bool) (a n : ℕ)
       → cond b (At a) (found (suc a) n) ≡ Nowhere
-      → (found (suc a) n ≡ Nowhere → isCandidate (candidates (suc a) n) net ≡ false)
-      → b || isCandidate (candidates (suc a) n) net ≡ false
+      → (found (suc a) n ≡ Nowhere → is_candidate (candidates (suc a) n) net ≡ false)
+      → b || is_candidate (candidates (suc a) n) net ≡ false
   nowhere-cons true a n e later = let z : ◌≡◌ {A = ℕ} 0 1 = cc in absurd (omega arith)
   nowhere-cons false a n e later = later e
 
-  nowhere : (n a : ℕ) → found a n ≡ Nowhere → isCandidate (candidates a n) net ≡ false
-  unfolding found candidates up_from found_from isCandidate
+  nowhere : (n a : ℕ) → found a n ≡ Nowhere → is_candidate (candidates a n) net ≡ false
+  unfolding found candidates up_from found_from is_candidate
   nowhere zero a e = refl
   nowhere (suc n) a e = nowhere-cons (eqb (get_or nets a 0) net) a n e (nowhere n (suc a))
 
   module _ (count : ℕ) (h : count ≤ length nets) where
-    found_take : foundIn (take count nets) net ≡ found 0 count
-    unfolding foundIn found tabulate
-    found_take = rw (← tabulate-getD nets count h)
+    found_take : found_in (take count nets) net ≡ found 0 count
+    unfolding found_in found tabulate
+    found_take = rw (← tabulate-get_or nets count h)
 
     -- the net stands at place k among the first count nets
-    pub found_at : (k : ℕ) → foundIn (take count nets) net ≡ At k
-        → Stands (candidatesFrom count nets weights) net (get_or weights k 0) k count
-    unfolding candidatesFrom candidates tabulate
+    pub found_at : (k : ℕ) → found_in (take count nets) net ≡ At k
+        → Stands (candidates_from count nets weights) net (get_or weights k 0) k count
+    unfolding candidates_from candidates tabulate
     found_at k e = rw zero-add at (stands count 0 k (sym found_take ∙ e))
 
     -- it does not stand there
-    pub found_nowhere : foundIn (take count nets) net ≡ Nowhere → isCandidate (candidatesFrom count nets weights) net ≡ false
-    unfolding candidatesFrom candidates tabulate
+    pub found_nowhere : found_in (take count nets) net ≡ Nowhere → is_candidate (candidates_from count nets weights) net ≡ false
+    unfolding candidates_from candidates tabulate
     found_nowhere e = nowhere count 0 (sym found_take ∙ e)
 
-pub length-candidatesFrom : (k : ℕ) (nets weights : List ℕ) → length (candidatesFrom k nets weights) ≡ k
-unfolding candidatesFrom
-length-candidatesFrom k nets weights = length-tabulate k _
+pub length-candidates_from : (k : ℕ) (nets weights : List ℕ) → length (candidates_from k nets weights) ≡ k
+unfolding candidates_from
+length-candidates_from k nets weights = length-tabulate k _
 
 -- ---- a support's cost, net by net
 
 -- the cost of the nets xs that are left, when those before cost sum and the next has to be at least lo
-unfoldable pub supportFrom : List Candidate → ℕ → ℕ → List ℕ → Costs
-supportFrom cs lo sum xs = cond (ascendingFrom lo xs && all (isCandidate cs) xs) (Sum (sum + costOf cs xs)) Unfit
+unfoldable pub support_from : List Candidate → ℕ → ℕ → List ℕ → Costs
+support_from cs lo sum xs = cond (ascending_from lo xs && all (is_candidate cs) xs) (Sum (sum + cost_of cs xs)) Unfit
 
-pub support-start : (cs : List Candidate) (xs : List ℕ) → supportFrom cs 0 0 xs ≡ supportOf cs xs
-unfolding supportOf supportFrom
+pub support-start : (cs : List Candidate) (xs : List ℕ) → support_from cs 0 0 xs ≡ support_of cs xs
+unfolding support_of support_from
 support-start cs xs = rw (ascending-from, zero-add)
 
 module _ (cs : List Candidate) (lo sum x : ℕ) (xs : List ℕ) where
-  cons-low : x < lo → supportFrom cs lo sum (x ∷ xs) ≡ Unfit
-  unfolding supportFrom ascendingFrom
+  cons-low : x < lo → support_from cs lo sum (x ∷ xs) ≡ Unfit
+  unfolding support_from ascending_from
   cons-low h = rw (lt-leb lo x h)
 
-  cons-odd : isCandidate cs x ≡ false → supportFrom cs lo sum (x ∷ xs) ≡ Unfit
-  unfolding supportFrom all
-  cons-odd e = rw (e, and-false-right (ascendingFrom lo (x ∷ xs)) false refl)
+  cons-odd : is_candidate cs x ≡ false → support_from cs lo sum (x ∷ xs) ≡ Unfit
+  unfolding support_from all
+  cons-odd e = rw (e, and-false-right (ascending_from lo (x ∷ xs)) false refl)
 
-  cons-good : (v : ℕ) → lo ≤ x → isCandidate cs x ≡ true → weightOf cs x ≡ v
-      → supportFrom cs lo sum (x ∷ xs) ≡ supportFrom cs (x + 1) (sum + v) xs
-  unfolding supportFrom ascendingFrom all costOf
+  cons-good : (v : ℕ) → lo ≤ x → is_candidate cs x ≡ true → weight_of cs x ≡ v
+      → support_from cs lo sum (x ∷ xs) ≡ support_from cs (x + 1) (sum + v) xs
+  unfolding support_from ascending_from all cost_of
   cons-good v h e w = rw (le-leb lo x h, e, w, add-one, add_assoc)
 
 -- .. of the nets xs that are left from place i on, against the first count of nets and weights
-abbrev pub supportLeft : List ℕ → ℕ → List ℕ → List ℕ → ℕ → ℕ → ℕ → Costs
-supportLeft xs count nets weights lo sum i = supportFrom (candidatesFrom count nets weights) lo sum (drop i xs)
+abbrev pub support_left : List ℕ → ℕ → List ℕ → List ℕ → ℕ → ℕ → ℕ → Costs
+support_left xs count nets weights lo sum i = support_from (candidates_from count nets weights) lo sum (drop i xs)
 
 module _ (xs : List ℕ) (count : ℕ) (nets weights : List ℕ) (lo sum i : ℕ) where
-  pub support-end : length xs ≤ i → supportLeft xs count nets weights lo sum i ≡ Sum sum
-  unfolding supportFrom ascendingFrom all costOf
+  pub support-end : length xs ≤ i → support_left xs count nets weights lo sum i ≡ Sum sum
+  unfolding support_from ascending_from all cost_of
   support-end h = rw (drop_of_length-le xs {i = i} h, add-zero)
 
   -- a turn: x is the net at place i
@@ -229,15 +229,15 @@ module _ (xs : List ℕ) (count : ℕ) (nets weights : List ℕ) (lo sum i : ℕ
     nets-next : drop i xs ≡ x ∷ drop (i + 1) xs
     nets-next = rw e (drop-next xs i h)
 
-    pub support-low : x < lo → supportLeft xs count nets weights lo sum i ≡ Unfit
+    pub support-low : x < lo → support_left xs count nets weights lo sum i ≡ Unfit
     support-low l = rw nets-next (cons-low _ lo sum x _ l)
 
-    pub support-odd : count ≤ length nets → foundIn (take count nets) x ≡ Nowhere
-        → supportLeft xs count nets weights lo sum i ≡ Unfit
+    pub support-odd : count ≤ length nets → found_in (take count nets) x ≡ Nowhere
+        → support_left xs count nets weights lo sum i ≡ Unfit
     support-odd l f = rw nets-next (cons-odd _ lo sum x _ (found_nowhere nets weights x count l f))
 
-    pub support-next : (v k n : ℕ) → lo ≤ x → Stands (candidatesFrom count nets weights) x v k n
-        → supportLeft xs count nets weights lo sum i ≡ supportLeft xs count nets weights (x + 1) (sum + v) (i + 1)
+    pub support-next : (v k n : ℕ) → lo ≤ x → Stands (candidates_from count nets weights) x v k n
+        → support_left xs count nets weights lo sum i ≡ support_left xs count nets weights (x + 1) (sum + v) (i + 1)
     support-next v k n l f = rw nets-next (cons-good _ lo sum x _ v l f.candidate f.weight)
 
 -- ---- an ascending support of candidates is no longer than they are
@@ -255,10 +255,10 @@ at_least : ℕ → List Candidate → ℕ
 at_least lo [] = 0
 at_least lo (c ∷ cs) = one (leb lo c.net) + at_least lo cs
 
-atLeast-length : (lo : ℕ) (cs : List Candidate) → at_least lo cs ≤ length cs
+at_least-length : (lo : ℕ) (cs : List Candidate) → at_least lo cs ≤ length cs
 unfolding at_least
-atLeast-length lo [] = omega arith
-atLeast-length lo (c ∷ cs) = omega (arith, one-le (leb lo c.net), atLeast-length lo cs)
+at_least-length lo [] = omega arith
+at_least-length lo (c ∷ cs) = omega (arith, one-le (leb lo c.net), at_least-length lo cs)
 
 -- a higher bound leaves as many or fewer
 module _ (lo hi : ℕ) (h : lo ≤ hi) where
@@ -267,41 +267,41 @@ module _ (lo hi : ℕ) (h : lo ≤ hi) where
   one-higher x true e = rw (le-leb lo x (omega (arith, leb-true hi x e))) (omega arith)
   one-higher x false e = omega arith
 
-  atLeast-higher : (cs : List Candidate) → at_least hi cs ≤ at_least lo cs
+  at_least-higher : (cs : List Candidate) → at_least hi cs ≤ at_least lo cs
   unfolding at_least
-  atLeast-higher [] = omega arith
-  atLeast-higher (c ∷ cs) = omega (arith, one-higher c.net (leb hi c.net) refl, atLeast-higher cs)
+  at_least-higher [] = omega arith
+  at_least-higher (c ∷ cs) = omega (arith, one-higher c.net (leb hi c.net) refl, at_least-higher cs)
 
 -- .. and fewer where a candidate lies between
 module _ (lo x : ℕ) (h : lo ≤ x) where
-  between_cons : (c : Candidate) (cs : List Candidate) (b : Bool) → eqb c.net x ≡ b → b || isCandidate cs x ≡ true
-      → (isCandidate cs x ≡ true → at_least (suc x) cs < at_least lo cs) → at_least (suc x) (c ∷ cs) < at_least lo (c ∷ cs)
+  between_cons : (c : Candidate) (cs : List Candidate) (b : Bool) → eqb c.net x ≡ b → b || is_candidate cs x ≡ true
+      → (is_candidate cs x ≡ true → at_least (suc x) cs < at_least lo cs) → at_least (suc x) (c ∷ cs) < at_least lo (c ∷ cs)
   unfolding at_least one
   between_cons c cs true e f later =
       let m : c.net ≡ x = eqb-true c.net x e in
-      rw (m, le-leb lo x h, lt-leb (suc x) x (omega arith)) (omega (arith, atLeast-higher lo (suc x) (omega arith) cs))
+      rw (m, le-leb lo x h, lt-leb (suc x) x (omega arith)) (omega (arith, at_least-higher lo (suc x) (omega arith) cs))
   between_cons c cs false e f later =
       omega (arith, later f, one-higher lo (suc x) (omega arith) c.net (leb (suc x) c.net) refl)
 
-  between : (cs : List Candidate) → isCandidate cs x ≡ true → at_least (suc x) cs < at_least lo cs
-  unfolding isCandidate
+  between : (cs : List Candidate) → is_candidate cs x ≡ true → at_least (suc x) cs < at_least lo cs
+  unfolding is_candidate
   between [] e = let z : ◌≡◌ {A = ℕ} 0 1 = cc in absurd (omega arith)
   between (c ∷ cs) e = between_cons c cs (eqb c.net x) refl e (between cs)
 
-support-atLeast : (cs : List Candidate) (lo : ℕ) (xs : List ℕ) → ascendingFrom lo xs ≡ true → all (isCandidate cs) xs ≡ true
+support-at_least : (cs : List Candidate) (lo : ℕ) (xs : List ℕ) → ascending_from lo xs ≡ true → all (is_candidate cs) xs ≡ true
     → length xs ≤ at_least lo cs
-unfolding ascendingFrom all
-support-atLeast cs lo [] a e = omega arith
-support-atLeast cs lo (x ∷ xs) a e =
-    let l : lo ≤ x = leb-true lo x (and_left (leb lo x) (ascendingFrom (suc x) xs) a) in
-    let p : isCandidate cs x ≡ true = and_left (isCandidate cs x) (all (isCandidate cs) xs) e in
+unfolding ascending_from all
+support-at_least cs lo [] a e = omega arith
+support-at_least cs lo (x ∷ xs) a e =
+    let l : lo ≤ x = leb-true lo x (and_left (leb lo x) (ascending_from (suc x) xs) a) in
+    let p : is_candidate cs x ≡ true = and_left (is_candidate cs x) (all (is_candidate cs) xs) e in
     let r : length xs ≤ at_least (suc x) cs =
-    support-atLeast cs (suc x) xs
-    (and_right (leb lo x) (ascendingFrom (suc x) xs) a)
-    (and_right (isCandidate cs x) (all (isCandidate cs) xs) e) in
+    support-at_least cs (suc x) xs
+    (and_right (leb lo x) (ascending_from (suc x) xs) a)
+    (and_right (is_candidate cs x) (all (is_candidate cs) xs) e) in
     omega (arith, between lo x l cs p)
 
-pub support-length : (cs : List Candidate) (xs : List ℕ) → ascending xs ≡ true → all (isCandidate cs) xs ≡ true
+pub support-length : (cs : List Candidate) (xs : List ℕ) → ascending xs ≡ true → all (is_candidate cs) xs ≡ true
     → length xs ≤ length cs
 support-length cs xs a e =
-    omega (arith, support-atLeast cs 0 xs (sym (ascending-from xs) ∙ a) e, atLeast-length 0 cs)
+    omega (arith, support-at_least cs 0 xs (sym (ascending-from xs) ∙ a) e, at_least-length 0 cs)

@@ -9,21 +9,21 @@ use borrow.Author.Tests.{eqb-true, eq-eqb, leb-true, le-leb}
 use lib.Dec.{eqb, leb}
 use lib.ListN.{length, get_or, take, drop, length-take, take-append-drop}
 use lib.Seq.{get_or-take, length-take-le}
-use Rattle.records.specs.Bytes.{up_from, word, bodyLength, body, whole, nth}
-use Rattle.records.specs.Job.{netsOf}
-use Rattle.records.specs.Sheet.{quad, sheetTags, notesTag, notesWhole, sheetWhole}
-use Rattle.records.specs.Inner.{start_of, checkOf, Walks, spansOf, bareWhole, wordColumn, sheetLengths, spannedFrom, sheetShapeOf}
+use Rattle.records.specs.Bytes.{up_from, word, body_length, body, whole, nth}
+use Rattle.records.specs.Job.{nets_of}
+use Rattle.records.specs.Sheet.{quad, sheet_tags, notes_tag, notes_whole, sheet_whole}
+use Rattle.records.specs.Inner.{start_of, check_of, Walks, spans_of, bare_whole, word_column, sheet_lengths, spanned_from, sheet_shape_of}
 use Rattle.records.specs.declared.field.Check.TheVariants.{Passed, Failed}
 use Rattle.records.specs.declared.field.Walk.{Walk}
 use Rattle.records.specs.declared.sheet.SheetSpans.{SheetSpans}
 use Rattle.records.specs.declared.sheet.SheetShape.TheVariants.{Whole, Broken}
 use Rattle.records.proofs.Laws.Bytes.{row, row_at, and_left, and_right, and_both, or_left, or_right, or_cases, false_of, part-append}
 use Rattle.records.proofs.Laws.Counts.{passes, fails}
-use Rattle.records.proofs.Laws.Field.{position_of, skip, skip-drop, bodyLength-drop, nth-body, startOf-suc, startOf-position, startOf-le, whole-end, nth-slice}
+use Rattle.records.proofs.Laws.Field.{position_of, skip, skip-drop, body_length-drop, nth-body, start_of-suc, start_of-position, start_of-le, whole-end, nth-slice}
 use Rattle.records.proofs.Laws.Front.{nth-front}
 use Rattle.records.proofs.Laws.Reading.{nets-in}
 use Rattle.records.proofs.Laws.RoundTrip.{below-take}
-use Rattle.records.proofs.Laws.Shape.{length-netsOf}
+use Rattle.records.proofs.Laws.Shape.{length-nets_of}
 use Rattle.records.proofs.Laws.Sheet.{word_lt, power-short}
 
 -- ---- a whole sheet: its fields are there, as F says, and of these lengths
@@ -34,17 +34,17 @@ pub record Sized (F : Type 0) (s : List ℕ) : Type 0 where
   pub table : length (nth 1 s) ≡ 2 ^ (length (nth 0 s) / 2)
   pub cost : length (nth 2 s) ≡ 4
 
-abbrev pub sizeTests : List ℕ → List Bool
-sizeTests s =
+abbrev pub size_tests : List ℕ → List Bool
+size_tests s =
     eqb (length (nth 0 s) % 2) 0
     ∷ eqb (length (nth 1 s)) (2 ^ (length (nth 0 s) / 2))
     ∷ eqb (length (nth 2 s)) 4
     ∷ []
 
 module _ {F : Type 0} (s : List ℕ) (f : Bool) where
-  sized-facts : (f ≡ true → F) → row f (sizeTests s) ≡ true → Sized F s
+  sized-facts : (f ≡ true → F) → row f (size_tests s) ≡ true → Sized F s
   sized-facts g h =
-      let t = row_at f (sizeTests s) h in
+      let t = row_at f (size_tests s) h in
       record {
         fields = g (t 0);
         nets = eqb-true _ _ (t 1);
@@ -52,7 +52,7 @@ module _ {F : Type 0} (s : List ℕ) (f : Bool) where
         cost = eqb-true _ _ (t 3);
       }
 
-  sized-true : (F → f ≡ true) → Sized F s → row f (sizeTests s) ≡ true
+  sized-true : (F → f ≡ true) → Sized F s → row f (size_tests s) ≡ true
   sized-true g h =
       and_both _ _
       (and_both _ _ (and_both _ _ (g h.fields) (eq-eqb _ _ h.nets)) (eq-eqb _ _ h.table))
@@ -60,44 +60,44 @@ module _ {F : Type 0} (s : List ℕ) (f : Bool) where
 
 -- without notes
 abbrev pub BareWhole : List ℕ → Type 0
-BareWhole s = Sized (whole sheetTags s ≡ true) s
+BareWhole s = Sized (whole sheet_tags s ≡ true) s
 
 module _ (s : List ℕ) where
-  pub bareWhole-facts : bareWhole s ≡ true → BareWhole s
-  unfolding bareWhole
-  bareWhole-facts h = sized-facts s (whole sheetTags s) (λ t. t) h
+  pub bare_whole-facts : bare_whole s ≡ true → BareWhole s
+  unfolding bare_whole
+  bare_whole-facts h = sized-facts s (whole sheet_tags s) (λ t. t) h
 
-  pub bareWhole-true : BareWhole s → bareWhole s ≡ true
-  unfolding bareWhole
-  bareWhole-true h = sized-true s (whole sheetTags s) (λ t. t) h
+  pub bare_whole-true : BareWhole s → bare_whole s ≡ true
+  unfolding bare_whole
+  bare_whole-true h = sized-true s (whole sheet_tags s) (λ t. t) h
 
 -- with notes or without
 abbrev pub SheetFields : List ℕ → Type 0
 SheetFields s =
-    (whole sheetTags s ≡ true) ⊎ ((whole (sheetTags ++ (notesTag ∷ [])) s ≡ true) × (notesWhole s ≡ true))
+    (whole sheet_tags s ≡ true) ⊎ ((whole (sheet_tags ++ (notes_tag ∷ [])) s ≡ true) × (notes_whole s ≡ true))
 
 abbrev pub SheetWhole : List ℕ → Type 0
 SheetWhole s = Sized (SheetFields s) s
 
 module _ (s : List ℕ) where
-  pub sheetWhole-facts : sheetWhole s ≡ true → SheetWhole s
-  unfolding sheetWhole
-  sheetWhole-facts h =
-      let noted = whole (sheetTags ++ (notesTag ∷ [])) s in
-      sized-facts s (whole sheetTags s || (noted && notesWhole s))
+  pub sheet_whole-facts : sheet_whole s ≡ true → SheetWhole s
+  unfolding sheet_whole
+  sheet_whole-facts h =
+      let noted = whole (sheet_tags ++ (notes_tag ∷ [])) s in
+      sized-facts s (whole sheet_tags s || (noted && notes_whole s))
       (λ t.
-      ⊎_elim (λ a. inl a) (λ b. inr (and_left noted (notesWhole s) b, and_right noted (notesWhole s) b))
-      (or_cases (whole sheetTags s) (noted && notesWhole s) t))
+      ⊎_elim (λ a. inl a) (λ b. inr (and_left noted (notes_whole s) b, and_right noted (notes_whole s) b))
+      (or_cases (whole sheet_tags s) (noted && notes_whole s) t))
       h
 
-  pub sheetWhole-true : SheetWhole s → sheetWhole s ≡ true
-  unfolding sheetWhole
-  sheetWhole-true h =
-      let noted = whole (sheetTags ++ (notesTag ∷ [])) s in
-      sized-true s (whole sheetTags s || (noted && notesWhole s))
+  pub sheet_whole-true : SheetWhole s → sheet_whole s ≡ true
+  unfolding sheet_whole
+  sheet_whole-true h =
+      let noted = whole (sheet_tags ++ (notes_tag ∷ [])) s in
+      sized-true s (whole sheet_tags s || (noted && notes_whole s))
       (λ t.
-      ⊎_elim (λ a. or_left (whole sheetTags s) (noted && notesWhole s) a)
-      (λ b. or_right (whole sheetTags s) (noted && notesWhole s) (and_both noted (notesWhole s) b.0 b.1)) t)
+      ⊎_elim (λ a. or_left (whole sheet_tags s) (noted && notes_whole s) a)
+      (λ b. or_right (whole sheet_tags s) (noted && notes_whole s) (and_both noted (notes_whole s) b.0 b.1)) t)
       h
 
 -- ---- what a walk says of a sheet
@@ -109,9 +109,9 @@ record SheetLengths (ns : List ℕ) : Type 0 where
   pub table : get_or ns 1 0 ≡ 2 ^ (get_or ns 0 0 / 2)
   pub cost : get_or ns 2 0 ≡ 4
 
-sheetLengths-facts : (ns : List ℕ) → sheetLengths ns ≡ true → SheetLengths ns
-unfolding sheetLengths
-sheetLengths-facts ns h =
+sheet_lengths-facts : (ns : List ℕ) → sheet_lengths ns ≡ true → SheetLengths ns
+unfolding sheet_lengths
+sheet_lengths-facts ns h =
     let t =
     row_at (eqb (get_or ns 0 0 % 2) 0) (eqb (get_or ns 1 0) (2 ^ (get_or ns 0 0 / 2)) ∷ eqb (get_or ns 2 0) 4 ∷ [])
     (and_right (leb (get_or ns 0 0) 31) _ h) in
@@ -122,9 +122,9 @@ sheetLengths-facts ns h =
       cost = eqb-true _ _ (t 2);
     }
 
-sheetLengths-true : (ns : List ℕ) → SheetLengths ns → sheetLengths ns ≡ true
-unfolding sheetLengths
-sheetLengths-true ns h =
+sheet_lengths-true : (ns : List ℕ) → SheetLengths ns → sheet_lengths ns ≡ true
+unfolding sheet_lengths
+sheet_lengths-true ns h =
     and_both _ _ (le-leb _ _ h.few)
     (and_both _ _ (and_both _ _ (eq-eqb _ _ h.nets) (eq-eqb _ _ h.table)) (eq-eqb _ _ h.cost))
 
@@ -132,12 +132,12 @@ nth-short : (s : List ℕ) → ((i : ℕ) → get_or s i 0 < 256) → (k : ℕ) 
 unfolding body
 nth-short s bytes k =
     let at = position_of k s in
-    let n = ap bodyLength (skip-drop k s) ∙ bodyLength-drop s at in
+    let n = ap body_length (skip-drop k s) ∙ body_length-drop s at in
     rw (nth-body k s)
     (omega (
       arith,
       n,
-      length-take (bodyLength (skip k s)) (drop 3 (skip k s)),
+      length-take (body_length (skip k s)) (drop 3 (skip k s)),
       word_lt s (at + 1) (bytes (at + 1)) (bytes (at + 1 + 1)),
     ))
 
@@ -145,15 +145,15 @@ few-nets : (s : List ℕ) → ((i : ℕ) → get_or s i 0 < 256) → BareWhole s
 few-nets s bytes j = power-short (length (nth 0 s) / 2) (omega (arith, nth-short s bytes 1, j.table))
 
 module _ (s : List ℕ) (w : Walk) (h : Walks s 16 3 w) where
-  walk-fields : w.check ≡ checkOf (whole sheetTags s)
+  walk-fields : w.check ≡ check_of (whole sheet_tags s)
   unfolding up_from
   walk-fields = h.check
 
-  walk-starts : whole sheetTags s ≡ true → (k : ℕ) → k < 3 → get_or w.starts k 0 ≡ start_of k s
+  walk-starts : whole sheet_tags s ≡ true → (k : ℕ) → k < 3 → get_or w.starts k 0 ≡ start_of k s
   unfolding up_from
   walk-starts t k l = h.starts t k l
 
-  walk-lens : whole sheetTags s ≡ true → (k : ℕ) → k < 3 → get_or w.lens k 0 ≡ length (nth k s)
+  walk-lens : whole sheet_tags s ≡ true → (k : ℕ) → k < 3 → get_or w.lens k 0 ≡ length (nth k s)
   unfolding up_from
   walk-lens t k l = h.lens t k l
 
@@ -169,7 +169,7 @@ module _ (s : List ℕ) (w : Walk) (h : Walks s 16 3 w) where
 
   whole-of-lengths : w.check ≡ Passed → SheetLengths w.lens → BareWhole s
   whole-of-lengths p g =
-      let f = passes (whole sheetTags s) (sym walk-fields ∙ p) in
+      let f = passes (whole sheet_tags s) (sym walk-fields ∙ p) in
       let n = walk-lens f in
       record {
         fields = f;
@@ -178,43 +178,43 @@ module _ (s : List ℕ) (w : Walk) (h : Walks s 16 3 w) where
         cost = rw (← n 2 (omega arith)) g.cost;
       }
 
-  pub broken-of-walk : w.check ≡ Failed → Broken ≡ sheetShapeOf s
-  unfolding sheetShapeOf
+  pub broken-of-walk : w.check ≡ Failed → Broken ≡ sheet_shape_of s
+  unfolding sheet_shape_of
   broken-of-walk p =
-      let f = fails (whole sheetTags s) (sym walk-fields ∙ p) in
-      rw (false_of (bareWhole s) (λ t. true≢false (sym (bareWhole-facts s t).fields ∙ f)))
+      let f = fails (whole sheet_tags s) (sym walk-fields ∙ p) in
+      rw (false_of (bare_whole s) (λ t. true≢false (sym (bare_whole-facts s t).fields ∙ f)))
 
-  broken-of-lengths : ((i : ℕ) → get_or s i 0 < 256) → sheetLengths w.lens ≡ false → bareWhole s ≡ false
+  broken-of-lengths : ((i : ℕ) → get_or s i 0 < 256) → sheet_lengths w.lens ≡ false → bare_whole s ≡ false
   broken-of-lengths bytes e =
-      false_of (bareWhole s)
-      (λ t. true≢false (sym (sheetLengths-true w.lens (lengths-of-whole bytes (bareWhole-facts s t))) ∙ e))
+      false_of (bare_whole s)
+      (λ t. true≢false (sym (sheet_lengths-true w.lens (lengths-of-whole bytes (bare_whole-facts s t))) ∙ e))
 
   -- the shape, from the walk
-  pub walk-spans : ((i : ℕ) → get_or s i 0 < 256) → w.check ≡ Passed → spannedFrom w.starts w.lens ≡ sheetShapeOf s
-  unfolding sheetShapeOf spannedFrom spansOf
-  walk-spans bytes p = pick (sheetLengths w.lens) refl
+  pub walk-spans : ((i : ℕ) → get_or s i 0 < 256) → w.check ≡ Passed → spanned_from w.starts w.lens ≡ sheet_shape_of s
+  unfolding sheet_shape_of spanned_from spans_of
+  walk-spans bytes p = pick (sheet_lengths w.lens) refl
     where
-      pick : (b : Bool) → sheetLengths w.lens ≡ b → spannedFrom w.starts w.lens ≡ sheetShapeOf s
+      pick : (b : Bool) → sheet_lengths w.lens ≡ b → spanned_from w.starts w.lens ≡ sheet_shape_of s
       pick false e = rw (e, broken-of-lengths bytes e)
       pick true e =
-          let j = whole-of-lengths p (sheetLengths-facts w.lens e) in
+          let j = whole-of-lengths p (sheet_lengths-facts w.lens e) in
           let n = walk-lens j.fields in
           let a = walk-starts j.fields in
-          rw (e, bareWhole-true s j, n 0 (omega arith), a 1 (omega arith), a 2 (omega arith))
+          rw (e, bare_whole-true s j, n 0 (omega arith), a 1 (omega arith), a 2 (omega arith))
 
 -- ---- where the fields of a sheet stand, of which the three without notes end at e
 
 pub record Spans (s : List ℕ) (e : ℕ) (at : SheetSpans) : Type 0 where
-  pub whole : bareWhole (take e s) ≡ true
+  pub whole : bare_whole (take e s) ≡ true
   pub few : 2 * at.nets ≤ 30
   pub table : at.table ≡ 3 + length (nth 0 s) + 3
   pub nets : 2 * at.nets ≡ length (nth 0 s)
   pub cost : at.cost ≡ at.table + length (nth 1 s) + 3
   pub end : e ≡ at.cost + 4
   pub within : e ≤ length s
-  pub netsPart : wordColumn s 2 3 at.nets ≡ netsOf (nth 0 s)
-  pub tablePart : take (at.cost - 3 - at.table) (drop at.table s) ≡ nth 1 s
-  pub costPart : quad (drop at.cost s) ≡ quad (nth 2 s)
+  pub nets_part : word_column s 2 3 at.nets ≡ nets_of (nth 0 s)
+  pub table_part : take (at.cost - 3 - at.table) (drop at.table s) ≡ nth 1 s
+  pub cost_part : quad (drop at.cost s) ≡ quad (nth 2 s)
 
 -- four bytes are enough for a four-byte number
 quad-four : (u : List ℕ) → quad (take 4 u) ≡ quad u
@@ -230,9 +230,9 @@ pick-broken : (b : Bool) (x : SheetSpans) → cond b (Whole x) Broken ≡ Broken
 pick-broken false x e = refl
 pick-broken true x e = let z : ◌≡◌ {A = ℕ} 0 1 = cc in absurd (omega arith)
 
-pub shape-broken : (s : List ℕ) → sheetShapeOf s ≡ Broken → bareWhole s ≡ false
-unfolding sheetShapeOf
-shape-broken s e = pick-broken (bareWhole s) (spansOf s) e
+pub shape-broken : (s : List ℕ) → sheet_shape_of s ≡ Broken → bare_whole s ≡ false
+unfolding sheet_shape_of
+shape-broken s e = pick-broken (bare_whole s) (spans_of s) e
 
 start-zero : (s : List ℕ) → start_of 0 s ≡ 3
 unfolding start_of
@@ -249,38 +249,38 @@ module _ (s : List ℕ) (e : ℕ) (l : e ≤ length s) (j : BareWhole (take e s)
   long = length-take-le e s l
 
   same : (k : ℕ) → k < 3 → nth k s ≡ nth k bare
-  same k h = ap (nth k) (sym joined) ∙ nth-front sheetTags bare (drop e s) j.fields k h
+  same k h = ap (nth k) (sym joined) ∙ nth-front sheet_tags bare (drop e s) j.fields k h
 
   next : (k : ℕ) → k < 3 → start_of (suc k) bare ≡ start_of k bare + length (nth k s) + 3
-  next k h = rw (same k h) (startOf-suc sheetTags bare j.fields k h)
+  next k h = rw (same k h) (start_of-suc sheet_tags bare j.fields k h)
 
   to_end : e ≡ start_of 2 bare + length (nth 2 s)
-  to_end = omega (arith, next 2 (omega arith), startOf-position 3 bare, whole-end sheetTags bare j.fields, long)
+  to_end = omega (arith, next 2 (omega arith), start_of-position 3 bare, whole-end sheet_tags bare j.fields, long)
 
   part : (k : ℕ) → k < 3 → (a n : ℕ) → a ≡ start_of k bare → n ≡ length (nth k s) → take n (drop a s) ≡ nth k s
   part k h a n p q =
-      let r = startOf-le sheetTags bare j.fields k h in
+      let r = start_of-le sheet_tags bare j.fields k h in
       let b : a + n ≤ length bare = omega (arith, ap length (same k h)) in
       ap (λ (u : List ℕ). take n (drop a u)) (sym joined)
       ∙ part-append bare (drop e s) a n b
-      ∙ rw (p, q, same k h) (nth-slice sheetTags bare j.fields k h)
+      ∙ rw (p, q, same k h) (nth-slice sheet_tags bare j.fields k h)
 
-  spans : ((i : ℕ) → get_or s i 0 < 256) → Spans s e (spansOf bare)
-  unfolding spansOf
+  spans : ((i : ℕ) → get_or s i 0 < 256) → Spans s e (spans_of bare)
+  unfolding spans_of
   spans bytes =
       let z = same 0 (omega arith) in
       let a = next 0 (omega arith) in
       let b = next 1 (omega arith) in
       let d : length (nth 2 s) ≡ 4 = ap length (same 2 (omega arith)) ∙ j.cost in
       record {
-        whole = bareWhole-true bare j;
+        whole = bare_whole-true bare j;
         few = omega (arith, few-nets bare (below-take 256 s e bytes) j);
         table = omega (arith, start-zero bare);
         nets = omega (arith, ap length z, j.nets);
         cost = b;
         end = omega (arith, d, to_end);
         within = l;
-        netsPart =
+        nets_part =
             nets-in {to = 3 + length (nth 0 s)}
             (record {
               ordered = omega arith;
@@ -288,17 +288,17 @@ module _ (s : List ℕ) (e : ℕ) (l : e ≤ length s) (j : BareWhole (take e s)
               is = part 0 (omega arith) 3 (3 + length (nth 0 s) - 3) (sym (start-zero bare)) (omega arith);
             })
             (length (nth 0 bare) / 2) (ap (λ (u : List ℕ). length u / 2) (sym z));
-        tablePart = part 1 (omega arith) (start_of 1 bare) (start_of 2 bare - 3 - start_of 1 bare) refl (omega arith);
-        costPart =
+        table_part = part 1 (omega arith) (start_of 1 bare) (start_of 2 bare - 3 - start_of 1 bare) refl (omega arith);
+        cost_part =
             sym (quad-four (drop (start_of 2 bare) s)) ∙ ap quad (part 2 (omega arith) (start_of 2 bare) 4 refl (sym d));
       }
 
 pub shape-whole : (s : List ℕ) → ((i : ℕ) → get_or s i 0 < 256) → (e : ℕ) → e ≤ length s
-    → (at : SheetSpans) → sheetShapeOf (take e s) ≡ Whole at → Spans s e at
-unfolding sheetShapeOf
+    → (at : SheetSpans) → sheet_shape_of (take e s) ≡ Whole at → Spans s e at
+unfolding sheet_shape_of
 shape-whole s bytes e l at q =
-    let p = pick-whole (bareWhole (take e s)) (spansOf (take e s)) at q in
-    rw p.1 (spans s e l (bareWhole-facts (take e s) p.0) bytes)
+    let p = pick-whole (bare_whole (take e s)) (spans_of (take e s)) at q in
+    rw p.1 (spans s e l (bare_whole-facts (take e s) p.0) bytes)
 
 -- ---- where the table of a whole sheet stands
 
@@ -306,17 +306,17 @@ module _ (s : List ℕ) (w : SheetWhole s) where
   -- a law of the fields of a whole record holds of the first three
   by-fields : {P : Type 0} → ((ts : List ℕ) → 3 ≤ length ts → whole ts s ≡ true → P) → P
   by-fields f =
-      ⊎_elim (λ a. f sheetTags (omega arith) a) (λ b. f (sheetTags ++ (notesTag ∷ [])) (omega arith) b.0) w.fields
+      ⊎_elim (λ a. f sheet_tags (omega arith) a) (λ b. f (sheet_tags ++ (notes_tag ∷ [])) (omega arith) b.0) w.fields
 
   pub table-start : 3 + length (nth 0 s) + 3 ≡ start_of 1 s
   unfolding start_of
-  table-start = by-fields (λ ts l t. sym (startOf-suc ts s t 0 (omega arith)))
+  table-start = by-fields (λ ts l t. sym (start_of-suc ts s t 0 (omega arith)))
 
-  pub table-size : 2 ^ length (netsOf (nth 0 s)) ≡ length (nth 1 s)
-  table-size = ap (λ (k : ℕ). 2 ^ k) (length-netsOf (nth 0 s)) ∙ sym w.table
+  pub table-size : 2 ^ length (nets_of (nth 0 s)) ≡ length (nth 1 s)
+  table-size = ap (λ (k : ℕ). 2 ^ k) (length-nets_of (nth 0 s)) ∙ sym w.table
 
-  pub table-end : 3 + length (nth 0 s) + 3 + 2 ^ length (netsOf (nth 0 s)) ≤ length s
-  table-end = rw (table-start, table-size) (by-fields (λ ts l t. startOf-le ts s t 1 (omega arith)))
+  pub table-end : 3 + length (nth 0 s) + 3 + 2 ^ length (nets_of (nth 0 s)) ≤ length s
+  table-end = rw (table-start, table-size) (by-fields (λ ts l t. start_of-le ts s t 1 (omega arith)))
 
-  pub table-bytes : take (2 ^ length (netsOf (nth 0 s))) (drop (3 + length (nth 0 s) + 3) s) ≡ nth 1 s
+  pub table-bytes : take (2 ^ length (nets_of (nth 0 s))) (drop (3 + length (nth 0 s) + 3) s) ≡ nth 1 s
   table-bytes = rw (table-start, table-size) (by-fields (λ ts l t. nth-slice ts s t 1 (omega arith)))

@@ -10,47 +10,47 @@ use borrow.Author.Count.{below_none, below_more}
 use lib.Dec.{eqb}
 use lib.ListN.{length, get_or, drop, set, length-drop, length-set}
 use lib.Seq.{drop-drop, get_or-set_same, get_or-set_other}
-use Rattle.records.specs.Bytes.{up_from, bodyLength, rest, whole, nth}
-use Rattle.records.specs.Inner.{checkOf, start_of, fieldAt, walkFrom, noted, walkAfter, ended, end_of, Notable, Walks}
+use Rattle.records.specs.Bytes.{up_from, body_length, rest, whole, nth}
+use Rattle.records.specs.Inner.{check_of, start_of, field_at, walk_from, noted, walk_after, ended, end_of, Notable, Walks}
 use Rattle.records.specs.declared.field.Field.{Field}
 use Rattle.records.specs.declared.field.Field.TheVariants.{Body, Missing}
 use Rattle.records.specs.declared.field.Check.{Check}
 use Rattle.records.specs.declared.field.Check.TheVariants.{Failed}
 use Rattle.records.specs.declared.field.Walk.{Walk}
 use Rattle.records.proofs.Laws.Bytes.{and_left, and-false-right}
-use Rattle.records.proofs.Laws.Field.{skip, skip-drop, position_of, positionOf-zero, positionOf-suc, startOf-position, length-nth, fieldAt-body, fieldAt-missing, end-within}
+use Rattle.records.proofs.Laws.Field.{skip, skip-drop, position_of, position_of-zero, position_of-suc, start_of-position, length-nth, field_at-body, field_at-missing, end-within}
 
 -- ---- one field more
 
 module _ (s : List ℕ) (at t : ℕ) where
-  whole-missing : (n : ℕ) → fieldAt s at t ≡ Missing → whole (up_from t (suc n)) (drop at s) ≡ false
+  whole-missing : (n : ℕ) → field_at s at t ≡ Missing → whole (up_from t (suc n)) (drop at s) ≡ false
   unfolding whole up_from
-  whole-missing n e = rw (fieldAt-missing s at t e)
+  whole-missing n e = rw (field_at-missing s at t e)
 
-  module _ (a b : ℕ) (e : fieldAt s at t ≡ Body a b) where
+  module _ (a b : ℕ) (e : field_at s at t ≡ Body a b) where
     whole-body : (n : ℕ) → whole (up_from t (suc n)) (drop at s) ≡ whole (up_from (suc t) n) (drop (a + b) s)
     unfolding whole up_from rest
     whole-body n =
-        let f = fieldAt-body s at t a b e in
-        let q : at + (3 + bodyLength (drop at s)) ≡ a + b = omega (arith, f.1, f.2) in
-        rw (f.0, drop-drop (3 + bodyLength (drop at s)) at s, q)
+        let f = field_at-body s at t a b e in
+        let q : at + (3 + body_length (drop at s)) ≡ a + b = omega (arith, f.1, f.2) in
+        rw (f.0, drop-drop (3 + body_length (drop at s)) at s, q)
 
     module _ (k : ℕ) (p : at ≡ position_of k s) where
       skipped : drop at s ≡ skip k s
       skipped = ap (λ (n : ℕ). drop n s) p ∙ sym (skip-drop k s)
 
       body-start : a ≡ start_of k s
-      body-start = omega (arith, p, (fieldAt-body s at t a b e).1, startOf-position k s)
+      body-start = omega (arith, p, (field_at-body s at t a b e).1, start_of-position k s)
 
       body-length : b ≡ length (nth k s)
       body-length =
-          let f = fieldAt-body s at t a b e in
-          f.2 ∙ ap bodyLength skipped ∙ sym (length-nth k t s (rw skipped at f.0))
+          let f = field_at-body s at t a b e in
+          f.2 ∙ ap body_length skipped ∙ sym (length-nth k t s (rw skipped at f.0))
 
       body_end : a + b ≡ position_of (suc k) s
       body_end =
-          let f = fieldAt-body s at t a b e in
-          omega (arith, p, f.1, f.2, ap bodyLength skipped, positionOf-suc k s)
+          let f = field_at-body s at t a b e in
+          omega (arith, p, f.1, f.2, ap body_length skipped, position_of-suc k s)
 
 -- two lists hold where each of the first k fields' bytes start and how many they are
 pub record Bounds (s xs ys : List ℕ) (k : ℕ) : Type 0 where
@@ -70,7 +70,7 @@ store-more f xs k x h e old i l =
 -- good says whether each of them was there; what is left decides whether the record is whole
 pub record Walking (s : List ℕ) (t k : ℕ) (w : Walk) : Type 0 where
   good : Bool
-  check : w.check ≡ checkOf good
+  check : w.check ≡ check_of good
   pub tag : w.tag ≡ t + k
   pub count : w.count ≡ k
   pub sizes : (length w.starts ≡ 6) × (length w.lens ≡ 6)
@@ -85,8 +85,8 @@ module _ (s : List ℕ) (t k : ℕ) (h : k < 6) (w : Walk) (p : Walking s t k w)
       let e : suc w.count + m ≡ w.count + suc m = omega arith in
       ap (λ (n : ℕ). whole (up_from t n) s) e ∙ p.left (suc m)
 
-  turned : (f : Field) → fieldAt s w.at w.tag ≡ f → Walking s t (suc k) (noted w f)
-  unfolding noted checkOf end_of
+  turned : (f : Field) → field_at s w.at w.tag ≡ f → Walking s t (suc k) (noted w f)
+  unfolding noted check_of end_of
   turned Missing e =
       record {
         good = false;
@@ -118,8 +118,8 @@ module _ (s : List ℕ) (t k : ℕ) (h : k < 6) (w : Walk) (p : Walking s t k w)
       }
 
 module _ (s : List ℕ) (t : ℕ) where
-  pub walking : (k : ℕ) → k ≤ 6 → Walking s t k (walkAfter s t k)
-  unfolding walkAfter walkFrom checkOf
+  pub walking : (k : ℕ) → k ≤ 6 → Walking s t k (walk_after s t k)
+  unfolding walk_after walk_from check_of
   walking zero h =
       record {
         good = true;
@@ -128,19 +128,19 @@ module _ (s : List ℕ) (t : ℕ) where
         count = refl;
         sizes = (refl, refl);
         inside = omega arith;
-        place = λ z. sym (positionOf-zero s);
+        place = λ z. sym (position_of-zero s);
         bounds = λ z. record { starts = below_none _; lens = below_none _ };
         left = λ m. ap (λ (n : ℕ). whole (up_from t n) s) (zero-add m);
       }
   walking (suc k) h =
-      let w = walkAfter s t k in
-      turned s t k (omega arith) w (walking k (omega arith)) (fieldAt s w.at w.tag) refl
+      let w = walk_after s t k in
+      turned s t k (omega arith) w (walking k (omega arith)) (field_at s w.at w.tag) refl
 
   -- .. can note one more
   pub notable : (k : ℕ) → k < 6 → t + k < 255 → length s < 2 ^ 64
-      → Notable (walkAfter s t k) (fieldAt s (walkAfter s t k).at (walkAfter s t k).tag)
+      → Notable (walk_after s t k) (field_at s (walk_after s t k).at (walk_after s t k).tag)
   notable k h l m =
-      let w = walkAfter s t k in
+      let w = walk_after s t k in
       let p = walking k (omega arith) in
       record {
         count = omega (arith, p.count);
@@ -158,25 +158,25 @@ ends_there s at h = go (eqb at (length s)) refl
     go true e = eq-eqb (length (drop at s)) 0 (omega (arith, length-drop at s, eqb-true at (length s) e))
     go false e = ne_eqb (length (drop at s)) 0 (λ z. eqb-false at (length s) e (omega (arith, length-drop at s)))
 
-check-ended : (g b : Bool) → cond b (checkOf g) Failed ≡ checkOf (g && b)
-unfolding checkOf
+check-ended : (g b : Bool) → cond b (check_of g) Failed ≡ check_of (g && b)
+unfolding check_of
 check-ended true true = refl
 check-ended true false = refl
 check-ended false true = refl
 check-ended false false = refl
 
-pub walks : (s : List ℕ) (t n : ℕ) → n ≤ 6 → Walks s t n (ended (walkAfter s t n) (length s))
+pub walks : (s : List ℕ) (t n : ℕ) → n ≤ 6 → Walks s t n (ended (walk_after s t n) (length s))
 unfolding ended whole up_from
 walks s t n h =
     record {
-      check = ap (λ (c : Check). cond (eqb w.at (length s)) c Failed) p.check ∙ check-ended p.good _ ∙ ap checkOf (sym whole_is);
+      check = ap (λ (c : Check). cond (eqb w.at (length s)) c Failed) p.check ∙ check-ended p.good _ ∙ ap check_of (sym whole_is);
       sizes = p.sizes;
       starts = λ e i l. (p.bounds (found e)).starts i (omega (arith, p.count));
       lens = λ e i l. (p.bounds (found e)).lens i (omega (arith, p.count));
     }
   where
     w : Walk
-    w = walkAfter s t n
+    w = walk_after s t n
 
     p : Walking s t n w
     p = walking s t n h

@@ -9,10 +9,10 @@ use borrow.Author.Tests.{leb-true, leb-false}
 use lib.Dec.{leb}
 use lib.ListN.{length, take, drop}
 use Rattle.records.specs.Bytes.{placed}
-use Rattle.records.specs.Job.{jobBytes}
-use Rattle.records.specs.Refusal.{firstFailing}
-use Rattle.records.specs.Service.{Places, noCounts, held, jobFrom, writeReply, writtenBytes}
-use Rattle.records.specs.Inner.{countsWithin, Within, startsOf, checkedOf, gateSpans, gatesBytes, holds, plan_of, JobDone, GatesPut, RestHeld, RestWritten}
+use Rattle.records.specs.Job.{job_bytes}
+use Rattle.records.specs.Refusal.{first_failing}
+use Rattle.records.specs.Service.{Places, no_counts, held, job_from, write_reply, written_bytes}
+use Rattle.records.specs.Inner.{counts_within, Within, starts_of, checked_of, gate_spans, gates_bytes, holds, plan_of, JobDone, GatesPut, RestHeld, RestWritten}
 use Rattle.records.specs.declared.gates.GateSpans.{GateSpans}
 use Rattle.records.specs.declared.job.Counts.{Counts}
 use Rattle.records.specs.declared.job.Checked.{Checked}
@@ -20,8 +20,8 @@ use Rattle.records.specs.declared.job.Checked.TheVariants.{Accepted, Refused}
 use Rattle.records.specs.declared.writing.WritePlan.{WritePlan}
 use Rattle.records.specs.declared.writing.WriteReply.{WriteReply}
 use Rattle.records.proofs.Laws.Bytes.{length-placed, part-placed-same, part-placed-before}
-use Rattle.records.proofs.Laws.Counts.{countsWithin-facts, spans-within, spans-none}
-use Rattle.records.proofs.Laws.Job.{JobBounds, held-holds, held-bounds, held-true, length-gatesBytes}
+use Rattle.records.proofs.Laws.Counts.{counts_within-facts, spans-within, spans-none}
+use Rattle.records.proofs.Laws.Job.{JobBounds, held-holds, held-bounds, held-true, length-gates_bytes}
 use Rattle.records.proofs.Laws.Put.{job-bounds}
 use Rattle.records.proofs.Laws.Reply.{write-short, write-counts, unheld, write-refused, write-accepted}
 
@@ -37,8 +37,8 @@ record PlanAccepted (c : Counts) (p : Places) (d : List ℕ) (w : WritePlan) : T
 
 record PlanRefused (c : Counts) (p : Places) (d : List ℕ) (w : WritePlan) : Type 0 where
   pub number : w.number ≡ 0 → ⊥
-  pub counts : w.counts ≡ noCounts
-  pub ends : (record { number = w.number; len = 0 } ≡ writeReply c p d) × (d ≡ writtenBytes c p d)
+  pub counts : w.counts ≡ no_counts
+  pub ends : (record { number = w.number; len = 0 } ≡ write_reply c p d) × (d ≡ written_bytes c p d)
 
 -- a list placed in z stands there
 placed-stands : (z : List ℕ) {z' : List ℕ} (at n : ℕ) (xs : List ℕ) → length xs ≡ n → at + n ≤ length z → z' ≡ placed z at xs
@@ -53,9 +53,9 @@ module _ (c : Counts) (p : Places) (d : List ℕ) where
       (holds c (length p.old.gates) (length p.old.outputs) (length p.golden.gates) (length p.golden.outputs) (length p.nets) (length p.weights))
 
   -- by its three tests
-  plan-of : (s t u : Bool) → leb 8188 (length d) ≡ s → countsWithin c ≡ t → held c p ≡ u
+  plan-of : (s t u : Bool) → leb 8188 (length d) ≡ s → counts_within c ≡ t → held c p ≡ u
       → PlanAccepted c p d planned ⊎ PlanRefused c p d planned
-  unfolding plan_of firstFailing
+  unfolding plan_of first_failing
   plan-of false t u e f g =
       inr (rw e (record { number = λ z. omega arith; counts = refl; ends = write-short c p d (leb-false _ _ e) }))
   plan-of true false u e f g =
@@ -71,31 +71,31 @@ module _ (c : Counts) (p : Places) (d : List ℕ) where
         number = refl;
         counts = refl;
         size = leb-true _ _ e;
-        within = countsWithin-facts c f;
+        within = counts_within-facts c f;
         bounds = held-bounds c p g;
       }))
 
   plan : (w : WritePlan) → w ≡ planned → PlanAccepted c p d w ⊎ PlanRefused c p d w
-  plan w e = rw e (plan-of (leb 8188 (length d)) (countsWithin c) (held c p) refl refl refl)
+  plan w e = rw e (plan-of (leb 8188 (length d)) (counts_within c) (held c p) refl refl refl)
 
   accepted : (w : WritePlan) → w ≡ planned → w.number ≡ 0 → PlanAccepted c p d w
   accepted w e a = ⊎_elim (λ q. q) (λ q. absurd (q.number a)) (plan w e)
 
   -- ---- what the calls of write ask, and what they leave
 
-  spans-accepted : (w : WritePlan) (k : GateSpans) → PlanAccepted c p d w → k ≡ gateSpans w.counts
-      → k ≡ record { old = 8; old_count = c.old.gates; golden = (startsOf c).golden; golden_count = c.golden.gates }
-  unfolding startsOf
-  spans-accepted w k q g = g ∙ ap gateSpans q.counts ∙ spans-within c q.within
+  spans-accepted : (w : WritePlan) (k : GateSpans) → PlanAccepted c p d w → k ≡ gate_spans w.counts
+      → k ≡ record { old = 8; old_count = c.old.gates; golden = (starts_of c).golden; golden_count = c.golden.gates }
+  unfolding starts_of
+  spans-accepted w k q g = g ∙ ap gate_spans q.counts ∙ spans-within c q.within
 
-  pub spans-held : (w : WritePlan) (k : GateSpans) → w ≡ planned → k ≡ gateSpans w.counts
+  pub spans-held : (w : WritePlan) (k : GateSpans) → w ≡ planned → k ≡ gate_spans w.counts
       → (k.old + 10 * k.old_count ≤ 8188)
       × (k.old_count ≤ length p.old.gates)
       × (k.golden + 10 * k.golden_count ≤ 8188)
       × (k.golden_count ≤ length p.golden.gates)
-  unfolding startsOf
+  unfolding starts_of
   spans-held w k e g =
-      ⊎_elim (λ q. rw (spans-accepted w k q g) (omega arith)) (λ q. rw (g ∙ ap gateSpans q.counts ∙ spans-none) (omega arith)) (plan w e)
+      ⊎_elim (λ q. rw (spans-accepted w k q g) (omega arith)) (λ q. rw (g ∙ ap gate_spans q.counts ∙ spans-none) (omega arith)) (plan w e)
 
   pub rest-held : (w : WritePlan) (n : ℕ) → w ≡ planned → n ≡ 8188
       → RestHeld w (length p.old.outputs) (length p.golden.outputs) (length p.nets) (length p.weights) n (length d)
@@ -117,34 +117,34 @@ module _ (c : Counts) (p : Places) (d : List ℕ) where
         size = λ a. (accepted w e a).size;
       }
 
-  pub gates-put : (w : WritePlan) (k : GateSpans) (z z' z'' : List ℕ) → w ≡ planned → k ≡ gateSpans w.counts → length z ≡ 8188
-      → z' ≡ placed z k.old (gatesBytes k.old_count p.old.gates)
-      → z'' ≡ placed z' k.golden (gatesBytes k.golden_count p.golden.gates)
+  pub gates-put : (w : WritePlan) (k : GateSpans) (z z' z'' : List ℕ) → w ≡ planned → k ≡ gate_spans w.counts → length z ≡ 8188
+      → z' ≡ placed z k.old (gates_bytes k.old_count p.old.gates)
+      → z'' ≡ placed z' k.golden (gates_bytes k.golden_count p.golden.gates)
       → w.number ≡ 0 → GatesPut w.counts p.old.gates p.golden.gates z''
-  unfolding startsOf
+  unfolding starts_of
   gates-put w k z z' z'' e g n x y a =
       let q = accepted w e a in
       let s = spans-accepted w k q g in
       let b = q.bounds in
-      let gs : List ℕ = gatesBytes c.old.gates p.old.gates in
-      let hs : List ℕ = gatesBytes c.golden.gates p.golden.gates in
-      let ng : length gs ≡ 10 * c.old.gates = length-gatesBytes _ _ b.old.gates in
-      let nh : length hs ≡ 10 * c.golden.gates = length-gatesBytes _ _ b.golden.gates in
+      let gs : List ℕ = gates_bytes c.old.gates p.old.gates in
+      let hs : List ℕ = gates_bytes c.golden.gates p.golden.gates in
+      let ng : length gs ≡ 10 * c.old.gates = length-gates_bytes _ _ b.old.gates in
+      let nh : length hs ≡ 10 * c.golden.gates = length-gates_bytes _ _ b.golden.gates in
       let x' : z' ≡ placed z 8 gs = rw s at x in
-      let y' : z'' ≡ placed z' (startsOf c).golden hs = rw s at y in
+      let y' : z'' ≡ placed z' (starts_of c).golden hs = rw s at y in
       let m : length z' ≡ length z = ap length x' ∙ length-placed z 8 gs (omega arith) in
       rw q.counts
       (record {
         old =
             ap (λ (l : List ℕ). take (10 * c.old.gates) (drop 8 l)) y'
-            ∙ part-placed-before z' (startsOf c).golden hs (omega arith) 8 (10 * c.old.gates) (omega arith)
+            ∙ part-placed-before z' (starts_of c).golden hs (omega arith) 8 (10 * c.old.gates) (omega arith)
             ∙ placed-stands z 8 (10 * c.old.gates) gs ng (omega arith) x';
-        golden = placed-stands z' (startsOf c).golden (10 * c.golden.gates) hs nh (omega arith) y';
+        golden = placed-stands z' (starts_of c).golden (10 * c.golden.gates) hs nh (omega arith) y';
         held = (b.old.gates, b.golden.gates);
       })
 
   pub write-ends : (w : WritePlan) (r : WriteReply) (d' : List ℕ) → w ≡ planned → RestWritten w p d r d'
-      → (r ≡ writeReply c p d) × (d' ≡ writtenBytes c p d)
+      → (r ≡ write_reply c p d) × (d' ≡ written_bytes c p d)
   write-ends w r d' e f =
       ⊎_elim (λ q. rw q.counts at (f.accepted q.number))
       (λ q. let u = f.refused q.number in (u.0 ∙ q.ends.0, u.1 ∙ q.ends.1))
@@ -154,12 +154,12 @@ module _ (c : Counts) (p : Places) (d : List ℕ) where
 
 module _ (w : WritePlan) (p : Places) (d z : List ℕ) {z' : List ℕ} {r : ℕ} {x : Checked} (n : w.number ≡ 0)
     (h : RestHeld w (length p.old.outputs) (length p.golden.outputs) (length p.nets) (length p.weights) (length z) (length d))
-    (g : GatesPut w.counts p.old.gates p.golden.gates z) (j : JobDone w.counts p r z') (e : x ≡ checkedOf (take r z')) where
+    (g : GatesPut w.counts p.old.gates p.golden.gates z) (j : JobDone w.counts p r z') (e : x ≡ checked_of (take r z')) where
   rest-holds : held w.counts p ≡ true
   rest-holds = held-true w.counts p (job-bounds p (h.put n) g)
 
-  rest-answer : x ≡ checkedOf (jobBytes (jobFrom w.counts p))
-  rest-answer = e ∙ ap checkedOf j.bytes
+  rest-answer : x ≡ checked_of (job_bytes (job_from w.counts p))
+  rest-answer = e ∙ ap checked_of j.bytes
 
   pub rest-refused : (m : ℕ) → x ≡ Refused m → RestWritten w p d (record { number = m; len = 0 }) d
   rest-refused m f =

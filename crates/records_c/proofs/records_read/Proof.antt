@@ -5,18 +5,18 @@ use mathlib.Core.Path.{◌≡◌, ap}
 use mathlib.Core.List.{List}
 use borrow.Author.Tests.{ne_eqb}
 use Rattle.records.specs.declared.reading.ReadReply.{ReadReply}
-use Rattle.records_c.specs.Row.{row_of, rowAfter}
+use Rattle.records_c.specs.Row.{row_of, row_after}
 use borrow.Author.Rules.{rules}
 use Rattle.records_c.proofs.records_read.Statement.{statement}
 use Rattle.records_c.proofs.records_read.Tie as tie
 
 -- what the row holds after a refusal, and after an accepted job
-kept : (r q : ReadReply) (row : List ℕ) → r ≡ q → (r.number ≡ 0 → ⊥) → row ≡ rowAfter q row
-unfolding rowAfter
+kept : (r q : ReadReply) (row : List ℕ) → r ≡ q → (r.number ≡ 0 → ⊥) → row ≡ row_after q row
+unfolding row_after
 kept r q row e n = rw (← e, ne_eqb r.number 0 n)
 
-left : (r q : ReadReply) (row : List ℕ) → r ≡ q → r.number ≡ 0 → row_of r.counts ≡ rowAfter q row
-unfolding rowAfter
+left : (r q : ReadReply) (row : List ℕ) → r ≡ q → r.number ≡ 0 → row_of r.counts ≡ row_after q row
+unfolding row_after
 left r q row e n = rw (← e, n)
 
 returns : tie.Need-returns

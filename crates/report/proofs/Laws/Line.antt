@@ -15,27 +15,27 @@ use Rattle.records.specs.Claims.{Below}
 use Rattle.records.proofs.Laws.Bytes.{placed-nil, length-placed, set-placed}
 use Rattle.records.proofs.Laws.Job.{placed-then, flat_append, flat-snoc}
 use Rattle.engine.proofs.Laws.Choice.{true-or-false}
-use Rattle.report.specs.Text.{digitsWithin, digits, number, numbers, line}
+use Rattle.report.specs.Text.{digits_within, digits, number, numbers, line}
 use Rattle.report.specs.Inner.{Printed}
 
 -- ---- digits
 
 module _ (k x : ℕ) where
-  within-small : x < 10 → digitsWithin (suc k) x ≡ (48 + x) ∷ []
-  unfolding digitsWithin
-  within-small h = rw (lt-ltb x 10 h, digitsWithin)
+  within-small : x < 10 → digits_within (suc k) x ≡ (48 + x) ∷ []
+  unfolding digits_within
+  within-small h = rw (lt-ltb x 10 h, digits_within)
 
-  within_more : 10 ≤ x → digitsWithin (suc k) x ≡ digitsWithin k (x / 10) ++ ((48 + x % 10) ∷ [])
-  unfolding digitsWithin
-  within_more h = rw (le-ltb x 10 h, digitsWithin)
+  within_more : 10 ≤ x → digits_within (suc k) x ≡ digits_within k (x / 10) ++ ((48 + x % 10) ∷ [])
+  unfolding digits_within
+  within_more h = rw (le-ltb x 10 h, digits_within)
 
-within-zero : (k x : ℕ) → x ≤ 0 → digitsWithin k x ≡ 48 ∷ []
-unfolding digitsWithin
+within-zero : (k x : ℕ) → x ≤ 0 → digits_within k x ≡ 48 ∷ []
+unfolding digits_within
 within-zero zero x h = refl
 within-zero (suc k) x h = let e : x ≡ 0 = omega arith in rw e
 
 -- as many places as the number itself are enough
-within-enough : (k l x : ℕ) → x ≤ k → x ≤ l → digitsWithin k x ≡ digitsWithin l x
+within-enough : (k l x : ℕ) → x ≤ k → x ≤ l → digits_within k x ≡ digits_within l x
 within-enough zero l x h i = within-zero 0 x h ∙ sym (within-zero l x h)
 within-enough (suc k) zero x h i = within-zero (suc k) x i ∙ sym (within-zero 0 x i)
 within-enough (suc k) (suc l) x h i =

@@ -9,50 +9,50 @@ use lib.ListN.{length, get_or, take, drop, replicate}
 use lib.Seq.{get_or-take}
 use Rattle.records.specs.Bytes.{nth}
 use Rattle.records.specs.Job.{job_of}
-use Rattle.records.specs.Refusal.{jobRefusal}
+use Rattle.records.specs.Refusal.{job_refusal}
 use Rattle.records.specs.Sheet.{quad}
 use Rattle.records.specs.Claims.{PartsGood}
 use Rattle.records.proofs.Laws.Bytes.{drop-take}
-use Rattle.engine.specs.Rectify.{vectorLoop}
-use Rattle.engine.specs.Verdict.{longestJudge, longestChoose, judgeSheet, chooseSheet, judgedBytes, chosenBytes}
-use Rattle.engine.specs.Reply.{judgeReply, chooseReply}
+use Rattle.engine.specs.Rectify.{vector_loop}
+use Rattle.engine.specs.Verdict.{longest_judge, longest_choose, judge_sheet, choose_sheet, judged_bytes, chosen_bytes}
+use Rattle.engine.specs.Reply.{judge_reply, choose_reply}
 use Rattle.engine.specs.declared.judging.JudgeReply.{JudgeReply}
 use Rattle.engine.specs.declared.choosing.ChooseReply.{ChooseReply}
 use Rattle.engine.proofs.Laws.Verdict.{vectors-le}
 use Rattle.engine.proofs.Replies.{judge-replies, choose-replies, sheet-length, sheet-short, sheet-bytes, judge-accepts, refuse-alike, longest-judged, longest-chosen}
-use Rattle.report.specs.Text.{unfixableWord, valueText, refusedText, inputLimit, rectifyText, longestText, printedLength, printedBytes}
-use Rattle.report.specs.Inner.{UnfixableSheet, ChoiceSheet, choiceText, Texted}
+use Rattle.report.specs.Text.{unfixable_word, value_text, refused_text, input_limit, rectify_text, longest_text, printed_length, printed_bytes}
+use Rattle.report.specs.Inner.{UnfixableSheet, ChoiceSheet, choice_text, Texted}
 use Rattle.report.proofs.Laws.Sheet.{unfixable-sheet, choice-sheet, judge-some, tag-unfixable, tag-fixable, vectors-behind}
 use Rattle.report.proofs.Laws.Text.{judge-text, choose-text, rectify-long, rectify-accepted, rectify-refused}
 
 module _ (d s : List ℕ) where
   -- the length and the buffer are those of the definition, and the length is within the buffer
   abbrev pub Told : ℕ → List ℕ → Type 0
-  Told r d' = (r ≡ printedLength d s) × ((d' ≡ printedBytes d s) × (r ≤ length d))
+  Told r d' = (r ≡ printed_length d s) × ((d' ≡ printed_bytes d s) × (r ≤ length d))
 
-  pub printed-short : length d < longestText → Told 0 d
-  unfolding printedLength printedBytes
-  printed-short h = let e = lt-ltb (length d) longestText h in (rw e refl, (rw e refl, omega arith))
+  pub printed-short : length d < longest_text → Told 0 d
+  unfolding printed_length printed_bytes
+  printed-short h = let e = lt-ltb (length d) longest_text h in (rw e refl, (rw e refl, omega arith))
 
-  printed-of : {r : ℕ} {t d' : List ℕ} → longestText ≤ length d → rectifyText s ≡ t → Texted d t r d'
+  printed-of : {r : ℕ} {t d' : List ℕ} → longest_text ≤ length d → rectify_text s ≡ t → Texted d t r d'
       → Told r d'
-  unfolding printedLength printedBytes
+  unfolding printed_length printed_bytes
   printed-of h q w =
-      let e = le-ltb (length d) longestText h in
+      let e = le-ltb (length d) longest_text h in
       (rw (e, q) w.len, (rw (e, q) w.text, omega (arith, w.len, w.room)))
 
-  pub printed-long : {r : ℕ} {d' : List ℕ} → longestText ≤ length d → inputLimit < length s → Texted d (refusedText 2) r d'
+  pub printed-long : {r : ℕ} {d' : List ℕ} → longest_text ≤ length d → input_limit < length s → Texted d (refused_text 2) r d'
       → Told r d'
   printed-long h l w = printed-of h (rectify-long s l) w
 
 -- ---- what judge says
 
 -- the buffers that rectify_text lends to judge and to choose
-abbrev blankJudge : List ℕ
-blankJudge = replicate longestJudge 0
+abbrev blank_judge : List ℕ
+blank_judge = replicate longest_judge 0
 
-abbrev blankChoose : List ℕ
-blankChoose = replicate longestChoose 0
+abbrev blank_choose : List ℕ
+blank_choose = replicate longest_choose 0
 
 -- what stands behind a front's first three bytes
 behind-three : (b : List ℕ) (m : ℕ) {xs : List ℕ} → 3 ≤ m → take m b ≡ xs → take (m - 3) (drop 3 b) ≡ drop 3 xs
@@ -60,48 +60,48 @@ behind-three b m h e =
     let n : m ≡ 3 + (m - 3) = omega arith in
     sym (drop-take 3 (m - 3) b) ∙ ap (λ (k : ℕ). drop 3 (take k b)) (sym n) ∙ ap (drop 3) e
 
-module _ (s : List ℕ) {r : JudgeReply} (e : r ≡ judgeReply blankJudge s) where
-  judge-number : r.number ≡ jobRefusal s
-  judge-number = (judge-replies blankJudge s e).number ∙ refuse-alike.2 blankJudge s (omega arith)
+module _ (s : List ℕ) {r : JudgeReply} (e : r ≡ judge_reply blank_judge s) where
+  judge-number : r.number ≡ job_refusal s
+  judge-number = (judge-replies blank_judge s e).number ∙ refuse-alike.2 blank_judge s (omega arith)
 
-  pub printed-refused : (d : List ℕ) {k : ℕ} {d' : List ℕ} → longestText ≤ length d → length s ≤ inputLimit
-      → (r.number ≡ 0 → ⊥) → Texted d (refusedText r.number) k d' → Told d s k d'
+  pub printed-refused : (d : List ℕ) {k : ℕ} {d' : List ℕ} → longest_text ≤ length d → length s ≤ input_limit
+      → (r.number ≡ 0 → ⊥) → Texted d (refused_text r.number) k d' → Told d s k d'
   printed-refused d h l n w =
       let q = judge-number in
-      printed-of d s h (rectify-refused s l (λ z. n (q ∙ z)) ∙ ap refusedText (sym q)) w
+      printed-of d s h (rectify-refused s l (λ z. n (q ∙ z)) ∙ ap refused_text (sym q)) w
 
   module _ (z : r.number ≡ 0) where
-    accepted : jobRefusal s ≡ 0
+    accepted : job_refusal s ≡ 0
     accepted = sym judge-number ∙ z
 
     good : PartsGood (job_of s)
-    good = ((judge-accepts blankJudge s).0 (refuse-alike.2 blankJudge s (omega arith) ∙ accepted)).2
+    good = ((judge-accepts blank_judge s).0 (refuse-alike.2 blank_judge s (omega arith) ∙ accepted)).2
 
     pub judge-short : (3 ≤ r.len) × (r.len ≤ 26)
     judge-short =
-        let w = judge-replies blankJudge s e in
+        let w = judge-replies blank_judge s e in
         (omega (arith, sheet-length longest-judged w z, judge-some (job_of s)), sheet-short longest-judged w z)
 
     -- what choose says
-    module _ {a : ChooseReply} (f : a ≡ chooseReply blankChoose s) where
+    module _ {a : ChooseReply} (f : a ≡ choose_reply blank_choose s) where
       choose-zero : a.number ≡ 0
-      choose-zero = (choose-replies blankChoose s f).number ∙ refuse-alike.3 blankChoose s (omega arith) ∙ accepted
+      choose-zero = (choose-replies blank_choose s f).number ∙ refuse-alike.3 blank_choose s (omega arith) ∙ accepted
 
       pub choose-short : a.len ≤ 2084
-      choose-short = sheet-short longest-chosen (choose-replies blankChoose s f) choose-zero
+      choose-short = sheet-short longest-chosen (choose-replies blank_choose s f) choose-zero
 
-      module _ {g : List ℕ} (v : g ≡ chosenBytes blankChoose s) where
-        chose : take a.len g ≡ chooseSheet (job_of s)
-        chose = sheet-bytes longest-chosen (choose-replies blankChoose s f) choose-zero v
+      module _ {g : List ℕ} (v : g ≡ chosen_bytes blank_choose s) where
+        chose : take a.len g ≡ choose_sheet (job_of s)
+        chose = sheet-bytes longest-chosen (choose-replies blank_choose s f) choose-zero v
 
         pub choose-whole : ChoiceSheet (take a.len g)
         choose-whole = rw chose (choice-sheet (job_of s) good)
 
-    module _ {b : List ℕ} (w : b ≡ judgedBytes blankJudge s) where
-      judged : take r.len b ≡ judgeSheet (job_of s)
-      judged = sheet-bytes longest-judged (judge-replies blankJudge s e) z w
+    module _ {b : List ℕ} (w : b ≡ judged_bytes blank_judge s) where
+      judged : take r.len b ≡ judge_sheet (job_of s)
+      judged = sheet-bytes longest-judged (judge-replies blank_judge s e) z w
 
-      judge-tag : get_or (judgeSheet (job_of s)) 0 0 ≡ get_or b 0 0
+      judge-tag : get_or (judge_sheet (job_of s)) 0 0 ≡ get_or b 0 0
       judge-tag =
           let l = judge-short in
           ap (λ (xs : List ℕ). get_or xs 0 0) (sym judged) ∙ get_or-take r.len b 0 0 (omega arith)
@@ -112,27 +112,27 @@ module _ (s : List ℕ) {r : JudgeReply} (e : r ≡ judgeReply blankJudge s) whe
         judge-unfixable =
             rw judged (unfixable-sheet (job_of s) good (tag-unfixable (job_of s) (judge-tag ∙ t)).1)
 
-        pub printed-unfixable : (d : List ℕ) {k : ℕ} {d' : List ℕ} → longestText ≤ length d → length s ≤ inputLimit
+        pub printed-unfixable : (d : List ℕ) {k : ℕ} {d' : List ℕ} → longest_text ≤ length d → length s ≤ input_limit
             → let sheet = take r.len b in
-            Texted d (valueText unfixableWord (quad (nth 0 sheet)) (nth 1 sheet)) k d' → Told d s k d'
+            Texted d (value_text unfixable_word (quad (nth 0 sheet)) (nth 1 sheet)) k d' → Told d s k d'
         printed-unfixable d h l u =
             printed-of d s h (rectify-accepted s l accepted)
             (rw (judged, judge-text (job_of s) (tag-unfixable (job_of s) (judge-tag ∙ t)).1) at u)
 
       -- .. or it is not
       module _ (n : get_or b 0 0 ≡ 20 → ⊥) where
-        fixable : (vectorLoop (job_of s)).stuck ≡ none
+        fixable : (vector_loop (job_of s)).stuck ≡ none
         fixable = tag-fixable (job_of s) (λ t. n (sym judge-tag ∙ t))
 
-        vectors-part : take (r.len - 3) (drop 3 b) ≡ (vectorLoop (job_of s)).vectors
+        vectors-part : take (r.len - 3) (drop 3 b) ≡ (vector_loop (job_of s)).vectors
         vectors-part = behind-three b r.len judge-short.0 judged ∙ vectors-behind (job_of s) fixable
 
         pub vectors-short : length (take (r.len - 3) (drop 3 b)) ≤ 16
         vectors-short = rw vectors-part (vectors-le (job_of s) good)
 
-        pub printed-chosen : {a : ChooseReply} → a ≡ chooseReply blankChoose s → {g : List ℕ} → g ≡ chosenBytes blankChoose s
-            → (d : List ℕ) {k : ℕ} {d' : List ℕ} → longestText ≤ length d → length s ≤ inputLimit
-            → Texted d (choiceText (take a.len g) (take (r.len - 3) (drop 3 b))) k d' → Told d s k d'
+        pub printed-chosen : {a : ChooseReply} → a ≡ choose_reply blank_choose s → {g : List ℕ} → g ≡ chosen_bytes blank_choose s
+            → (d : List ℕ) {k : ℕ} {d' : List ℕ} → longest_text ≤ length d → length s ≤ input_limit
+            → Texted d (choice_text (take a.len g) (take (r.len - 3) (drop 3 b))) k d' → Told d s k d'
         printed-chosen f v d h l u =
             printed-of d s h (rectify-accepted s l accepted)
             (rw (chose f v, vectors-part, choose-text (job_of s) fixable) at u)

@@ -11,24 +11,24 @@ use borrow.Author.Tests.{eqb-true, leb-true}
 use lib.Dec.{leb, eqb}
 use lib.ListN.{length, get_or, take, drop}
 use lib.Pow.{pow_mono}
-use Rattle.records.specs.Bytes.{up_from, bytePair, word, field, bodyLength, fits, whole, nth}
+use Rattle.records.specs.Bytes.{up_from, byte_pair, word, field, body_length, fits, whole, nth}
 use Rattle.records.specs.Job.{Job}
-use Rattle.records.specs.Sheet.{sheetTags, notesTag}
+use Rattle.records.specs.Sheet.{sheet_tags, notes_tag}
 use Rattle.records.specs.Claims.{Below, PartsGood}
 use Rattle.records.specs.Inner.{start_of}
 use Rattle.records.proofs.Laws.Bytes.{and_left, row_at}
-use Rattle.records.proofs.Laws.Field.{skip, position_of, skip-drop, bodyLength-drop, startOf-position, positionOf-suc, startOf-suc, whole-end, nth-slice}
+use Rattle.records.proofs.Laws.Field.{skip, position_of, skip-drop, body_length-drop, start_of-position, position_of-suc, start_of-suc, whole-end, nth-slice}
 use Rattle.records.proofs.Laws.RoundTrip.{joined, whole-joined, body-field, below-take, below-drop}
-use Rattle.records.proofs.Laws.Job.{length-bytePair, length-outputs}
-use Rattle.engine.specs.Rectify.{vectorLoop}
-use Rattle.engine.specs.Support.{cost, sound, candidateNets, chosen}
-use Rattle.engine.specs.Verdict.{blindReading, fourBytes, judgeSheet, patchSheet, chooseSheet}
+use Rattle.records.proofs.Laws.Job.{length-byte_pair, length-outputs}
+use Rattle.engine.specs.Rectify.{vector_loop}
+use Rattle.engine.specs.Support.{cost, sound, candidate_nets, chosen}
+use Rattle.engine.specs.Verdict.{blind_reading, four_bytes, judge_sheet, patch_sheet, choose_sheet}
 use Rattle.engine.proofs.Laws.Choice.{none_or_some, true-or-false}
-use Rattle.engine.proofs.Laws.Support.{length-tableOf}
-use Rattle.engine.proofs.Laws.Sheet.{length-fourBytes, whole-field, nth-field}
-use Rattle.engine.proofs.Laws.Verdict.{judged-unfixable, judged-fixable, chosen-patch, chosen-blind, length-notesOf, vectors-le, chosen-le}
+use Rattle.engine.proofs.Laws.Support.{length-table_of}
+use Rattle.engine.proofs.Laws.Sheet.{length-four_bytes, whole-field, nth-field}
+use Rattle.engine.proofs.Laws.Verdict.{judged-unfixable, judged-fixable, chosen-patch, chosen-blind, length-notes_of, vectors-le, chosen-le}
 use Rattle.engine.proofs.Replies.{patch-whole, patch-nth, patch-notes}
-use Rattle.report.specs.Inner.{PatchSheet, BlindSheet, UnfixableSheet, ChoiceSheet, isPatch, isBlind}
+use Rattle.report.specs.Inner.{PatchSheet, BlindSheet, UnfixableSheet, ChoiceSheet, is_patch, is_blind}
 
 -- ---- the fields of a whole sheet
 
@@ -36,9 +36,9 @@ module _ (ts s : List ℕ) (w : whole ts s ≡ true) (k : ℕ) (h : k < length t
   pub field-length : (a : ℕ) → a ≡ start_of k s → word s (a - 2) ≡ length (nth k s)
   field-length a e =
       let at = position_of k s in
-      let p : a - 2 ≡ at + 1 = omega (arith, startOf-position k s) in
-      let n : word s (at + 1) ≡ bodyLength (skip k s) = sym (bodyLength-drop s at) ∙ ap bodyLength (sym (skip-drop k s)) in
-      rw p (n ∙ omega (arith, startOf-suc ts s w k h, startOf-position k s, startOf-position (suc k) s, positionOf-suc k s))
+      let p : a - 2 ≡ at + 1 = omega (arith, start_of-position k s) in
+      let n : word s (at + 1) ≡ body_length (skip k s) = sym (body_length-drop s at) ∙ ap body_length (sym (skip-drop k s)) in
+      rw p (n ∙ omega (arith, start_of-suc ts s w k h, start_of-position k s, start_of-position (suc k) s, position_of-suc k s))
 
   pub field-part : (a b : ℕ) → a ≡ start_of k s → b ≡ a + length (nth k s) → take (b - a) (drop a s) ≡ nth k s
   field-part a b e f =
@@ -63,13 +63,13 @@ first_part ts s w h size e =
 
 -- the fields of a whole sheet end where it ends
 fields-end : (ts s : List ℕ) → whole ts s ≡ true → start_of (length ts) s ≡ length s + 3
-fields-end ts s w = omega (arith, whole-end ts s w, startOf-position (length ts) s)
+fields-end ts s w = omega (arith, whole-end ts s w, start_of-position (length ts) s)
 
 -- ---- a patch's sheet
 
 -- the tags of its four fields
-abbrev patchTags : List ℕ
-patchTags = sheetTags ++ (notesTag ∷ [])
+abbrev patch_tags : List ℕ
+patch_tags = sheet_tags ++ (notes_tag ∷ [])
 
 -- where the first two fields end, and where the bytes of all four stand
 pub record PatchSpans (s : List ℕ) (first second : ℕ) : Type 0 where
@@ -83,13 +83,13 @@ pub record PatchSpans (s : List ℕ) (first second : ℕ) : Type 0 where
 
 module _ (s : List ℕ) (p : PatchSheet s) where
   patch-start : (k : ℕ) → k < 4 → start_of (suc k) s ≡ start_of k s + length (nth k s) + 3
-  patch-start k h = startOf-suc patchTags s p.fields k h
+  patch-start k h = start_of-suc patch_tags s p.fields k h
 
   patch-part : (k : ℕ) → k < 4 → (a b : ℕ) → a ≡ start_of k s → b ≡ a + length (nth k s) → take (b - a) (drop a s) ≡ nth k s
-  patch-part k h a b e f = field-part patchTags s p.fields k h a b e f
+  patch-part k h a b e f = field-part patch_tags s p.fields k h a b e f
 
   pub patch-first : word s 1 ≡ length (nth 0 s)
-  patch-first = field-length patchTags s p.fields 0 (omega arith) 3 (sym (start-zero s))
+  patch-first = field-length patch_tags s p.fields 0 (omega arith) 3 (sym (start-zero s))
 
   pub patch-length : length s ≡ length (nth 0 s) + length (nth 1 s) + length (nth 3 s) + 16
   patch-length =
@@ -101,7 +101,7 @@ module _ (s : List ℕ) (p : PatchSheet s) where
         patch-start 1 (omega arith),
         patch-start 2 (omega arith),
         patch-start 3 (omega arith),
-        fields-end patchTags s p.fields,
+        fields-end patch_tags s p.fields,
       )
 
   module _ (first : ℕ) (e : first ≡ 3 + word s 1) where
@@ -109,7 +109,7 @@ module _ (s : List ℕ) (p : PatchSheet s) where
     table-start = omega (arith, patch-first, start-zero s, patch-start 0 (omega arith))
 
     pub patch-second : word s (first + 3 - 2) ≡ length (nth 1 s)
-    patch-second = field-length patchTags s p.fields 1 (omega arith) (first + 3) table-start
+    patch-second = field-length patch_tags s p.fields 1 (omega arith) (first + 3) table-start
 
     module _ (second : ℕ) (f : second ≡ first + 3 + word s (first + 3 - 2)) where
       cost-start : second + 3 ≡ start_of 2 s
@@ -136,12 +136,12 @@ module _ (s : List ℕ) (p : PatchSheet s) where
 -- ---- the sheet of an unfixable input
 
 -- the tags of its two fields
-abbrev unfixableTags : List ℕ
-unfixableTags = 20 ∷ 19 ∷ []
+abbrev unfixable_tags : List ℕ
+unfixable_tags = 20 ∷ 19 ∷ []
 
 module _ (s : List ℕ) (u : UnfixableSheet s) where
   unfixable-start : (k : ℕ) → k < 2 → start_of (suc k) s ≡ start_of k s + length (nth k s) + 3
-  unfixable-start k h = startOf-suc unfixableTags s u.fields k h
+  unfixable-start k h = start_of-suc unfixable_tags s u.fields k h
 
   pub unfixable-length : length s ≡ length (nth 1 s) + 10
   unfixable-length =
@@ -151,20 +151,20 @@ module _ (s : List ℕ) (u : UnfixableSheet s) where
         start-zero s,
         unfixable-start 0 (omega arith),
         unfixable-start 1 (omega arith),
-        fields-end unfixableTags s u.fields,
+        fields-end unfixable_tags s u.fields,
       )
 
   pub unfixable-input : take 4 (drop 3 s) ≡ nth 0 s
-  unfixable-input = first_part unfixableTags s u.fields (omega arith) 4 u.value
+  unfixable-input = first_part unfixable_tags s u.fields (omega arith) 4 u.value
 
   pub unfixable-vectors : take (length s - 10) (drop 10 s) ≡ nth 1 s
   unfixable-vectors =
-      field-part unfixableTags s u.fields 1 (omega arith) 10 (length s)
+      field-part unfixable_tags s u.fields 1 (omega arith) 10 (length s)
       (omega (arith, u.value, start-zero s, unfixable-start 0 (omega arith)))
       (omega (arith, unfixable-length))
 
   pub unfixable-below : Below 256 s → (k : ℕ) → k < 2 → Below 256 (nth k s)
-  unfixable-below b k h = below_field unfixableTags s u.fields k h b
+  unfixable-below b k h = below_field unfixable_tags s u.fields k h b
 
 -- ---- the sheet of a blind reading
 
@@ -175,7 +175,7 @@ module _ (s : List ℕ) (u : BlindSheet s) where
         arith,
         u.value,
         start-zero s,
-        startOf-suc (21 ∷ []) s u.fields 0 (omega arith),
+        start_of-suc (21 ∷ []) s u.fields 0 (omega arith),
         fields-end (21 ∷ []) s u.fields,
       )
 
@@ -191,27 +191,27 @@ whole-front : (t : ℕ) (ts s : List ℕ) → whole (t ∷ ts) s ≡ true → (3
 unfolding whole fits
 whole-front t ts s w =
     let f = and_left _ _ w in
-    let u = row_at (leb 3 (length s)) (eqb (get_or s 0 0) t ∷ leb (3 + bodyLength s) (length s) ∷ []) f in
+    let u = row_at (leb 3 (length s)) (eqb (get_or s 0 0) t ∷ leb (3 + body_length s) (length s) ∷ []) f in
     (leb-true 3 (length s) (u 0), eqb-true (get_or s 0 0) t (u 1))
 
 module _ (s : List ℕ) where
   patch-front : PatchSheet s → (3 ≤ length s) × (get_or s 0 0 ≡ 16)
-  patch-front p = whole-front 16 (17 ∷ 18 ∷ notesTag ∷ []) s p.fields
+  patch-front p = whole-front 16 (17 ∷ 18 ∷ notes_tag ∷ []) s p.fields
 
   blind-front : BlindSheet s → (3 ≤ length s) × (get_or s 0 0 ≡ 21)
   blind-front u = whole-front 21 [] s u.fields
 
   pub choice-some : ChoiceSheet s → 0 < length s
-  choice-some (isPatch p) = omega (arith, (patch-front p).0)
-  choice-some (isBlind u) = omega (arith, (blind-front u).0)
+  choice-some (is_patch p) = omega (arith, (patch-front p).0)
+  choice-some (is_blind u) = omega (arith, (blind-front u).0)
 
   pub choice-patch : ChoiceSheet s → get_or s 0 0 ≡ 16 → PatchSheet s
-  choice-patch (isPatch p) e = p
-  choice-patch (isBlind u) e = absurd (omega (arith, (blind-front u).1))
+  choice-patch (is_patch p) e = p
+  choice-patch (is_blind u) e = absurd (omega (arith, (blind-front u).1))
 
   pub choice-blind : ChoiceSheet s → (get_or s 0 0 ≡ 16 → ⊥) → BlindSheet s
-  choice-blind (isPatch p) n = absurd (n (patch-front p).1)
-  choice-blind (isBlind u) n = u
+  choice-blind (is_patch p) n = absurd (n (patch-front p).1)
+  choice-blind (is_blind u) n = u
 
 -- ---- the sheets of an accepted job are whole
 
@@ -229,18 +229,18 @@ unfolding nth
 value-fields t xs vs = (body-field t xs (field 19 vs), nth-field (t ∷ []) (field t xs) 19 vs (field-whole t xs))
 
 module _ (j : Job) (g : PartsGood j) where
-  pub unfixable-sheet : {x : ℕ} → (vectorLoop j).stuck ≡ some x → UnfixableSheet (judgeSheet j)
+  pub unfixable-sheet : {x : ℕ} → (vector_loop j).stuck ≡ some x → UnfixableSheet (judge_sheet j)
   unfixable-sheet {x} e =
-      let vs = (vectorLoop j).vectors in
-      let f = value-fields 20 (fourBytes x) vs in
+      let vs = (vector_loop j).vectors in
+      let f = value-fields 20 (four_bytes x) vs in
       rw (judged-unfixable j e).1
       (record {
-        fields = whole-field (20 ∷ []) (field 20 (fourBytes x)) 19 vs (field-whole 20 (fourBytes x));
-        value = rw f.0 (length-fourBytes x);
+        fields = whole-field (20 ∷ []) (field 20 (four_bytes x)) 19 vs (field-whole 20 (four_bytes x));
+        value = rw f.0 (length-four_bytes x);
         vectors = rw f.1 (vectors-le j g);
       })
 
-  patch-sheet : sound j (candidateNets j) ≡ true → PatchSheet (patchSheet j (chosen j))
+  patch-sheet : sound j (candidate_nets j) ≡ true → PatchSheet (patch_sheet j (chosen j))
   patch-sheet t =
       let is = chosen j in
       let at = patch-nth j is in
@@ -249,48 +249,48 @@ module _ (j : Job) (g : PartsGood j) where
       record {
         fields = patch-whole j is;
         support = rw (at 0 (omega arith)) (omega (arith, length-outputs is));
-        table = rw (at 1 (omega arith)) (omega (arith, length-tableOf j is));
-        cost = rw (at 2 (omega arith)) (length-fourBytes (cost j is));
-        notes = rw (patch-notes j is) (omega (arith, length-notesOf j is));
+        table = rw (at 1 (omega arith)) (omega (arith, length-table_of j is));
+        cost = rw (at 2 (omega arith)) (length-four_bytes (cost j is));
+        notes = rw (patch-notes j is) (omega (arith, length-notes_of j is));
       }
 
-  blind-sheet : BlindSheet (field 21 (bytePair (blindReading j)))
+  blind-sheet : BlindSheet (field 21 (byte_pair (blind_reading j)))
   blind-sheet =
-      let xs = bytePair (blindReading j) in
-      record { fields = field-whole 21 xs; value = rw (field-body 21 xs) (length-bytePair (blindReading j)) }
+      let xs = byte_pair (blind_reading j) in
+      record { fields = field-whole 21 xs; value = rw (field-body 21 xs) (length-byte_pair (blind_reading j)) }
 
-  pub choice-sheet : ChoiceSheet (chooseSheet j)
+  pub choice-sheet : ChoiceSheet (choose_sheet j)
   choice-sheet =
       ⊎_elim
-      (λ t. rw (chosen-patch j t).1 (isPatch (patch-sheet t)))
-      (λ t. rw (chosen-blind j t).1 (isBlind blind-sheet))
-      (true-or-false (sound j (candidateNets j)))
+      (λ t. rw (chosen-patch j t).1 (is_patch (patch-sheet t)))
+      (λ t. rw (chosen-blind j t).1 (is_blind blind-sheet))
+      (true-or-false (sound j (candidate_nets j)))
 
 -- ---- the first tag of judge's sheet, and the vector list behind it
 
 module _ (j : Job) where
-  unfixable-front : {x : ℕ} → (vectorLoop j).stuck ≡ some x → (3 ≤ length (judgeSheet j)) × (get_or (judgeSheet j) 0 0 ≡ 20)
-  unfolding field bytePair
+  unfixable-front : {x : ℕ} → (vector_loop j).stuck ≡ some x → (3 ≤ length (judge_sheet j)) × (get_or (judge_sheet j) 0 0 ≡ 20)
+  unfolding field byte_pair
   unfixable-front e = rw (judged-unfixable j e).1 (omega arith, refl)
 
-  fixable-front : (vectorLoop j).stuck ≡ none → (3 ≤ length (judgeSheet j)) × (get_or (judgeSheet j) 0 0 ≡ 19)
-  unfolding field bytePair
+  fixable-front : (vector_loop j).stuck ≡ none → (3 ≤ length (judge_sheet j)) × (get_or (judge_sheet j) 0 0 ≡ 19)
+  unfolding field byte_pair
   fixable-front e = rw (judged-fixable j e).1 (omega arith, refl)
 
-  pub judge-some : 3 ≤ length (judgeSheet j)
+  pub judge-some : 3 ≤ length (judge_sheet j)
   judge-some =
-      ⊎_elim (λ (e : (vectorLoop j).stuck ≡ none). (fixable-front e).0) (λ r. (unfixable-front r.1).0)
-      (none_or_some (vectorLoop j).stuck)
+      ⊎_elim (λ (e : (vector_loop j).stuck ≡ none). (fixable-front e).0) (λ r. (unfixable-front r.1).0)
+      (none_or_some (vector_loop j).stuck)
 
-  pub tag-unfixable : get_or (judgeSheet j) 0 0 ≡ 20 → (x : ℕ) × ((vectorLoop j).stuck ≡ some x)
+  pub tag-unfixable : get_or (judge_sheet j) 0 0 ≡ 20 → (x : ℕ) × ((vector_loop j).stuck ≡ some x)
   tag-unfixable t =
-      ⊎_elim (λ (e : (vectorLoop j).stuck ≡ none). absurd (omega (arith, (fixable-front e).1))) (λ r. r)
-      (none_or_some (vectorLoop j).stuck)
+      ⊎_elim (λ (e : (vector_loop j).stuck ≡ none). absurd (omega (arith, (fixable-front e).1))) (λ r. r)
+      (none_or_some (vector_loop j).stuck)
 
-  pub tag-fixable : (get_or (judgeSheet j) 0 0 ≡ 20 → ⊥) → (vectorLoop j).stuck ≡ none
+  pub tag-fixable : (get_or (judge_sheet j) 0 0 ≡ 20 → ⊥) → (vector_loop j).stuck ≡ none
   tag-fixable n =
-      ⊎_elim (λ e. e) (λ r. absurd (n (unfixable-front r.1).1)) (none_or_some (vectorLoop j).stuck)
+      ⊎_elim (λ e. e) (λ r. absurd (n (unfixable-front r.1).1)) (none_or_some (vector_loop j).stuck)
 
-  pub vectors-behind : (vectorLoop j).stuck ≡ none → drop 3 (judgeSheet j) ≡ (vectorLoop j).vectors
-  unfolding field bytePair
+  pub vectors-behind : (vector_loop j).stuck ≡ none → drop 3 (judge_sheet j) ≡ (vector_loop j).vectors
+  unfolding field byte_pair
   vectors-behind e = rw (judged-fixable j e).1 refl

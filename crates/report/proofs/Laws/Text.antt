@@ -10,34 +10,34 @@ use native.Mathlib.Omega.{arith}
 use borrow.Author.Tests.{lt-ltb, le-ltb, ne_eqb, ltb-true, ltb-false}
 use lib.Dec.{ltb}
 use lib.ListN.{length, get_or, length-append, get_or-eq_default}
-use Rattle.records.specs.Bytes.{bytePair, word, field, nth}
-use Rattle.records.specs.Job.{Job, job_of, netsOf}
-use Rattle.records.specs.Sheet.{Patch, quad, sheetTags, notesTag, patch_of}
-use Rattle.records.specs.Refusal.{jobRefusal}
+use Rattle.records.specs.Bytes.{byte_pair, word, field, nth}
+use Rattle.records.specs.Job.{Job, job_of, nets_of}
+use Rattle.records.specs.Sheet.{Patch, quad, sheet_tags, notes_tag, patch_of}
+use Rattle.records.specs.Refusal.{job_refusal}
 use Rattle.records.specs.Claims.{Below}
-use Rattle.records.proofs.Laws.Shape.{length-netsOf}
+use Rattle.records.proofs.Laws.Shape.{length-nets_of}
 use Rattle.records.proofs.Laws.Sheet.{word_lt, net-at}
-use Rattle.engine.specs.Rectify.{vectorLoop}
-use Rattle.engine.specs.Support.{sound, candidateNets, chosen}
-use Rattle.engine.specs.Verdict.{blindReading, ruling, fourBytes, judgeSheet, patchSheet, chooseSheet}
+use Rattle.engine.specs.Rectify.{vector_loop}
+use Rattle.engine.specs.Support.{sound, candidate_nets, chosen}
+use Rattle.engine.specs.Verdict.{blind_reading, ruling, four_bytes, judge_sheet, patch_sheet, choose_sheet}
 use Rattle.engine.proofs.Laws.Choice.{true-or-false}
 use Rattle.engine.proofs.Laws.Verdict.{ruling-unfixable, ruling-patch, ruling-blind, judged-unfixable, chosen-patch, chosen-blind}
-use Rattle.engine.proofs.Replies.{patch-read, quad-fourBytes}
-use Rattle.report.specs.Text.{patchWord, supportWord, tableWord, vectorsWord, notesWord, unfixableWord, blindWord, refusedWord, line, patchText, valueText, rulingText, refusedText, inputLimit, rectifyText, longestText}
-use Rattle.report.specs.Inner.{PatchSheet, patchSheetText, choiceText, Printed, Texted}
+use Rattle.engine.proofs.Replies.{patch-read, quad-four_bytes}
+use Rattle.report.specs.Text.{patch_word, support_word, table_word, vectors_word, notes_word, unfixable_word, blind_word, refused_word, line, patch_text, value_text, ruling_text, refused_text, input_limit, rectify_text, longest_text}
+use Rattle.report.specs.Inner.{PatchSheet, patch_sheet_text, choice_text, Printed, Texted}
 use Rattle.report.proofs.Laws.Line.{printed-then, length-number-line, length-nets-line, length-bytes-line}
 use Rattle.report.proofs.Laws.Sheet.{below_field, field-body, value-fields}
 
 -- ---- numbers of a sheet
 
-below-nets : (s : List ℕ) → Below 256 s → Below 65536 (netsOf s)
+below-nets : (s : List ℕ) → Below 256 s → Below 65536 (nets_of s)
 below-nets s b i =
     ⊎_elim
     (λ l. rw (net-at s i (ltb-true i (length s / 2) l)) (word_lt s (2 * i) (b (2 * i)) (b (2 * i + 1))))
     (λ m.
     let n = ltb-false i (length s / 2) m in
-    let g : length (netsOf s) ≤ i = omega (arith, length-netsOf s) in
-    rw (get_or-eq_default (netsOf s) 0 g) (omega arith))
+    let g : length (nets_of s) ≤ i = omega (arith, length-nets_of s) in
+    rw (get_or-eq_default (nets_of s) 0 g) (omega arith))
     (true-or-false (ltb i (length s / 2)))
 
 pub quad-lt : (s : List ℕ) → Below 256 s → quad s < 4294967296
@@ -52,148 +52,148 @@ word-quad-lt s b = omega (arith, word_lt s 0 (b 0) (b 1))
 texted : {d d' xs : List ℕ} {r : ℕ} → length xs ≤ length d → Printed d 0 xs r d' → Texted d xs r d'
 texted h a = let e = a.end in record { room = h; len = omega arith; text = a.text }
 
-pub refused-texted : {d d' : List ℕ} {x n r : ℕ} → n < 256 → longestText ≤ length d → x ≡ n
-    → Printed d 0 (line refusedWord (x ∷ [])) r d' → Texted d (refusedText n) r d'
-unfolding refusedText
+pub refused-texted : {d d' : List ℕ} {x n r : ℕ} → n < 256 → longest_text ≤ length d → x ≡ n
+    → Printed d 0 (line refused_word (x ∷ [])) r d' → Texted d (refused_text n) r d'
+unfolding refused_text
 refused-texted {d} {d'} {x} {n} l h e a =
-    let m : length (line refusedWord (n ∷ [])) ≤ length d = omega (arith, length-number-line refusedWord n (omega arith)) in
+    let m : length (line refused_word (n ∷ [])) ≤ length d = omega (arith, length-number-line refused_word n (omega arith)) in
     texted m (rw e at a)
 
 module _ (w : List ℕ) (x : ℕ) (vs : List ℕ) where
-  pub length-valueText : length (valueText w x vs) ≡ length (line w (x ∷ [])) + length (line vectorsWord vs)
-  unfolding valueText
-  length-valueText = length-append (line w (x ∷ [])) (line vectorsWord vs)
+  pub length-value_text : length (value_text w x vs) ≡ length (line w (x ∷ [])) + length (line vectors_word vs)
+  unfolding value_text
+  length-value_text = length-append (line w (x ∷ [])) (line vectors_word vs)
 
-  pub value-texted : {d d₁ d₂ : List ℕ} {p r : ℕ} → length (valueText w x vs) ≤ length d
-      → Printed d 0 (line w (x ∷ [])) p d₁ → Printed d₁ p (line vectorsWord vs) r d₂ → Texted d (valueText w x vs) r d₂
-  unfolding valueText
+  pub value-texted : {d d₁ d₂ : List ℕ} {p r : ℕ} → length (value_text w x vs) ≤ length d
+      → Printed d 0 (line w (x ∷ [])) p d₁ → Printed d₁ p (line vectors_word vs) r d₂ → Texted d (value_text w x vs) r d₂
+  unfolding value_text
   value-texted h a b = texted h (printed-then a b (omega arith))
 
 pub value_room : (w : List ℕ) {x y : ℕ} {vs us : List ℕ} → length w ≤ 9 → y < 4294967296 → length us ≤ 16 → Below 256 us
-    → x ≡ y → vs ≡ us → length (valueText w x vs) ≤ longestText
+    → x ≡ y → vs ≡ us → length (value_text w x vs) ≤ longest_text
 value_room w {x} {y} {vs} {us} h l n b e f =
     rw (e, f)
-    (omega (arith, length-valueText w y us, length-number-line w y l, length-bytes-line vectorsWord us b))
+    (omega (arith, length-value_text w y us, length-number-line w y l, length-bytes-line vectors_word us b))
 
 module _ (c : ℕ) (is es vs ns : List ℕ) where
-  abbrev costLine : List ℕ
-  costLine = line patchWord (c ∷ [])
+  abbrev cost_line : List ℕ
+  cost_line = line patch_word (c ∷ [])
 
-  abbrev netsLine : List ℕ
-  netsLine = line supportWord is
+  abbrev nets_line : List ℕ
+  nets_line = line support_word is
 
-  abbrev tableLine : List ℕ
-  tableLine = line tableWord es
+  abbrev table_line : List ℕ
+  table_line = line table_word es
 
-  abbrev vectorsLine : List ℕ
-  vectorsLine = line vectorsWord vs
+  abbrev vectors_line : List ℕ
+  vectors_line = line vectors_word vs
 
-  abbrev notesLine : List ℕ
-  notesLine = line notesWord ns
+  abbrev notes_line : List ℕ
+  notes_line = line notes_word ns
 
   abbrev pub PatchLengths : Type 0
   PatchLengths =
-      length (patchText c is es vs ns)
-      ≡ length costLine + length netsLine + length tableLine + length vectorsLine + length notesLine
+      length (patch_text c is es vs ns)
+      ≡ length cost_line + length nets_line + length table_line + length vectors_line + length notes_line
 
-  pub length-patchText : PatchLengths
-  unfolding patchText
-  length-patchText = simp length-append refl
+  pub length-patch_text : PatchLengths
+  unfolding patch_text
+  length-patch_text = simp length-append refl
 
-  pub patch-texted : {d d₁ d₂ d₃ d₄ d₅ : List ℕ} {p q o n r : ℕ} → length (patchText c is es vs ns) ≤ length d
-      → Printed d 0 costLine p d₁ → Printed d₁ p netsLine q d₂ → Printed d₂ q tableLine o d₃ → Printed d₃ o vectorsLine n d₄
-      → Printed d₄ n notesLine r d₅ → Texted d (patchText c is es vs ns) r d₅
-  unfolding patchText
+  pub patch-texted : {d d₁ d₂ d₃ d₄ d₅ : List ℕ} {p q o n r : ℕ} → length (patch_text c is es vs ns) ≤ length d
+      → Printed d 0 cost_line p d₁ → Printed d₁ p nets_line q d₂ → Printed d₂ q table_line o d₃ → Printed d₃ o vectors_line n d₄
+      → Printed d₄ n notes_line r d₅ → Texted d (patch_text c is es vs ns) r d₅
+  unfolding patch_text
   patch-texted h i j k l m =
-      let x = length-append costLine netsLine in
-      let y = length-append (costLine ++ netsLine) tableLine in
-      let z = length-append (costLine ++ netsLine ++ tableLine) vectorsLine in
-      let w = length-append (costLine ++ netsLine ++ tableLine ++ vectorsLine) notesLine in
+      let x = length-append cost_line nets_line in
+      let y = length-append (cost_line ++ nets_line) table_line in
+      let z = length-append (cost_line ++ nets_line ++ table_line) vectors_line in
+      let w = length-append (cost_line ++ nets_line ++ table_line ++ vectors_line) notes_line in
       let three = printed-then (printed-then i j (omega arith)) k (omega arith) in
       texted h (printed-then (printed-then three l (omega arith)) m (omega arith))
 
 -- the lines of the parts of a patch's sheet, beside the vector list
 module _ (s vs : List ℕ) where
   pub patch-same : {c : ℕ} {is es ns : List ℕ} → c ≡ quad (nth 2 s) → is ≡ nth 0 s → es ≡ nth 1 s → ns ≡ nth 3 s
-      → patchText c (netsOf is) es vs ns ≡ patchSheetText s vs
-  unfolding patchSheetText patch_of
+      → patch_text c (nets_of is) es vs ns ≡ patch_sheet_text s vs
+  unfolding patch_sheet_text patch_of
   patch-same p q o n = rw (p, q, o, n)
 
-  pub patch-room : PatchSheet s → Below 256 s → length vs ≤ 16 → Below 256 vs → length (patchSheetText s vs) ≤ longestText
-  unfolding patchSheetText patch_of
+  pub patch-room : PatchSheet s → Below 256 s → length vs ≤ 16 → Below 256 vs → length (patch_sheet_text s vs) ≤ longest_text
+  unfolding patch_sheet_text patch_of
   patch-room p b h v =
-      let bytes : (k : ℕ) → k < 4 → Below 256 (nth k s) = λ k l. below_field (sheetTags ++ (notesTag ∷ [])) s p.fields k l b in
+      let bytes : (k : ℕ) → k < 4 → Below 256 (nth k s) = λ k l. below_field (sheet_tags ++ (notes_tag ∷ [])) s p.fields k l b in
       omega (
         arith,
         p.support,
         p.table,
         p.notes,
-        length-patchText (quad (nth 2 s)) (netsOf (nth 0 s)) (nth 1 s) vs (nth 3 s),
-        length-netsOf (nth 0 s),
-        length-number-line patchWord (quad (nth 2 s)) (quad-lt (nth 2 s) (bytes 2 (omega arith))),
-        length-nets-line supportWord (netsOf (nth 0 s)) (below-nets (nth 0 s) (bytes 0 (omega arith))),
-        length-bytes-line tableWord (nth 1 s) (bytes 1 (omega arith)),
-        length-bytes-line vectorsWord vs v,
-        length-bytes-line notesWord (nth 3 s) (bytes 3 (omega arith)),
+        length-patch_text (quad (nth 2 s)) (nets_of (nth 0 s)) (nth 1 s) vs (nth 3 s),
+        length-nets_of (nth 0 s),
+        length-number-line patch_word (quad (nth 2 s)) (quad-lt (nth 2 s) (bytes 2 (omega arith))),
+        length-nets-line support_word (nets_of (nth 0 s)) (below-nets (nth 0 s) (bytes 0 (omega arith))),
+        length-bytes-line table_word (nth 1 s) (bytes 1 (omega arith)),
+        length-bytes-line vectors_word vs v,
+        length-bytes-line notes_word (nth 3 s) (bytes 3 (omega arith)),
       )
 
   -- which text, by the first tag
-  pub choice-patched : get_or s 0 0 ≡ 16 → choiceText s vs ≡ patchSheetText s vs
-  unfolding choiceText
+  pub choice-patched : get_or s 0 0 ≡ 16 → choice_text s vs ≡ patch_sheet_text s vs
+  unfolding choice_text
   choice-patched e = rw e
 
-  pub choice-blinded : (get_or s 0 0 ≡ 16 → ⊥) → choiceText s vs ≡ valueText blindWord (word (nth 0 s) 0) vs
-  unfolding choiceText
+  pub choice-blinded : (get_or s 0 0 ≡ 16 → ⊥) → choice_text s vs ≡ value_text blind_word (word (nth 0 s) 0) vs
+  unfolding choice_text
   choice-blinded n = rw (ne_eqb (get_or s 0 0) 16 n)
 
 -- ---- the texts of judge's and choose's sheets are the verdict's
 
-word-bytePair : (x : ℕ) → word (bytePair x) 0 ≡ x
-unfolding word bytePair
-word-bytePair x = div-add-mod x 256
+word-byte_pair : (x : ℕ) → word (byte_pair x) 0 ≡ x
+unfolding word byte_pair
+word-byte_pair x = div-add-mod x 256
 
 module _ (j : Job) where
   abbrev vectors : List ℕ
-  vectors = (vectorLoop j).vectors
+  vectors = (vector_loop j).vectors
 
-  pub judge-text : {x : ℕ} → (vectorLoop j).stuck ≡ some x
-      → valueText unfixableWord (quad (nth 0 (judgeSheet j))) (nth 1 (judgeSheet j)) ≡ rulingText j (ruling j)
-  unfolding rulingText
+  pub judge-text : {x : ℕ} → (vector_loop j).stuck ≡ some x
+      → value_text unfixable_word (quad (nth 0 (judge_sheet j))) (nth 1 (judge_sheet j)) ≡ ruling_text j (ruling j)
+  unfolding ruling_text
   judge-text {x} e =
-      let f = value-fields 20 (fourBytes x) vectors in
-      rw (ruling-unfixable j x e, (judged-unfixable j e).1, f.0, f.1, quad-fourBytes x) refl
+      let f = value-fields 20 (four_bytes x) vectors in
+      rw (ruling-unfixable j x e, (judged-unfixable j e).1, f.0, f.1, quad-four_bytes x) refl
 
-  patch-text : (vectorLoop j).stuck ≡ none → sound j (candidateNets j) ≡ true
-      → choiceText (chooseSheet j) vectors ≡ rulingText j (ruling j)
-  unfolding rulingText patchSheetText patchSheet field
+  patch-text : (vector_loop j).stuck ≡ none → sound j (candidate_nets j) ≡ true
+      → choice_text (choose_sheet j) vectors ≡ ruling_text j (ruling j)
+  unfolding ruling_text patch_sheet_text patch_sheet field
   patch-text e t =
       rw (ruling-patch j e t, (chosen-patch j t).1)
-      (choice-patched (patchSheet j (chosen j)) vectors refl
-      ∙ ap (λ (p : Patch). patchText p.cost p.support p.table vectors p.notes) (patch-read j (chosen j)))
+      (choice-patched (patch_sheet j (chosen j)) vectors refl
+      ∙ ap (λ (p : Patch). patch_text p.cost p.support p.table vectors p.notes) (patch-read j (chosen j)))
 
-  blind-text : (vectorLoop j).stuck ≡ none → sound j (candidateNets j) ≡ false
-      → choiceText (chooseSheet j) vectors ≡ rulingText j (ruling j)
-  unfolding rulingText field
+  blind-text : (vector_loop j).stuck ≡ none → sound j (candidate_nets j) ≡ false
+      → choice_text (choose_sheet j) vectors ≡ ruling_text j (ruling j)
+  unfolding ruling_text field
   blind-text e t =
-      let r = blindReading j in
+      let r = blind_reading j in
       rw (ruling-blind j e t, (chosen-blind j t).1)
-      (choice-blinded (field 21 (bytePair r)) vectors (λ z. omega arith)
-      ∙ rw (field-body 21 (bytePair r), word-bytePair r))
+      (choice-blinded (field 21 (byte_pair r)) vectors (λ z. omega arith)
+      ∙ rw (field-body 21 (byte_pair r), word-byte_pair r))
 
-  pub choose-text : (vectorLoop j).stuck ≡ none → choiceText (chooseSheet j) vectors ≡ rulingText j (ruling j)
-  choose-text e = ⊎_elim (λ t. patch-text e t) (λ t. blind-text e t) (true-or-false (sound j (candidateNets j)))
+  pub choose-text : (vector_loop j).stuck ≡ none → choice_text (choose_sheet j) vectors ≡ ruling_text j (ruling j)
+  choose-text e = ⊎_elim (λ t. patch-text e t) (λ t. blind-text e t) (true-or-false (sound j (candidate_nets j)))
 
 -- ---- what is printed for job bytes
 
 module _ (s : List ℕ) where
-  pub rectify-long : inputLimit < length s → rectifyText s ≡ refusedText 2
-  unfolding rectifyText
-  rectify-long h = rw (lt-ltb inputLimit (length s) h)
+  pub rectify-long : input_limit < length s → rectify_text s ≡ refused_text 2
+  unfolding rectify_text
+  rectify-long h = rw (lt-ltb input_limit (length s) h)
 
-  pub rectify-accepted : length s ≤ inputLimit → jobRefusal s ≡ 0 → rectifyText s ≡ rulingText (job_of s) (ruling (job_of s))
-  unfolding rectifyText
-  rectify-accepted h e = rw (le-ltb inputLimit (length s) h, e)
+  pub rectify-accepted : length s ≤ input_limit → job_refusal s ≡ 0 → rectify_text s ≡ ruling_text (job_of s) (ruling (job_of s))
+  unfolding rectify_text
+  rectify-accepted h e = rw (le-ltb input_limit (length s) h, e)
 
-  pub rectify-refused : length s ≤ inputLimit → (jobRefusal s ≡ 0 → ⊥) → rectifyText s ≡ refusedText (jobRefusal s)
-  unfolding rectifyText
-  rectify-refused h n = rw (le-ltb inputLimit (length s) h, ne_eqb (jobRefusal s) 0 n)
+  pub rectify-refused : length s ≤ input_limit → (job_refusal s ≡ 0 → ⊥) → rectify_text s ≡ refused_text (job_refusal s)
+  unfolding rectify_text
+  rectify-refused h n = rw (le-ltb input_limit (length s) h, ne_eqb (job_refusal s) 0 n)

@@ -8,7 +8,7 @@ use lib.Bits.{bit_and}
 use lib.ListN.{get_or, drop}
 use lib.Pow.{pow_mono}
 use Rattle.engine.specs.Inner.Kernel.{Filled}
-use Rattle.engine.specs.Inner.Best.{NotEmpty, spread, joinedAt}
+use Rattle.engine.specs.Inner.Best.{NotEmpty, spread, joined_at}
 use Rattle.engine.proofs.Laws.Arena.{kept-filled, joined-read, left-filled, left-empty}
 use Rattle.engine.proofs.Laws.Fill.{fill_none, fill-next}
 use Rattle.engine.proofs.Laws.Sets.{spread-word, holds-some}
@@ -17,8 +17,8 @@ use Rattle.engine.proofs.best.leave_out.Tie as tie
 
 abbrev invariant-loop : tie.invariant-loop
 invariant-loop at len place arena₀ to count other q₀ arena q =
-    (q ≤ count) × Filled (joinedAt (drop at arena₀) place) to q arena₀ arena
-    × ((r : ℕ) → r < q → NotEmpty (joinedAt (drop at arena₀) place r))
+    (q ≤ count) × Filled (joined_at (drop at arena₀) place) to q arena₀ arena
+    × ((r : ℕ) → r < q → NotEmpty (joined_at (drop at arena₀) place r))
 
 abbrev decreases-loop : tie.decreases-loop
 decreases-loop at len place arena₀ to count other q₀ arena q = count - q
@@ -42,7 +42,7 @@ joined : (c : tie.In-loop invariant-loop decreases-loop)
     let l = c.before.loop in
     let r = a.at + (l.q + l.q / 2 ^ a.place * 2 ^ a.place % 18446744073709551616) in
     bit_and (get_or l.arena r 0) (get_or l.arena (r + c.before.before.reading-count3.result) 0)
-    ≡ joinedAt (drop a.at a.arena.now) a.place l.q
+    ≡ joined_at (drop a.at a.arena.now) a.place l.q
 joined c =
     let n = c.before.before in
     let a = c.before.before.before.before.before.args in

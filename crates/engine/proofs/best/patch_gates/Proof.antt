@@ -1,7 +1,7 @@
 -- `engine::best::patch_gates` meets its contract: the table that is filled is the support's, and its trees are counted. Assumes nothing.
 use native.Mathlib.Omega.{arith}
 use borrow.Author.Rules.{rules}
-use Rattle.engine.specs.Support.{patchGates}
+use Rattle.engine.specs.Support.{patch_gates}
 use Rattle.engine.proofs.Laws.Rule.{readings-many}
 use Rattle.engine.proofs.Laws.Tree.{length-patch}
 use Rattle.engine.proofs.best.patch_gates.Statement.{statement}
@@ -13,7 +13,7 @@ trees-size-requires c κs =
     (p.0, omega (arith, readings-many p.0, c.before.fill-table.ensures.long), p.2)
 
 returns : tie.Need-returns
-unfolding patchGates
+unfolding patch_gates
 returns c =
     λ j is h e t.
     let f = c.before.before.fill-table in

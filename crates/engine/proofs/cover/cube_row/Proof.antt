@@ -5,8 +5,8 @@ use mathlib.Core.Logic.{⊎_elim}
 use native.Mathlib.Omega.{arith}
 use lib.ListN.{length, take}
 use Rattle.engine.specs.Eval.{bit}
-use Rattle.engine.specs.Inner.Cover.{InCube, readingIn}
-use Rattle.engine.specs.Inner.Kernel.{rowValue}
+use Rattle.engine.specs.Inner.Cover.{InCube, reading_in}
+use Rattle.engine.specs.Inner.Kernel.{row_value}
 use Rattle.engine.proofs.Laws.Cover.{cube-next}
 use Rattle.engine.proofs.Laws.Kernel.{row-replicate}
 use Rattle.engine.proofs.Laws.Word.{bit-ones}
@@ -17,7 +17,7 @@ abbrev invariant-loop : tie.invariant-loop
 invariant-loop reads value care words nets r₀ k₀ r k =
     (k ≤ reads)
     × (length r ≡ 16)
-    × ((y : ℕ) → y < 1024 → InCube value care (readingIn words (take reads nets) y) → rowValue r y ≡ 1)
+    × ((y : ℕ) → y < 1024 → InCube value care (reading_in words (take reads nets) y) → row_value r y ≡ 1)
 
 abbrev decreases-loop : tie.decreases-loop
 decreases-loop reads value care words nets r₀ k₀ r k = reads - k

@@ -6,14 +6,14 @@ use mathlib.Core.Bool.{true≢false}
 use native.Mathlib.Omega.{arith}
 use borrow.Author.Tests.{not-false}
 use lib.ListN.{get_or, take}
-use Rattle.engine.specs.Inner.Cover.{InCube, readingIn}
+use Rattle.engine.specs.Inner.Cover.{InCube, reading_in}
 use Rattle.engine.proofs.Laws.List.{eq-or-below}
 use Rattle.engine.proofs.cover.gives_cover.Statement.{statement}
 use Rattle.engine.proofs.cover.gives_cover.Tie as tie
 
 abbrev invariant-loop : tie.invariant-loop
 invariant-loop nets reads cover words values cares i₀ i =
-    (k y : ℕ) → k < i → y < 1024 → InCube (get_or cover.values k 0) (get_or cover.cares k 0) (readingIn words (take reads nets) y) → ⊥
+    (k y : ℕ) → k < i → y < 1024 → InCube (get_or cover.values k 0) (get_or cover.cares k 0) (reading_in words (take reads nets) y) → ⊥
 
 abbrev decreases-loop : tie.decreases-loop
 decreases-loop nets reads cover words values cares i₀ i = cover.count - i

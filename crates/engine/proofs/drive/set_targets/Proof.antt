@@ -2,13 +2,13 @@
 use Prim.Native.Nat.{◌+◌, ◌-◌, ◌≤◌}
 use mathlib.Core.Path.{◌≡◌, refl}
 use native.Mathlib.Omega.{arith}
-use Rattle.engine.specs.Inner.Kernel.{valueIn, NetsSet}
+use Rattle.engine.specs.Inner.Kernel.{value_in, NetsSet}
 use Rattle.engine.proofs.Laws.Leaves.{net-alike, nets-none, nets-next}
 use Rattle.engine.proofs.drive.set_targets.Statement.{statement}
 use Rattle.engine.proofs.drive.set_targets.Tie as tie
 
 abbrev invariant-loop : tie.invariant-loop
-invariant-loop at targets rows first words₀ i₀ words i = (i ≤ targets) × NetsSet at i (λ y k. valueIn rows y (first + k)) words₀ words
+invariant-loop at targets rows first words₀ i₀ words i = (i ≤ targets) × NetsSet at i (λ y k. value_in rows y (first + k)) words₀ words
 
 abbrev decreases-loop : tie.decreases-loop
 decreases-loop at targets rows first words₀ i₀ words i = targets - i

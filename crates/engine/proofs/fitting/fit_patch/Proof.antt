@@ -4,9 +4,9 @@ use mathlib.Core.Path.{refl}
 use native.Mathlib.Omega.{arith}
 use borrow.Author.Rules.{rules}
 use lib.ListN.{length, take}
-use Rattle.engine.specs.Inner.Fitting.{patchedCount}
+use Rattle.engine.specs.Inner.Fitting.{patched_count}
 use Rattle.engine.proofs.Laws.FitSheet.{gates-few, patch-refused, patch-accepted}
-use Rattle.engine.proofs.Laws.Tree.{treesSize-le}
+use Rattle.engine.proofs.Laws.Tree.{trees_size-le}
 use Rattle.engine.proofs.fitting.fit_patch.Statement.{statement}
 use Rattle.engine.proofs.fitting.fit_patch.Tie as tie
 
@@ -18,7 +18,7 @@ sizing t = t.before.before.before
 
 -- the patched netlist has at most 400 gates
 fitting : (t : tie.After-place-gates)
-    → patchedCount (start (sizing t)).args.old (start (sizing t)).args.support (start (sizing t)).args.table.now ≤ 400
+    → patched_count (start (sizing t)).args.old (start (sizing t)).args.support (start (sizing t)).args.table.now ≤ 400
 fitting t = omega (arith, t.before.if1.false, (sizing t).trees-size.ensures)
 
 -- the outputs stand in their places
@@ -36,7 +36,7 @@ add-if1 c =
     omega (
       arith,
       u.trees-size.ensures,
-      treesSize-le a.old.targets 0 a.support.len a.table.now h.few,
+      trees_size-le a.old.targets 0 a.support.len a.table.now h.few,
       h.held.targets,
       h.held.count,
     )

@@ -4,7 +4,7 @@ use borrow.Author.Rules.{rules}
 use borrow.Author.Tests.{leb-true}
 use lib.Dec.{lit≤}
 use Rattle.engine.specs.Inner.Search.{DrivenRow}
-use Rattle.engine.proofs.Laws.Guess.{vectorsAt, guessed-first, guessed-either}
+use Rattle.engine.proofs.Laws.Guess.{vectors_at, guessed-first, guessed-either}
 use Rattle.engine.proofs.Laws.Rows.{rows_four}
 use Rattle.engine.proofs.guess.guess_block.Statement.{statement}
 use Rattle.engine.proofs.guess.guess_block.Tie as tie
@@ -18,10 +18,10 @@ looked c = c.before.before.before
 
 first-row : (d : tie.After-driven-row)
     → (let a = (start (looked d)).args in
-    DrivenRow a.plan a.gates.now (vectorsAt (looked d).table-rows.result 0) a.words.now d.driven-row.result d.driven-row.new.1.1.1.1.0)
+    DrivenRow a.plan a.gates.now (vectors_at (looked d).table-rows.result 0) a.words.now d.driven-row.result d.driven-row.new.1.1.1.1.0)
 first-row d =
     let v = (looked d).table-rows.result in
-    d.driven-row.ensures (vectorsAt v 0) (rows_four v 0 _ (lit≤ tt) (start (looked d)).requires.0.targets)
+    d.driven-row.ensures (vectors_at v 0) (rows_four v 0 _ (lit≤ tt) (start (looked d)).requires.0.targets)
 
 returns : tie.Need-returns
 returns c =
@@ -53,7 +53,7 @@ returns-2 c =
     let s = start l in
     let e = first-row d in
     let v = l.table-rows.result in
-    let e₂ = d₂.driven-row2.ensures (vectorsAt v 4) (rows_four v 4 _ (lit≤ tt) s.pre.0.targets) in (
+    let e₂ = d₂.driven-row2.ensures (vectors_at v 4) (rows_four v 4 _ (lit≤ tt) s.pre.0.targets) in (
       (λ j is q b f. e₂.free j is q b (e.free j is q b f), e₂.long ∙ e.long ∙ s.pre.2),
       λ t.
           guessed-either s.args.readings s.args.table.now l.table-rows.result l.table-rows.ensures.1

@@ -8,7 +8,7 @@ use native.Mathlib.Omega.{arith}
 use borrow.Author.Tests.{not-true, not-false}
 use lib.ListN.{length}
 use Rattle.engine.specs.Inner.Imply.{Learns, AllHave}
-use Rattle.engine.specs.Inner.Packed.{fields, operandsOf}
+use Rattle.engine.specs.Inner.Packed.{fields, operands_of}
 use Rattle.engine.proofs.Laws.Imply.{learns_none, learns-then, first-has, rest-have}
 use Rattle.engine.proofs.imply.learn_operands.Statement.{statement}
 use Rattle.engine.proofs.imply.learn_operands.Tie as tie
@@ -16,8 +16,8 @@ use Rattle.engine.proofs.imply.learn_operands.Tie as tie
 abbrev invariant-loop : tie.invariant-loop
 invariant-loop c v known₀ rest₀ i₀ known rest i =
     (length known ≡ 1024)
-    × Learns (AllHave v (operandsOf c)) known₀ true known
-    × ((vs : List ℕ) → AllHave v (operandsOf c) vs → AllHave v (fields i rest) vs)
+    × Learns (AllHave v (operands_of c)) known₀ true known
+    × ((vs : List ℕ) → AllHave v (operands_of c) vs → AllHave v (fields i rest) vs)
 
 abbrev decreases-loop : tie.decreases-loop
 decreases-loop c v known₀ rest₀ i₀ known rest i = i

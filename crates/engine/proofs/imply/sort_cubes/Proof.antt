@@ -5,7 +5,7 @@ use mathlib.Core.Logic.{⊎_elim}
 use mathlib.Core.List.{List, map}
 use native.Mathlib.Omega.{arith}
 use lib.ListN.{get_or, take}
-use Rattle.records.specs.Netlist.{netAt}
+use Rattle.records.specs.Netlist.{net_at}
 use Rattle.engine.specs.Eval.{number_of}
 use Rattle.engine.specs.Inner.Cover.{InCube, CoverHeld, InCover}
 use Rattle.engine.specs.Inner.Imply.{ValuesOf, NoneGives}
@@ -18,8 +18,8 @@ invariant-loop gates plan cover splits values cares sorted₀ i₀ sorted i =
     CoverHeld sorted.left
     × (sorted.left.count ≤ i)
     × ((vs : List ℕ) → ValuesOf gates (get_or plan.ends 0 0) vs → (k : ℕ) → k < i
-    → InCube (get_or cover.values k 0) (get_or cover.cares k 0) (number_of (map (netAt vs) (take plan.reads plan.nets)))
-    → InCover sorted.left (number_of (map (netAt vs) (take plan.reads plan.nets))))
+    → InCube (get_or cover.values k 0) (get_or cover.cares k 0) (number_of (map (net_at vs) (take plan.reads plan.nets)))
+    → InCover sorted.left (number_of (map (net_at vs) (take plan.reads plan.nets))))
     × NoneGives plan gates sorted.never
 
 abbrev decreases-loop : tie.decreases-loop

@@ -4,8 +4,8 @@ use mathlib.Core.Path.{◌≡◌, refl, sym, ◌∙◌}
 use mathlib.Core.List.{map}
 use native.Mathlib.Omega.{arith}
 use lib.ListN.{length}
-use Rattle.engine.specs.Inner.Packed.{fields, operation, operandsOf, folded}
-use Rattle.engine.specs.Inner.Kernel.{rowValue, valueIn}
+use Rattle.engine.specs.Inner.Packed.{fields, operation, operands_of, folded}
+use Rattle.engine.specs.Inner.Kernel.{row_value, value_in}
 use Rattle.engine.proofs.Laws.Word.{bit-zero}
 use Rattle.engine.proofs.Laws.Kernel.{row-replicate, left, left-all, words-next, left-none}
 use Rattle.engine.proofs.kernel.gate_words.Statement.{statement}
@@ -15,8 +15,8 @@ abbrev invariant-loop : tie.invariant-loop
 invariant-loop c words r₀ op₀ rest₀ i₀ r op rest i =
     (length r ≡ 16)
     × ((y : ℕ) → y < 1024
-    → left op (operation c) (rowValue r y) (map (valueIn words y) (fields i rest))
-    ≡ folded (operation c) (map (valueIn words y) (operandsOf c)))
+    → left op (operation c) (row_value r y) (map (value_in words y) (fields i rest))
+    ≡ folded (operation c) (map (value_in words y) (operands_of c)))
 
 abbrev decreases-loop : tie.decreases-loop
 decreases-loop c words r₀ op₀ rest₀ i₀ r op rest i = i
@@ -24,7 +24,7 @@ decreases-loop c words r₀ op₀ rest₀ i₀ r op rest i = i
 loop-holds : tie.Need-loop-init invariant-loop decreases-loop
 loop-holds c =
     let x = c.args.c in
-    (refl, λ y h. rw (row-replicate 0 y h, bit-zero (y % 64)) (left-all (operation x) (map (valueIn c.args.words.now y) (operandsOf x))))
+    (refl, λ y h. rw (row-replicate 0 y h, bit-zero (y % 64)) (left-all (operation x) (map (value_in c.args.words.now y) (operands_of x))))
 
 join-requires : tie.Need-join-requires invariant-loop decreases-loop
 join-requires c κs = (omega arith, omega arith)

@@ -5,7 +5,7 @@ use mathlib.Core.Path.{◌≡◌, refl, sym, ◌∙◌}
 use native.Mathlib.Omega.{arith}
 use lib.ListN.{length, get_or}
 use lib.Seq.{slice}
-use Rattle.engine.specs.Inner.Packed.{codeValue, evaluated}
+use Rattle.engine.specs.Inner.Packed.{code_value, evaluated}
 use Rattle.engine.specs.Inner.Kernel.{column}
 use Rattle.engine.proofs.Laws.Kernel.{run-next, evaluated-none}
 use Rattle.engine.proofs.Laws.Word.{bit-lowest}
@@ -16,7 +16,7 @@ abbrev invariant-loop : tie.invariant-loop
 invariant-loop gates from to words₀ i₀ words i =
     (length words ≡ length words₀)
     × ((y : ℕ) → y < 1024
-    → evaluated codeValue (column words y) (slice i to gates) ≡ evaluated codeValue (column words₀ y) (slice from to gates))
+    → evaluated code_value (column words y) (slice i to gates) ≡ evaluated code_value (column words₀ y) (slice from to gates))
 
 abbrev decreases-loop : tie.decreases-loop
 decreases-loop gates from to words₀ i₀ words i = to - i

@@ -6,7 +6,7 @@ use mathlib.Core.Bool.{cond}
 use native.Mathlib.Omega.{arith}
 use lib.ListN.{length, take}
 use Rattle.engine.specs.Choice.{same}
-use Rattle.engine.specs.Inner.Kernel.{rowValue, valueIn}
+use Rattle.engine.specs.Inner.Kernel.{row_value, value_in}
 use Rattle.engine.proofs.Laws.Kernel.{row-replicate}
 use Rattle.engine.proofs.Laws.Leaves.{equal_next}
 use Rattle.engine.proofs.Laws.Word.{bit-ones}
@@ -18,7 +18,7 @@ invariant-loop count words outputs goldens r₀ k₀ r k =
     (k ≤ count)
     × (length r ≡ 16)
     × ((y : ℕ) → y < 1024
-    → rowValue r y ≡ cond (same (map (valueIn words y) (take k outputs)) (map (valueIn words y) (take k goldens))) 1 0)
+    → row_value r y ≡ cond (same (map (value_in words y) (take k outputs)) (map (value_in words y) (take k goldens))) 1 0)
 
 abbrev decreases-loop : tie.decreases-loop
 decreases-loop count words outputs goldens r₀ k₀ r k = count - k

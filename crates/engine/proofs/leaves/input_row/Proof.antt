@@ -4,14 +4,14 @@ use mathlib.Core.Path.{◌≡◌, refl, ◌∙◌, ap}
 use native.Mathlib.Omega.{arith}
 use lib.ListN.{length, length-set}
 use Rattle.engine.specs.Eval.{bit}
-use Rattle.engine.specs.Inner.Kernel.{rowValue}
+use Rattle.engine.specs.Inner.Kernel.{row_value}
 use Rattle.engine.proofs.Laws.Leaves.{row_next, input-place}
 use Rattle.engine.proofs.leaves.input_row.Statement.{statement}
 use Rattle.engine.proofs.leaves.input_row.Tie as tie
 
 abbrev invariant-loop : tie.invariant-loop
 invariant-loop i b r₀ w₀ r w =
-    (w ≤ 16) × (length r ≡ 16) × ((y : ℕ) → y < 64 * w → rowValue r y ≡ bit i (1024 * b + y))
+    (w ≤ 16) × (length r ≡ 16) × ((y : ℕ) → y < 64 * w → row_value r y ≡ bit i (1024 * b + y))
 
 abbrev decreases-loop : tie.decreases-loop
 decreases-loop i b r₀ w₀ r w = 16 - w

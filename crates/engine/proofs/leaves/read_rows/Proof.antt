@@ -4,14 +4,14 @@ use Prim.Native.Nat.{◌-◌, ◌≤◌}
 use mathlib.Core.Path.{◌≡◌}
 use native.Mathlib.Omega.{arith}
 use lib.ListN.{get_or, replicate}
-use Rattle.engine.specs.Inner.Kernel.{valueIn, NetsSet}
+use Rattle.engine.specs.Inner.Kernel.{value_in, NetsSet}
 use Rattle.engine.proofs.Laws.Leaves.{net-alike, nets-none, nets-next, gathered-nets}
 use Rattle.engine.proofs.leaves.read_rows.Statement.{statement}
 use Rattle.engine.proofs.leaves.read_rows.Tie as tie
 
 abbrev invariant-loop : tie.invariant-loop
 invariant-loop count words nets rows₀ k₀ rows k =
-    (k ≤ count) × NetsSet 0 k (λ y i. valueIn words y (get_or nets i 0)) (replicate 256 0) rows
+    (k ≤ count) × NetsSet 0 k (λ y i. value_in words y (get_or nets i 0)) (replicate 256 0) rows
 
 abbrev decreases-loop : tie.decreases-loop
 decreases-loop count words nets rows₀ k₀ rows k = count - k

@@ -7,7 +7,7 @@ use Rattle.records.specs.Bytes.{up_from}
 use Rattle.engine.specs.Choice.{first, or_zero}
 use Rattle.engine.specs.Inner.List.{lowest}
 use Rattle.engine.proofs.Laws.VectorSets.{in_set}
-use Rattle.engine.proofs.Laws.Stream.{inSet-true, inSet-false, first-from-here, first-from-there}
+use Rattle.engine.proofs.Laws.Stream.{in_set-true, in_set-false, first-from-here, first-from-there}
 use Rattle.engine.proofs.list.lowest_of.Statement.{statement}
 use Rattle.engine.proofs.list.lowest_of.Tie as tie
 
@@ -26,14 +26,14 @@ unfolding or_zero
 returns c =
     let l = c.before.before.loop in
     let s = c.before.before.before.args.set in
-    let e = first-from-here (in_set s) l.v 16 c.before.loop-test.true (inSet-true s l.v c.if1.true) in
+    let e = first-from-here (in_set s) l.v 16 c.before.loop-test.true (in_set-true s l.v c.if1.true) in
     ap or_zero (sym e ∙ l.invariant.1)
 
 loop-again : tie.Need-loop-preserved invariant-loop decreases-loop
 loop-again c =
     let l = c.before.before.loop in
     let s = c.before.before.before.args.set in
-    let e = first-from-there (in_set s) l.v 16 c.before.loop-test.true (inSet-false s l.v c.if1.false) in
+    let e = first-from-there (in_set s) l.v 16 c.before.loop-test.true (in_set-false s l.v c.if1.false) in
     (omega arith, sym e ∙ l.invariant.1)
 
 returns-2 : tie.Need-returns-2 invariant-loop decreases-loop

@@ -7,7 +7,7 @@ use lib.ListN.{length, get_or, take, drop, length-take, drop_of_length-le}
 use lib.Seq.{get_or-take}
 use Rattle.engine.specs.Choice.{any}
 use Rattle.engine.proofs.Laws.VectorSets.{in_set}
-use Rattle.engine.proofs.Laws.Stream.{inSet-true, inSet-false, any-from}
+use Rattle.engine.proofs.Laws.Stream.{in_set-true, in_set-false, any-from}
 use Rattle.engine.proofs.list.rectifies_any.Statement.{statement}
 use Rattle.engine.proofs.list.rectifies_any.Tie as tie
 
@@ -42,12 +42,12 @@ turn c =
     (get_or-take a.len a.t1 l.i 0 c.loop-test.true)
 
 returns : tie.Need-returns invariant-loop decreases-loop
-returns c = let t = turn c.before in sym (rw (inSet-true _ _ c.if1.true) at t)
+returns c = let t = turn c.before in sym (rw (in_set-true _ _ c.if1.true) at t)
 
 loop-again : tie.Need-loop-preserved invariant-loop decreases-loop
 loop-again c =
     let t = turn c.before in
-    (omega arith, sym (rw (inSet-false _ _ c.if1.false) at t))
+    (omega arith, sym (rw (in_set-false _ _ c.if1.false) at t))
 
 returns-2 : tie.Need-returns-2 invariant-loop decreases-loop
 unfolding any

@@ -8,7 +8,7 @@ use lib.Pow.{pow_pos, shl_exact}
 use lib.Dec.{lit<}
 use lib.ListN.{length}
 use Rattle.engine.specs.Inner.Masks.{turns}
-use Rattle.engine.specs.Inner.Kernel.{rowValue, NetSet}
+use Rattle.engine.specs.Inner.Kernel.{row_value, NetSet}
 use Rattle.engine.specs.Inner.Search.{TargetTurned}
 use Rattle.engine.proofs.Laws.Gray.{ordered-lt, turns-lt}
 use Rattle.engine.proofs.Laws.Searching.{MasksDone, masks-first, masks-turned, masks-all, vectors-many}
@@ -107,7 +107,7 @@ loop-again c =
           (subst (λ (x : ℕ). TargetTurned p g (turns u.result l.step) (x / 2 ^ turns u.result l.step) l.words t.new.1.1.1.1.0) v.ensures
           (subst (λ (x : ℕ). TargetTurned p g x (v.result / 2 ^ x) l.words t.new.1.1.1.1.0) c.before.before.before.before.before.before.turned-at.ensures t.ensures))
           c.before.before.equal-row2.ensures.1
-          (subst (λ (x : ℕ). NetSet x (rowValue c.before.before.equal-row2.result) l.masks c.put-row2.new.1.1.0) v.ensures c.put-row2.ensures),
+          (subst (λ (x : ℕ). NetSet x (row_value c.before.before.equal-row2.result) l.masks c.put-row2.new.1.1.0) v.ensures c.put-row2.ensures),
     )
 
 returns : tie.Need-returns invariant-loop decreases-loop

@@ -7,7 +7,7 @@ use mathlib.Core.List.{List}
 use native.Mathlib.Omega.{arith}
 use lib.ListN.{get_or, set}
 use lib.Seq.{get_or-set_same}
-use Rattle.engine.specs.Inner.Renumber.{gateIn}
+use Rattle.engine.specs.Inner.Renumber.{gate_in}
 use Rattle.engine.proofs.Laws.Loaded.{below-zeros}
 use Rattle.engine.proofs.Laws.Merge.{Merging, merging-none, merging-moved, merging-stands, merging-place, merging-all}
 use Rattle.engine.proofs.merge.merge_gates.Statement.{statement}
@@ -100,7 +100,7 @@ loop-again c =
     (λ d.
     let z = d.0.taken in
     turned _ _ _ d.1 d.2 d.3
-    (merging-stands (moving m) (start l).pre.0 h (k - 1) (omega (arith, found u)) (u.find.ensures.1 z ∙ ap gateIn (sym same))
+    (merging-stands (moving m) (start l).pre.0 h (k - 1) (omega (arith, found u)) (u.find.ensures.1 z ∙ ap gate_in (sym same))
     (omega arith)))
     (λ d. turned _ _ _ d.1 d.2 d.3 (merging-place (moving m) (start l).pre.0 p.place_of.result refl))
     c.if1.branch

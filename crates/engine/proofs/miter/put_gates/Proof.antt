@@ -2,7 +2,7 @@
 use Prim.Native.Nat.{◌-◌, ◌≤◌}
 use mathlib.Core.Path.{◌≡◌}
 use native.Mathlib.Omega.{arith}
-use Rattle.records.specs.Service.{noGate}
+use Rattle.records.specs.Service.{no_gate}
 use Rattle.engine.specs.Inner.Miter.{CodesPut}
 use Rattle.engine.proofs.Laws.MiterCode.{codes-none, codes-next}
 use Rattle.engine.proofs.miter.put_gates.Statement.{statement}
@@ -21,11 +21,11 @@ loop-holds c =
     (omega arith, codes-none a.t1 a.inputs a.shift a.base a.at a.t7 c.requires.long)
 
 gate-code-requires : tie.Need-gate-code-requires invariant-loop decreases-loop
-unfolding noGate
+unfolding no_gate
 gate-code-requires c κs = (c.before.before.before.requires.gates c.before.before.loop.i (omega arith), omega arith)
 
 loop-again : tie.Need-loop-preserved invariant-loop decreases-loop
-unfolding noGate
+unfolding no_gate
 loop-again c =
     let a = c.before.before.before.before.args in
     let l = c.before.before.before.loop in (

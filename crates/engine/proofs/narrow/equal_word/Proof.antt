@@ -5,10 +5,10 @@ use mathlib.Core.List.{map}
 use mathlib.Core.Bool.{cond}
 use native.Mathlib.Omega.{arith}
 use lib.ListN.{get_or, take}
-use Rattle.records.specs.Netlist.{netAt}
+use Rattle.records.specs.Netlist.{net_at}
 use Rattle.engine.specs.Choice.{same}
 use Rattle.engine.specs.Eval.{bit}
-use Rattle.engine.specs.Inner.Narrow.{valuesAt}
+use Rattle.engine.specs.Inner.Narrow.{values_at}
 use Rattle.engine.proofs.Laws.Leaves.{bit_kept, equal_next}
 use Rattle.engine.proofs.Laws.Narrow.{net-bit}
 use Rattle.engine.proofs.Laws.Word.{bit-ones}
@@ -19,7 +19,7 @@ abbrev invariant-loop : tie.invariant-loop
 invariant-loop count words outputs goldens r₀ k₀ r k =
     (k ≤ count)
     × ((y : ℕ) → y < 64
-    → bit y r ≡ cond (same (map (netAt (valuesAt words y)) (take k outputs)) (map (netAt (valuesAt words y)) (take k goldens))) 1 0)
+    → bit y r ≡ cond (same (map (net_at (values_at words y)) (take k outputs)) (map (net_at (values_at words y)) (take k goldens))) 1 0)
 
 abbrev decreases-loop : tie.decreases-loop
 decreases-loop count words outputs goldens r₀ k₀ r k = count - k
@@ -53,7 +53,7 @@ loop-again c =
     let ws = a.words.now in (
       omega arith,
       λ y h.
-          equal_next (netAt (valuesAt ws y)) _ _ l.k _ _ (omega arith) (omega arith) (l.invariant.1 y h)
+          equal_next (net_at (values_at ws y)) _ _ l.k _ _ (omega arith) (omega arith) (l.invariant.1 y h)
           (rw (net-bit ws y (get_or a.t1 l.k 0), net-bit ws y (get_or a.t2 l.k 0))
           (bit_kept y l.r (get_or ws (get_or a.t1 l.k 0) 0) (get_or ws (get_or a.t2 l.k 0) 0) h)),
     )

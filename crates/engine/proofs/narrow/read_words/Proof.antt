@@ -4,9 +4,9 @@ use Prim.Native.Nat.{◌-◌, ◌%◌, ◌≤◌}
 use mathlib.Core.Path.{◌≡◌, sym, ◌∙◌}
 use native.Mathlib.Omega.{arith}
 use lib.ListN.{get_or, replicate}
-use Rattle.records.specs.Netlist.{netAt}
+use Rattle.records.specs.Netlist.{net_at}
 use Rattle.engine.specs.Inner.Kernel.{NetsSet}
-use Rattle.engine.specs.Inner.Narrow.{valuesAt}
+use Rattle.engine.specs.Inner.Narrow.{values_at}
 use Rattle.engine.proofs.Laws.Kernel.{row-replicate}
 use Rattle.engine.proofs.Laws.Leaves.{net-alike, nets-none, nets-next, gathered-nets}
 use Rattle.engine.proofs.Laws.Narrow.{net-bit}
@@ -15,7 +15,7 @@ use Rattle.engine.proofs.narrow.read_words.Tie as tie
 
 abbrev invariant-loop : tie.invariant-loop
 invariant-loop count words nets rows₀ k₀ rows k =
-    (k ≤ count) × NetsSet 0 k (λ y i. netAt (valuesAt words (y % 64)) (get_or nets i 0)) (replicate 256 0) rows
+    (k ≤ count) × NetsSet 0 k (λ y i. net_at (values_at words (y % 64)) (get_or nets i 0)) (replicate 256 0) rows
 
 abbrev decreases-loop : tie.decreases-loop
 decreases-loop count words nets rows₀ k₀ rows k = count - k
@@ -49,7 +49,7 @@ returns c =
     let l = c.before.loop in
     let a = c.before.before.args in
     let e : l.k ≡ a.count = omega arith in
-    (l.invariant.1.long, gathered-nets (λ y. netAt (valuesAt a.words.now (y % 64))) _ _ _ (omega arith) (omega arith) (rw e at l.invariant.1))
+    (l.invariant.1.long, gathered-nets (λ y. net_at (values_at a.words.now (y % 64))) _ _ _ (omega arith) (omega arith) (rw e at l.invariant.1))
 
 pub read-words-spec : {M : Type 1} → statement M
 read-words-spec =

@@ -4,8 +4,8 @@ use Prim.Native.Nat.{ℕ, ◌-◌, ◌<◌}
 use mathlib.Core.Path.{◌≡◌, refl, sym, ◌∙◌}
 use native.Mathlib.Omega.{arith}
 use lib.ListN.{length, take, drop, length-set}
-use Rattle.engine.specs.Inner.Packed.{codeValue, evaluated}
-use Rattle.engine.specs.Inner.Narrow.{valuesAt}
+use Rattle.engine.specs.Inner.Packed.{code_value, evaluated}
+use Rattle.engine.specs.Inner.Narrow.{values_at}
 use Rattle.engine.proofs.Laws.Narrow.{run-next}
 use Rattle.engine.proofs.Laws.PlanCode.{evaluated-end}
 use Rattle.engine.proofs.narrow.run_words.Statement.{statement}
@@ -15,7 +15,7 @@ abbrev invariant-loop : tie.invariant-loop
 invariant-loop gates count words₀ i₀ words i =
     (length words ≡ length words₀)
     × ((y : ℕ) → y < 64
-    → evaluated codeValue (valuesAt words y) (drop i (take count gates)) ≡ evaluated codeValue (valuesAt words₀ y) (take count gates))
+    → evaluated code_value (values_at words y) (drop i (take count gates)) ≡ evaluated code_value (values_at words₀ y) (take count gates))
 
 abbrev decreases-loop : tie.decreases-loop
 decreases-loop gates count words₀ i₀ words i = count - i
@@ -39,7 +39,7 @@ returns c =
     record {
       long = l.invariant.0;
       values = λ y h.
-          sym (evaluated-end codeValue (valuesAt l.words y) a.gates.now a.count l.i (omega arith) (omega arith)) ∙ l.invariant.1 y h;
+          sym (evaluated-end code_value (values_at l.words y) a.gates.now a.count l.i (omega arith) (omega arith)) ∙ l.invariant.1 y h;
     }
 
 pub run-words-spec : {M : Type 1} → statement M

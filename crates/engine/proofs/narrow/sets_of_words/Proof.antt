@@ -5,10 +5,10 @@ use mathlib.Core.List.{List, map}
 use native.Mathlib.Omega.{arith}
 use borrow.Author.Rules.{rules}
 use lib.ListN.{length, length-take}
-use Rattle.records.specs.Netlist.{netAt}
+use Rattle.records.specs.Netlist.{net_at}
 use Rattle.engine.specs.Eval.{number_of}
-use Rattle.engine.specs.Support.{candidateNets}
-use Rattle.engine.specs.Inner.Narrow.{valuesAt}
+use Rattle.engine.specs.Support.{candidate_nets}
+use Rattle.engine.specs.Inner.Narrow.{values_at}
 use Rattle.engine.proofs.Laws.Miter.{candidates-good}
 use Rattle.engine.proofs.Laws.Narrow.{word-reading, sets-of-masks}
 use Rattle.engine.proofs.Laws.ReadingSets.{sets-start}
@@ -29,8 +29,8 @@ returns c j q e =
     (omega (arith, ap length (sym e), length-take s.args.reads s.args.nets, s.requires.2.few))
     (λ y h.
     r.ensures.1 y h
-    ∙ ap (λ (is : List ℕ). number_of (map (netAt (valuesAt words (y % 64))) is)) e
-    ∙ word-reading j few (candidateNets j) v.0 words q.good v.1 (candidates-good j q.good) y)
+    ∙ ap (λ (is : List ℕ). number_of (map (net_at (values_at words (y % 64))) is)) e
+    ∙ word-reading j few (candidate_nets j) v.0 words q.good v.1 (candidates-good j q.good) y)
     (sets-start j (omega (arith, q.targets)) (a.ensures ∙ ap (λ (n : ℕ). 2 ^ 2 ^ n - 1) q.targets))
     c.meet-block.ensures
 

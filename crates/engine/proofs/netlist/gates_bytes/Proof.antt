@@ -4,20 +4,20 @@ use Prim.Native.Nat.{ℕ, ◌*◌, ◌-◌, ◌≤◌}
 use mathlib.Core.Path.{◌≡◌, ◌∙◌}
 use native.Mathlib.Omega.{arith}
 use lib.ListN.{length, get_or, replicate, length-replicate}
-use Rattle.records.specs.Job.{gateBytes}
+use Rattle.records.specs.Job.{gate_bytes}
 use Rattle.records.proofs.Laws.Job.{Put, put-none, put_next}
-use Rattle.engine.proofs.Laws.Fitting.{gateAt, length-gateIn, gates-start}
+use Rattle.engine.proofs.Laws.Fitting.{gate_at, length-gate_in, gates-start}
 use Rattle.engine.proofs.netlist.gates_bytes.Statement.{statement}
 use Rattle.engine.proofs.netlist.gates_bytes.Tie as tie
 
 abbrev invariant-loop : tie.invariant-loop
-invariant-loop count gates bytes₀ i₀ bytes i = (i ≤ count) × Put gateBytes (gateAt gates) (replicate 4000 0) 0 bytes i
+invariant-loop count gates bytes₀ i₀ bytes i = (i ≤ count) × Put gate_bytes (gate_at gates) (replicate 4000 0) 0 bytes i
 
 abbrev decreases-loop : tie.decreases-loop
 decreases-loop count gates bytes₀ i₀ bytes i = count - i
 
 loop-holds : tie.Need-loop-init invariant-loop decreases-loop
-loop-holds c = (omega arith, put-none gateBytes (gateAt c.args.t1) (replicate 4000 0) 0)
+loop-holds c = (omega arith, put-none gate_bytes (gate_at c.args.t1) (replicate 4000 0) 0)
 
 put-code-requires : tie.Need-put-code-requires invariant-loop decreases-loop
 put-code-requires c κs =
@@ -32,7 +32,7 @@ loop-again c =
     let d = replicate {A = ℕ} 4000 0 in
     let n : length d ≡ 4000 = length-replicate {A = ℕ} 4000 0 in (
       omega arith,
-      put_next gateBytes (gateAt cs) d 0 10 (λ i. length-gateIn (get_or cs i 0)) l.bytes _ l.i (10 * l.i) (omega arith)
+      put_next gate_bytes (gate_at cs) d 0 10 (λ i. length-gate_in (get_or cs i 0)) l.bytes _ l.i (10 * l.i) (omega arith)
           (omega arith) c.put-code.ensures
           l.invariant.1,
     )

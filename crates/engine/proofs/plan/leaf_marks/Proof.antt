@@ -4,13 +4,13 @@ use mathlib.Core.List.{List}
 use mathlib.Core.Path.{◌≡◌, ◌∙◌, ap}
 use native.Mathlib.Omega.{arith}
 use lib.ListN.{set}
-use Rattle.engine.specs.Inner.Plan.{leavesFrom}
+use Rattle.engine.specs.Inner.Plan.{leaves_from}
 use Rattle.engine.proofs.Laws.PlanCode.{leaves_none, leaves-next}
 use Rattle.engine.proofs.plan.leaf_marks.Statement.{statement}
 use Rattle.engine.proofs.plan.leaf_marks.Tie as tie
 
 abbrev invariant-loop : tie.invariant-loop
-invariant-loop from k marks₀ i₀ marks i = (i ≤ k) × (marks ≡ leavesFrom from i)
+invariant-loop from k marks₀ i₀ marks i = (i ≤ k) × (marks ≡ leaves_from from i)
 
 abbrev decreases-loop : tie.decreases-loop
 decreases-loop from k marks₀ i₀ marks i = k - i

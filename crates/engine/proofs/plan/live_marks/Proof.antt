@@ -5,7 +5,7 @@ use mathlib.Core.Path.{sym, ◌∙◌, ap}
 use mathlib.Core.List.{List}
 use native.Mathlib.Omega.{arith}
 use lib.ListN.{take}
-use Rattle.engine.specs.Inner.Plan.{markedAll, liveFrom, liveMarks}
+use Rattle.engine.specs.Inner.Plan.{marked_all, live_from, live_marks}
 use Rattle.engine.proofs.plan.live_marks.Statement.{statement}
 use Rattle.engine.proofs.plan.live_marks.Tie as tie
 
@@ -43,7 +43,7 @@ mark-live-requires : tie.Need-mark-live-requires
 mark-live-requires c κs = c.before.before.before.before.before.before.before.requires.0.0
 
 returns : tie.Need-returns
-unfolding liveMarks
+unfolding live_marks
 returns c =
     let d = c.before in
     let a = d.before.before.before.before.before.before.before.args in
@@ -51,10 +51,10 @@ returns c =
     let is = take a.reads a.t6 in
     let cs = take a.count a.gates.now in
     c.mark-live.ensures
-    ∙ ap (λ (ms : List ℕ). liveFrom ms cs)
+    ∙ ap (λ (ms : List ℕ). live_from ms cs)
     (d.mark-nets3.ensures
-    ∙ ap (λ (ms : List ℕ). markedAll ms is)
-    (d.before.before.mark-nets2.ensures ∙ ap (λ (ms : List ℕ). markedAll ms gs) d.before.before.before.before.mark-nets.ensures))
+    ∙ ap (λ (ms : List ℕ). marked_all ms is)
+    (d.before.before.mark-nets2.ensures ∙ ap (λ (ms : List ℕ). marked_all ms gs) d.before.before.before.before.mark-nets.ensures))
 
 pub live-marks-spec : {M : Type 1} → statement M
 live-marks-spec =

@@ -3,13 +3,13 @@ use Prim.Native.Nat.{◌≤◌}
 use mathlib.Core.Path.{◌≡◌, ◌∙◌}
 use native.Mathlib.Omega.{arith}
 use lib.ListN.{take, drop}
-use Rattle.engine.specs.Inner.Plan.{liveFrom}
+use Rattle.engine.specs.Inner.Plan.{live_from}
 use Rattle.engine.proofs.Laws.PlanCode.{live-none, live-marked, live-unmarked}
 use Rattle.engine.proofs.plan.mark_live.Statement.{statement}
 use Rattle.engine.proofs.plan.mark_live.Tie as tie
 
 abbrev invariant-loop : tie.invariant-loop
-invariant-loop gates count marks₀ i₀ marks i = (i ≤ count) × (marks ≡ liveFrom marks₀ (drop i (take count gates)))
+invariant-loop gates count marks₀ i₀ marks i = (i ≤ count) × (marks ≡ live_from marks₀ (drop i (take count gates)))
 
 abbrev decreases-loop : tie.decreases-loop
 decreases-loop gates count marks₀ i₀ marks i = i

@@ -4,14 +4,14 @@ use Prim.Native.Nat.{◌-◌}
 use mathlib.Core.Path.{◌≡◌, refl, sym, ◌∙◌}
 use native.Mathlib.Omega.{arith}
 use lib.ListN.{take, drop}
-use Rattle.engine.specs.Inner.Plan.{markedAll}
-use Rattle.engine.proofs.Laws.PlanCode.{markedAll-next, markedAll-end}
+use Rattle.engine.specs.Inner.Plan.{marked_all}
+use Rattle.engine.proofs.Laws.PlanCode.{marked_all-next, marked_all-end}
 use Rattle.engine.proofs.plan.mark_nets.Statement.{statement}
 use Rattle.engine.proofs.plan.mark_nets.Tie as tie
 
 abbrev invariant-loop : tie.invariant-loop
 invariant-loop nets count marks₀ i₀ marks i =
-    markedAll marks (drop i (take count nets)) ≡ markedAll marks₀ (take count nets)
+    marked_all marks (drop i (take count nets)) ≡ marked_all marks₀ (take count nets)
 
 abbrev decreases-loop : tie.decreases-loop
 decreases-loop nets count marks₀ i₀ marks i = count - i
@@ -26,13 +26,13 @@ loop-again : tie.Need-loop-preserved invariant-loop decreases-loop
 loop-again c =
     let a = c.before.before.before.args in
     let l = c.before.before.loop in
-    markedAll-next l.marks a.nets.now a.count l.i c.before.before.before.requires.0 (omega arith) ∙ l.invariant
+    marked_all-next l.marks a.nets.now a.count l.i c.before.before.before.requires.0 (omega arith) ∙ l.invariant
 
 returns : tie.Need-returns invariant-loop decreases-loop
 returns c =
     let a = c.before.before.args in
     let l = c.before.loop in
-    sym (markedAll-end l.marks a.nets.now a.count l.i c.before.before.requires.0 (omega arith)) ∙ l.invariant
+    sym (marked_all-end l.marks a.nets.now a.count l.i c.before.before.requires.0 (omega arith)) ∙ l.invariant
 
 pub mark-nets-spec : {M : Type 1} → statement M
 mark-nets-spec =

@@ -6,7 +6,7 @@ use native.Mathlib.Omega.{arith}
 use lib.ListN.{length, get_or, set, length-set}
 use lib.Seq.{slice}
 use Rattle.engine.specs.Inner.Packed.{own, evaluated}
-use Rattle.engine.specs.Inner.Ranges.{codeTernary}
+use Rattle.engine.specs.Inner.Ranges.{code_ternary}
 use Rattle.engine.proofs.Laws.Ranges.{evaluated-next, evaluated-end}
 use Rattle.engine.proofs.ranges.eval_partial.Statement.{statement}
 use Rattle.engine.proofs.ranges.eval_partial.Tie as tie
@@ -14,7 +14,7 @@ use Rattle.engine.proofs.ranges.eval_partial.Tie as tie
 abbrev invariant-loop : tie.invariant-loop
 invariant-loop gates count known₀ i₀ known i =
     (length known ≡ 1024)
-    × (evaluated codeTernary known (slice i count gates) ≡ evaluated codeTernary known₀ (slice 0 count gates))
+    × (evaluated code_ternary known (slice i count gates) ≡ evaluated code_ternary known₀ (slice 0 count gates))
 
 abbrev decreases-loop : tie.decreases-loop
 decreases-loop gates count known₀ i₀ known i = count - i
@@ -29,9 +29,9 @@ loop-again c =
     let l = t.before.loop in
     let g = get_or a.gates.now l.i 0 in (
       length-set l.known (own g) c.ternary-gate.result ∙ l.invariant.0,
-      ap (λ (x : ℕ). evaluated codeTernary (set l.known (own g) x) (slice (l.i + 1) a.count a.gates.now))
+      ap (λ (x : ℕ). evaluated code_ternary (set l.known (own g) x) (slice (l.i + 1) a.count a.gates.now))
           c.ternary-gate.ensures
-          ∙ evaluated-next codeTernary l.known a.gates.now l.i a.count (omega arith) (omega arith)
+          ∙ evaluated-next code_ternary l.known a.gates.now l.i a.count (omega arith) (omega arith)
           ∙ l.invariant.1,
     )
 
@@ -39,7 +39,7 @@ returns : tie.Need-returns invariant-loop decreases-loop
 returns c =
     let a = c.before.before.before.args in
     let l = c.before.loop in
-    sym (evaluated-end codeTernary l.known a.gates.now l.i a.count (omega arith) (omega arith)) ∙ l.invariant.1
+    sym (evaluated-end code_ternary l.known a.gates.now l.i a.count (omega arith) (omega arith)) ∙ l.invariant.1
 
 pub eval-partial-spec : {M : Type 1} → statement M
 eval-partial-spec =

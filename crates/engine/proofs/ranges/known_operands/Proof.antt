@@ -6,14 +6,14 @@ use mathlib.Core.Logic.{⊎_elim}
 use mathlib.Core.Path.{◌≡◌, refl, ◌∙◌}
 use native.Mathlib.Omega.{arith}
 use Prim.Native.Nat.{◌+◌, ◌-◌, ◌/◌, ◌%◌, ◌≤◌}
-use Rattle.records.specs.Netlist.{netAt}
+use Rattle.records.specs.Netlist.{net_at}
 use Rattle.engine.proofs.Laws.Partial.{ReadTo, read_none, read-used, read-unused, read-end}
 use Rattle.engine.proofs.ranges.known_operands.Statement.{statement}
 use Rattle.engine.proofs.ranges.known_operands.Tie as tie
 
 abbrev invariant-loop : tie.invariant-loop
 invariant-loop c known r₀ rest₀ count i₀ r rest i =
-    (i ≤ 4) × (length r ≡ 4) × ReadTo (netAt known) count (c / 131072) r rest i
+    (i ≤ 4) × (length r ≡ 4) × ReadTo (net_at known) count (c / 131072) r rest i
 
 abbrev decreases-loop : tie.decreases-loop
 decreases-loop c known r₀ rest₀ count i₀ r rest i = 4 - i
@@ -21,14 +21,14 @@ decreases-loop c known r₀ rest₀ count i₀ r rest i = 4 - i
 loop-holds : tie.Need-loop-init invariant-loop decreases-loop
 loop-holds c =
     let x = c.args in
-    (omega arith, refl, read_none (netAt x.known.now) (x.c / 16 % 8) (x.c / 131072) (0 ∷ 0 ∷ 0 ∷ 0 ∷ []))
+    (omega arith, refl, read_none (net_at x.known.now) (x.c / 16 % 8) (x.c / 131072) (0 ∷ 0 ∷ 0 ∷ 0 ∷ []))
 
 loop-again : tie.Need-loop-preserved invariant-loop decreases-loop
-unfolding netAt
+unfolding net_at
 loop-again c =
     let x = c.before.before.before.args in
     let t = c.before.before.loop in
-    let f = netAt x.known.now in
+    let f = net_at x.known.now in
     let n = x.c / 16 % 8 in
     let z = x.c / 131072 in
     let next : (length c.if1.r ≡ 4) × ReadTo f n z c.if1.r (t.rest / 1024) (t.i + 1) =
@@ -46,7 +46,7 @@ returns : tie.Need-returns invariant-loop decreases-loop
 returns c =
     let x = c.before.before.args in
     let t = c.before.loop in
-    read-end (netAt x.known.now) (x.c / 16 % 8) (x.c / 131072) t.r t.rest t.i t.invariant.2 (omega arith)
+    read-end (net_at x.known.now) (x.c / 16 % 8) (x.c / 131072) t.r t.rest t.i t.invariant.2 (omega arith)
 
 pub known-operands-spec : {M : Type 1} → statement M
 known-operands-spec =

@@ -4,13 +4,13 @@ use Prim.Native.Nat.{◌-◌, ◌≤◌}
 use mathlib.Core.Path.{◌≡◌, sym}
 use native.Mathlib.Nat.{zero-add}
 use native.Mathlib.Omega.{arith}
-use Rattle.engine.specs.Inner.Ranges.{partialInput}
+use Rattle.engine.specs.Inner.Ranges.{partial_input}
 use Rattle.engine.proofs.Laws.Partial.{Filling, filling-none, filling-next}
 use Rattle.engine.proofs.ranges.load_partial.Statement.{statement}
 use Rattle.engine.proofs.ranges.load_partial.Tie as tie
 
 abbrev invariant-loop : tie.invariant-loop
-invariant-loop inputs low prefix known₀ i₀ known i = (i ≤ inputs) × Filling known₀ 0 (partialInput low prefix) known i
+invariant-loop inputs low prefix known₀ i₀ known i = (i ≤ inputs) × Filling known₀ 0 (partial_input low prefix) known i
 
 abbrev decreases-loop : tie.decreases-loop
 decreases-loop inputs low prefix known₀ i₀ known i = inputs - i
@@ -24,7 +24,7 @@ loop-again c =
     let a = t.before.before.args in
     let l = t.before.loop in (
       omega arith,
-      filling-next a.known.now 0 (partialInput a.low a.prefix) l.known l.i l.i c.partial-input.result
+      filling-next a.known.now 0 (partial_input a.low a.prefix) l.known l.i l.i c.partial-input.result
           (sym (zero-add l.i))
           (omega arith)
           c.partial-input.ensures

@@ -7,7 +7,7 @@ use native.Mathlib.Omega.{arith}
 use borrow.Author.Rules.{rules}
 use lib.ListN.{length, replicate}
 use Rattle.engine.specs.Eval.{bits}
-use Rattle.engine.specs.Inner.Ranges.{partialInput, InRange, Completed}
+use Rattle.engine.specs.Inner.Ranges.{partial_input, InRange, Completed}
 use Rattle.engine.proofs.Laws.Partial.{leaves-loaded}
 use Rattle.engine.proofs.Laws.Ranges.{length-loaded, rectifies-range}
 use Rattle.engine.proofs.ranges.settled.Statement.{statement}
@@ -20,7 +20,7 @@ load-unknown-requires c κs =
     let a = s.args in
     let h = s.pre in (
       omega (arith, h.inputs, h.targets),
-      length-loaded (replicate 1024 0) _ 0 a.plan.inputs (partialInput a.low a.prefix) l.load-partial.ensures
+      length-loaded (replicate 1024 0) _ 0 a.plan.inputs (partial_input a.low a.prefix) l.load-partial.ensures
           (omega (arith, h.inputs)),
     )
 

@@ -9,7 +9,7 @@ use borrow.Author.Tests.{eqb-true, eqb-false, not-false}
 use lib.ListN.{length, length-replicate}
 use lib.Pow.{pow_mono}
 use Rattle.records.specs.Job.{Job}
-use Rattle.engine.specs.Support.{candidateNets}
+use Rattle.engine.specs.Support.{candidate_nets}
 use Rattle.engine.specs.Inner.Plan.{TurnsOf}
 use Rattle.engine.specs.Inner.Search.{SetsTo, SoleTable}
 use Rattle.engine.specs.declared.plan.Plan.{Plan}
@@ -22,7 +22,7 @@ use Rattle.engine.proofs.search.sets_of_inputs.Tie as tie
 
 -- the sets are those after the inputs below x, for every job of the plan
 abbrev SetsAfter : Plan → List ℕ → ℕ → List ℕ → ℕ → Type 0
-SetsAfter p gates skipped sets x = (j : Job) → TurnsOf j (candidateNets j) p gates → SetsTo j x skipped sets
+SetsAfter p gates skipped sets x = (j : Job) → TurnsOf j (candidate_nets j) p gates → SetsTo j x skipped sets
 
 abbrev invariant-loop : tie.invariant-loop
 invariant-loop gates plan size words₀ sets₀ pace₀ table₀ tries₀ skipped₀ b₀ words sets pace table tries skipped b =

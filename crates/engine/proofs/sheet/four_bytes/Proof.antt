@@ -1,13 +1,13 @@
 -- `engine::sheet::four_bytes` meets its contract. Assumes nothing.
 use mathlib.Core.Path.{refl}
 use borrow.Author.Rules.{rules}
-use Rattle.records.specs.Bytes.{bytePair}
-use Rattle.engine.specs.Verdict.{fourBytes}
+use Rattle.records.specs.Bytes.{byte_pair}
+use Rattle.engine.specs.Verdict.{four_bytes}
 use Rattle.engine.proofs.sheet.four_bytes.Statement.{statement}
 use Rattle.engine.proofs.sheet.four_bytes.Tie as tie
 
 returns : tie.Need-returns
-unfolding fourBytes bytePair
+unfolding four_bytes byte_pair
 returns c = refl
 
 pub four-bytes-spec : {M : Type 1} → statement M

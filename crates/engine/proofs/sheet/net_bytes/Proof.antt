@@ -5,14 +5,14 @@ use mathlib.Core.Path.{◌≡◌}
 use native.Mathlib.Omega.{arith}
 use borrow.Author.Rules.{rules}
 use lib.ListN.{length, get_or, replicate}
-use Rattle.records.specs.Bytes.{bytePair}
-use Rattle.records.proofs.Laws.Job.{Put, put-none, put_next, length-bytePair}
+use Rattle.records.specs.Bytes.{byte_pair}
+use Rattle.records.proofs.Laws.Job.{Put, put-none, put_next, length-byte_pair}
 use Rattle.engine.proofs.Laws.Sheet.{ten, pair-placed, pairs-take}
 use Rattle.engine.proofs.sheet.net_bytes.Statement.{statement}
 use Rattle.engine.proofs.sheet.net_bytes.Tie as tie
 
 abbrev invariant-loop : tie.invariant-loop
-invariant-loop nets len bytes₀ i₀ bytes i = (i ≤ len) × Put bytePair (λ k. get_or nets k 0) bytes₀ 0 bytes i
+invariant-loop nets len bytes₀ i₀ bytes i = (i ≤ len) × Put byte_pair (λ k. get_or nets k 0) bytes₀ 0 bytes i
 
 abbrev decreases-loop : tie.decreases-loop
 decreases-loop nets len bytes₀ i₀ bytes i = len - i
@@ -20,14 +20,14 @@ decreases-loop nets len bytes₀ i₀ bytes i = len - i
 loop-holds : tie.Need-loop-init invariant-loop decreases-loop
 loop-holds c =
     let a = c.before.args.support in
-    (omega arith, put-none bytePair (λ k. get_or a.nets k 0) _ 0)
+    (omega arith, put-none byte_pair (λ k. get_or a.nets k 0) _ 0)
 
 loop-again : tie.Need-loop-preserved invariant-loop decreases-loop
 loop-again c =
     let l = c.before.before.loop in
     let a = c.before.before.before.before.args.support in (
       omega arith,
-      put_next bytePair (λ k. get_or a.nets k 0) (replicate 20 0) 0 2 (λ i. length-bytePair _) l.bytes _ l.i (2 * l.i)
+      put_next byte_pair (λ k. get_or a.nets k 0) (replicate 20 0) 0 2 (λ i. length-byte_pair _) l.bytes _ l.i (2 * l.i)
           (omega arith) (omega arith) (pair-placed l.bytes (2 * l.i) _ c.two_bytes.ensures (omega arith)) l.invariant.1,
     )
 

@@ -1,7 +1,7 @@
 -- `engine::sheet::put_number` meets its contract. Assumes nothing.
 use native.Mathlib.Omega.{arith}
 use borrow.Author.Rules.{rules}
-use Rattle.engine.proofs.Laws.Sheet.{field-bytes, length-fourBytes}
+use Rattle.engine.proofs.Laws.Sheet.{field-bytes, length-four_bytes}
 use Rattle.engine.proofs.sheet.put_number.Statement.{statement}
 use Rattle.engine.proofs.sheet.put_number.Tie as tie
 
@@ -10,7 +10,7 @@ returns c =
     let s = c.before.before.before.before.before.before.before in
     let a = s.args in
     let f = c.before.before.before.before.before.four_bytes in
-    let n = length-fourBytes a.x in
+    let n = length-four_bytes a.x in
     field-bytes a.reply.now a.at a.tag f.result f.ensures (omega arith) (omega arith) c.before.before.put-field.ensures
 
 pub put-number-spec : {M : Type 1} → statement M

@@ -4,8 +4,8 @@ use borrow.Author.Rules.{rules}
 use lib.ListN.{take}
 use lib.Seq.{length-take-le}
 use Rattle.records.proofs.Laws.Job.{length-field}
-use Rattle.engine.specs.Verdict.{fourBytes}
-use Rattle.engine.proofs.Laws.Sheet.{number-end, put_then, length-fourBytes}
+use Rattle.engine.specs.Verdict.{four_bytes}
+use Rattle.engine.proofs.Laws.Sheet.{number-end, put_then, length-four_bytes}
 use Rattle.engine.proofs.sheet.put_unfixable.Statement.{statement}
 use Rattle.engine.proofs.sheet.put_unfixable.Tie as tie
 
@@ -23,7 +23,7 @@ returns c =
     let vs = take a.len a.list in
     let n = length-take-le a.len a.list (omega arith) in
     put_then u.put-number.ensures
-    (omega (arith, length-field 20 (fourBytes a.input), length-fourBytes a.input, length-field 19 vs))
+    (omega (arith, length-field 20 (four_bytes a.input), length-four_bytes a.input, length-field 19 vs))
     w.put-vectors.ensures
 
 pub put-unfixable-spec : {M : Type 1} → statement M

@@ -5,7 +5,7 @@ use borrow.Author.Rules.{rules}
 use borrow.Author.Tests.{leb-true, not-false}
 use native.Mathlib.Omega.{arith}
 use lib.Dec.{lit≤}
-use Rattle.engine.specs.Inner.Kernel.{rowValue}
+use Rattle.engine.specs.Inner.Kernel.{row_value}
 use Rattle.engine.specs.Inner.Note.{gathered}
 use Rattle.engine.proofs.Laws.Rows.{rows_whole}
 use Rattle.engine.proofs.Laws.Choice.{not-both}
@@ -40,7 +40,7 @@ returns-2 c =
           sole-kept s.args.readings s.args.table.now t.table-rows.result row.result t.table-rows.ensures.1
           (λ y l. sym (r.row_at.ensures y l) ∙ z.zero_row.ensures (not-false z.zero_row.result e.if1.false) y l)
           (λ y l.
-          ap (λ (n : ℕ). max (rowValue row.result y) n) (sym (f.row-at2.ensures y l))
+          ap (λ (n : ℕ). max (row_value row.result y) n) (sym (f.row-at2.ensures y l))
           ∙ sym (u.join-rows.ensures y l)
           ∙ c.first-zero.ensures.ones y (omega (arith, leb-true)))
           a,

@@ -4,7 +4,7 @@ use borrow.Author.Rules.{rules}
 use native.Mathlib.Omega.{arith}
 use lib.ListN.{get_or}
 use Rattle.engine.specs.Inner.Kernel.{Filled}
-use Rattle.engine.specs.Inner.Table.{noteFrom}
+use Rattle.engine.specs.Inner.Table.{note_from}
 use Rattle.engine.proofs.Laws.Fill.{fill_none, fill-next, fill-at}
 use Rattle.engine.proofs.Laws.Notes.{notes-sets}
 use Rattle.engine.proofs.Laws.Rule.{readings-many}
@@ -13,7 +13,7 @@ use Rattle.engine.proofs.table.fill_notes.Tie as tie
 
 abbrev invariant-loop : tie.invariant-loop
 invariant-loop sets len count notes₀ r₀ notes r =
-    (r ≤ count) × Filled (λ q. noteFrom (get_or sets q 0)) 0 r notes₀ notes
+    (r ≤ count) × Filled (λ q. note_from (get_or sets q 0)) 0 r notes₀ notes
 
 abbrev decreases-loop : tie.decreases-loop
 decreases-loop sets len count notes₀ r₀ notes r = count - r

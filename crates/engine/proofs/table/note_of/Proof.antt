@@ -8,13 +8,13 @@ use lib.Pow.{pow_mono}
 use Rattle.engine.specs.Choice.{or_zero}
 use Rattle.engine.specs.Eval.{bit}
 use Rattle.engine.specs.Inner.List.{lowest}
-use Rattle.engine.specs.Inner.Table.{noteFrom}
+use Rattle.engine.specs.Inner.Table.{note_from}
 use Rattle.engine.proofs.Laws.VectorSets.{lowest-lt}
 use Rattle.engine.proofs.table.note_of.Statement.{statement}
 use Rattle.engine.proofs.table.note_of.Tie as tie
 
 returns : tie.Need-returns
-unfolding noteFrom bit
+unfolding note_from bit
 returns c = rw (ne_eqb (bit 16 c.before.args.set) 0 c.if1.true)
 
 shl-if2 : tie.Need-overflow-shl-if2
@@ -30,7 +30,7 @@ power c =
     e ∙ ap (λ (k : ℕ). 2 ^ k) c.lowest-of.ensures
 
 returns-2 : tie.Need-returns-2
-unfolding noteFrom bit
+unfolding note_from bit
 returns-2 c =
     let a = c.before.before.before.args in
     rw (
@@ -39,7 +39,7 @@ returns-2 c =
     )
 
 returns-3 : tie.Need-returns-3
-unfolding noteFrom bit
+unfolding note_from bit
 returns-3 c =
     let a = c.before.before.before.args in
     rw (

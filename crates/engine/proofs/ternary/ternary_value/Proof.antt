@@ -6,16 +6,16 @@ use mathlib.Core.Logic.{⊎_elim}
 use mathlib.Core.Path.{◌≡◌, sym, ◌∙◌, ap}
 use native.Mathlib.Omega.{arith}
 use Prim.Native.Nat.{ℕ, suc, ◌-◌, ◌%◌, ◌≤◌}
-use Rattle.records.specs.Gate.{gateValue, conj}
-use Rattle.records.proofs.Laws.Gate.{gateValue-nil}
-use Rattle.engine.specs.Ternary.{ternaryValue}
-use Rattle.engine.proofs.Laws.Ternary.{knowns, length-knowns, ternaries-knowns, ternaryValue-high, known-none, known-back, fold-inverts}
+use Rattle.records.specs.Gate.{gate_value, conj}
+use Rattle.records.proofs.Laws.Gate.{gate_value-nil}
+use Rattle.engine.specs.Ternary.{ternary_value}
+use Rattle.engine.proofs.Laws.Ternary.{knowns, length-knowns, ternaries-knowns, ternary_value-high, known-none, known-back, fold-inverts}
 use Rattle.engine.proofs.ternary.ternary_value.Statement.{statement}
 use Rattle.engine.proofs.ternary.ternary_value.Tie as tie
 
 abbrev invariant-loop : tie.invariant-loop
 invariant-loop kind count operands plain table r₀ i₀ r i =
-    (i ≤ length (knowns count operands)) × (r ≡ ternaryValue plain (drop i (knowns count operands)))
+    (i ≤ length (knowns count operands)) × (r ≡ ternary_value plain (drop i (knowns count operands)))
 
 abbrev decreases-loop : tie.decreases-loop
 decreases-loop kind count operands plain table r₀ i₀ r i = i
@@ -23,7 +23,7 @@ decreases-loop kind count operands plain table r₀ i₀ r i = i
 returns : tie.Need-returns invariant-loop decreases-loop
 returns c =
     let x = c.before.args in
-    sym (ternaryValue-high x.kind (knowns x.count x.t3) c.if1.true (ternaries-knowns x.count x.t3))
+    sym (ternary_value-high x.kind (knowns x.count x.t3) c.if1.true (ternaries-knowns x.count x.t3))
 
 -- the plain kind of kind k
 abbrev plain_of : ℕ → ℕ
@@ -33,11 +33,11 @@ even : (k : ℕ) → plain_of k % 2 ≡ 0
 even k = omega arith
 
 -- before the first turn no operand is met, and i is how many there are
-none : (c : tie.Joined2 invariant-loop decreases-loop) → c.if2.r ≡ gateValue (plain_of c.before.before.before.args.kind) []
-unfolding gateValue conj
+none : (c : tie.Joined2 invariant-loop decreases-loop) → c.if2.r ≡ gate_value (plain_of c.before.before.before.args.kind) []
+unfolding gate_value conj
 none c =
     let k = c.before.before.before.args.kind in
-    ⊎_elim (λ w. rw (w.0.taken, w.1)) (λ w. w.1 ∙ sym (gateValue-nil (plain_of k) (even k) w.0.left)) c.if2.branch
+    ⊎_elim (λ w. rw (w.0.taken, w.1)) (λ w. w.1 ∙ sym (gate_value-nil (plain_of k) (even k) w.0.left)) c.if2.branch
 
 all : (c : tie.Joined3 invariant-loop decreases-loop) → let x = c.before.before.before.before.args in
     c.if3.i ≡ length (knowns x.count x.t3)
@@ -79,12 +79,12 @@ returns-2 c =
     let x = l.before.before.before.before.before.args in
     let vs = knowns x.count x.t3 in
     let z : l.loop.i ≡ 0 = omega arith in
-    let r : l.loop.r ≡ ternaryValue (plain_of x.kind) vs = rw z at l.loop.invariant.1 in
+    let r : l.loop.r ≡ ternary_value (plain_of x.kind) vs = rw z at l.loop.invariant.1 in
     let k : x.kind ≡ suc (plain_of x.kind) = omega arith in
     c.ternary-entry2.ensures
     ∙ rw (c.before.before.ternary-table2.ensures, c.before.wide3.ensures, r)
     (sym (fold-inverts (plain_of x.kind) vs (even x.kind) (omega arith) (ternaries-knowns x.count x.t3)))
-    ∙ ap (λ (n : ℕ). ternaryValue n vs) (sym k)
+    ∙ ap (λ (n : ℕ). ternary_value n vs) (sym k)
 
 returns-3 : tie.Need-returns-3 invariant-loop decreases-loop
 returns-3 c =
@@ -92,7 +92,7 @@ returns-3 c =
     let x = l.before.before.before.before.before.args in
     let z : l.loop.i ≡ 0 = omega arith in
     let k : plain_of x.kind ≡ x.kind = omega arith in
-    (rw z at l.loop.invariant.1) ∙ ap (λ (n : ℕ). ternaryValue n (knowns x.count x.t3)) k
+    (rw z at l.loop.invariant.1) ∙ ap (λ (n : ℕ). ternary_value n (knowns x.count x.t3)) k
 
 pub ternary-value-spec : {M : Type 1} → statement M
 ternary-value-spec =

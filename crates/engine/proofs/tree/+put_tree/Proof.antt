@@ -5,9 +5,9 @@ use mathlib.Core.List.{List}
 use mathlib.Core.Logic.{⊎_elim}
 use native.Mathlib.Omega.{arith}
 use borrow.Author.Rules.{rules}
-use Rattle.records.specs.Gate.{gateOf}
-use Rattle.engine.specs.Tree.{buildsLow, buildsHigh, constant as constant_of}
-use Rattle.engine.specs.Inner.Tree.{columnPart, treeStart}
+use Rattle.records.specs.Gate.{gate_of}
+use Rattle.engine.specs.Tree.{builds_low, builds_high, constant as constant_of}
+use Rattle.engine.specs.Inner.Tree.{column_part, tree_start}
 use Rattle.engine.specs.declared.tree.TreeStart.TheVariants as TreeStart
 use Rattle.engine.proofs.Laws.Tree.{HalfPut, gates-put-same, deep-equal, deep-split, part_low, part-high, kind-constant}
 use Rattle.engine.proofs.Laws.Tree.{room-constant, room-equal, room-low, room-high, room-join, half-put, half-none}
@@ -56,36 +56,36 @@ calls t = (
 )
 
 -- the column that a call is about
-abbrev columnAt : (t : ℕ) → put-tree-lts.Start (calls t) (put-tree-at t) put-tree.Post → List ℕ
-columnAt t s = let a = s.args in columnPart a.table.now a.at a.k a.t
+abbrev column_at : (t : ℕ) → put-tree-lts.Start (calls t) (put-tree-at t) put-tree.Post → List ℕ
+column_at t s = let a = s.args in column_part a.table.now a.at a.k a.t
 
 -- where the column is constant, where its halves are equal, and where they are not
 constant : (t : ℕ) (c : put-tree-lts.After-start (calls t) (put-tree-at t) put-tree.Post)
     → let s = c.before.before.before.before in
-    treeStart s.args.k (columnAt t s) ≡ TreeStart.Constant c.start.given.0.0
+    tree_start s.args.k (column_at t s) ≡ TreeStart.Constant c.start.given.0.0
 constant t c = sym c.before.before.tree-start.ensures ∙ c.start.given.1
 
 equal : (t : ℕ) (c : put-tree-lts.After-enum-told (calls t) (put-tree-at t) put-tree.Post)
     → let s = c.before.before.before.before in
-    (treeStart s.args.k (columnAt t s) ≡ TreeStart.Equal) × (0 < s.args.k)
+    (tree_start s.args.k (column_at t s) ≡ TreeStart.Equal) × (0 < s.args.k)
 equal t c =
     let s = c.before.before.before.before in
     let q = sym c.before.before.tree-start.ensures ∙ c.enum_told.given.1 in
-    (q, deep-equal s.args.k (columnAt t s) q)
+    (q, deep-equal s.args.k (column_at t s) q)
 
 split : (t : ℕ) (c : put-tree-lts.After-start2 (calls t) (put-tree-at t) put-tree.Post)
     → let s = c.before.before.before.before in
-    (treeStart s.args.k (columnAt t s) ≡ TreeStart.Split c.start2.given.0.0) × (0 < s.args.k)
+    (tree_start s.args.k (column_at t s) ≡ TreeStart.Split c.start2.given.0.0) × (0 < s.args.k)
 split t c =
     let s = c.before.before.before.before in
     let q = sym c.before.before.tree-start.ensures ∙ c.start2.given.1 in
-    (q, deep-split s.args.k (columnAt t s) _ q)
+    (q, deep-split s.args.k (column_at t s) _ q)
 
 -- what is put of each half
 low-put : (t : ℕ) (c : put-tree-lts.Joined1 (calls t) (put-tree-at t) put-tree.Post)
     → let w = c.before.before.before.before in
     let a = w.before.before.before.before.args in
-    HalfPut (buildsLow w.start2.given.0.0) a.table.now a.at a.k a.t a.base a.t5 a.count
+    HalfPut (builds_low w.start2.given.0.0) a.table.now a.at a.k a.t a.base a.t5 a.count
     a.gates.now
     c.if1.low
     c.if1.gates
@@ -101,7 +101,7 @@ high-put : (t : ℕ) (c : put-tree-lts.Joined2 (calls t) (put-tree-at t) put-tre
     let h = l.before.before in
     let w = h.before.before in
     let a = w.before.before.before.before.args in
-    HalfPut (buildsHigh w.start2.given.0.0) a.table.now (a.at + h.reading-count.result) a.k a.t a.base a.t5
+    HalfPut (builds_high w.start2.given.0.0) a.table.now (a.at + h.reading-count.result) a.k a.t a.base a.t5
     l.if1.low
     l.if1.gates
     c.if2.high
@@ -134,8 +134,8 @@ put-tree-add-gate-requires t c κs =
     let w = c.before.before in
     let s = w.before.before.before.before in
     let q = constant t w in (
-      room-constant s.args.count s.args.k (columnAt t s) _ q s.requires.1.1,
-      omega (arith, kind-constant s.args.k (columnAt t s) _ q),
+      room-constant s.args.count s.args.k (column_at t s) _ q s.requires.1.1,
+      omega (arith, kind-constant s.args.k (column_at t s) _ q),
       omega arith,
       omega arith,
       omega arith,
@@ -249,13 +249,13 @@ put-tree-put-join-requires t c κs =
     (high-put t g)
 
 put-tree-returns : (t : ℕ) → put-tree-lts.Need-returns (calls t) (put-tree-at t) put-tree.Post
-unfolding gateOf constant_of
+unfolding gate_of constant_of
 put-tree-returns t c =
     let w = c.before.before.before in
     let s = w.before.before.before.before in
     let a = s.args in
     gates-put-same c.add-gate.ensures
-    (sym (tree-constant a.k (a.base + a.count) a.t5 (columnAt t s) _ (constant t w)))
+    (sym (tree-constant a.k (a.base + a.count) a.t5 (column_at t s) _ (constant t w)))
 
 put-tree-returns-2 : (t : ℕ) → put-tree-lts.Need-returns-2 (calls t) (put-tree-at t) put-tree.Post
 put-tree-returns-2 t c =

@@ -6,13 +6,13 @@ use mathlib.Core.List.{List}
 use native.Mathlib.Omega.{arith}
 use borrow.Author.Rules.{rules}
 use Rattle.engine.specs.Eval.{bits}
-use Rattle.engine.specs.Tree.{buildsLow, buildsHigh, treeSize}
-use Rattle.engine.specs.Inner.Tree.{columnPart, treeStart}
+use Rattle.engine.specs.Tree.{builds_low, builds_high, tree_size}
+use Rattle.engine.specs.Inner.Tree.{column_part, tree_start}
 use Rattle.engine.specs.declared.tree.TreeStart.TheVariants as TreeStart
 use Rattle.engine.proofs.Laws.Tree.{size-constant, size-equal, size-split, deep-equal, deep-split}
-use Rattle.engine.proofs.Laws.Tree.{part_low, part-high, builtSize, half-came, half-small}
+use Rattle.engine.proofs.Laws.Tree.{part_low, part-high, built_size, half-came, half-small}
 use Rattle.engine.proofs.Laws.TreeWord.{column-lt, bits-column}
-use Rattle.engine.proofs.Laws.Join.{joinSize-bounds}
+use Rattle.engine.proofs.Laws.Join.{join_size-bounds}
 use borrow.Fn.Kinds.{In}
 use borrow.Fn.PlainCycle.{Measures, is, falls, and}
 use Rattle.engine.proofs.tree.tree_size.Reads as tree-size
@@ -60,37 +60,37 @@ calls t = (
 )
 
 -- the column that a call is about
-abbrev columnAt : (t : ℕ) → tree-size-lts.Start (calls t) (tree-size-at t) tree-size.Post → List ℕ
-columnAt t s = let a = s.args in columnPart a.table.now a.at a.k a.t
+abbrev column_at : (t : ℕ) → tree-size-lts.Start (calls t) (tree-size-at t) tree-size.Post → List ℕ
+column_at t s = let a = s.args in column_part a.table.now a.at a.k a.t
 
 -- where its halves are equal, and where they are not
 equal : (t : ℕ) (c : tree-size-lts.After-enum-told2 (calls t) (tree-size-at t) tree-size.Post)
     → let s = c.before.before.before.before.before in
-    (treeStart s.args.k (columnAt t s) ≡ TreeStart.Equal) × (0 < s.args.k)
+    (tree_start s.args.k (column_at t s) ≡ TreeStart.Equal) × (0 < s.args.k)
 equal t c =
     let s = c.before.before.before.before.before in
     let q = sym c.before.before.tree-start.ensures ∙ c.enum-told2.given.1 in
-    (q, deep-equal s.args.k (columnAt t s) q)
+    (q, deep-equal s.args.k (column_at t s) q)
 
 split : (t : ℕ) (c : tree-size-lts.After-start (calls t) (tree-size-at t) tree-size.Post)
     → let s = c.before.before.before.before.before in
-    (treeStart s.args.k (columnAt t s) ≡ TreeStart.Split c.start.given.0.0) × (0 < s.args.k)
+    (tree_start s.args.k (column_at t s) ≡ TreeStart.Split c.start.given.0.0) × (0 < s.args.k)
 split t c =
     let s = c.before.before.before.before.before in
     let q = sym c.before.before.tree-start.ensures ∙ c.start.given.1 in
-    (q, deep-split s.args.k (columnAt t s) _ q)
+    (q, deep-split s.args.k (column_at t s) _ q)
 
 -- how many gates each half has
 low-size : (t : ℕ) (c : tree-size-lts.Joined2 (calls t) (tree-size-at t) tree-size.Post)
     → let w = c.before.before.before.before in
     let a = w.before.before.before.before.before.args in
     c.if2.low
-    ≡ builtSize (buildsLow w.start.given.0.0) (treeSize (a.k - 1) (columnPart a.table.now a.at (a.k - 1) a.t))
+    ≡ built_size (builds_low w.start.given.0.0) (tree_size (a.k - 1) (column_part a.table.now a.at (a.k - 1) a.t))
 low-size t c =
     let w = c.before.before.before.before in
     let a = w.before.before.before.before.before.args in
-    let n = treeSize (a.k - 1) (columnPart a.table.now a.at (a.k - 1) a.t) in
-    half-came (buildsLow w.start.given.0.0) n c.before.builds-low.ensures
+    let n = tree_size (a.k - 1) (column_part a.table.now a.at (a.k - 1) a.t) in
+    half-came (builds_low w.start.given.0.0) n c.before.builds-low.ensures
     (⊎_elim (λ w. inl (w.0.taken, w.2 ∙ w.1.ensures)) (λ w. inr (w.0.left, w.1)) c.if2.branch)
 
 high-size : (t : ℕ) (c : tree-size-lts.Joined3 (calls t) (tree-size-at t) tree-size.Post)
@@ -98,14 +98,14 @@ high-size : (t : ℕ) (c : tree-size-lts.Joined3 (calls t) (tree-size-at t) tree
     let w = h.before.before in
     let a = w.before.before.before.before.before.args in
     c.if3.high
-    ≡ builtSize (buildsHigh w.start.given.0.0)
-    (treeSize (a.k - 1) (columnPart a.table.now (a.at + h.reading-count.result) (a.k - 1) a.t))
+    ≡ built_size (builds_high w.start.given.0.0)
+    (tree_size (a.k - 1) (column_part a.table.now (a.at + h.reading-count.result) (a.k - 1) a.t))
 high-size t c =
     let h = c.before.before.before.before in
     let w = h.before.before in
     let a = w.before.before.before.before.before.args in
-    let n = treeSize (a.k - 1) (columnPart a.table.now (a.at + h.reading-count.result) (a.k - 1) a.t) in
-    half-came (buildsHigh w.start.given.0.0) n c.before.builds-high.ensures
+    let n = tree_size (a.k - 1) (column_part a.table.now (a.at + h.reading-count.result) (a.k - 1) a.t) in
+    half-came (builds_high w.start.given.0.0) n c.before.builds-high.ensures
     (⊎_elim (λ w. inl (w.0.taken, w.2 ∙ w.1.ensures)) (λ w. inr (w.0.left, w.1)) c.if3.branch)
 
 -- .. which is not many
@@ -117,9 +117,9 @@ sizes-small t c =
     let s = h.before.before.before.before.before.before.before in
     let a = s.args in
     let m : a.k - 1 ≤ 10 = omega (arith, s.requires.1.most) in
-    let at : ℕ → List ℕ = λ i. columnPart a.table.now i (a.k - 1) a.t in (
-      rw (low-size t c.before.before) (half-small (buildsLow j) (a.k - 1) (at a.at) m),
-      rw (high-size t c) (half-small (buildsHigh j) (a.k - 1) (at (a.at + h.reading-count.result)) m),
+    let at : ℕ → List ℕ = λ i. column_part a.table.now i (a.k - 1) a.t in (
+      rw (low-size t c.before.before) (half-small (builds_low j) (a.k - 1) (at a.at) m),
+      rw (high-size t c) (half-small (builds_high j) (a.k - 1) (at (a.at + h.reading-count.result)) m),
     )
 
 -- up to 64 entries are one number
@@ -134,7 +134,7 @@ tree-size-returns : (t : ℕ) → tree-size-lts.Need-returns (calls t) (tree-siz
 tree-size-returns t c =
     let s = c.before.before.before.before in
     let k = s.args.k in
-    c.word_size.ensures ∙ ap (λ (x : ℕ). treeSize k (bits (2 ^ k) x)) c.before.column-word.ensures ∙ ap (treeSize k) (bits-column s.requires.1)
+    c.word_size.ensures ∙ ap (λ (x : ℕ). tree_size k (bits (2 ^ k) x)) c.before.column-word.ensures ∙ ap (tree_size k) (bits-column s.requires.1)
 
 tree-size-tree-start-requires : (t : ℕ) → tree-size-lts.Need-tree-start-requires (calls t) (tree-size-at t) tree-size.Post
 tree-size-tree-start-requires t c κs = search rules
@@ -209,13 +209,13 @@ tree-size-join-size-requires t c κs = tt
 tree-size-add-result-2 : (t : ℕ) → tree-size-lts.Need-overflow-add-result-2 (calls t) (tree-size-at t) tree-size.Post
 tree-size-add-result-2 t c =
     let b = sizes-small t c.before.before.before in
-    let n = joinSize-bounds c.before.before.before.before.before.before.before.before.before.start.given.0.0 in
+    let n = join_size-bounds c.before.before.before.before.before.before.before.before.before.start.given.0.0 in
     omega (arith, b, n, c.join-size.ensures)
 
 tree-size-returns-2 : (t : ℕ) → tree-size-lts.Need-returns-2 (calls t) (tree-size-at t) tree-size.Post
 tree-size-returns-2 t c =
     let s = c.before.before.before.before.before in
-    sym (size-constant s.args.k (columnAt t s) _ (sym c.before.before.tree-start.ensures ∙ c.enum_told.given.1))
+    sym (size-constant s.args.k (column_at t s) _ (sym c.before.before.tree-start.ensures ∙ c.enum_told.given.1))
 
 tree-size-returns-3 : (t : ℕ) → tree-size-lts.Need-returns-3 (calls t) (tree-size-at t) tree-size.Post
 tree-size-returns-3 t c =

@@ -4,10 +4,10 @@ use mathlib.Core.Logic.{inl, inr, ⊎_elim}
 use mathlib.Core.Path.{◌≡◌, sym, ◌∙◌, ap}
 use native.Mathlib.Omega.{arith}
 use Rattle.engine.specs.Eval.{bits}
-use Rattle.engine.specs.Tree.{join_of, buildsLow, buildsHigh, treeSize}
-use Rattle.engine.proofs.Laws.Tree.{builtSize, half-came, half-small}
+use Rattle.engine.specs.Tree.{join_of, builds_low, builds_high, tree_size}
+use Rattle.engine.proofs.Laws.Tree.{built_size, half-came, half-small}
 use Rattle.engine.proofs.Laws.TreeWord.{Halves, halves-word, low-lt, high_lt, word-least, word-equal, split-size}
-use Rattle.engine.proofs.Laws.Join.{joinSize-bounds}
+use Rattle.engine.proofs.Laws.Join.{join_size-bounds}
 use borrow.Fn.Kinds.{In}
 use borrow.Fn.PlainCycle.{Measures, is, falls, and}
 use Rattle.engine.proofs.tree.word_size.Reads as word-size
@@ -73,22 +73,22 @@ high-asked t c = let a = c.before.before.args in high_lt (a.k - 1) a.w (whole t 
 -- how many gates each half has
 low-size : (t : ℕ) (c : word-size-lts.Joined3 (calls t) (word-size-at t) word-size.Post) → let a = c.before.before.before.before.before.before.args in
     c.if3.below
-    ≡ builtSize (buildsLow c.before.before.word-join.result) (treeSize (a.k - 1) (bits (2 ^ (a.k - 1)) (a.w % 2 ^ 2 ^ (a.k - 1))))
+    ≡ built_size (builds_low c.before.before.word-join.result) (tree_size (a.k - 1) (bits (2 ^ (a.k - 1)) (a.w % 2 ^ 2 ^ (a.k - 1))))
 low-size t c =
     let n = c.before.before.before.before in
     let a = n.before.before.args in
-    let f : ℕ → ℕ = λ x. treeSize (a.k - 1) (bits (2 ^ (a.k - 1)) x) in
-    half-came (buildsLow c.before.before.word-join.result) (f (a.w % 2 ^ 2 ^ (a.k - 1))) c.before.builds-low.ensures
+    let f : ℕ → ℕ = λ x. tree_size (a.k - 1) (bits (2 ^ (a.k - 1)) x) in
+    half-came (builds_low c.before.before.word-join.result) (f (a.w % 2 ^ 2 ^ (a.k - 1))) c.before.builds-low.ensures
     (⊎_elim (λ v. inl (v.0.taken, v.2 ∙ v.1.ensures ∙ ap f (halves t n).low)) (λ v. inr (v.0.left, v.1)) c.if3.branch)
 
 high-size : (t : ℕ) (c : word-size-lts.Joined4 (calls t) (word-size-at t) word-size.Post) → let a = c.before.before.before.before.before.before.before.before.args in
     c.if4.above
-    ≡ builtSize (buildsHigh c.before.before.before.before.word-join.result) (treeSize (a.k - 1) (bits (2 ^ (a.k - 1)) (a.w / 2 ^ 2 ^ (a.k - 1))))
+    ≡ built_size (builds_high c.before.before.before.before.word-join.result) (tree_size (a.k - 1) (bits (2 ^ (a.k - 1)) (a.w / 2 ^ 2 ^ (a.k - 1))))
 high-size t c =
     let n = c.before.before.before.before.before.before in
     let a = n.before.before.args in
-    let f : ℕ → ℕ = λ x. treeSize (a.k - 1) (bits (2 ^ (a.k - 1)) x) in
-    half-came (buildsHigh c.before.before.before.before.word-join.result) (f (a.w / 2 ^ 2 ^ (a.k - 1))) c.before.builds-high.ensures
+    let f : ℕ → ℕ = λ x. tree_size (a.k - 1) (bits (2 ^ (a.k - 1)) x) in
+    half-came (builds_high c.before.before.before.before.word-join.result) (f (a.w / 2 ^ 2 ^ (a.k - 1))) c.before.builds-high.ensures
     (⊎_elim (λ v. inl (v.0.taken, v.2 ∙ v.1.ensures ∙ ap f (halves t n).high)) (λ v. inr (v.0.left, v.1)) c.if4.branch)
 
 -- .. which is not many
@@ -97,8 +97,8 @@ sizes-small t c =
     let s = c.before.before.before.before.before.before.before.before in
     let j = c.before.before.before.before.word-join.result in
     let few : s.args.k - 1 ≤ 10 = omega (arith, s.requires.1.0) in (
-      rw (low-size t c.before.before) (half-small (buildsLow j) (s.args.k - 1) _ few),
-      rw (high-size t c) (half-small (buildsHigh j) (s.args.k - 1) _ few),
+      rw (low-size t c.before.before) (half-small (builds_low j) (s.args.k - 1) _ few),
+      rw (high-size t c) (half-small (builds_high j) (s.args.k - 1) _ few),
     )
 
 word-size-returns : (t : ℕ) → word-size-lts.Need-returns (calls t) (word-size-at t) word-size.Post
@@ -135,7 +135,7 @@ word-size-returns-2 t c =
     let h = halves t n in
     let e = whole t n in
     c.word-size.ensures
-    ∙ ap (λ (x : ℕ). treeSize (a.k - 1) (bits (2 ^ (a.k - 1)) x)) h.low
+    ∙ ap (λ (x : ℕ). tree_size (a.k - 1) (bits (2 ^ (a.k - 1)) x)) h.low
     ∙ sym (rw e.0 at (word-equal (a.k - 1) a.w e.1 (sym h.low ∙ c.before.if2.true ∙ h.high)))
 
 word-size-word-join-requires : (t : ℕ) → word-size-lts.Need-word-join-requires (calls t) (word-size-at t) word-size.Post
@@ -173,7 +173,7 @@ word-size-join-size-requires t c κs = tt
 
 word-size-add-result-2 : (t : ℕ) → word-size-lts.Need-overflow-add-result-2 (calls t) (word-size-at t) word-size.Post
 word-size-add-result-2 t c =
-    omega (arith, sizes-small t c.before.before.before, joinSize-bounds c.before.before.before.before.before.before.before.word-join.result, c.join-size.ensures)
+    omega (arith, sizes-small t c.before.before.before, join_size-bounds c.before.before.before.before.before.before.before.word-join.result, c.join-size.ensures)
 
 -- how the halves are joined
 joined : (t : ℕ) (c : word-size-lts.After-word-join (calls t) (word-size-at t) word-size.Post) → let a = c.before.before.before.before.args in

@@ -5,13 +5,13 @@ use native.Mathlib.Omega.{arith}
 use borrow.Author.Rules.{rules}
 use lib.ListN.{get_or, drop}
 use Rattle.engine.specs.Eval.{bit, number_of}
-use Rattle.engine.specs.Inner.Tree.{columnPart}
+use Rattle.engine.specs.Inner.Tree.{column_part}
 use Rattle.engine.proofs.Laws.TreeWord.{word_fits, column-turn, column-end, column-rest}
 use Rattle.engine.proofs.tree.column_word.Statement.{statement}
 use Rattle.engine.proofs.tree.column_word.Tie as tie
 
 abbrev invariant-loop : tie.invariant-loop
-invariant-loop table at k t w₀ i₀ w i = (i ≤ 2 ^ k) × (w ≡ number_of (drop i (columnPart table at k t)))
+invariant-loop table at k t w₀ i₀ w i = (i ≤ 2 ^ k) × (w ≡ number_of (drop i (column_part table at k t)))
 
 abbrev decreases-loop : tie.decreases-loop
 decreases-loop table at k t w₀ i₀ w i = i
@@ -24,7 +24,7 @@ loop-holds c =
 -- the next entry's bit joins the word
 turn : (c : tie.In-loop invariant-loop decreases-loop) → let a = c.before.before.before.before.args in
     let l = c.before.loop in
-    let n = number_of (drop (l.i - 1) (columnPart a.table.now a.at a.k a.t)) in
+    let n = number_of (drop (l.i - 1) (column_part a.table.now a.at a.k a.t)) in
     (n ≡ 2 * l.w + bit a.t (get_or a.table.now (a.at + (l.i - 1)) 0)) × (n < 18446744073709551616)
 turn c =
     let s = c.before.before.before.before in

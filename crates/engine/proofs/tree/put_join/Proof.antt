@@ -6,35 +6,35 @@ use mathlib.Core.Bool.{true}
 use native.Mathlib.Omega.{arith}
 use borrow.Author.Rules.{rules}
 use Rattle.records.specs.Gate.{Gate}
-use Rattle.engine.specs.Tree.{bufOf, notOf, andOf, or_of, joinGates, buildsLow, buildsHigh}
-use Rattle.engine.specs.Inner.Tree.{GateRoom, GatesPut, joinSize}
+use Rattle.engine.specs.Tree.{buf_of, not_of, and_of, or_of, join_gates, builds_low, builds_high}
+use Rattle.engine.specs.Inner.Tree.{GateRoom, GatesPut, join_size}
 use Rattle.engine.specs.declared.tree.Join.{Join}
-use Rattle.engine.proofs.Laws.Join.{joinSize-bounds}
+use Rattle.engine.proofs.Laws.Join.{join_size-bounds}
 use Rattle.engine.proofs.Laws.Tree.{room-less, room_next, gates-put-same, gates-put-append}
 use Rattle.engine.proofs.tree.put_join.Statement.{statement}
 use Rattle.engine.proofs.tree.put_join.Tie as tie
 
 -- there is room for the first gate
 first : (s : tie.Start) → GateRoom s.args.base (s.args.high + 1) s.args.gates.now
-first s = room-less s.requires.gates (omega (arith, joinSize-bounds s.args.join))
+first s = room-less s.requires.gates (omega (arith, join_size-bounds s.args.join))
 
 -- .. and, behind it, for the second of a join of two
-second : (s : tie.Start) {j : Join} {r : ℕ} {g : Gate} {cs : List ℕ} → s.args.join ≡ j → joinSize j ≡ 2
+second : (s : tie.Start) {j : Join} {r : ℕ} {g : Gate} {cs : List ℕ} → s.args.join ≡ j → join_size j ≡ 2
     → GatesPut s.args.base s.args.high s.args.gates.now (g ∷ []) r cs → GateRoom s.args.base (r + 1) cs
-second s e n p = room_next s.requires.gates p (omega (arith, p.end, ap joinSize e))
+second s e n p = room_next s.requires.gates p (omega (arith, p.end, ap join_size e))
 
 -- a tree stands before the gates that join where a half has one
-above_low : (s : tie.Start) → buildsLow s.args.join ≡ true → 0 < s.args.high
+above_low : (s : tie.Start) → builds_low s.args.join ≡ true → 0 < s.args.high
 above_low s e = let h = s.requires.low-built e in omega (arith, s.requires.order)
 
 -- the gates of the join that is told
 told : (s : tie.Start) {j : Join} → s.args.join ≡ j
     → let a = s.args in
-    joinGates j a.s (a.base + a.low - 1) (a.base + a.high)
-    ≡ joinGates a.join a.s (a.base + a.low - 1) (a.base + a.high)
+    join_gates j a.s (a.base + a.low - 1) (a.base + a.high)
+    ≡ join_gates a.join a.s (a.base + a.low - 1) (a.base + a.high)
 told s e =
     let a = s.args in
-    ap (λ (j : Join). joinGates j a.s (a.base + a.low - 1) (a.base + a.high)) (sym e)
+    ap (λ (j : Join). join_gates j a.s (a.base + a.low - 1) (a.base + a.high)) (sym e)
 
 add-gate-requires : tie.Need-add-gate-requires
 add-gate-requires c κs =
@@ -47,9 +47,9 @@ add-gate-requires-2 c κs =
     (first s, omega arith, omega arith, s.requires.chooser, omega arith)
 
 sub-add-gate : tie.Need-overflow-sub-add-gate
-unfolding buildsHigh
+unfolding builds_high
 sub-add-gate c =
-    let h = c.before.before.requires.high-built (ap buildsHigh c.enum-told3.given.1) in
+    let h = c.before.before.requires.high-built (ap builds_high c.enum-told3.given.1) in
     omega arith
 
 add-gate-requires-3 : tie.Need-add-gate-requires-3
@@ -58,8 +58,8 @@ add-gate-requires-3 c κs =
     (first s, omega arith, omega arith, s.requires.chooser, omega (arith, s.requires.gates.nets))
 
 sub-add-gate-2 : tie.Need-overflow-sub-add-gate-2
-unfolding buildsLow
-sub-add-gate-2 c = let h = above_low c.before.before (ap buildsLow c.enum-told4.given.1) in omega arith
+unfolding builds_low
+sub-add-gate-2 c = let h = above_low c.before.before (ap builds_low c.enum-told4.given.1) in omega arith
 
 add-gate-requires-4 : tie.Need-add-gate-requires-4
 add-gate-requires-4 c κs =
@@ -72,13 +72,13 @@ add-gate-requires-5 c κs =
     (first s, omega arith, omega arith, s.requires.chooser, omega arith)
 
 sub-add-gate-3 : tie.Need-overflow-sub-add-gate-3
-unfolding buildsLow
+unfolding builds_low
 sub-add-gate-3 c =
-    let h = above_low c.before.before.before.before (ap buildsLow c.before.before.enum-told5.given.1) in
+    let h = above_low c.before.before.before.before (ap builds_low c.before.before.enum-told5.given.1) in
     omega arith
 
 add-gate-requires-6 : tie.Need-add-gate-requires-6
-unfolding joinSize joinGates
+unfolding join_size join_gates
 add-gate-requires-6 c κs =
     let s = c.before.before.before.before.before in
     let h = (first s).nets in
@@ -91,13 +91,13 @@ add-gate-requires-7 c κs =
     (first s, omega arith, omega arith, s.requires.chooser, omega arith)
 
 sub-add-gate-4 : tie.Need-overflow-sub-add-gate-4
-unfolding buildsHigh
+unfolding builds_high
 sub-add-gate-4 c =
-    let h = c.before.before.before.before.requires.high-built (ap buildsHigh c.before.before.enum-told6.given.1) in
+    let h = c.before.before.before.before.requires.high-built (ap builds_high c.before.before.enum-told6.given.1) in
     omega arith
 
 add-gate-requires-8 : tie.Need-add-gate-requires-8
-unfolding joinSize joinGates
+unfolding join_size join_gates
 add-gate-requires-8 c κs =
     let s = c.before.before.before.before.before in
     let h = (first s).nets in
@@ -105,49 +105,49 @@ add-gate-requires-8 c κs =
     (r, omega arith, omega arith, omega arith, omega arith)
 
 sub-put-mux : tie.Need-overflow-sub-put-mux
-unfolding buildsLow
+unfolding builds_low
 sub-put-mux c =
     let s = c.before.before in
-    let h = s.requires.low-built (ap buildsLow c.enum-told7.given.1) in
+    let h = s.requires.low-built (ap builds_low c.enum-told7.given.1) in
     omega (arith, s.requires.order)
 
 put-mux-requires : tie.Need-put-mux-requires
-unfolding joinSize joinGates buildsHigh
+unfolding join_size join_gates builds_high
 put-mux-requires c κs =
     let e = c.before.enum-told7.given.1 in
     let s = c.before.before.before in
     let n = s.requires.gates.nets in
     let o = s.requires.order in
-    (room-less s.requires.gates (omega (arith, ap joinSize e)), s.requires.chooser, omega arith, s.requires.high-built (ap buildsHigh e))
+    (room-less s.requires.gates (omega (arith, ap join_size e)), s.requires.chooser, omega arith, s.requires.high-built (ap builds_high e))
 
 returns : tie.Need-returns
-unfolding joinGates bufOf
+unfolding join_gates buf_of
 returns c =
     gates-put-same c.add-gate.ensures (told c.before.before.before.before c.before.before.enum_told.given.1)
 
 returns-2 : tie.Need-returns-2
-unfolding joinGates notOf
+unfolding join_gates not_of
 returns-2 c =
     gates-put-same c.add-gate2.ensures (told c.before.before.before.before c.before.before.enum-told2.given.1)
 
 returns-3 : tie.Need-returns-3
-unfolding joinGates andOf
+unfolding join_gates and_of
 returns-3 c =
     gates-put-same c.add-gate3.ensures (told c.before.before.before.before c.before.before.enum-told3.given.1)
 
 returns-4 : tie.Need-returns-4
-unfolding joinGates or_of
+unfolding join_gates or_of
 returns-4 c =
     gates-put-same c.add-gate4.ensures (told c.before.before.before.before c.before.before.enum-told4.given.1)
 
 returns-5 : tie.Need-returns-5
-unfolding joinGates notOf andOf
+unfolding join_gates not_of and_of
 returns-5 c =
     gates-put-same (gates-put-append c.before.before.add-gate5.ensures c.add-gate6.ensures)
     (told c.before.before.before.before.before.before c.before.before.before.before.enum-told5.given.1)
 
 returns-6 : tie.Need-returns-6
-unfolding joinGates notOf or_of
+unfolding join_gates not_of or_of
 returns-6 c =
     gates-put-same (gates-put-append c.before.before.add-gate7.ensures c.add-gate8.ensures)
     (told c.before.before.before.before.before.before c.before.before.before.before.enum-told6.given.1)

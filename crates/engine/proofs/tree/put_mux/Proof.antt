@@ -1,6 +1,6 @@
 -- `engine::tree::put_mux` meets its contract. Assumes nothing.
 use native.Mathlib.Omega.{arith}
-use Rattle.engine.specs.Tree.{notOf, andOf, or_of, joinGates}
+use Rattle.engine.specs.Tree.{not_of, and_of, or_of, join_gates}
 use Rattle.engine.proofs.Laws.Tree.{room-less, room_next, gates-put-append}
 use Rattle.engine.proofs.tree.put_mux.Statement.{statement}
 use Rattle.engine.proofs.tree.put_mux.Tie as tie
@@ -32,7 +32,7 @@ add-gate-requires-4 c κs =
     (room_next p.0 b (omega (arith, b.end)), omega arith, omega arith, omega (arith, p.0.nets), omega (arith, p.0.nets))
 
 returns : tie.Need-returns
-unfolding joinGates notOf andOf or_of
+unfolding join_gates not_of and_of or_of
 returns c =
     gates-put-append
     (gates-put-append

@@ -8,7 +8,7 @@ use mathlib.Core.List.{List}
 use mathlib.Core.Bool.{Bool, false, cond}
 use lib.Dec.{eqb}
 use Rattle.records.specs.Bytes.{all}
-use Rattle.engine.specs.Inner.Tree.{columnPart, treeStart}
+use Rattle.engine.specs.Inner.Tree.{column_part, tree_start}
 use Rattle.engine.specs.declared.tree.TreeStart.{TreeStart}
 use Rattle.engine.specs.declared.tree.TreeStart.TheVariants as TreeStart
 use Rattle.engine.proofs.Laws.Tree.{column-tested, start-zero, start-one, start-halves}
@@ -20,12 +20,12 @@ returns c =
     let w = c.before.before in
     let a = w.before.before.args in
     sym
-    (start-zero a.k (columnPart a.table.now a.at a.k a.t)
+    (start-zero a.k (column_part a.table.now a.at a.k a.t)
     (column-tested a.table.now a.at a.t 0 w.reading-count.ensures c.before.column-is.ensures c.if1.true))
 
 -- not all bits are 0
 some : (c : tie.Else1) → let a = c.before.before.before.before.args in
-    all (eqb 0) (columnPart a.table.now a.at a.k a.t) ≡ false
+    all (eqb 0) (column_part a.table.now a.at a.k a.t) ≡ false
 some c =
     let w = c.before.before in
     let a = w.before.before.args in
@@ -36,7 +36,7 @@ returns-2 c =
     let w = c.before.before.before.before in
     let a = w.before.before.args in
     sym
-    (start-one a.k (columnPart a.table.now a.at a.k a.t)
+    (start-one a.k (column_part a.table.now a.at a.k a.t)
     (some c.before.before)
     (column-tested a.table.now a.at a.t 1 w.reading-count.ensures c.before.column-is2.ensures
     c.if2.true))
@@ -57,7 +57,7 @@ high_half c =
 
 -- what the comparison of the halves tells
 halved : (c : tie.After-halves-equal) → let a = c.before.before.before.before.before.before.before.args in
-    treeStart a.k (columnPart a.table.now a.at a.k a.t)
+    tree_start a.k (column_part a.table.now a.at a.k a.t)
     ≡ cond c.halves-equal.result TreeStart.Equal (TreeStart.Split (join_of (low_half c) (high_half c)))
 halved c =
     let v = c.before in

@@ -3,13 +3,13 @@
 use Prim.Native.Nat.{ℕ, ◌*◌, ◌-◌, ◌≤◌, ◌<◌}
 use mathlib.Core.Path.{◌≡◌}
 use native.Mathlib.Omega.{arith}
-use Rattle.engine.specs.Inner.Kernel.{rowValue}
+use Rattle.engine.specs.Inner.Kernel.{row_value}
 use Rattle.engine.proofs.Laws.Leaves.{ones-more, zero-found}
 use Rattle.engine.proofs.word.first_zero.Statement.{statement}
 use Rattle.engine.proofs.word.first_zero.Tie as tie
 
 abbrev invariant-loop : tie.invariant-loop
-invariant-loop row w₀ w = (w ≤ 16) × ((y : ℕ) → y < 64 * w → rowValue row y ≡ 1)
+invariant-loop row w₀ w = (w ≤ 16) × ((y : ℕ) → y < 64 * w → row_value row y ≡ 1)
 
 abbrev decreases-loop : tie.decreases-loop
 decreases-loop row w₀ w = 16 - w

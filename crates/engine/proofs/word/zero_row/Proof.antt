@@ -3,13 +3,13 @@ use Prim.Native.Nat.{ℕ, ◌*◌, ◌-◌, ◌≤◌, ◌<◌}
 use mathlib.Core.Path.{◌≡◌}
 use mathlib.Core.Bool.{false≢true}
 use native.Mathlib.Omega.{arith}
-use Rattle.engine.specs.Inner.Kernel.{rowValue}
+use Rattle.engine.specs.Inner.Kernel.{row_value}
 use Rattle.engine.proofs.Laws.Leaves.{zeros-more}
 use Rattle.engine.proofs.word.zero_row.Statement.{statement}
 use Rattle.engine.proofs.word.zero_row.Tie as tie
 
 abbrev invariant-loop : tie.invariant-loop
-invariant-loop row w₀ w = (w ≤ 16) × ((y : ℕ) → y < 64 * w → rowValue row y ≡ 0)
+invariant-loop row w₀ w = (w ≤ 16) × ((y : ℕ) → y < 64 * w → row_value row y ≡ 0)
 
 abbrev decreases-loop : tie.decreases-loop
 decreases-loop row w₀ w = 16 - w

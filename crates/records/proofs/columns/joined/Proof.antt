@@ -5,10 +5,10 @@ use mathlib.Core.Path.{◌≡◌, refl}
 use mathlib.Core.List.{List}
 use native.Mathlib.Omega.{arith}
 use lib.ListN.{get_or}
-use Rattle.records.specs.Inner.{noGate, noGates, structsFrom}
+use Rattle.records.specs.Inner.{no_gate, no_gates, structs_from}
 use Rattle.records.specs.declared.gate.Gate.{Gate}
 use Rattle.records.proofs.Laws.Job.{Filled, filled_none, filled_next}
-use Rattle.records.proofs.Laws.Columns.{length-noGates}
+use Rattle.records.proofs.Laws.Columns.{length-no_gates}
 use Rattle.records.proofs.columns.joined.Statement.{statement}
 use Rattle.records.proofs.columns.joined.Tie as tie
 
@@ -25,28 +25,28 @@ gate kinds counts slots i =
     }
 
 abbrev invariant-loop : tie.invariant-loop
-invariant-loop kinds counts slots count gates₀ i₀ gates i = (i ≤ count) × Filled noGates gates i (gate kinds counts slots)
+invariant-loop kinds counts slots count gates₀ i₀ gates i = (i ≤ count) × Filled no_gates gates i (gate kinds counts slots)
 
 abbrev decreases-loop : tie.decreases-loop
 decreases-loop kinds counts slots count gates₀ i₀ gates i = count - i
 
 loop-holds : tie.Need-loop-init invariant-loop decreases-loop
-unfolding noGates noGate
+unfolding no_gates no_gate
 loop-holds c =
     let a = c.args in
-    (omega arith, filled_none noGates (gate a.kinds.now a.counts.now a.slots.now))
+    (omega arith, filled_none no_gates (gate a.kinds.now a.counts.now a.slots.now))
 
 loop-again : tie.Need-loop-preserved invariant-loop decreases-loop
 loop-again c =
     let l = c.before.before.before.before.before.before.before.loop in
     let a = c.before.before.before.before.before.before.before.before.args in (
       omega arith,
-      filled_next noGates (gate a.kinds.now a.counts.now a.slots.now) l.gates l.k _
-          (omega (arith, length-noGates)) refl l.invariant.1,
+      filled_next no_gates (gate a.kinds.now a.counts.now a.slots.now) l.gates l.k _
+          (omega (arith, length-no_gates)) refl l.invariant.1,
     )
 
 returns : tie.Need-returns invariant-loop decreases-loop
-unfolding structsFrom
+unfolding structs_from
 returns c =
     let a = c.before.before.args in
     let l = c.before.loop in

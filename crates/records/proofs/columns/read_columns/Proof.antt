@@ -2,9 +2,9 @@
 -- gates that read leaves. Assumes nothing.
 use mathlib.Core.Path.{◌≡◌, sym, ◌∙◌}
 use mathlib.Core.Bool.{true}
-use Rattle.records.specs.Columns.{Columns, sideColumns, columns}
+use Rattle.records.specs.Columns.{Columns, side_columns, columns}
 use Rattle.records.proofs.Laws.Counts.{passes, fails}
-use Rattle.records.proofs.Laws.Columns.{sideHolds, small-old, small-golden, old-splits, golden-splits, read-columns-ends}
+use Rattle.records.proofs.Laws.Columns.{side_holds, small-old, small-golden, old-splits, golden-splits, read-columns-ends}
 use Rattle.records.proofs.columns.read_columns.Statement.{statement}
 use Rattle.records.proofs.columns.read_columns.Tie as tie
 
@@ -13,8 +13,8 @@ abbrev lent : tie.Start → Columns
 lent c =
     let a = c.args in
     columns
-    (sideColumns a.old-kinds.now a.old-counts.now a.old-slots.now a.old-outputs.now)
-    (sideColumns a.golden-kinds.now a.golden-counts.now a.golden-slots.now a.golden-outputs.now)
+    (side_columns a.old-kinds.now a.old-counts.now a.old-slots.now a.old-outputs.now)
+    (side_columns a.golden-kinds.now a.golden-counts.now a.golden-slots.now a.golden-outputs.now)
     a.nets.now
     a.weights.now
 
@@ -29,10 +29,10 @@ abbrev second : tie.After-read-gates → tie.After-enum-told3
 second c = c.before.before.before.before.before
 
 -- past the checks each netlist's columns hold the most gates
-old-holds : (c : tie.After-enum-told) → sideHolds (lent (start c.before.before)).old 400 ≡ true
+old-holds : (c : tie.After-enum-told) → side_holds (lent (start c.before.before)).old 400 ≡ true
 old-holds c = passes _ (sym c.before.before.check-columns.ensures ∙ c.enum_told.given.1)
 
-golden-holds : (c : tie.After-enum-told3) → sideHolds (lent (start c.before.before.before.before.before)).golden 400 ≡ true
+golden-holds : (c : tie.After-enum-told3) → side_holds (lent (start c.before.before.before.before.before)).golden 400 ≡ true
 golden-holds c = passes _ (sym c.before.before.check-columns2.ensures ∙ c.enum-told3.given.1)
 
 enum_told : tie.Need-enum-told

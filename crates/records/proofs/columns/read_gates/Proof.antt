@@ -1,4 +1,4 @@
--- `records::columns::read_gates` meets its contract: a walk of its MIR, by hand. Two arrays of `noGate` are each lent to `read` for a lifetime of the call (`Lent.antt`'s `lends`, `returned`), and the parameters are given up to it. Of `read` the proof knows its contract. The arrays come back as the contract says them, and go into the result.
+-- `records::columns::read_gates` meets its contract: a walk of its MIR, by hand. Two arrays of `no_gate` are each lent to `read` for a lifetime of the call (`Lent.antt`'s `lends`, `returned`), and the parameters are given up to it. Of `read` the proof knows its contract. The arrays come back as the contract says them, and go into the result.
 -- Assumes nothing.
 use mathlib.Core.Path.{◌≡◌, refl}
 use Prim.Native.Nat.{ℕ}
@@ -41,8 +41,8 @@ use denote.Triple.Table.{entered, cited}
 use denote.Triple.Walked.{Stays, stay_dropped, gave_slice, walk_of, Goes-dropped, Goes-gave_slice, Walks, ends_at, walked, walk_Meets}
 use denote.Exit.{yes}
 use denote.Signature.{plain, shr_slice_of, types_at}
-use Rattle.records.specs.Service.{Places, places, sidePlaces, readReply, readPlaces}
-use Rattle.records.specs.Inner.{noGate, noGates}
+use Rattle.records.specs.Service.{Places, places, side_places, read_reply, read_places}
+use Rattle.records.specs.Inner.{no_gate, no_gates}
 use Rattle.records.specs.declared.gate.Gate.{Gate}
 use Rattle.records.specs.declared.reading.ReadReply.{ReadReply}
 use Rattle.records.specs.declared.columns.GatesRead.{GatesRead}
@@ -77,16 +77,16 @@ tells κs = (shr_slice_Tells (named 0) κs.0 u8, (mut_slice_Tells (named 1) κs.
 abbrev Gates : RattleType
 Gates = Array G.the_row 400
 
--- the machine values of `noGate` and of `noGates`
+-- the machine values of `no_gate` and of `no_gates`
 abbrev none : Val
 none = vstruct (of_list (vint w8 0 ∷ vint w8 0 ∷ vint w16 0 ∷ vint w16 0 ∷ vint w16 0 ∷ vint w16 0 ∷ []))
 
 abbrev nones : Val
 nones = array_val (replicate 400 none)
 
-none_is : Is G.the_row noGate (none ∷ [])
-unfolding noGate
-none_is = LL.owes G.the_type G'.the_laws noGate ((refl, lit< tt), ((refl, lit< tt), ((refl, lit< tt), ((refl, lit< tt), ((refl, lit< tt), ((refl, lit< tt), tt))))))
+none_is : Is G.the_row no_gate (none ∷ [])
+unfolding no_gate
+none_is = LL.owes G.the_type G'.the_laws no_gate ((refl, lit< tt), ((refl, lit< tt), ((refl, lit< tt), ((refl, lit< tt), ((refl, lit< tt), ((refl, lit< tt), tt))))))
 
 -- the result, its machine value, and what the struct's relation asks of them
 abbrev found : ReadReply → List Gate → List Gate → GatesRead
@@ -111,7 +111,7 @@ module _ {M : Type 1} {𝓤 : Ura M} (𝓛 : Logic 𝓤) (mem : Memory → SProp
   vals = valss (types_at (read-gates.signature).params κs) (spells κs) a
 
   abbrev entry : Places
-  entry = places (sidePlaces noGates a.1.0.now) (sidePlaces noGates a.1.1.0.now) a.1.1.1.0.now a.1.1.1.1.0.now
+  entry = places (side_places no_gates a.1.0.now) (side_places no_gates a.1.1.0.now) a.1.1.1.0.now a.1.1.1.1.0.now
 
   abbrev Post : Val → SProp 𝓤
   Post = (walk_of 𝓛 read-gates.ended stayed (read-gates.clauses 𝓛 mem run)).post ((κs, qs, tt, a, vals), tt)
@@ -122,14 +122,14 @@ module _ {M : Type 1} {𝓤 : Ura M} (𝓛 : Logic 𝓤) (mem : Memory → SProp
 
   -- what `read`'s two clauses say of the reply and of the places' last lists
   abbrev Replied : ReadReply → Type 0
-  Replied r = r ≡ readReply entry a.0.now
+  Replied r = r ≡ read_reply entry a.0.now
 
   abbrev Filled : List Gate → List ℕ → List Gate → List ℕ → List ℕ → List ℕ → Type 0
-  Filled gs os hs ps ns ws = places (sidePlaces gs os) (sidePlaces hs ps) ns ws ≡ readPlaces entry a.0.now
+  Filled gs os hs ps ns ws = places (side_places gs os) (side_places hs ps) ns ws ≡ read_places entry a.0.now
 
-  none_owned : ent 𝓤 (emp 𝓤) (sem 𝓛 (Gates.own_val noGates (nones ∷ [])))
-  unfolding noGates
-  none_owned = via 𝓤 (sem 𝓛 ((G.the_row).own_val noGate (none ∷ []))) (LL.makes G.the_type G'.the_plain 𝓛 noGate (none ∷ []) none_is) (Array-repeat 𝓛 G.the_row (LL.copy G.the_type G'.the_copy 𝓛) 400 noGate none)
+  none_owned : ent 𝓤 (emp 𝓤) (sem 𝓛 (Gates.own_val no_gates (nones ∷ [])))
+  unfolding no_gates
+  none_owned = via 𝓤 (sem 𝓛 ((G.the_row).own_val no_gate (none ∷ []))) (LL.makes G.the_type G'.the_plain 𝓛 no_gate (none ∷ []) none_is) (Array-repeat 𝓛 G.the_row (LL.copy G.the_type G'.the_copy 𝓛) 400 no_gate none)
 
   -- of a parameter that is given up: what says its last list
   abbrev end : MutBor (List ℕ) → List ℕ → Fml
@@ -150,7 +150,7 @@ module _ {M : Type 1} {𝓤 : Ura M} (𝓛 : Logic 𝓤) (mem : Memory → SProp
     lfts = (κs.0, (α, (κs.1.0, (β, κs.1.1))))
 
     abbrev args : Args read.signature lfts
-    args = (a.0, (slice b 0 γ noGates, (a.1.0, (slice c 0 δ noGates, a.1.1))))
+    args = (a.0, (slice b 0 γ no_gates, (a.1.0, (slice c 0 δ no_gates, a.1.1))))
 
     abbrev to_read : (Read 𝓛 mem run).Ghost
     to_read = ((lfts, (qs.0, (full_share, (qs.1.0, (full_share, qs.1.1)))), tt, args, (vals.0, (slice_val (b, 0) 400 ∷ [], (vals.1.0, (slice_val (c, 0) 400 ∷ [], vals.1.1))))), tt)
@@ -165,10 +165,10 @@ module _ {M : Type 1} {𝓤 : Ura M} (𝓛 : Logic 𝓤) (mem : Memory → SProp
         qed 𝓛 ((‵ (flft κs.0 qs.0) ⊛ (‵ (flft κs.1.0 qs.1.0) ⊛ raw more)) ∷ ‵ (owns (types_at (read-gates.signature).params κs) a vals) ∷ []) ∵ enter ! C Λ code.function (flat (types_at (read-gates.signature).params κs) vals) _ $
         arrives ! (slice-typed are.0.0.1.0, (slice-typed are.1.0.0.1.0, (slice-typed are.1.1.0.0.1.0, (slice-typed are.1.1.1.0.0.1.0, (slice-typed are.1.1.1.1.0.0.1.0, tt))))) (λ bs. let l₇ = bs.1.1.1.1.1.1.1.0 in let l₈ = bs.1.1.1.1.1.1.1.1.0 in
         -- [_23; …; _0; …; the tokens; what the parameters own]: the arrays are made, and the slices
-        lets ! 34 (agg ! (and_then ! (lit ! tt) (and_then ! (lit ! tt) (and_then ! (lit ! tt) (and_then ! (lit ! tt) (and_then ! (lit ! tt) (and_then ! (lit ! tt) (no_more !)))))))) refl ((LL.lawful G.the_type G'.the_laws 𝓛).typed noGate _ none_is).0 $
-        use0 𝓛 (‵ (Gates.own_val noGates (nones ∷ []))) none_owned $ facts ! Gates (Is Gates) (shows 𝓛 Gates) noGates (nones ∷ []) (λ none-is'.
-        lets ! 32 (rep ! 400 (var ! 34 refl)) refl (gates.typed noGates _ none-is').0 $
-        lets ! 30 (rep ! 400 (var ! 34 refl)) refl (gates.typed noGates _ none-is').0 $
+        lets ! 34 (agg ! (and_then ! (lit ! tt) (and_then ! (lit ! tt) (and_then ! (lit ! tt) (and_then ! (lit ! tt) (and_then ! (lit ! tt) (and_then ! (lit ! tt) (no_more !)))))))) refl ((LL.lawful G.the_type G'.the_laws 𝓛).typed no_gate _ none_is).0 $
+        use0 𝓛 (‵ (Gates.own_val no_gates (nones ∷ []))) none_owned $ facts ! Gates (Is Gates) (shows 𝓛 Gates) no_gates (nones ∷ []) (λ none-is'.
+        lets ! 32 (rep ! 400 (var ! 34 refl)) refl (gates.typed no_gates _ none-is').0 $
+        lets ! 30 (rep ! 400 (var ! 34 refl)) refl (gates.typed no_gates _ none-is').0 $
         lets ! 26 (addr ! (from ! (stop !))) refl (tt, tt) $
         lets ! 24 (agg ! (and_then ! (var ! 26 refl) (and_then ! (lit ! tt) (no_more !)))) refl (slice-typed (lit< tt)) $
         relends ! 42 22 20 refl refl refl (tt, tt) refl refl refl (slice-typed are.1.0.0.1.0) $
@@ -179,8 +179,8 @@ module _ {M : Type 1} {𝓤 : Ura M} (𝓛 : Logic 𝓤) (mem : Memory → SProp
         relends ! 36 6 4 refl refl refl (tt, tt) refl refl refl (slice-typed are.1.1.1.1.0.0.1.0) $
         -- each array is lent
         move ! (49 ∷ []) $ fsplit ! $ move ! (1 ∷ []) $ fsplit ! $
-        lft_new ! tt (λ β. use0 𝓛 (‵ (Gates.own_val noGates (nones ∷ []))) none_owned $ move ! (35 ∷ 0 ∷ []) $ lends ! tt G.the_row tt 400 (lit< tt, lit< tt) (named 3) (β ∷ []) l₈ 0 noGates nones (λ δ. move ! (0 ∷ 4 ∷ []) $ fjoin ! $ move ! (3 ∷ 0 ∷ []) $ fjoin ! $
-        lft_new ! tt (λ α. use0 𝓛 (‵ (Gates.own_val noGates (nones ∷ []))) none_owned $ move ! (37 ∷ 0 ∷ []) $ lends ! tt G.the_row tt 400 (lit< tt, lit< tt) (named 1) (α ∷ []) l₇ 0 noGates nones (λ γ. move ! (0 ∷ 3 ∷ []) $ fjoin ! $ move ! (5 ∷ 0 ∷ []) $ fjoin ! $
+        lft_new ! tt (λ β. use0 𝓛 (‵ (Gates.own_val no_gates (nones ∷ []))) none_owned $ move ! (35 ∷ 0 ∷ []) $ lends ! tt G.the_row tt 400 (lit< tt, lit< tt) (named 3) (β ∷ []) l₈ 0 no_gates nones (λ δ. move ! (0 ∷ 4 ∷ []) $ fjoin ! $ move ! (3 ∷ 0 ∷ []) $ fjoin ! $
+        lft_new ! tt (λ α. use0 𝓛 (‵ (Gates.own_val no_gates (nones ∷ []))) none_owned $ move ! (37 ∷ 0 ∷ []) $ lends ! tt G.the_row tt 400 (lit< tt, lit< tt) (named 1) (α ∷ []) l₇ 0 no_gates nones (λ γ. move ! (0 ∷ 3 ∷ []) $ fjoin ! $ move ! (5 ∷ 0 ∷ []) $ fjoin ! $
         -- [what the arguments own; old's lender's part; α; golden's; β; the locals but _7 and _8; the tokens]
         move ! (51 ∷ []) $ split ! $ move ! (1 ∷ []) $ split ! $ move ! (7 ∷ 1 ∷ []) $ join ! $ move ! (1 ∷ 0 ∷ []) $ join ! $ move ! (4 ∷ 0 ∷ []) $ join ! $ move ! (1 ∷ 0 ∷ []) $ join ! $
         use2 𝓛 (raw ((Read 𝓛 mem run).pre (to_read (α ∷ []) (β ∷ []) l₇ l₈ γ δ))) (goes (α ∷ []) (β ∷ []) l₇ l₈ γ δ) $

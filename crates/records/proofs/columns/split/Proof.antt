@@ -4,10 +4,10 @@ use Prim.Native.Nat.{◌*◌, ◌-◌, ◌≤◌}
 use mathlib.Core.Path.{◌≡◌, refl}
 use native.Mathlib.Omega.{arith}
 use lib.ListN.{get_or, length-set}
-use Rattle.records.specs.Inner.{noGate, structSlots}
+use Rattle.records.specs.Inner.{no_gate, struct_slots}
 use Rattle.records.specs.declared.gate.Gate.{Gate}
 use Rattle.records.proofs.Laws.Job.{Filled, filled_none, filled_next, Put, put-none, put_next}
-use Rattle.records.proofs.Laws.ReadColumns.{length-structSlots}
+use Rattle.records.proofs.Laws.ReadColumns.{length-struct_slots}
 use Rattle.records.proofs.Laws.Columns.{slots-placed, column-split, slots-split}
 use Rattle.records.proofs.columns.split.Statement.{statement}
 use Rattle.records.proofs.columns.split.Tie as tie
@@ -15,9 +15,9 @@ use Rattle.records.proofs.columns.split.Tie as tie
 abbrev invariant-loop : tie.invariant-loop
 invariant-loop count kinds₀ counts₀ slots₀ gates i₀ kinds counts slots i =
     (i ≤ count)
-    × Filled kinds₀ kinds i (λ k. (get_or gates k noGate).kind)
-    × Filled counts₀ counts i (λ k. (get_or gates k noGate).count)
-    × Put structSlots (λ k. get_or gates k noGate) slots₀ 0 slots i
+    × Filled kinds₀ kinds i (λ k. (get_or gates k no_gate).kind)
+    × Filled counts₀ counts i (λ k. (get_or gates k no_gate).count)
+    × Put struct_slots (λ k. get_or gates k no_gate) slots₀ 0 slots i
 
 abbrev decreases-loop : tie.decreases-loop
 decreases-loop count kinds₀ counts₀ slots₀ gates i₀ kinds counts slots i = count - i
@@ -26,9 +26,9 @@ loop-holds : tie.Need-loop-init invariant-loop decreases-loop
 loop-holds c =
     let a = c.args in (
       omega arith,
-      filled_none a.kinds.now (λ k. (get_or a.t1 k noGate).kind),
-      filled_none a.counts.now (λ k. (get_or a.t1 k noGate).count),
-      put-none structSlots (λ k. get_or a.t1 k noGate) a.slots.now 0,
+      filled_none a.kinds.now (λ k. (get_or a.t1 k no_gate).kind),
+      filled_none a.counts.now (λ k. (get_or a.t1 k no_gate).count),
+      put-none struct_slots (λ k. get_or a.t1 k no_gate) a.slots.now 0,
     )
 
 slice-write-slots-2 : tie.Need-slice-write-slots-2 invariant-loop decreases-loop
@@ -41,15 +41,15 @@ slice-write-slots-4 : tie.Need-slice-write-slots-4 invariant-loop decreases-loop
 slice-write-slots-4 c = simp length-set (omega arith)
 
 loop-again : tie.Need-loop-preserved invariant-loop decreases-loop
-unfolding noGate
+unfolding no_gate
 loop-again c =
     let l = c.before.before.loop in
     let a = c.before.before.before.args in (
       omega arith,
-      filled_next a.kinds.now (λ k. (get_or a.t1 k noGate).kind) l.kinds l.i _ (omega arith) refl l.invariant.1,
-      filled_next a.counts.now (λ k. (get_or a.t1 k noGate).count) l.counts l.i _ (omega arith) refl l.invariant.2,
-      put_next structSlots (λ k. get_or a.t1 k noGate) a.slots.now 0 4 (λ i. length-structSlots _) l.slots _ l.i (4 * l.i)
-          (omega arith) (omega arith) (slots-placed l.slots (4 * l.i) (get_or a.t1 l.i noGate) (omega arith)) l.invariant.3,
+      filled_next a.kinds.now (λ k. (get_or a.t1 k no_gate).kind) l.kinds l.i _ (omega arith) refl l.invariant.1,
+      filled_next a.counts.now (λ k. (get_or a.t1 k no_gate).count) l.counts l.i _ (omega arith) refl l.invariant.2,
+      put_next struct_slots (λ k. get_or a.t1 k no_gate) a.slots.now 0 4 (λ i. length-struct_slots _) l.slots _ l.i (4 * l.i)
+          (omega arith) (omega arith) (slots-placed l.slots (4 * l.i) (get_or a.t1 l.i no_gate) (omega arith)) l.invariant.3,
     )
 
 same_length : tie.Need-same-length invariant-loop decreases-loop

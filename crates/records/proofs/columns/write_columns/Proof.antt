@@ -3,10 +3,10 @@
 use mathlib.Core.Path.{◌≡◌, sym, ◌∙◌}
 use mathlib.Core.Bool.{true}
 use native.Mathlib.Nat.{le_refl}
-use Rattle.records.specs.Columns.{Columns, sideColumns, columns}
+use Rattle.records.specs.Columns.{Columns, side_columns, columns}
 use Rattle.records.specs.Inner.{Within}
-use Rattle.records.proofs.Laws.Counts.{passes, fails, countsWithin-facts}
-use Rattle.records.proofs.Laws.Columns.{sideHolds, splits_of, write-columns-ends, put-short, put-counts, unheld-old, unheld-golden}
+use Rattle.records.proofs.Laws.Counts.{passes, fails, counts_within-facts}
+use Rattle.records.proofs.Laws.Columns.{side_holds, splits_of, write-columns-ends, put-short, put-counts, unheld-old, unheld-golden}
 use Rattle.records.proofs.columns.write_columns.Statement.{statement}
 use Rattle.records.proofs.columns.write_columns.Tie as tie
 
@@ -15,8 +15,8 @@ abbrev lent : tie.Start → Columns
 lent c =
     let a = c.args in
     columns
-    (sideColumns a.old-kinds.now a.old-counts.now a.old-slots.now a.old-outputs.now)
-    (sideColumns a.golden-kinds.now a.golden-counts.now a.golden-slots.now a.golden-outputs.now)
+    (side_columns a.old-kinds.now a.old-counts.now a.old-slots.now a.old-outputs.now)
+    (side_columns a.golden-kinds.now a.golden-counts.now a.golden-slots.now a.golden-outputs.now)
     a.nets.now
     a.weights.now
 
@@ -35,14 +35,14 @@ third c = c.before.before.before.before
 
 -- past the checks the counts are within their ranges, and each netlist's columns hold its gates
 within : (c : tie.After-enum-told) → Within (first c).args.counts
-within c = countsWithin-facts _ (passes _ (sym c.before.before.check-counts.ensures ∙ c.enum_told.given.1))
+within c = counts_within-facts _ (passes _ (sym c.before.before.check-counts.ensures ∙ c.enum_told.given.1))
 
 old-holds : (c : tie.After-enum-told3)
-    → let e = first (second c) in sideHolds (lent e).old e.args.counts.old.gates ≡ true
+    → let e = first (second c) in side_holds (lent e).old e.args.counts.old.gates ≡ true
 old-holds c = passes _ (sym c.before.before.check-columns.ensures ∙ c.enum-told3.given.1)
 
 golden-holds : (c : tie.After-enum-told5)
-    → let e = first (second (third c)) in sideHolds (lent e).golden e.args.counts.golden.gates ≡ true
+    → let e = first (second (third c)) in side_holds (lent e).golden e.args.counts.golden.gates ≡ true
 golden-holds c = passes _ (sym c.before.before.check-columns2.ensures ∙ c.enum-told5.given.1)
 
 returns : tie.Need-returns

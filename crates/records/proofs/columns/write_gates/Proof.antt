@@ -39,7 +39,7 @@ use denote.Triple.Walked.{Stays, stay_dropped, gave_slice, walk_of, Goes, Silent
 use denote.Exit.{yes}
 use denote.Signature.{Slot, AllWithin, plain, shr_slice_of, types_at}
 use denote.Signature.Array.{array_of}
-use Rattle.records.specs.Service.{Places, places, sidePlaces, writeReply, writtenBytes}
+use Rattle.records.specs.Service.{Places, places, side_places, write_reply, written_bytes}
 use Rattle.records.specs.declared.gate.Gate.{Gate}
 use Rattle.records.specs.declared.writing.WriteReply.{WriteReply}
 use Rattle.records.proofs.Lent.{slice, shows, shown}
@@ -99,7 +99,7 @@ module _ {M : Type 1} {𝓤 : Ura M} (𝓛 : Logic 𝓤) (mem : Memory → SProp
   buf = a.1.1.1.1.1.1.1.0
 
   abbrev held : Places
-  held = places (sidePlaces old a.1.1.0.now) (sidePlaces golden a.1.1.1.1.0.now) a.1.1.1.1.1.0.now a.1.1.1.1.1.1.0.now
+  held = places (side_places old a.1.1.0.now) (side_places golden a.1.1.1.1.0.now) a.1.1.1.1.1.0.now a.1.1.1.1.1.1.0.now
 
   abbrev Post : Val → SProp 𝓤
   Post = (walk_of 𝓛 write-gates.ended stayed (write-gates.clauses 𝓛 mem run)).post ((κs, qs, tt, a, vals), tt)
@@ -110,10 +110,10 @@ module _ {M : Type 1} {𝓤 : Ura M} (𝓛 : Logic 𝓤) (mem : Memory → SProp
 
   -- what `write`'s two clauses say of the reply and of the buffer's last bytes
   abbrev Replied : WriteReply → Type 0
-  Replied r = r ≡ writeReply a.0 held buf.now
+  Replied r = r ≡ write_reply a.0 held buf.now
 
   abbrev Written : List ℕ → Type 0
-  Written ys = ys ≡ writtenBytes a.0 held buf.now
+  Written ys = ys ≡ written_bytes a.0 held buf.now
 
   exits : (r : WriteReply) (w : Val) (ys : List ℕ) → Replied r → Written ys → length ys ≡ length buf.now
       → ent 𝓤 (sep 𝓤 (A.lft κs.0 qs.0) (sep 𝓤 more (sep 𝓤 (sem 𝓛 (finally u8 buf.name ys)) (sem 𝓛 ((R.the_row).own_val r (w ∷ [])))))) (Post w)

@@ -1,5 +1,5 @@
--- `records::field::walked` meets its contract: a walk of its MIR, by hand, with a loop in it. The invariant: for some k ≤ count the walk so far is `walkAfter` of k fields, and the reader holds the slice
--- and stands where that walk ends. What the contract says of the walk is a law of `walkAfter` (`Laws/Walk`). A reader is made anew, of what the slice owns and a position, for each call that takes one.
+-- `records::field::walked` meets its contract: a walk of its MIR, by hand, with a loop in it. The invariant: for some k ≤ count the walk so far is `walk_after` of k fields, and the reader holds the slice
+-- and stands where that walk ends. What the contract says of the walk is a law of `walk_after` (`Laws/Walk`). A reader is made anew, of what the slice owns and a position, for each call that takes one.
 -- All that the proof knows of the callees is that each meets its contract. Assumes nothing.
 use mathlib.Core.Path.{◌≡◌, refl, subst}
 use Prim.Native.Nat.{ℕ, suc, ◌+◌, ◌≤◌, ◌<◌, ◌^◌, zero-le}
@@ -40,7 +40,7 @@ use denote.Triple.Statement.{Contract, Triple}
 use denote.Triple.Table.{entered, cited}
 use denote.Triple.Walked.{says, needs, Stays, stay_none, stay_none_slice, walk_of, Goes-none, Goes-none_slice, Walks, ends_at, walked, walk_Meets}
 use denote.Exit.{yes}
-use Rattle.records.specs.Inner.{fieldAt, walkFrom, noted, walkAfter, ended, Walks as Walked}
+use Rattle.records.specs.Inner.{field_at, walk_from, noted, walk_after, ended, Walks as Walked}
 use Rattle.records.specs.declared.field.Field.{Field}
 use Rattle.records.specs.declared.field.FieldReader.{FieldReader}
 use Rattle.records.specs.declared.field.Walk.{Walk}
@@ -132,13 +132,13 @@ module _ {M : Type 1} {𝓤 : Ura M} (𝓛 : Logic 𝓤) (mem : Memory → SProp
 
   -- the walk after k fields, the reader at position p, and the field that the reader finds after k fields
   abbrev walk : ℕ → Walk
-  walk k = walkAfter s.now t k
+  walk k = walk_after s.now t k
 
   abbrev reader : ℕ → FieldReader
   reader p = record { bytes = s; at = p }
 
   abbrev found : ℕ → Field
-  found k = fieldAt s.now (walk k).at (walk k).tag
+  found k = field_at s.now (walk k).at (walk k).tag
 
   abbrev answer : ℕ → Walk
   answer k = ended (walk k) (length s.now)
@@ -245,7 +245,7 @@ module _ {M : Type 1} {𝓤 : Ura M} (𝓛 : Logic 𝓤) (mem : Memory → SProp
     all k le over = omega (arith, nltb→le (walk k).count n over, counted k le)
 
     turn : (k : ℕ) (le : k ≤ n) (is : IsWalk (walk k)) → Sq 𝓛 (At (k, (le, is))) (runs C Λ En Mir.turn-1 (any_q (Turned (k, (le, is)))))
-    unfolding after_turn walkAfter
+    unfolding after_turn walk_after
     turn k le is =
         lets ! 8 (bin ! (piece ! 14 refl refl refl) (var ! 16 refl) tt) refl (tt, tt) $
         tests ! (var ! 8 refl)
@@ -281,7 +281,7 @@ module _ {M : Type 1} {𝓤 : Ura M} (𝓛 : Logic 𝓤) (mem : Memory → SProp
     looped i = first ! $ blocks ! $ loops ! 𝓣 (Nearer n) (nearer-wf n) At (λ j. turn j.0 j.1.0 j.1.1) i
 
   walks-in : (𝓣 : Tables 𝓤 H) → Known 𝓛 mem run 𝓣.C → ent 𝓤 (on_entry 𝓛 walked-fn.signature (κ, tt) (q, tt) (s, (t, (n, tt))) vals) (WpFn 𝓤 H 𝓣.C 𝓣.Λ code.function (v ∷ vint w8 t ∷ vint w64 n ∷ []) Post)
-  unfolding walkAfter walkFrom
+  unfolding walk_after walk_from
   walks-in 𝓣 known =
       qed 𝓛 (raw Tok ∷ ‵ (owns (ShrSlice (named 0) κ u8 ∷ u8 ∷ usize ∷ []) (s, (t, (n, tt))) vals) ∷ []) ∵ enter ! 𝓣.C 𝓣.Λ code.function (v ∷ vint w8 t ∷ vint w64 n ∷ []) _ $
       arrives ! ((tt, (tt, (record { fits = length-fits }, tt))), ((tt, record { fits = t-fits }), ((tt, record { fits = n-fits }), tt))) (λ bs.

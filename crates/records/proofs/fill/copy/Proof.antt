@@ -6,7 +6,7 @@ use native.Mathlib.Omega.{arith}
 use lib.ListN.{length, get_or}
 use lib.Seq.{take-length}
 use Rattle.records.specs.Bytes.{placed}
-use Rattle.records.proofs.Laws.Job.{Filled, filled_none, filled_next, tabulate-getD}
+use Rattle.records.proofs.Laws.Job.{Filled, filled_none, filled_next, tabulate-get_or}
 use Rattle.records.proofs.fill.copy.Statement.{statement}
 use Rattle.records.proofs.fill.copy.Tie as tie
 
@@ -35,7 +35,7 @@ returns c =
     let a = c.before.before.args in
     let src = a.src.now in
     let e : l.i ≡ length src = omega arith in
-    (rw e at l.invariant.1.1) ∙ ap (placed a.buf.now 0) (tabulate-getD src (length src) (omega arith) ∙ take-length src)
+    (rw e at l.invariant.1.1) ∙ ap (placed a.buf.now 0) (tabulate-get_or src (length src) (omega arith) ∙ take-length src)
 
 pub copy_spec : {M : Type 1} → statement M
 copy_spec =

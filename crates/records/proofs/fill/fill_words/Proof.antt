@@ -5,7 +5,7 @@ use mathlib.Core.Path.{◌≡◌, ◌∙◌, ap}
 use native.Mathlib.Omega.{arith}
 use native.Mathlib.Nat.{mul-zero}
 use Rattle.records.specs.Bytes.{word}
-use Rattle.records.specs.Inner.{wordColumn}
+use Rattle.records.specs.Inner.{word_column}
 use Rattle.records.proofs.Laws.Job.{next-record, record-within, Filled, filled_none, filled_next}
 use Rattle.records.proofs.fill.fill_words.Statement.{statement}
 use Rattle.records.proofs.fill.fill_words.Tie as tie
@@ -57,7 +57,7 @@ same_length : tie.Need-same-length invariant-loop decreases-loop
 same_length c = c.before.loop.invariant.2.0
 
 returns : tie.Need-returns invariant-loop decreases-loop
-unfolding wordColumn
+unfolding word_column
 returns c =
     let a = c.before.before.before.before.args in
     let l = c.before.loop in

@@ -7,26 +7,26 @@ use mathlib.Core.Bool.{◌&&◌}
 use mathlib.Core.Path.{◌≡◌, sym, ◌∙◌, ap}
 use native.Mathlib.Omega.{arith}
 use Prim.Native.Nat.{◌+◌, ◌-◌}
-use Rattle.records.specs.Gate.{gateOf}
-use Rattle.records.specs.Refusal.{gateGood}
-use Rattle.records.specs.Service.{gateFrom}
-use Rattle.records.specs.Inner.{structSlots}
-use Rattle.records.proofs.Laws.Gate.{slotsGood, slotsGood-drop, slotsGood-end, gateGood-refused, gateGood-permitted}
+use Rattle.records.specs.Gate.{gate_of}
+use Rattle.records.specs.Refusal.{gate_good}
+use Rattle.records.specs.Service.{gate_from}
+use Rattle.records.specs.Inner.{struct_slots}
+use Rattle.records.proofs.Laws.Gate.{slots_good, slots_good-drop, slots_good-end, gate_good-refused, gate_good-permitted}
 use Rattle.records.proofs.gate.gate_good.Statement.{statement}
 use Rattle.records.proofs.gate.gate_good.Tie as tie
 
 abbrev invariant-loop : tie.invariant-loop
-invariant-loop net slots count i₀ i = slotsGood net (count - i) (drop i slots) ≡ slotsGood net count slots
+invariant-loop net slots count i₀ i = slots_good net (count - i) (drop i slots) ≡ slots_good net count slots
 
 abbrev decreases-loop : tie.decreases-loop
 decreases-loop net slots count i₀ i = 4 - i
 
 returns : tie.Need-returns invariant-loop decreases-loop
-unfolding gateFrom gateOf
+unfolding gate_from gate_of
 returns c =
     let x = c.before.before.args in
     let p = c.before.permits in
-    sym (gateGood-refused x.net (gateFrom x.gate) (sym p.ensures ∙ not-true p.result c.if1.true))
+    sym (gate_good-refused x.net (gate_from x.gate) (sym p.ensures ∙ not-true p.result c.if1.true))
 
 loop-holds : tie.Need-loop-init invariant-loop decreases-loop
 loop-holds c =
@@ -37,19 +37,19 @@ loop-holds c =
 -- a gate that is permitted is good where its slots are
 good : (c : tie.At-loop invariant-loop decreases-loop) → let x = c.before.before.before.before.before.args in
     let slots = c.before.before.slots-of.result in
-    gateGood x.net (gateFrom x.gate) ≡ slotsGood x.net (x.gate.count - c.loop.i) (drop c.loop.i slots)
-unfolding gateFrom gateOf structSlots
+    gate_good x.net (gate_from x.gate) ≡ slots_good x.net (x.gate.count - c.loop.i) (drop c.loop.i slots)
+unfolding gate_from gate_of struct_slots
 good c =
     let x = c.before.before.before.before.before.args in
     let p = c.before.before.before.before.permits in
     let t = not-false p.result c.before.before.before.if1.false in
-    gateGood-permitted x.net (gateFrom x.gate) (sym p.ensures ∙ t)
-    ∙ ap (slotsGood x.net x.gate.count) (sym c.before.before.slots-of.ensures)
+    gate_good-permitted x.net (gate_from x.gate) (sym p.ensures ∙ t)
+    ∙ ap (slots_good x.net x.gate.count) (sym c.before.before.slots-of.ensures)
     ∙ sym c.loop.invariant
 
 -- four slots
 four : (c : tie.At-loop invariant-loop decreases-loop) → length c.before.before.slots-of.result ≡ 4
-unfolding structSlots
+unfolding struct_slots
 four c = ap length c.before.before.slots-of.ensures
 
 -- the slots are good where slot i is, and those after it
@@ -57,14 +57,14 @@ turn : (c : tie.After-slot-good invariant-loop decreases-loop) → let l = c.bef
     let x = l.before.before.before.before.before.args in
     let slots = l.before.before.slots-of.result in
     let i = l.loop.i in
-    gateGood x.net (gateFrom x.gate)
-    ≡ (c.slot-good.result && slotsGood x.net (x.gate.count - (i + 1)) (drop (i + 1) slots))
+    gate_good x.net (gate_from x.gate)
+    ≡ (c.slot-good.result && slots_good x.net (x.gate.count - (i + 1)) (drop (i + 1) slots))
 turn c =
     let l = c.before.before in
     let x = l.before.before.before.before.before.args in
     let n = four l in
     good l
-    ∙ slotsGood-drop x.net x.gate.count l.loop.i l.before.before.slots-of.result (omega arith)
+    ∙ slots_good-drop x.net x.gate.count l.loop.i l.before.before.slots-of.result (omega arith)
     ∙ rw c.slot-good.ensures
 
 returns-2 : tie.Need-returns-2 invariant-loop decreases-loop
@@ -82,7 +82,7 @@ returns-3 c =
     let x = l.before.before.before.before.before.args in
     let n = four l in
     let i = l.loop.i in
-    sym (good l ∙ slotsGood-end x.net (x.gate.count - i) i l.before.before.slots-of.result (omega arith))
+    sym (good l ∙ slots_good-end x.net (x.gate.count - i) i l.before.before.slots-of.result (omega arith))
 
 pub gate-good-spec : {M : Type 1} → statement M
 gate-good-spec =

@@ -4,8 +4,8 @@ use mathlib.Core.List.{[], ◌∷◌}
 use mathlib.Core.Path.{◌≡◌, refl, sym}
 use native.Mathlib.Omega.{arith}
 use lib.Dec.{lit≤}
-use Rattle.records.specs.Gate.{gateValue}
-use Rattle.records.proofs.Laws.Gate.{Gives, and-bits, or-bits, xor-bits, gateValue-other}
+use Rattle.records.specs.Gate.{gate_value}
+use Rattle.records.proofs.Laws.Gate.{Gives, and-bits, or-bits, xor-bits, gate_value-other}
 use Rattle.records.proofs.gate.plain_value.Statement.{statement}
 use Rattle.records.proofs.gate.plain_value.Tie as tie
 
@@ -26,7 +26,7 @@ at-kind : (x y : ℕ) {k n v : ℕ} → k ≡ n → Gives n x y v → Gives k x 
 at-kind x y e p = rw e p
 
 returns : tie.Need-returns
-unfolding gateValue
+unfolding gate_value
 returns c = let x = c.before.args in at-kind x.x x.y c.match.keys1 (refl, omega arith)
 
 returns-2 : tie.Need-returns-2
@@ -47,7 +47,7 @@ returns-4 c =
 returns-5 : tie.Need-returns-5
 returns-5 c =
     let x = c.before.args in
-    (sym (gateValue-other (x.x ∷ x.y ∷ []) x.kind c.before.requires.0 c.match.rest), lit≤ tt)
+    (sym (gate_value-other (x.x ∷ x.y ∷ []) x.kind c.before.requires.0 c.match.rest), lit≤ tt)
 
 pub plain-value-spec : {M : Type 1} → statement M
 plain-value-spec =

@@ -1,11 +1,11 @@
 -- `records::gate::slots_of` meets its contract, by definition. Assumes nothing.
 use mathlib.Core.Path.{refl}
-use Rattle.records.specs.Inner.{structSlots}
+use Rattle.records.specs.Inner.{struct_slots}
 use Rattle.records.proofs.gate.slots_of.Statement.{statement}
 use Rattle.records.proofs.gate.slots_of.Tie as tie
 
 returns : tie.Need-returns
-unfolding structSlots
+unfolding struct_slots
 returns c = refl
 
 pub slots-of-spec : {M : Type 1} → statement M

@@ -6,14 +6,14 @@ use mathlib.Core.Logic.{⊎_elim}
 use mathlib.Core.Path.{◌≡◌, sym, ◌∙◌, ap}
 use native.Mathlib.Omega.{arith}
 use Prim.Native.Nat.{ℕ, suc, ◌-◌, ◌%◌, ◌≤◌, ◌<◌}
-use Rattle.records.specs.Gate.{gateValue, conj, inverted}
-use Rattle.records.proofs.Laws.Gate.{lowest, length-lowest, gateValue-high, gateValue-nil, fold-none, fold-back, odd-inverts}
+use Rattle.records.specs.Gate.{gate_value, conj, inverted}
+use Rattle.records.proofs.Laws.Gate.{lowest, length-lowest, gate_value-high, gate_value-nil, fold-none, fold-back, odd-inverts}
 use Rattle.records.proofs.gate.value.Statement.{statement}
 use Rattle.records.proofs.gate.value.Tie as tie
 
 abbrev invariant-loop : tie.invariant-loop
 invariant-loop kind count operands plain r₀ i₀ r i =
-    (i ≤ length (lowest count operands)) × (r < 2) × (r ≡ gateValue plain (drop i (lowest count operands)))
+    (i ≤ length (lowest count operands)) × (r < 2) × (r ≡ gate_value plain (drop i (lowest count operands)))
 
 abbrev decreases-loop : tie.decreases-loop
 decreases-loop kind count operands plain r₀ i₀ r i = i
@@ -21,7 +21,7 @@ decreases-loop kind count operands plain r₀ i₀ r i = i
 returns : tie.Need-returns invariant-loop decreases-loop
 returns c =
     let x = c.before.args in
-    sym (gateValue-high x.kind (lowest x.count x.t3) c.if1.true)
+    sym (gate_value-high x.kind (lowest x.count x.t3) c.if1.true)
 
 -- the plain kind of kind k
 abbrev plain_of : ℕ → ℕ
@@ -31,11 +31,11 @@ even : (k : ℕ) → plain_of k % 2 ≡ 0
 even k = omega arith
 
 -- before the first turn no operand is met, and i is how many there are
-none : (c : tie.Joined2 invariant-loop decreases-loop) → c.if2.r ≡ gateValue (plain_of c.before.before.args.kind) []
-unfolding gateValue conj
+none : (c : tie.Joined2 invariant-loop decreases-loop) → c.if2.r ≡ gate_value (plain_of c.before.before.args.kind) []
+unfolding gate_value conj
 none c =
     let k = c.before.before.args.kind in
-    ⊎_elim (λ w. rw (w.0.taken, w.1)) (λ w. w.1 ∙ sym (gateValue-nil (plain_of k) (even k) w.0.left)) c.if2.branch
+    ⊎_elim (λ w. rw (w.0.taken, w.1)) (λ w. w.1 ∙ sym (gate_value-nil (plain_of k) (even k) w.0.left)) c.if2.branch
 
 all : (c : tie.Joined3 invariant-loop decreases-loop) → let x = c.before.before.before.args in
     c.if3.i ≡ length (lowest x.count x.t3)
@@ -78,7 +78,7 @@ returns-2 c =
     let k : x.kind ≡ suc (plain_of x.kind) = omega arith in
     ap inverted (rw z at l.loop.invariant.2)
     ∙ sym (odd-inverts (plain_of x.kind) vs (even x.kind) (omega arith))
-    ∙ ap (λ (n : ℕ). gateValue n vs) (sym k)
+    ∙ ap (λ (n : ℕ). gate_value n vs) (sym k)
 
 returns-3 : tie.Need-returns-3 invariant-loop decreases-loop
 returns-3 c =
@@ -86,7 +86,7 @@ returns-3 c =
     let x = l.before.before.before.before.args in
     let z : l.loop.i ≡ 0 = omega arith in
     let k : plain_of x.kind ≡ x.kind = omega arith in
-    (rw z at l.loop.invariant.2) ∙ ap (λ (n : ℕ). gateValue n (lowest x.count x.t3)) k
+    (rw z at l.loop.invariant.2) ∙ ap (λ (n : ℕ). gate_value n (lowest x.count x.t3)) k
 
 pub value_spec : {M : Type 1} → statement M
 value_spec =

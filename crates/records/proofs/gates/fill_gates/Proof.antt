@@ -42,7 +42,7 @@ use denote.Triple.Table.{entered, cited}
 use denote.Triple.Walked.{needs}
 use denote.Signature.{types_at}
 use Rattle.records.specs.Bytes.{placed}
-use Rattle.records.specs.Inner.{struct_at, structsAt}
+use Rattle.records.specs.Inner.{struct_at, structs_at}
 use Rattle.records.specs.declared.gate.Gate.{Gate}
 use Rattle.records.proofs.Locals.{empty, holds, Homes, spots, locals, arrives, released}
 use Rattle.records.proofs.Sides.{alls, parts, calls-giving, starts, Ends, ending, meets}
@@ -113,7 +113,7 @@ module _ {M : Type 1} {𝓤 : Ura M} (𝓛 : Logic 𝓤) (mem : Memory → SProp
   gate i = struct_at s.now (at + 10 * i)
 
   abbrev upto : ℕ → List Gate
-  upto i = placed ys 0 (structsAt s.now at i)
+  upto i = placed ys 0 (structs_at s.now at i)
 
   -- what the ghost name of gates has of a list
   abbrev coded : List Gate → Gv

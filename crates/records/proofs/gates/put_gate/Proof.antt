@@ -2,7 +2,7 @@
 use mathlib.Core.Path.{◌≡◌, ◌∙◌}
 use native.Mathlib.Omega.{arith}
 use lib.ListN.{length, length-set}
-use Rattle.records.specs.Service.{gateFrom}
+use Rattle.records.specs.Service.{gate_from}
 use Rattle.records.proofs.Laws.Job.{gate-placed}
 use Rattle.records.proofs.gates.put_gate.Statement.{statement}
 use Rattle.records.proofs.gates.put_gate.Tie as tie
@@ -49,7 +49,7 @@ same_length : tie.Need-same-length
 same_length c = let w = c.before.before in omega (arith, w.put-word4.auto.0 ∙ same-3 (third w))
 
 returns : tie.Need-returns
-unfolding gateFrom
+unfolding gate_from
 returns c =
     let w = c.before.before in
     let v = third w in

@@ -43,9 +43,9 @@ use denote.Triple.Table.{entered, cited}
 use denote.Triple.Walked.{needs, Goes-slice}
 use denote.Signature.{plain, types_at}
 use Rattle.records.specs.Bytes.{placed}
-use Rattle.records.specs.Job.{gateBytes}
-use Rattle.records.specs.Service.{gateFrom}
-use Rattle.records.specs.Inner.{noGate, gatesBytes}
+use Rattle.records.specs.Job.{gate_bytes}
+use Rattle.records.specs.Service.{gate_from}
+use Rattle.records.specs.Inner.{no_gate, gates_bytes}
 use Rattle.records.specs.declared.gate.Gate.{Gate}
 use Rattle.records.proofs.Again.{LentAgain, lends_again, comes_back}
 use Rattle.records.proofs.Lent.{slice}
@@ -115,10 +115,10 @@ module _ {M : Type 1} {𝓤 : Ura M} (𝓛 : Logic 𝓤) (mem : Memory → SProp
   s = slice_val (b', o') (length d)
 
   abbrev put : ℕ → List ℕ
-  put i = placed d at (gatesBytes i gs)
+  put i = placed d at (gates_bytes i gs)
 
   abbrev gate : ℕ → Gate
-  gate i = get_or gs i noGate
+  gate i = get_or gs i no_gate
 
   -- what buf owns at the bytes zs
   abbrev Buf : List ℕ → Fml
@@ -212,16 +212,16 @@ module _ {M : Type 1} {𝓤 : Ura M} (𝓛 : Logic 𝓤) (mem : Memory → SProp
           lets ! 6 (bin ! (piece ! 30 refl refl refl) (var ! 8 refl) tt) refl (tt, tt) $
           rewrite ! 6 (λ (j : ℕ). ‵ (fat full_share ty_ptr bs.1.1.1.1.1.1.1.1.1.1.1.1.1.0 0 (vptr b j))) (sym (place_is 10 o i.0)) refl $
           -- the gate is read
-          elem_out ! R (Is R) (shows 𝓛 R) (LL.vals G.the_type G'.the_laws) (LL.tells G.the_type G'.the_laws) p gs i.0 noGate b o (read i less) (λ is.
+          elem_out ! R (Is R) (shows 𝓛 R) (LL.vals G.the_type G'.the_laws) (LL.tells G.the_type G'.the_laws) p gs i.0 no_gate b o (read i less) (λ is.
           lets ! 6 (of_opd ! (load ! (from ! (hop ! (look ! 8 refl) (stop !))) (look_raw ! 0 refl))) refl ((LL.lawful G.the_type G'.the_laws 𝓛).typed (gate i.0) _ is).0 $
-          elem_back ! R p gs i.0 noGate (G'.lowered (gate i.0) ∷ []) b o (read i less) $
+          elem_back ! R p gs i.0 no_gate (G'.lowered (gate i.0) ∷ []) b o (read i less) $
           -- buf is lent again for a lifetime ν of the call
           lft_new ! tt (λ ν. move ! (2 ∷ 3 ∷ []) $
           use2 𝓛 (later (some (λ (δ : GName). ‵ ((MutSlice (named 0) (ν ∷ []) u8).own_val (slice b' o' δ (put i.0)) (s ∷ [])) ⊛ ‵ (LentAgain u8 κs.1.0 (ν ∷ []) qs.1.0 buf.name b' o' (put i.0) (s ∷ []) δ))))
           (lends_again u8 κs.1.0 (ν ∷ []) qs.1.0 buf.name b' o' (put i.0) (s ∷ []) 𝓛 (named 1) (named 0)) $ await ! tt $ pick ! (λ δ. split ! $
           owned ! R (Is R) (LL.makes G.the_type G'.the_plain 𝓛) (gate i.0) (G'.lowered (gate i.0) ∷ []) is $ owned ! usize (Is usize) (uint_Makes 𝓛 w64) (at + 10 * i.0) (vint w64 (at + 10 * i.0) ∷ []) (refl, (from_at i less).fits) $ move ! (4 ∷ 2 ∷ 0 ∷ 1 ∷ []) $
           calls ! (fm_of 𝓤 H 𝓛.laws 𝓣) put-gate.ended (put-gate.clauses 𝓛 mem run) known (to-put ν δ i.0) (fact_i 𝓤 _ (emp 𝓤) (within i less))
-          (λ r zs. zs.0 ≡ placed (put i.0) (at + 10 * i.0) (gateBytes (gateFrom (gate i.0)))) (λ r zs. id⊢ 𝓤 _)
+          (λ r zs. zs.0 ≡ placed (put i.0) (at + 10 * i.0) (gate_bytes (gate_from (gate i.0)))) (λ r zs. id⊢ 𝓤 _)
           (and_then ! (var ! 14 refl) (and_then ! (var ! 10 refl) (and_then ! (var ! 4 refl) (no_more !)))) (λ u r zs e is'.
           -- [ν's token; the last bytes; what is kept of buf; the row; what shuts it; the locals]: the lifetime is ended, and buf comes back
           land ! (from ! (stop !)) (init ! 19 refl ((Nothing-Lawful 𝓛).typed r _ is').0) $ lft_end ! tt $ move ! (1 ∷ []) $ fsplit ! $ move ! (1 ∷ []) $ feq_l ! (λ l. move ! (1 ∷ 2 ∷ 0 ∷ []) $

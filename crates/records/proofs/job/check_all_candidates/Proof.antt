@@ -8,9 +8,9 @@ use Prim.Native.Nat.{ℕ, ◌+◌, ◌/◌, ◌≤◌}
 use lib.ListN.{length, take}
 use Rattle.records.specs.Bytes.{nth}
 use Rattle.records.specs.Netlist.{fanout}
-use Rattle.records.specs.Job.{gatesOf, candidatesOf}
-use Rattle.records.specs.Refusal.{gatesGood}
-use Rattle.records.specs.Inner.{checkOf, unmarkedAscending}
+use Rattle.records.specs.Job.{gates_of, candidates_of}
+use Rattle.records.specs.Refusal.{gates_good}
+use Rattle.records.specs.Inner.{check_of, unmarked_ascending}
 use Rattle.records.proofs.Laws.Bytes.{and_left}
 use Rattle.records.proofs.Laws.Shape.{Parts, parts, netlists-checks, laid-old, candidates-check}
 use borrow.Author.Rules.{rules}
@@ -43,8 +43,8 @@ fanout-marks-requires c κs =
     let e = (at c.before.before.before).old.is in
     let w = p.laid.within in
     let n : k.inputs + k.targets + length (nth 1 s) / 10 ≤ 424 = omega (arith, laid-old s k p.laid, w.inputs, w.targets, w.old.gates) in
-    let g : gatesGood (k.inputs + k.targets) (gatesOf (nth 1 s)) ≡ true =
-    and_left _ (gatesGood k.inputs (gatesOf (nth 3 s))) (sym (netlists-checks s k p.laid) ∙ p.good) in
+    let g : gates_good (k.inputs + k.targets) (gates_of (nth 1 s)) ≡ true =
+    and_left _ (gates_good k.inputs (gates_of (nth 3 s))) (sym (netlists-checks s k p.laid) ∙ p.good) in
     (rw e n, rw e g)
 
 sub-check-candidates : tie.Need-overflow-sub-check-candidates
@@ -66,11 +66,11 @@ returns c =
     let m = c.before.before.before.before.before.fanout-marks.result in
     let n = k.inputs + k.targets + k.old.gates in
     let o : k.inputs + k.targets + length (nth 1 s) / 10 ≡ n = omega (arith, laid-old s k p.laid) in
-    let f : take (k.inputs + k.targets + length (nth 1 s) / 10) m ≡ fanout k.inputs k.targets (gatesOf (nth 1 s)) =
+    let f : take (k.inputs + k.targets + length (nth 1 s) / 10) m ≡ fanout k.inputs k.targets (gates_of (nth 1 s)) =
     rw t.old.is at c.before.before.before.before.before.fanout-marks.ensures in
     c.check-candidates.ensures
-    ∙ ap (λ (l : List ℕ). checkOf (unmarkedAscending n m (candidatesOf l))) t.candidates.is
-    ∙ ap checkOf (candidates-check s k p.laid m n refl (ap (λ (x : ℕ). take x m) (sym o) ∙ f))
+    ∙ ap (λ (l : List ℕ). check_of (unmarked_ascending n m (candidates_of l))) t.candidates.is
+    ∙ ap check_of (candidates-check s k p.laid m n refl (ap (λ (x : ℕ). take x m) (sym o) ∙ f))
 
 pub check-all-candidates-spec : {M : Type 1} → statement M
 check-all-candidates-spec =

@@ -8,9 +8,9 @@ use lib.ListN.{length}
 use lib.Dec.{eqb, ltb}
 use borrow.Author.Tests.{eq-eqb, ne_eqb}
 use Rattle.records.specs.Bytes.{nth, all}
-use Rattle.records.specs.Job.{netsOf, job_of}
-use Rattle.records.specs.Refusal.{outputsGood}
-use Rattle.records.specs.Inner.{checkOf}
+use Rattle.records.specs.Job.{nets_of, job_of}
+use Rattle.records.specs.Refusal.{outputs_good}
+use Rattle.records.specs.Inner.{check_of}
 use Rattle.records.specs.declared.job.Counts.{Counts}
 use Rattle.records.proofs.Laws.Counts.{passed, failed-of, passes, fails}
 use Rattle.records.proofs.Laws.Reading.{nets-in, part_room}
@@ -33,16 +33,16 @@ golden c = c.before.before.before.before.before
 abbrev old_below : tie.Start → Bool
 old_below s =
     let a = s.args in
-    all (λ i. ltb i (a.c.inputs + a.c.targets + a.c.old.gates)) (netsOf (nth 2 a.job.now))
+    all (λ i. ltb i (a.c.inputs + a.c.targets + a.c.old.gates)) (nets_of (nth 2 a.job.now))
 
 abbrev golden-below : tie.Start → Bool
 golden-below s =
-    let a = s.args in all (λ i. ltb i (a.c.inputs + a.c.golden.gates)) (netsOf (nth 4 a.job.now))
+    let a = s.args in all (λ i. ltb i (a.c.inputs + a.c.golden.gates)) (nets_of (nth 4 a.job.now))
 
 abbrev alike : tie.Start → Bool
 alike s = eqb s.args.c.old.outputs s.args.c.golden.outputs
 
-tests : (s : tie.Start) → outputsGood (job_of s.args.job.now) ≡ (old_below s && golden-below s && alike s)
+tests : (s : tie.Start) → outputs_good (job_of s.args.job.now) ≡ (old_below s && golden-below s && alike s)
 tests s = outputs-checks s.args.job.now s.args.c s.requires
 
 -- where the fields stand, once the starts are known, and how many outputs they have
@@ -70,12 +70,12 @@ enum-told-2 : tie.Need-enum-told-2
 enum-told-2 c = c.match.keys2
 
 -- the first check is of the old outputs
-first : (c : tie.After-check-outputs) → c.check-outputs.result ≡ checkOf (old_below (begin (old c)))
+first : (c : tie.After-check-outputs) → c.check-outputs.result ≡ check_of (old_below (begin (old c)))
 first c =
     let s = begin (old c) in
     let a = s.args in
     c.check-outputs.ensures
-    ∙ ap (λ (l : List ℕ). checkOf (all (λ i. ltb i (a.c.inputs + a.c.targets + a.c.old.gates)) l))
+    ∙ ap (λ (l : List ℕ). check_of (all (λ i. ltb i (a.c.inputs + a.c.targets + a.c.old.gates)) l))
     (nets-in (at (old c)).outputs _ (counted s).0)
 
 returns : tie.Need-returns
@@ -97,12 +97,12 @@ enum-told-4 : tie.Need-enum-told-4
 enum-told-4 c = c.match2.keys2
 
 -- the second is of the golden ones
-second : (c : tie.After-check-outputs2) → c.check-outputs2.result ≡ checkOf (golden-below (begin (old (golden c))))
+second : (c : tie.After-check-outputs2) → c.check-outputs2.result ≡ check_of (golden-below (begin (old (golden c))))
 second c =
     let t = old (golden c) in
     let a = (begin t).args in
     c.check-outputs2.ensures
-    ∙ ap (λ (l : List ℕ). checkOf (all (λ i. ltb i (a.c.inputs + a.c.golden.gates)) l))
+    ∙ ap (λ (l : List ℕ). check_of (all (λ i. ltb i (a.c.inputs + a.c.golden.gates)) l))
     (nets-in (at t).goldens _ (counted (begin t)).1)
 
 -- past the first the old outputs are below their nets
@@ -120,7 +120,7 @@ returns-2 c =
 
 -- past both, only the counts are left
 both : (c : tie.After-enum-told3)
-    → let s = begin (old (golden c.before.before)) in outputsGood (job_of s.args.job.now) ≡ alike s
+    → let s = begin (old (golden c.before.before)) in outputs_good (job_of s.args.job.now) ≡ alike s
 both c =
     let v = c.before.before in
     let s = begin (old (golden v)) in

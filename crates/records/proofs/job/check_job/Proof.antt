@@ -2,12 +2,12 @@
 -- gives its number. Assumes nothing.
 use mathlib.Core.Path.{◌≡◌, sym, ◌∙◌, ap}
 use mathlib.Core.Bool.{true}
-use Rattle.records.specs.Job.{jobWhole, job_of}
-use Rattle.records.specs.Refusal.{countsGood, netlistsGood, outputsGood}
-use Rattle.records.specs.Service.{countsOf}
-use Rattle.records.specs.Inner.{countsWithin, Laid}
+use Rattle.records.specs.Job.{job_whole, job_of}
+use Rattle.records.specs.Refusal.{counts_good, netlists_good, outputs_good}
+use Rattle.records.specs.Service.{counts_of}
+use Rattle.records.specs.Inner.{counts_within, Laid}
 use Rattle.records.specs.declared.job.Checked.TheVariants.{Accepted}
-use Rattle.records.proofs.Laws.Counts.{passes, fails, countsWithin-facts, countsWithin-true, countsWithin-countsOf}
+use Rattle.records.proofs.Laws.Counts.{passes, fails, counts_within-facts, counts_within-true, counts_within-counts_of}
 use Rattle.records.proofs.Laws.Shape.{shape-whole, refused-two, refused-three, refused-four, refused-five, refused-six, accepted}
 use Rattle.records.proofs.job.check_job.Statement.{statement}
 use Rattle.records.proofs.job.check_job.Tie as tie
@@ -23,7 +23,7 @@ returns c = refused-two _ (sym c.before.before.shaped.ensures ∙ c.enum_told.gi
 
 -- the job is whole, and these are its counts
 shape : (c : tie.After-known-told) → let s = c.before.before.before.before.before.args.job.now in
-    (jobWhole s ≡ true) × (c.before.found.given.0.0 ≡ countsOf (job_of s))
+    (job_whole s ≡ true) × (c.before.found.given.0.0 ≡ counts_of (job_of s))
 shape c = shape-whole _ _ (sym c.before.before.before.shaped.ensures ∙ c.before.found.given.1)
 
 enum-told-2 : tie.Need-enum-told-2
@@ -37,18 +37,18 @@ laid : (c : tie.After-enum-told2) → Laid c.before.before.before.before.before.
 laid c =
     let h = shape c.before.before.before in
     let p = passes _ (sym c.before.before.check-counts.ensures ∙ c.enum-told2.given.1) in
-    record { whole = h.0; counts = h.1; within = countsWithin-facts _ p }
+    record { whole = h.0; counts = h.1; within = counts_within-facts _ p }
 
-counts : (c : tie.After-enum-told2) → countsGood (job_of c.before.before.before.before.before.before.before.before.args.job.now) ≡ true
+counts : (c : tie.After-enum-told2) → counts_good (job_of c.before.before.before.before.before.before.before.before.args.job.now) ≡ true
 counts c =
     let l = laid c in
-    sym (countsWithin-countsOf _) ∙ ap countsWithin (sym l.counts) ∙ countsWithin-true _ l.within
+    sym (counts_within-counts_of _) ∙ ap counts_within (sym l.counts) ∙ counts_within-true _ l.within
 
 returns-2 : tie.Need-returns-2
 returns-2 c =
     let h = shape c.before.before.before in
     let f = fails _ (sym c.before.before.check-counts.ensures ∙ c.enum-told3.given.1) in
-    refused-three _ h.0 (sym (countsWithin-countsOf _) ∙ ap countsWithin (sym h.1) ∙ f)
+    refused-three _ h.0 (sym (counts_within-counts_of _) ∙ ap counts_within (sym h.1) ∙ f)
 
 check-netlists-requires : tie.Need-check-netlists-requires
 check-netlists-requires c κs = laid c
@@ -60,7 +60,7 @@ enum-told-5 : tie.Need-enum-told-5
 enum-told-5 c = c.match3.keys2
 
 -- .. its gates good
-gates : (c : tie.After-enum-told4) → netlistsGood (job_of c.before.before.before.before.before.before.before.before.before.before.before.args.job.now) ≡ true
+gates : (c : tie.After-enum-told4) → netlists_good (job_of c.before.before.before.before.before.before.before.before.before.before.before.args.job.now) ≡ true
 gates c = passes _ (sym c.before.before.check-netlists.ensures ∙ c.enum-told4.given.1)
 
 returns-3 : tie.Need-returns-3
@@ -78,7 +78,7 @@ enum-told-7 : tie.Need-enum-told-7
 enum-told-7 c = c.match4.keys2
 
 -- .. and its outputs
-outputs : (c : tie.After-enum-told6) → outputsGood (job_of c.before.before.before.before.before.before.before.before.before.before.before.before.before.before.args.job.now) ≡ true
+outputs : (c : tie.After-enum-told6) → outputs_good (job_of c.before.before.before.before.before.before.before.before.before.before.before.before.before.before.args.job.now) ≡ true
 outputs c = passes _ (sym c.before.before.check-all-outputs.ensures ∙ c.enum-told6.given.1)
 
 returns-4 : tie.Need-returns-4

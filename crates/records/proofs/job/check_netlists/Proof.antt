@@ -4,9 +4,9 @@ use mathlib.Core.Bool.{Bool, ◌&&◌}
 use mathlib.Core.List.{List}
 use Prim.Native.Nat.{ℕ, ◌+◌}
 use Rattle.records.specs.Bytes.{nth}
-use Rattle.records.specs.Job.{gatesOf}
-use Rattle.records.specs.Refusal.{gatesGood}
-use Rattle.records.specs.Inner.{checkOf}
+use Rattle.records.specs.Job.{gates_of}
+use Rattle.records.specs.Refusal.{gates_good}
+use Rattle.records.specs.Inner.{check_of}
 use Rattle.records.proofs.Laws.Bytes.{and-false-left}
 use Rattle.records.proofs.Laws.Counts.{failed-of, passes, fails}
 use Rattle.records.proofs.Laws.Shape.{Parts, parts, netlists-checks}
@@ -41,14 +41,14 @@ enum-told-2 c = c.match.keys2
 -- the first check is of the old gates
 first : (c : tie.After-check-gates)
     → c.check-gates.result
-    ≡ checkOf
-    (gatesGood
+    ≡ check_of
+    (gates_good
     (c.before.before.before.before.before.before.args.c.inputs + c.before.before.before.before.before.before.args.c.targets)
-    (gatesOf (nth 1 c.before.before.before.before.before.before.args.job.now)))
+    (gates_of (nth 1 c.before.before.before.before.before.before.args.job.now)))
 first c =
     let a = c.before.before.before.before.before.before.args in
     let v = c.before.before.before.before in
-    c.check-gates.ensures ∙ ap (λ (l : List ℕ). checkOf (gatesGood (a.c.inputs + a.c.targets) (gatesOf l))) (at v).old.is
+    c.check-gates.ensures ∙ ap (λ (l : List ℕ). check_of (gates_good (a.c.inputs + a.c.targets) (gates_of l))) (at v).old.is
 
 returns : tie.Need-returns
 returns c =
@@ -74,8 +74,8 @@ returns-2 c =
     let v = c.before.before.before.before.before.before.before.before.before in
     let e = passes _ (sym (first c.before.before.before.before.before) ∙ c.before.before.before.enum_told.given.1) in
     c.check-gates2.ensures
-    ∙ ap (λ (l : List ℕ). checkOf (gatesGood a.c.inputs (gatesOf l))) (at v).golden.is
-    ∙ sym (ap checkOf (netlists-checks a.job.now a.c c.before.before.before.before.before.before.before.before.before.before.before.requires ∙ ap (λ (x : Bool). x && gatesGood a.c.inputs (gatesOf (nth 3 a.job.now))) e))
+    ∙ ap (λ (l : List ℕ). check_of (gates_good a.c.inputs (gates_of l))) (at v).golden.is
+    ∙ sym (ap check_of (netlists-checks a.job.now a.c c.before.before.before.before.before.before.before.before.before.before.before.requires ∙ ap (λ (x : Bool). x && gates_good a.c.inputs (gates_of (nth 3 a.job.now))) e))
 
 pub check-netlists-spec : {M : Type 1} → statement M
 check-netlists-spec =

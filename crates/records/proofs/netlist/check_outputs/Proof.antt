@@ -9,14 +9,14 @@ use mathlib.Core.Bool.{Bool, ◌&&◌}
 use lib.ListN.{drop}
 use lib.Dec.{ltb}
 use Rattle.records.specs.Bytes.{all, word}
-use Rattle.records.specs.Inner.{checkOf, wordColumn}
+use Rattle.records.specs.Inner.{check_of, word_column}
 use Rattle.records.proofs.Laws.Bytes.{all_drop, drop-tabulate-past}
 use Rattle.records.proofs.netlist.check_outputs.Statement.{statement}
 use Rattle.records.proofs.netlist.check_outputs.Tie as tie
 
 -- the nets from i on pass the test
 abbrev below : ℕ → List ℕ → ℕ → ℕ → ℕ → Bool
-below nets s at count i = all (λ k. ltb k nets) (drop i (wordColumn s 2 at count))
+below nets s at count i = all (λ k. ltb k nets) (drop i (word_column s 2 at count))
 
 abbrev invariant-loop : tie.invariant-loop
 invariant-loop s at count nets i₀ i = below nets s at count i ≡ below nets s at count 0
@@ -28,7 +28,7 @@ decreases-loop s at count nets i₀ i = count - i
 turn : (c : tie.After-word-at invariant-loop decreases-loop) → let x = c.before.before.before.before.args in
     let from = below x.nets x.s.now x.at x.count in
     from 0 ≡ (ltb c.word_at.result x.nets && from (c.before.before.loop.i + 1))
-unfolding wordColumn
+unfolding word_column
 turn c =
     let x = c.before.before.before.before.args in
     let s = x.s.now in
@@ -38,14 +38,14 @@ turn c =
     ∙ rw c.word_at.ensures
 
 returns : tie.Need-returns invariant-loop decreases-loop
-unfolding checkOf
+unfolding check_of
 returns c = rw (turn c.before, le-ltb _ _ c.if1.true)
 
 loop-again : tie.Need-loop-preserved invariant-loop decreases-loop
 loop-again c = sym (turn c.before ∙ rw (lt-ltb _ _ c.if1.false))
 
 returns-2 : tie.Need-returns-2 invariant-loop decreases-loop
-unfolding checkOf wordColumn all
+unfolding check_of word_column all
 returns-2 c = rw (← c.before.loop.invariant, drop-tabulate-past _ _ _ c.loop-test.false)
 
 pub check-outputs-spec : {M : Type 1} → statement M

@@ -5,16 +5,16 @@ use mathlib.Core.List.{map}
 use mathlib.Core.Path.{◌≡◌, sym, ◌∙◌, ap}
 use native.Mathlib.Omega.{arith}
 use Prim.Native.Nat.{◌-◌, ◌≤◌, ◌<◌}
-use Rattle.records.specs.Gate.{gateOf, operands, disj}
-use Rattle.records.specs.Netlist.{netAt, mark_of}
-use Rattle.records.specs.Service.{gateFrom}
-use Rattle.records.specs.Inner.{structSlots}
+use Rattle.records.specs.Gate.{gate_of, operands, disj}
+use Rattle.records.specs.Netlist.{net_at, mark_of}
+use Rattle.records.specs.Service.{gate_from}
+use Rattle.records.specs.Inner.{struct_slots}
 use Rattle.records.proofs.Laws.Netlist.{disj-none, disj-back}
 use Rattle.records.proofs.netlist.gate_mark.Statement.{statement}
 use Rattle.records.proofs.netlist.gate_mark.Tie as tie
 
 abbrev invariant-loop : tie.invariant-loop
-invariant-loop marks slots r₀ i₀ r i = (i ≤ i₀) × (r ≡ disj (map (netAt marks) (drop i (take i₀ slots))))
+invariant-loop marks slots r₀ i₀ r i = (i ≤ i₀) × (r ≡ disj (map (net_at marks) (drop i (take i₀ slots))))
 
 abbrev decreases-loop : tie.decreases-loop
 decreases-loop marks slots r₀ i₀ r i = i
@@ -31,7 +31,7 @@ loop-holds c =
     (omega arith, sym (disj-none x.marks.now x.gate.count c.before.slots-of.result))
 
 loop-again : tie.Need-loop-preserved invariant-loop decreases-loop
-unfolding structSlots
+unfolding struct_slots
 loop-again c =
     let l = c.before.before.before in
     let s = l.before.before in
@@ -42,7 +42,7 @@ loop-again c =
     (omega arith, c.greater.ensures ∙ rw t.invariant.1 (sym more))
 
 returns : tie.Need-returns invariant-loop decreases-loop
-unfolding mark_of gateFrom gateOf operands structSlots
+unfolding mark_of gate_from gate_of operands struct_slots
 returns c =
     let l = c.before in
     let z : l.loop.i ≡ 0 = omega arith in

@@ -4,25 +4,25 @@ use lib.ListN.{length, take, length-set}
 use mathlib.Core.Path.{◌≡◌, refl, ◌∙◌}
 use native.Mathlib.Omega.{arith}
 use Prim.Native.Nat.{◌+◌, ◌-◌, ◌≤◌}
-use Rattle.records.specs.Inner.{leafMarks}
-use Rattle.records.proofs.Laws.Netlist.{leafMarks-none, leafMarks-more}
+use Rattle.records.specs.Inner.{leaf_marks}
+use Rattle.records.proofs.Laws.Netlist.{leaf_marks-none, leaf_marks-more}
 use Rattle.records.proofs.netlist.leaf_marks.Statement.{statement}
 use Rattle.records.proofs.netlist.leaf_marks.Tie as tie
 
 abbrev invariant-loop : tie.invariant-loop
 invariant-loop inputs targets marks₀ i₀ marks i =
-    (i ≤ targets) × (length marks ≡ 424) × (take (inputs + i) marks ≡ leafMarks inputs i)
+    (i ≤ targets) × (length marks ≡ 424) × (take (inputs + i) marks ≡ leaf_marks inputs i)
 
 abbrev decreases-loop : tie.decreases-loop
 decreases-loop inputs targets marks₀ i₀ marks i = targets - i
 
 loop-holds : tie.Need-loop-init invariant-loop decreases-loop
-loop-holds c = (omega arith, refl, leafMarks-none c.args.inputs 424 (omega arith))
+loop-holds c = (omega arith, refl, leaf_marks-none c.args.inputs 424 (omega arith))
 
 loop-again : tie.Need-loop-preserved invariant-loop decreases-loop
 loop-again c =
     let l = c.before.loop in
-    let more = leafMarks-more c.before.before.args.inputs l.i l.marks (omega arith) l.invariant.2 in
+    let more = leaf_marks-more c.before.before.args.inputs l.i l.marks (omega arith) l.invariant.2 in
     (omega arith, length-set l.marks _ _ ∙ l.invariant.1, more)
 
 returns : tie.Need-returns invariant-loop decreases-loop

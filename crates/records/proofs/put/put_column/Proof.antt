@@ -7,10 +7,10 @@ use borrow.Author.Rules.{rules}
 use native.Mathlib.Omega.{arith}
 use native.Mathlib.Nat.{mul-zero}
 use lib.ListN.{length, get_or}
-use Rattle.records.specs.Bytes.{bytePair, placed}
+use Rattle.records.specs.Bytes.{byte_pair, placed}
 use Rattle.records.specs.Inner.{spread}
 use Rattle.records.proofs.Laws.Bytes.{length-placed}
-use Rattle.records.proofs.Laws.Job.{next-record, record-within, length-bytePair}
+use Rattle.records.proofs.Laws.Job.{next-record, record-within, length-byte_pair}
 use Rattle.records.proofs.Laws.Put.{spread-next}
 use Rattle.records.proofs.put.put_column.Statement.{statement}
 use Rattle.records.proofs.put.put_column.Tie as tie
@@ -56,7 +56,7 @@ loop-again c =
       omega (arith, next-record a.size l.i),
       w.put_word.auto.0 ∙ l.invariant.2,
       w.put_word.ensures
-          ∙ ap (λ (d : List ℕ). placed d l.p (bytePair (f l.i))) l.invariant.3
+          ∙ ap (λ (d : List ℕ). placed d l.p (byte_pair (f l.i))) l.invariant.3
           ∙ spread-next a.bytes a.at a.size l.i f l.p l.invariant.1,
     )
 

@@ -5,14 +5,14 @@ use mathlib.Core.Bool.{false}
 use native.Mathlib.Omega.{arith}
 use borrow.Author.Rules.{rules}
 use lib.ListN.{length}
-use Rattle.records.specs.Service.{fieldFits}
+use Rattle.records.specs.Service.{field_fits}
 use Rattle.records.proofs.Laws.Put.{FieldPut, field-left, field_put, put-field-full, put-field-long}
 use Rattle.records.proofs.put.put_field.Statement.{statement}
 use Rattle.records.proofs.put.put_field.Tie as tie
 
 -- the buffer is left as it was
 left : (s : tie.Start)
-    → fieldFits s.args.buf.now s.args.at s.args.bytes.now ≡ false
+    → field_fits s.args.buf.now s.args.at s.args.bytes.now ≡ false
     → FieldPut s.args.buf.now s.args.at s.args.bytes.now s.args.tag s.args.at s.args.buf.now
 left s e = field-left s.args.buf.now s.args.at s.args.bytes.now s.args.tag e
 

@@ -6,7 +6,7 @@ use mathlib.Core.List.{[], ◌∷◌}
 use native.Mathlib.Omega.{arith}
 use native.Mathlib.Numerals.{add-one}
 use lib.ListN.{length-set}
-use Rattle.records.specs.Bytes.{bytePair}
+use Rattle.records.specs.Bytes.{byte_pair}
 use Rattle.records.proofs.Laws.Job.{sets-placed, high_byte}
 use Rattle.records.proofs.put.put_head.Statement.{statement}
 use Rattle.records.proofs.put.put_head.Tie as tie
@@ -18,7 +18,7 @@ slice-write-buf-3 : tie.Need-slice-write-buf-3
 slice-write-buf-3 c = simp length-set (omega arith)
 
 returns : tie.Need-returns
-unfolding bytePair
+unfolding byte_pair
 returns c =
     let n = c.args.len in
     let e : c.args.at + 2 ≡ suc (suc c.args.at) = omega arith in (

@@ -5,7 +5,7 @@ use mathlib.Core.List.{[], ◌∷◌}
 use native.Mathlib.Omega.{arith}
 use native.Mathlib.Numerals.{add-one}
 use lib.ListN.{length-set}
-use Rattle.records.specs.Bytes.{bytePair}
+use Rattle.records.specs.Bytes.{byte_pair}
 use Rattle.records.proofs.Laws.Job.{sets-placed, high_byte}
 use Rattle.records.proofs.put.put_word.Statement.{statement}
 use Rattle.records.proofs.put.put_word.Tie as tie
@@ -14,7 +14,7 @@ slice-write-buf-2 : tie.Need-slice-write-buf-2
 slice-write-buf-2 c = simp length-set (omega arith)
 
 returns : tie.Need-returns
-unfolding bytePair
+unfolding byte_pair
 returns c =
     let x = c.args.x in
     rw (high_byte x (omega arith), add-one)

@@ -35,8 +35,8 @@ use denote.Triple.Statement.{Contract, Triple}
 use denote.Triple.Table.{entered, cited}
 use Rattle.records.specs.Bytes.{placed}
 use Rattle.records.specs.Job.{job_of}
-use Rattle.records.specs.Service.{Places, sidePlaces, places, readReply, readPlaces}
-use Rattle.records.specs.Inner.{structsAt, gateSpans, RestFilled}
+use Rattle.records.specs.Service.{Places, side_places, places, read_reply, read_places}
+use Rattle.records.specs.Inner.{structs_at, gate_spans, RestFilled}
 use Rattle.records.specs.declared.gate.Gate.{Gate}
 use Rattle.records.specs.declared.gates.GateSpans.{GateSpans}
 use Rattle.records.specs.declared.reading.ReadReply.{ReadReply}
@@ -109,14 +109,14 @@ module _ {M : Type 1} {𝓤 : Ura M} (𝓛 : Logic 𝓤) (mem : Memory → SProp
   Post = Ends 𝓛 read.ended (read.clauses 𝓛 mem run) ((κs, qs, tt, a, vals), tt)
 
   abbrev p : Places
-  p = places (sidePlaces x₁.now x₂.now) (sidePlaces x₃.now x₄.now) x₅.now x₆.now
+  p = places (side_places x₁.now x₂.now) (side_places x₃.now x₄.now) x₅.now x₆.now
 
   -- what the first two calls give
   abbrev reply : ReadReply
   reply = checked p job.now
 
   abbrev spans : GateSpans
-  spans = gateSpans reply.counts
+  spans = gate_spans reply.counts
 
   fit : (spans.old + 10 * spans.old_count ≤ length job.now) × (spans.old_count ≤ length x₁.now) × (spans.golden + 10 * spans.golden_count ≤ length job.now) × (spans.golden_count ≤ length x₃.now)
   fit = spans_fit p job.now reply spans refl refl
@@ -157,7 +157,7 @@ module _ {M : Type 1} {𝓤 : Ura M} (𝓛 : Logic 𝓤) (mem : Memory → SProp
   abbrev Left : (R : RattleType) → MutBor (List R.Denot) → List R.Denot → Item 𝓤
   Left R x zs = ‵ (fsep (finally R x.ghost_name zs) (feq ℕ (length zs) (length x.now)))
 
-  ends : (gs hs : List Gate) (b d n w : List ℕ) → (reply ≡ readReply p job.now) × (places (sidePlaces gs b) (sidePlaces hs d) n w ≡ readPlaces p job.now)
+  ends : (gs hs : List Gate) (b d n w : List ℕ) → (reply ≡ read_reply p job.now) × (places (side_places gs b) (side_places hs d) n w ≡ read_places p job.now)
       → ent 𝓤 (⋆ 𝓛 (alls 7 κs qs ++ (Left G.the_row x₁ gs ∷ Left u16 x₂ b ∷ Left G.the_row x₃ hs ∷ Left u16 x₄ d ∷ Left u16 x₅ n ∷ Left u16 x₆ w ∷ ‵ ((R.the_row).own_val reply (R'.lowered reply ∷ [])) ∷ []))) (Post (R'.lowered reply))
   ends gs hs b d n w e =
       ending 𝓛 read.ended (read.clauses 𝓛 mem run) ((κs, qs, tt, a, vals), tt) (R'.lowered reply) reply (tt, (gs, (b, (hs, (d, (n, (w, tt)))))))
@@ -168,12 +168,12 @@ module _ {M : Type 1} {𝓤 : Ura M} (𝓛 : Logic 𝓤) (mem : Memory → SProp
     -- a call of `fill_gates`: [κ₀'s token; κ's; what job owns; what x owns]
     fills : {K : Type 0} {Γ : List (Item 𝓤)} {E : Env 𝓤 H} {c : After 𝓤 H} {xs : List Operand} {d : Place} {rest : Body} → K → (κ : Lft) (q : Share) (x : Bor (List Gate)) (i n : ℕ) → i < 2 ^ 64 → n < 2 ^ 64 → (i + 10 * n ≤ length job.now) × (n ≤ length x.now)
         → Opds K 𝓛 (raw ((Fill 𝓛 mem run).pre (to_fill κ q x i n)) ∷ ‵ ((ShrSlice (named 0) κs.0 u8).own_val job (mach job ∷ [])) ∷ Γ) E xs ((Fill 𝓛 mem run).args (to_fill κ q x i n))
-        → ((u : Val) (gs : List Gate) → T (has_ty ty_unit u) × WT u → gs ≡ placed x.now 0 (structsAt job.now i n)
+        → ((u : Val) (gs : List Gate) → T (has_ty ty_unit u) × WT u → gs ≡ placed x.now 0 (structs_at job.now i n)
         → Seq K 𝓛 (‵ (flft κs.0 qs.0) ∷ ‵ (flft κ q) ∷ Left G.the_row x gs ∷ ‵ ((ShrSlice (named 0) κs.0 u8).own_val job (mach job ∷ [])) ∷ Γ) (lands 𝓣.C 𝓣.Λ E d u rest c))
         → Seq K 𝓛 (‵ (flft κs.0 qs.0) ∷ ‵ (flft κ q) ∷ ‵ ((ShrSlice (named 0) κs.0 u8).own_val job (mach job ∷ [])) ∷ ‵ ((MutSlice (named 1) κ G.the_row).own_val x (mach x ∷ [])) ∷ Γ) (runs 𝓣.C 𝓣.Λ E (seq (call #fill-gates xs d) rest) c)
     fills t κ q x i n gi gn within os k =
         move t (2 ∷ []) $ copied t κs.0 u8 job (mach job ∷ []) $ number t n gn $ number t i gi $ move t (4 ∷ 5 ∷ 2 ∷ 0 ∷ 1 ∷ 6 ∷ []) $
-        calls t (fm_of 𝓤 H 𝓛.laws 𝓣) fill-gates.ended (fill-gates.clauses 𝓛 mem run) known-fill (to_fill κ q x i n) (fact_i 𝓤 _ (emp 𝓤) within) (λ r ws. ws.1.1.1.0 ≡ placed x.now 0 (structsAt job.now i n)) (λ r ws. id⊢ 𝓤 _)
+        calls t (fm_of 𝓤 H 𝓛.laws 𝓣) fill-gates.ended (fill-gates.clauses 𝓛 mem run) known-fill (to_fill κ q x i n) (fact_i 𝓤 _ (emp 𝓤) within) (λ r ws. ws.1.1.1.0 ≡ placed x.now 0 (structs_at job.now i n)) (λ r ws. id⊢ 𝓤 _)
         os (λ u r ws e is. k u ws.1.1.1.0 ((Nothing-Lawful 𝓛).typed r _ is).0 e)
 
     walk : ent 𝓤 (on_entry 𝓛 read.signature κs qs a vals) (WpFn 𝓤 H 𝓣.C 𝓣.Λ code.function (flat (types_at (read.signature).params κs) vals) Post)

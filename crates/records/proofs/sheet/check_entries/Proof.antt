@@ -9,7 +9,7 @@ use borrow.Author.Tests.{lt-ltb, le-ltb}
 use lib.Dec.{ltb}
 use lib.ListN.{get_or, take, drop}
 use Rattle.records.specs.Bytes.{all}
-use Rattle.records.specs.Inner.{checkOf}
+use Rattle.records.specs.Inner.{check_of}
 use Rattle.records.proofs.Laws.Sheet.{all-next, all_end}
 use Rattle.records.proofs.sheet.check_entries.Statement.{statement}
 use Rattle.records.proofs.sheet.check_entries.Tie as tie
@@ -34,7 +34,7 @@ loop-holds c =
     (omega arith, omega arith, rw z)
 
 returns : tie.Need-returns invariant-loop decreases-loop
-unfolding checkOf
+unfolding check_of
 returns c =
     let b = c.before.before.before.before in
     let a = b.before.before.args in
@@ -52,7 +52,7 @@ loop-again c =
     )
 
 returns-2 : tie.Need-returns-2 invariant-loop decreases-loop
-unfolding checkOf
+unfolding check_of
 returns-2 c =
     let b = c.before in
     let a = b.before.before.args in

@@ -4,14 +4,14 @@ use Prim.Native.Nat.{◌+◌, ◌≤◌}
 use mathlib.Core.Path.{◌≡◌, sym, ◌∙◌, ap}
 use native.Mathlib.Omega.{arith}
 use lib.ListN.{length}
-use Rattle.records.specs.Inner.{checkOf, fieldAt}
+use Rattle.records.specs.Inner.{check_of, field_at}
 use Rattle.records.specs.declared.field.Field.TheVariants.{Body}
 use Rattle.records.proofs.Laws.Notes.{notes-none, notes-missing, notes-within, notes-bad, notes-good}
 use Rattle.records.proofs.sheet.check_notes.Statement.{statement}
 use Rattle.records.proofs.sheet.check_notes.Tie as tie
 
 returns : tie.Need-returns
-unfolding checkOf
+unfolding check_of
 returns c =
     let a = c.before.before.args in
     rw (notes-none a.s.now a.at a.count c.if1.true)
@@ -23,7 +23,7 @@ enum_told : tie.Need-enum-told
 enum_told c = c.match.keys2
 
 returns-2 : tie.Need-returns-2
-unfolding checkOf
+unfolding check_of
 returns-2 c =
     let f = c.before.before in
     let o = f.before.before.before in
@@ -39,7 +39,7 @@ start c = (at_read c).before.before.before
 
 body : (c : tie.After-known-told)
     → let a = (start c).args in
-    fieldAt a.s.now a.at 22 ≡ Body c.before.found.given.0.0 c.before.found.given.0.1.0
+    field_at a.s.now a.at 22 ≡ Body c.before.found.given.0.0 c.before.found.given.0.1.0
 body c = sym (at_read c).field-at.ensures ∙ c.before.found.given.1
 
 within : (c : tie.After-known-told)
@@ -52,7 +52,7 @@ add-if2 : tie.Need-overflow-add-if2
 add-if2 c = omega (arith, within c)
 
 returns-3 : tie.Need-returns-3
-unfolding checkOf
+unfolding check_of
 returns-3 c =
     let v = c.before in
     let a = (start v).args in
@@ -66,7 +66,7 @@ returns-4 c =
     let v = c.before.before in
     let a = (start v).args in
     c.check-entries.ensures
-    ∙ ap checkOf
+    ∙ ap check_of
     (sym (notes-good a.s.now a.at a.count (start v).requires (at_read v).before.if1.false _ _ (body v) c.before.if2.false))
 
 pub check-notes-spec : {M : Type 1} → statement M

@@ -4,7 +4,7 @@ use mathlib.Core.Path.{◌≡◌, sym}
 use native.Mathlib.Omega.{arith}
 use native.Mathlib.Numerals.{add-one}
 use lib.ListN.{length}
-use Rattle.records.proofs.Laws.Field.{position_of, positionOf-zero, positionOf-next, position_past, startOf-position}
+use Rattle.records.proofs.Laws.Field.{position_of, position_of-zero, position_of-next, position_past, start_of-position}
 use Rattle.records.proofs.sheet.fields_end.Statement.{statement}
 use Rattle.records.proofs.sheet.fields_end.Tie as tie
 
@@ -15,7 +15,7 @@ abbrev decreases-loop : tie.decreases-loop
 decreases-loop s count at₀ i₀ at i = count - i
 
 loop-holds : tie.Need-loop-init invariant-loop decreases-loop
-loop-holds c = (omega arith, omega arith, sym (positionOf-zero c.before.args.s.now))
+loop-holds c = (omega arith, omega arith, sym (position_of-zero c.before.args.s.now))
 
 returns : tie.Need-returns invariant-loop decreases-loop
 returns c =
@@ -37,7 +37,7 @@ loop-again c =
     let w = c.before in
     let b = w.before.before.before in
     let a = b.before.before.args in
-    let n = positionOf-next b.loop.i a.s.now b.loop.at b.loop.invariant.2 in
+    let n = position_of-next b.loop.i a.s.now b.loop.at b.loop.invariant.2 in
     (omega arith, omega arith, rw add-one (omega (arith, n, w.word_at.ensures)))
 
 returns-3 : tie.Need-returns-3 invariant-loop decreases-loop
@@ -45,7 +45,7 @@ returns-3 c =
     let b = c.before in
     let a = b.before.before.args in
     let i : b.loop.i ≡ a.count = omega arith in
-    (omega arith, λ h. rw (← i) (omega (arith, b.loop.invariant.2, startOf-position b.loop.i a.s.now)))
+    (omega arith, λ h. rw (← i) (omega (arith, b.loop.invariant.2, start_of-position b.loop.i a.s.now)))
 
 pub fields-end-spec : {M : Type 1} → statement M
 fields-end-spec =

@@ -4,19 +4,19 @@ use Prim.Native.Nat.{◌-◌, ◌≤◌}
 use mathlib.Core.Path.{◌≡◌, refl, sym, ◌∙◌}
 use native.Mathlib.Omega.{arith}
 use lib.ListN.{take, drop}
-use Rattle.records.specs.Inner.{found_from, foundIn}
+use Rattle.records.specs.Inner.{found_from, found_in}
 use Rattle.records.proofs.Laws.Sheet.{found_here, found-next, found-end}
 use Rattle.records.proofs.sheet.find.Statement.{statement}
 use Rattle.records.proofs.sheet.find.Tie as tie
 
 abbrev invariant-loop : tie.invariant-loop
-invariant-loop nets count net i₀ i = (i ≤ count) × (found_from i (drop i (take count nets)) net ≡ foundIn (take count nets) net)
+invariant-loop nets count net i₀ i = (i ≤ count) × (found_from i (drop i (take count nets)) net ≡ found_in (take count nets) net)
 
 abbrev decreases-loop : tie.decreases-loop
 decreases-loop nets count net i₀ i = count - i
 
 loop-holds : tie.Need-loop-init invariant-loop decreases-loop
-unfolding foundIn
+unfolding found_in
 loop-holds c = (omega arith, refl)
 
 cast-x : tie.Need-overflow-cast-x invariant-loop decreases-loop

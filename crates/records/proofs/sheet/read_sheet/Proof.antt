@@ -9,17 +9,17 @@ use lib.Dec.{ltb}
 use lib.ListN.{length, take, drop}
 use lib.Seq.{length-take-le}
 use Rattle.records.specs.Bytes.{all, nth}
-use Rattle.records.specs.Job.{Candidate, netsOf}
-use Rattle.records.specs.Sheet.{quad, patch_of, sheetWhole, patchGood}
-use Rattle.records.specs.Service.{candidatesFrom, sheetReply}
-use Rattle.records.specs.Inner.{checkOf, bareWhole, notesAt, refusedSheet, sheetRoom, supportOf, tenPlaces}
+use Rattle.records.specs.Job.{Candidate, nets_of}
+use Rattle.records.specs.Sheet.{quad, patch_of, sheet_whole, patch_good}
+use Rattle.records.specs.Service.{candidates_from, sheet_reply}
+use Rattle.records.specs.Inner.{check_of, bare_whole, notes_at, refused_sheet, sheet_room, support_of, ten_places}
 use Rattle.records.specs.declared.sheet.SheetReply.{SheetReply}
 use Rattle.records.specs.declared.sheet.Costs.TheVariants.{Sum}
 use Rattle.records.proofs.Laws.Bytes.{and_both, and-false-left, and-false-right}
 use Rattle.records.proofs.Laws.Counts.{passes, fails}
 use Rattle.records.proofs.Laws.Notes.{sheet-split}
-use Rattle.records.proofs.Laws.Shape.{length-netsOf}
-use Rattle.records.proofs.Laws.Sheet.{length-candidatesFrom}
+use Rattle.records.proofs.Laws.Shape.{length-nets_of}
+use Rattle.records.proofs.Laws.Sheet.{length-candidates_from}
 use Rattle.records.proofs.Laws.SheetShape.{Spans, shape-whole, shape-broken}
 use Rattle.records.proofs.Laws.SheetReply.{Room, room-facts, reply-room, reply-whole, reply-good, reply-accepted, entries, bad-support, bad-table, bad-cost, good, few-support}
 use Rattle.records.proofs.sheet.read_sheet.Statement.{statement}
@@ -70,10 +70,10 @@ abbrev sheet : tie.Start → List ℕ
 sheet c = c.args.sheet.now
 
 abbrev candidates : tie.Start → List Candidate
-candidates c = candidatesFrom c.args.candidates c.args.nets.now c.args.weights.now
+candidates c = candidates_from c.args.candidates c.args.nets.now c.args.weights.now
 
 abbrev reply : tie.Start → SheetReply
-reply c = sheetReply c.args.targets c.args.candidates c.args.nets.now c.args.weights.now (sheet c)
+reply c = sheet_reply c.args.targets c.args.candidates c.args.nets.now c.args.weights.now (sheet c)
 
 enum_told : tie.Need-enum-told
 enum_told c = c.match.keys1
@@ -92,7 +92,7 @@ returns c =
 -- past number 3
 roomy : (c : tie.After-enum-told)
     → let a = (entry (at_room c)).args in
-    sheetRoom a.targets a.candidates (length a.nets.now) (length a.weights.now) ≡ true
+    sheet_room a.targets a.candidates (length a.nets.now) (length a.weights.now) ≡ true
 roomy c = passes _ (sym (at_room c).check-sheet-room.ensures ∙ c.enum_told.given.1)
 
 room : (c : tie.After-enum-told)
@@ -110,12 +110,12 @@ abbrev end : tie.After-fields-end → ℕ
 end c = c.fields-end.result
 
 abbrev bare : tie.After-fields-end → Bool
-bare c = bareWhole (take (end c) (sheet (at-start c)))
+bare c = bare_whole (take (end c) (sheet (at-start c)))
 
 abbrev behind : tie.After-fields-end → Bool
-behind c = let s = sheet (at-start c) in notesAt (length (nth 1 s)) (drop (end c) s)
+behind c = let s = sheet (at-start c) in notes_at (length (nth 1 s)) (drop (end c) s)
 
-split : (c : tie.After-fields-end) → sheetWhole (sheet (at-start c)) ≡ (bare c && behind c)
+split : (c : tie.After-fields-end) → sheet_whole (sheet (at-start c)) ≡ (bare c && behind c)
 split c = sheet-split (sheet (at-start c)) (end c) c.fields-end.ensures.0 c.fields-end.ensures.1
 
 slice-aggregate-sheet-shaped : tie.Need-slice-aggregate-sheet-shaped
@@ -130,7 +130,7 @@ enum-told-3 : tie.Need-enum-told-3
 enum-told-3 c = c.match2.keys2
 
 -- the reply where the sheet is not whole
-broken : (c : tie.After-fields-end) → bare c && behind c ≡ false → refusedSheet 7 ≡ reply (at-start c)
+broken : (c : tie.After-fields-end) → bare c && behind c ≡ false → refused_sheet 7 ≡ reply (at-start c)
 broken c e =
     let a = (at-start c).args in
     reply-whole a.targets a.candidates a.nets.now a.weights.now a.sheet.now (roomy c.before) (split c ∙ e)
@@ -168,13 +168,13 @@ enum-told-4 c = c.match3.keys1
 enum-told-5 : tie.Need-enum-told-5
 enum-told-5 c = c.match3.keys2
 
-noted : (c : tie.After-check-notes) → c.check-notes.result ≡ checkOf (behind (at-end (at-found c)))
+noted : (c : tie.After-check-notes) → c.check-notes.result ≡ check_of (behind (at-end (at-found c)))
 noted c =
     let f = at-found c in
     let s = sheet (start f) in
     let at = f.found.given.0.0 in
     let n : at.cost - 3 - at.table ≡ length (nth 1 s) = omega (arith, (spans f).cost) in
-    c.check-notes.ensures ∙ ap (λ (k : ℕ). checkOf (notesAt k (drop (end (at-end f)) s))) n
+    c.check-notes.ensures ∙ ap (λ (k : ℕ). check_of (notes_at k (drop (end (at-end f)) s))) n
 
 returns-3 : tie.Need-returns-3
 returns-3 c =
@@ -184,7 +184,7 @@ returns-3 c =
     ∙ broken e (and-false-right (bare e) (behind e) (fails _ (sym (noted v) ∙ c.before.enum-told5.given.1)))
 
 -- past number 7
-whole : (c : tie.After-support-cost) → sheetWhole (sheet (start (at-spans c))) ≡ true
+whole : (c : tie.After-support-cost) → sheet_whole (sheet (start (at-spans c))) ≡ true
 whole c =
     split (at-end (at-spans c))
     ∙ and_both _ _ (spans (at-spans c)).whole
@@ -205,7 +205,7 @@ enum-told-6 c = c.match4.keys2
 -- the reply where a test of number 8 fails
 unfit : (c : tie.After-support-cost)
     → let o = start (at-spans c) in
-    patchGood o.args.targets (candidates o) (patch_of (sheet o)) ≡ false → refusedSheet 8 ≡ reply o
+    patch_good o.args.targets (candidates o) (patch_of (sheet o)) ≡ false → refused_sheet 8 ≡ reply o
 unfit c e =
     let f = at-spans c in
     let a = (start f).args in
@@ -213,9 +213,9 @@ unfit c e =
 
 -- the support's cost
 supported : (c : tie.After-support-cost)
-    → let o = start (at-spans c) in c.support-cost.result ≡ supportOf (candidates o) (netsOf (nth 0 (sheet o)))
+    → let o = start (at-spans c) in c.support-cost.result ≡ support_of (candidates o) (nets_of (nth 0 (sheet o)))
 supported c =
-    c.support-cost.ensures ∙ ap (supportOf (candidates (start (at-spans c)))) (spans (at-spans c)).netsPart
+    c.support-cost.ensures ∙ ap (support_of (candidates (start (at-spans c)))) (spans (at-spans c)).nets_part
 
 returns-4 : tie.Need-returns-4
 returns-4 c =
@@ -243,10 +243,10 @@ enum-told-8 c = c.match5.keys2
 -- the entries of the table
 table-tested : (c : tie.After-check-entries)
     → let o = start (shape c) in
-    c.check-entries.result ≡ checkOf (all (λ v. ltb v (2 ^ o.args.targets)) (nth 1 (sheet o)))
+    c.check-entries.result ≡ check_of (all (λ v. ltb v (2 ^ o.args.targets)) (nth 1 (sheet o)))
 table-tested c =
     c.check-entries.ensures
-    ∙ ap checkOf (entries _ _ _ _ (at-power c).power.ensures (spans (shape c)).tablePart)
+    ∙ ap check_of (entries _ _ _ _ (at-power c).power.ensures (spans (shape c)).table_part)
 
 returns-5 : tie.Need-returns-5
 returns-5 c =
@@ -263,11 +263,11 @@ quad-at-requires c κs = omega (arith, spans (shape c.before.before))
 -- the support's cost as a number, and the sheet's
 sum : (c : tie.After-power)
     → let o = start (at-spans (at_sum c)) in
-    supportOf (candidates o) (netsOf (nth 0 (sheet o))) ≡ Sum c.before.before.costs.given.0.0
+    support_of (candidates o) (nets_of (nth 0 (sheet o))) ≡ Sum c.before.before.costs.given.0.0
 sum c = sym (supported (at_sum c)) ∙ c.before.before.costs.given.1
 
 cost : (c : tie.After-quad-at) → c.quad_at.result ≡ quad (nth 2 (sheet (start (shape (at_table c)))))
-cost c = c.quad_at.ensures ∙ (spans (shape (at_table c))).costPart
+cost c = c.quad_at.ensures ∙ (spans (shape (at_table c))).cost_part
 
 returns-6 : tie.Need-returns-6
 returns-6 c =
@@ -289,8 +289,8 @@ support-from-requires c κs =
       arith,
       spans f,
       n,
-      length-netsOf (nth 0 (sheet o)),
-      length-candidatesFrom o.args.candidates o.args.nets.now o.args.weights.now,
+      length-nets_of (nth 0 (sheet o)),
+      length-candidates_from o.args.candidates o.args.nets.now o.args.weights.now,
       (room (at_told f)).candidates,
     )
 
@@ -306,7 +306,7 @@ returns-7 c =
     let g = good a.targets (candidates o) (sheet o) _ (sum (at-power e)) t p in
     reply-accepted a.targets a.candidates a.nets.now a.weights.now a.sheet.now (roomy (at_told f))
     (whole (summed e)) g c.support-from.result f.found.given.0.0.table _
-    (c.support-from.ensures ∙ ap tenPlaces (spans f).netsPart) (spans f).table p
+    (c.support-from.ensures ∙ ap ten_places (spans f).nets_part) (spans f).table p
 
 pub read-sheet-spec : {M : Type 1} → statement M
 read-sheet-spec =

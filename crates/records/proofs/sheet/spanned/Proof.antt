@@ -1,22 +1,22 @@
 -- `records::sheet::spanned` meets its contract: past the first test, the second is the rest of the definition's. Assumes nothing.
 use native.Mathlib.Omega.{arith}
 use borrow.Author.Tests.{le-leb, lt-leb}
-use Rattle.records.specs.Inner.{sheetLengths, spannedFrom}
+use Rattle.records.specs.Inner.{sheet_lengths, spanned_from}
 use Rattle.records.proofs.sheet.spanned.Statement.{statement}
 use Rattle.records.proofs.sheet.spanned.Tie as tie
 
 returns : tie.Need-returns
-unfolding spannedFrom sheetLengths
+unfolding spanned_from sheet_lengths
 returns c = rw (lt-leb _ _ c.if1.true)
 
 returns-2 : tie.Need-returns-2
-unfolding spannedFrom sheetLengths
+unfolding spanned_from sheet_lengths
 returns-2 c =
     let p = c.before in
     rw (le-leb _ _ p.before.if1.false, ← p.power.ensures, c.if2.true)
 
 returns-3 : tie.Need-returns-3
-unfolding spannedFrom sheetLengths
+unfolding spanned_from sheet_lengths
 returns-3 c =
     let p = c.before in
     rw (le-leb _ _ p.before.if1.false, ← p.power.ensures, c.if2.false)

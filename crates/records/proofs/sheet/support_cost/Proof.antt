@@ -5,9 +5,9 @@ use mathlib.Core.Path.{◌≡◌, sym, ◌∙◌}
 use native.Mathlib.Omega.{arith}
 use mathlib.Core.List.{List}
 use lib.ListN.{length, get_or}
-use Rattle.records.specs.Service.{candidatesFrom}
-use Rattle.records.specs.Inner.{wordColumn, supportOf}
-use Rattle.records.proofs.Laws.Sheet.{word_lt, column-at, length-column, Stands, found_at, supportLeft, support-start, support-end, support-low, support-odd, support-next}
+use Rattle.records.specs.Service.{candidates_from}
+use Rattle.records.specs.Inner.{word_column, support_of}
+use Rattle.records.proofs.Laws.Sheet.{word_lt, column-at, length-column, Stands, found_at, support_left, support-start, support-end, support-low, support-odd, support-next}
 use Rattle.records.proofs.sheet.support_cost.Statement.{statement}
 use Rattle.records.proofs.sheet.support_cost.Tie as tie
 
@@ -15,8 +15,8 @@ abbrev invariant-loop : tie.invariant-loop
 invariant-loop s long count nets weights least₀ sum₀ i₀ least sum i =
     (i ≤ long)
     × (sum ≤ 65535 * i)
-    × (supportLeft (wordColumn s 2 3 long) count nets weights least sum i
-    ≡ supportOf (candidatesFrom count nets weights) (wordColumn s 2 3 long))
+    × (support_left (word_column s 2 3 long) count nets weights least sum i
+    ≡ support_of (candidates_from count nets weights) (word_column s 2 3 long))
 
 abbrev decreases-loop : tie.decreases-loop
 decreases-loop s long count nets weights least₀ sum₀ i₀ least sum i = long - i
@@ -30,7 +30,7 @@ head c = c.before.before
 
 -- the support, and its net of a turn
 abbrev support : tie.At-loop invariant-loop decreases-loop → List ℕ
-support o = wordColumn (entry o).args.s.now 2 3 (entry o).args.long
+support o = word_column (entry o).args.s.now 2 3 (entry o).args.long
 
 net : (w : tie.After-word-at invariant-loop decreases-loop) → w.word_at.result ≡ get_or (support (head w)) (head w).loop.i 0
 net w =
@@ -82,7 +82,7 @@ at c = c.before.place.given.0.0
 
 stands : (c : tie.After-known-told invariant-loop decreases-loop)
     → let a = (entry (head (word c))).args in
-    Stands (candidatesFrom a.count a.nets.now a.weights.now) (word c).word_at.result
+    Stands (candidates_from a.count a.nets.now a.weights.now) (word c).word_at.result
     (get_or a.weights.now (at c) 0) (at c) a.count
 stands c =
     let b = entry (head (word c)) in

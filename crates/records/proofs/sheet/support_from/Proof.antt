@@ -5,13 +5,13 @@ use mathlib.Core.Path.{◌≡◌, refl, sym, ◌∙◌, ap}
 use native.Mathlib.Nat.{mod-eq_of_lt}
 use native.Mathlib.Omega.{arith}
 use lib.ListN.{length, get_or}
-use Rattle.records.specs.Inner.{wordColumn}
+use Rattle.records.specs.Inner.{word_column}
 use Rattle.records.proofs.Laws.Sheet.{word_lt, column-at, length-column, ten, ten-next, ten-all}
 use Rattle.records.proofs.sheet.support_from.Statement.{statement}
 use Rattle.records.proofs.sheet.support_from.Tie as tie
 
 abbrev invariant-loop : tie.invariant-loop
-invariant-loop s len nets₀ i₀ nets i = (i ≤ len) × (nets ≡ ten (wordColumn s 2 3 len) i)
+invariant-loop s len nets₀ i₀ nets i = (i ≤ len) × (nets ≡ ten (word_column s 2 3 len) i)
 
 abbrev decreases-loop : tie.decreases-loop
 decreases-loop s len nets₀ i₀ nets i = len - i
@@ -27,7 +27,7 @@ loop-again c =
     let s = a.s.now in
     let byte = b.before.shared-slice-known.given in
     let p = 2 * b.loop.i + 3 in
-    let xs = wordColumn s 2 3 a.len in
+    let xs = word_column s 2 3 a.len in
     let e : c.word_at.result % 65536 ≡ get_or xs b.loop.i 0 =
     rw (c.word_at.ensures, column-at s 2 3 a.len b.loop.i (omega arith))
     (mod-eq_of_lt (word_lt s p (byte p).fits (byte (p + 1)).fits)) in
@@ -39,8 +39,8 @@ returns c =
     let a = b.before.before.args in
     let s = a.s.now in
     let n = length-column s 2 3 a.len in
-    let e : b.loop.i ≡ length (wordColumn s 2 3 a.len) = omega (arith, n) in
-    rw (b.loop.invariant.1, e) (ap (λ (k : ℕ). record { nets = ten (wordColumn s 2 3 a.len) (length (wordColumn s 2 3 a.len)); len = k }) (sym n) ∙ ten-all (wordColumn s 2 3 a.len))
+    let e : b.loop.i ≡ length (word_column s 2 3 a.len) = omega (arith, n) in
+    rw (b.loop.invariant.1, e) (ap (λ (k : ℕ). record { nets = ten (word_column s 2 3 a.len) (length (word_column s 2 3 a.len)); len = k }) (sym n) ∙ ten-all (word_column s 2 3 a.len))
 
 pub support-from-spec : {M : Type 1} → statement M
 support-from-spec =

@@ -1,14 +1,14 @@
 -- `records::writing::plan_write` meets its contract: at each return the tests so far are known. Assumes nothing.
 use mathlib.Core.Path.{sym, ◌∙◌}
 use borrow.Author.Tests.{lt-leb, le-leb}
-use Rattle.records.specs.Refusal.{firstFailing}
-use Rattle.records.specs.Inner.{refusedPlan, plan_of}
+use Rattle.records.specs.Refusal.{first_failing}
+use Rattle.records.specs.Inner.{refused_plan, plan_of}
 use Rattle.records.proofs.Laws.Counts.{passes, fails}
 use Rattle.records.proofs.writing.plan_write.Statement.{statement}
 use Rattle.records.proofs.writing.plan_write.Tie as tie
 
 returns : tie.Need-returns
-unfolding plan_of firstFailing refusedPlan
+unfolding plan_of first_failing refused_plan
 returns c = c.refused-plan.ensures ∙ rw (lt-leb _ _ c.before.if1.true)
 
 enum_told : tie.Need-enum-told
@@ -18,7 +18,7 @@ enum-told-2 : tie.Need-enum-told-2
 enum-told-2 c = c.match.keys2
 
 returns-2 : tie.Need-returns-2
-unfolding plan_of firstFailing refusedPlan
+unfolding plan_of first_failing refused_plan
 returns-2 c =
     let w = c.before.before.before in
     let f = fails _ (sym w.check-counts.ensures ∙ c.before.enum-told2.given.1) in
@@ -31,7 +31,7 @@ enum-told-4 : tie.Need-enum-told-4
 enum-told-4 c = c.match2.keys2
 
 returns-3 : tie.Need-returns-3
-unfolding plan_of firstFailing refusedPlan
+unfolding plan_of first_failing refused_plan
 returns-3 c =
     let v = c.before.before.before in
     let w = v.before.before.before in
@@ -40,7 +40,7 @@ returns-3 c =
     c.refused-plan3.ensures ∙ rw (le-leb _ _ w.before.if1.false, p, f)
 
 returns-4 : tie.Need-returns-4
-unfolding plan_of firstFailing
+unfolding plan_of first_failing
 returns-4 c =
     let v = c.before.before in
     let w = v.before.before.before in

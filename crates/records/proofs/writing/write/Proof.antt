@@ -40,8 +40,8 @@ use denote.Triple.Statement.{Contract, Triple}
 use denote.Triple.Table.{entered, cited}
 use denote.Signature.{types_at}
 use Rattle.records.specs.Bytes.{placed}
-use Rattle.records.specs.Service.{Places, places, sidePlaces}
-use Rattle.records.specs.Inner.{gatesBytes, gateSpans, GatesPut, RestWritten}
+use Rattle.records.specs.Service.{Places, places, side_places}
+use Rattle.records.specs.Inner.{gates_bytes, gate_spans, GatesPut, RestWritten}
 use Rattle.records.specs.declared.gate.Gate.{Gate}
 use Rattle.records.specs.declared.gates.GateSpans.{GateSpans}
 use Rattle.records.specs.declared.writing.WritePlan.{WritePlan}
@@ -135,14 +135,14 @@ module _ {M : Type 1} {𝓤 : Ura M} (𝓛 : Logic 𝓤) (mem : Memory → SProp
 
     puts : {Γ : List (Item 𝓤)} {E : Env 𝓤 H} {post : Post 𝓤 H} {xs : List Operand} {dst : Place} {rest : Body} (v : Val) → n < 2 ^ 64 → at < 2 ^ 64 → (at + 10 * n ≤ length z) × (n ≤ length g.now)
         → ((α : ℕ) (γ : GName) → Opds (Go {0}) 𝓛 (raw (PutGates.pre (to-put α γ)) ∷ ‵ (flent (α ∷ []) (Held u8 8188 b 0 γ)) ∷ Γ) E xs (PutGates.args (to-put α γ)))
-        → ((u v' : Val) (z' : List ℕ) → length z' ≡ length z → z' ≡ placed z at (gatesBytes n g.now) → T (has_ty ty_unit u) × WT u → Sq 𝓛 (‵ (Cell b v') ∷ ‵ (Own z' v') ∷ ‵ (flft κ q) ∷ Γ) (lands 𝓣.C 𝓣.Λ E dst u rest post))
+        → ((u v' : Val) (z' : List ℕ) → length z' ≡ length z → z' ≡ placed z at (gates_bytes n g.now) → T (has_ty ty_unit u) × WT u → Sq 𝓛 (‵ (Cell b v') ∷ ‵ (Own z' v') ∷ ‵ (flft κ q) ∷ Γ) (lands 𝓣.C 𝓣.Λ E dst u rest post))
         → Sq 𝓛 (‵ (Cell b v) ∷ ‵ (Own z v) ∷ ‵ (flft κ q) ∷ ‵ ((ShrSlice (named 0) κ G.the_row).own_val g (shr_slice_vals g)) ∷ Γ) (runs 𝓣.C 𝓣.Λ E (seq (call #put-gates xs dst) rest) post)
     puts v n-fits at-fits held os k =
         lft_new ! tt (λ α. move ! (1 ∷ 2 ∷ []) $ lends ! tt u8 tt 8188 (lit< tt, lit< tt) (named 1) (α ∷ []) b 0 z v (λ γ.
         owned ! usize (Is usize) (uint_Makes 𝓛 w64) at (vint w64 at ∷ []) (refl, at-fits) $ owned ! usize (Is usize) (uint_Makes 𝓛 w64) n (vint w64 n ∷ []) (refl, n-fits) $
         -- [n; at; the slice; the lender's part; α; κ; gates]
         move ! (5 ∷ 4 ∷ 6 ∷ 0 ∷ 1 ∷ 2 ∷ []) $
-        calls ! (fm_of 𝓤 H 𝓛.laws 𝓣) put-gates.ended (put-gates.clauses 𝓛 mem run) known (to-put α γ) (fact_i 𝓤 _ (emp 𝓤) held) (λ r zs. zs.1.1.1.0 ≡ placed z at (gatesBytes n g.now)) (λ r zs. id⊢ 𝓤 _) (os α γ) (λ u r zs e is.
+        calls ! (fm_of 𝓤 H 𝓛.laws 𝓣) put-gates.ended (put-gates.clauses 𝓛 mem run) known (to-put α γ) (fact_i 𝓤 _ (emp 𝓤) held) (λ r zs. zs.1.1.1.0 ≡ placed z at (gates_bytes n g.now)) (λ r zs. id⊢ 𝓤 _) (os α γ) (λ u r zs e is.
         move ! (1 ∷ []) $ lft_end ! tt $ move ! (2 ∷ []) $ fsplit ! $ move ! (1 ∷ []) $ feq_l ! (λ l. move ! (1 ∷ 3 ∷ 0 ∷ []) $
         returned ! tt u8 8188 b 0 (α ∷ []) γ zs.1.1.1.0 (λ v'. k u v' zs.1.1.1.0 l e ((Nothing-Lawful 𝓛).typed r _ is).0)))))
 
@@ -171,13 +171,13 @@ module _ {M : Type 1} {𝓤 : Ura M} (𝓛 : Logic 𝓤) (mem : Memory → SProp
   buf = a.1.1.1.1.1.1.1.0
 
   abbrev held : Places
-  held = places (sidePlaces old.now outs.now) (sidePlaces golden.now outs'.now) nets.now weights.now
+  held = places (side_places old.now outs.now) (side_places golden.now outs'.now) nets.now weights.now
 
   abbrev plan : WritePlan
   plan = planned a.0 held buf.now
 
   abbrev spans : GateSpans
-  spans = gateSpans plan.counts
+  spans = gate_spans plan.counts
 
   abbrev vals : Vals write.signature κs
   vals = valss (types_at (write.signature).params κs) (spells κs) a
@@ -277,7 +277,7 @@ module _ {M : Type 1} {𝓤 : Ura M} (𝓛 : Logic 𝓤) (mem : Memory → SProp
         calls ! (fm_of 𝓤 H 𝓛.laws 𝓣) write-rest.ended (write-rest.clauses 𝓛 mem run) known-rest (to-rest z₂ v₂)
         (fact_i 𝓤 _ (emp 𝓤) (rest-held a.0 held buf.now plan (length z₂) refl (l₂ ∙ l₁ ∙ full)))
         (λ r zs. (gs hs : List Gate) → (plan.number ≡ 0 → GatesPut plan.counts gs hs z₂)
-        → RestWritten plan (places (sidePlaces gs outs.now) (sidePlaces hs outs'.now) nets.now weights.now) buf.now r zs.1.1.1.1.1.1.0) (λ r zs. id⊢ 𝓤 _)
+        → RestWritten plan (places (side_places gs outs.now) (side_places hs outs'.now) nets.now weights.now) buf.now r zs.1.1.1.1.1.1.0) (λ r zs. id⊢ 𝓤 _)
         (and_then ! (var ! 37 refl) (and_then ! (var ! 49 refl) (and_then ! (var ! 45 refl) (and_then ! (var ! 43 refl) (and_then ! (var ! 41 refl) (and_then ! (var ! 8 refl) (and_then ! (var ! 4 refl) (no_more !)))))))) (λ u r zs e is.
         land ! (from ! (stop !)) (init ! 60 refl ((LL.lawful R.the_type R'.the_laws 𝓛).typed r _ is).0) $
         -- [five tokens; the last bytes of buf; the scratch; two tokens; the other locals; counts]

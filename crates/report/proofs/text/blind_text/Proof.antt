@@ -4,7 +4,7 @@ use mathlib.Core.Path.{◌≡◌, refl}
 use native.Mathlib.Omega.{arith}
 use Rattle.records.specs.Bytes.{word, nth}
 use Rattle.records.specs.Claims.{Below}
-use Rattle.report.specs.Text.{blindWord}
+use Rattle.report.specs.Text.{blind_word}
 use Rattle.report.proofs.Laws.Sheet.{blind-length, blind-value, blind-below}
 use Rattle.report.proofs.Laws.Text.{value_room, word-quad-lt}
 use borrow.Author.Rules.{rules}
@@ -26,7 +26,7 @@ value-lines-requires c κs =
     let vectors : Below 256 s.args.vectors.now = λ i. (t.shared-slice-known2.given i).fits in
     let e : c.word_at.result ≡ word (nth 0 a) 0 = rw (blind-value a u) at c.word_at.ensures in
     let l = word-quad-lt (nth 0 a) (blind-below a u bytes) in
-    omega (arith, value_room blindWord {vs = s.args.vectors.now} (omega arith) l s.requires.1 vectors e refl)
+    omega (arith, value_room blind_word {vs = s.args.vectors.now} (omega arith) l s.requires.1 vectors e refl)
 
 returns : tie.Need-returns
 returns c =

@@ -1,8 +1,8 @@
 -- `report::text::patch_lines` meets its contract: five lines, each behind the one before.
 -- Assumes nothing.
 use native.Mathlib.Omega.{arith}
-use Rattle.records.specs.Job.{netsOf}
-use Rattle.report.proofs.Laws.Text.{PatchLengths, length-patchText, patch-texted}
+use Rattle.records.specs.Job.{nets_of}
+use Rattle.report.proofs.Laws.Text.{PatchLengths, length-patch_text, patch-texted}
 use borrow.Author.Rules.{rules}
 use Rattle.report.proofs.text.patch_lines.Statement.{statement}
 use Rattle.report.proofs.text.patch_lines.Tie as tie
@@ -22,8 +22,8 @@ fourth w = w.before.before.before.before.before
 
 lengths : (s : tie.Start)
     → let a = s.args in
-    PatchLengths a.cost (netsOf a.support.now) a.table.now a.vectors.now a.notes.now
-lengths s = length-patchText _ _ _ _ _
+    PatchLengths a.cost (nets_of a.support.now) a.table.now a.vectors.now a.notes.now
+lengths s = length-patch_text _ _ _ _ _
 
 put-number-line-requires : tie.Need-put-number-line-requires
 put-number-line-requires c κs = omega (arith, lengths c.before.before.before.before.before.before.before)
@@ -49,7 +49,7 @@ returns c =
     let w₁ = second w₂ in
     let s = start w₁ in
     let a = s.args in
-    patch-texted a.cost (netsOf a.support.now) a.table.now a.vectors.now a.notes.now s.pre
+    patch-texted a.cost (nets_of a.support.now) a.table.now a.vectors.now a.notes.now s.pre
     w₁.put-number-line.ensures
     w₂.put-nets-line.ensures
     w₃.put-bytes-line.ensures

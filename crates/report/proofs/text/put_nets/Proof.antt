@@ -3,8 +3,8 @@
 use Prim.Native.Nat.{◌-◌, ◌≤◌}
 use mathlib.Core.Path.{sym, ◌∙◌}
 use native.Mathlib.Omega.{arith}
-use Rattle.records.specs.Job.{netsOf}
-use Rattle.records.proofs.Laws.Shape.{length-netsOf}
+use Rattle.records.specs.Job.{nets_of}
+use Rattle.records.proofs.Laws.Shape.{length-nets_of}
 use Rattle.records.proofs.Laws.Sheet.{net-at}
 use Rattle.report.specs.Text.{number, numbers}
 use Rattle.report.proofs.Laws.Line.{Printing, printing-none, printing-room, printing-next, printing-all}
@@ -12,7 +12,7 @@ use Rattle.report.proofs.text.put_nets.Statement.{statement}
 use Rattle.report.proofs.text.put_nets.Tie as tie
 
 abbrev invariant-loop : tie.invariant-loop
-invariant-loop text₀ at nets count end₀ i₀ text end i = (i ≤ count) × Printing number (netsOf nets) text₀ at i end text
+invariant-loop text₀ at nets count end₀ i₀ text end i = (i ≤ count) × Printing number (nets_of nets) text₀ at i end text
 
 abbrev decreases-loop : tie.decreases-loop
 decreases-loop text₀ at nets count end₀ i₀ text end i = count - i
@@ -21,7 +21,7 @@ loop-holds : tie.Need-loop-init invariant-loop decreases-loop
 unfolding numbers
 loop-holds c =
     let a = c.before.before.args in
-    (omega arith, printing-none number (netsOf a.nets.now) a.text.now a.at c.before.before.requires)
+    (omega arith, printing-none number (nets_of a.nets.now) a.text.now a.at c.before.before.requires)
 
 put-number-requires : tie.Need-put-number-requires invariant-loop decreases-loop
 unfolding numbers
@@ -30,9 +30,9 @@ put-number-requires c κs =
     let l = t.loop in
     let s = t.before.before.before in
     let a = s.args in
-    let n = length-netsOf a.nets.now in
+    let n = length-nets_of a.nets.now in
     let e = c.word_at.ensures ∙ sym (net-at a.nets.now l.i (omega arith)) in
-    printing-room number (netsOf a.nets.now) a.text.now a.at s.requires (omega arith) l.invariant.1 e
+    printing-room number (nets_of a.nets.now) a.text.now a.at s.requires (omega arith) l.invariant.1 e
 
 loop-again : tie.Need-loop-preserved invariant-loop decreases-loop
 unfolding numbers
@@ -42,10 +42,10 @@ loop-again c =
     let l = t.loop in
     let s = t.before.before.before in
     let a = s.args in
-    let n = length-netsOf a.nets.now in
+    let n = length-nets_of a.nets.now in
     let e = w.before.word_at.ensures ∙ sym (net-at a.nets.now l.i (omega arith)) in (
       omega arith,
-      printing-next number (netsOf a.nets.now) a.text.now a.at s.requires (omega arith) l.invariant.1 e
+      printing-next number (nets_of a.nets.now) a.text.now a.at s.requires (omega arith) l.invariant.1 e
           w.put-number.ensures,
     )
 
@@ -57,8 +57,8 @@ unfolding numbers
 returns c =
     let s = c.before.before.before.before in
     let a = s.args in
-    let n = length-netsOf a.nets.now in
-    printing-all number (netsOf a.nets.now) a.text.now a.at s.requires (omega arith) c.before.loop.invariant.1
+    let n = length-nets_of a.nets.now in
+    printing-all number (nets_of a.nets.now) a.text.now a.at s.requires (omega arith) c.before.loop.invariant.1
 
 pub put-nets-spec : {M : Type 1} → statement M
 put-nets-spec =

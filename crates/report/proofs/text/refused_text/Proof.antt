@@ -1,7 +1,7 @@
 -- `report::text::refused_text` meets its contract: one line, of a number below 256.
 -- Assumes nothing.
 use native.Mathlib.Omega.{arith}
-use Rattle.report.specs.Text.{refusedWord}
+use Rattle.report.specs.Text.{refused_word}
 use Rattle.report.proofs.Laws.Line.{length-number-line}
 use Rattle.report.proofs.Laws.Text.{refused-texted}
 use borrow.Author.Rules.{rules}
@@ -11,7 +11,7 @@ use Rattle.report.proofs.text.refused_text.Tie as tie
 put-number-line-requires : tie.Need-put-number-line-requires
 put-number-line-requires c κs =
     let e = c.wide.ensures in
-    omega (arith, length-number-line refusedWord c.wide.result (omega arith))
+    omega (arith, length-number-line refused_word c.wide.result (omega arith))
 
 returns : tie.Need-returns
 returns c =

@@ -5,7 +5,7 @@ use native.Mathlib.Omega.{arith}
 use Rattle.records.specs.Bytes.{nth}
 use Rattle.records.specs.Sheet.{quad}
 use Rattle.records.specs.Claims.{Below}
-use Rattle.report.specs.Text.{unfixableWord}
+use Rattle.report.specs.Text.{unfixable_word}
 use Rattle.report.proofs.Laws.Sheet.{unfixable-length, unfixable-input, unfixable-vectors, unfixable-below}
 use Rattle.report.proofs.Laws.Text.{value_room, quad-lt}
 use borrow.Author.Rules.{rules}
@@ -37,7 +37,7 @@ value-lines-requires c κs =
     let below = unfixable-below a v bytes in
     let l = quad-lt (nth 0 a) (below 0 (omega arith)) in
     let f = unfixable-vectors a v in
-    omega (arith, value_room unfixableWord (omega arith) l v.vectors (below 1 (omega arith)) e f)
+    omega (arith, value_room unfixable_word (omega arith) l v.vectors (below 1 (omega arith)) e f)
 
 returns : tie.Need-returns
 returns c =

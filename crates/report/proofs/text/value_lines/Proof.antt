@@ -1,7 +1,7 @@
 -- `report::text::value_lines` meets its contract: two lines, the second behind the first.
 -- Assumes nothing.
 use native.Mathlib.Omega.{arith}
-use Rattle.report.proofs.Laws.Text.{length-valueText, value-texted}
+use Rattle.report.proofs.Laws.Text.{length-value_text, value-texted}
 use borrow.Author.Rules.{rules}
 use Rattle.report.proofs.text.value_lines.Statement.{statement}
 use Rattle.report.proofs.text.value_lines.Tie as tie
@@ -9,12 +9,12 @@ use Rattle.report.proofs.text.value_lines.Tie as tie
 put-number-line-requires : tie.Need-put-number-line-requires
 put-number-line-requires c κs =
     let a = c.before.before.before.before.args in
-    omega (arith, length-valueText a.word.now a.x a.vectors.now)
+    omega (arith, length-value_text a.word.now a.x a.vectors.now)
 
 put-bytes-line-requires : tie.Need-put-bytes-line-requires
 put-bytes-line-requires c κs =
     let a = c.before.before.before.before.before.before.before.before.before.args in
-    omega (arith, length-valueText a.word.now a.x a.vectors.now)
+    omega (arith, length-value_text a.word.now a.x a.vectors.now)
 
 returns : tie.Need-returns
 returns c =

@@ -39,7 +39,7 @@ use denote.Triple.Spec.{Meets, triple_of}
 use denote.Triple.Table.{entered, cited}
 use denote.Triple.Walked.{says, Stays, stay_none, walk_of, Goes-none, Walks, ends_at, walked, walk_Meets}
 use denote.Exit.{yes}
-use Rattle.records.specs.Inner.{fieldAt}
+use Rattle.records.specs.Inner.{field_at}
 use Rattle.records.specs.declared.field.FieldReader.{FieldReader}
 use Rattle.records.specs.declared.field.Field.{Field}
 use Rattle.records.proofs.Locals.{holds, arrives, released}
@@ -81,7 +81,7 @@ module _ {M : Type 1} {𝓤 : Ura M} (𝓛 : Logic 𝓤) (mem : Memory → SProp
   v = slice_val d.bytes.ref_ptr (length d.bytes.now)
 
   abbrev found : Field
-  found = fieldAt d.bytes.now d.at t
+  found = field_at d.bytes.now d.at t
 
   abbrev at : Vals field.signature (κ, tt)
   at = (mach ∷ [], (vint w8 t ∷ [], tt))
