@@ -1,5 +1,7 @@
 // What the programs share: arguments, files by name or standard input, and lines of text. No public function has a `requires`.
 // No contract can say which bytes are read or written.
+#![tactic(auto)]
+
 mod input;
 mod output;
 

@@ -2,6 +2,8 @@
 // (fit) or driven by it, against the golden one (compare), and the three by three tables of the gates for the search. Values of all nets
 // are in 1,024 scenarios at once, 16 words a net. Every service answers with a number of document 01, 0 where it accepts, and leaves every
 // lent byte as it was where it does not.
+#![tactic(auto)]
+
 mod best;
 mod choosing;
 mod comparing;

@@ -1,4 +1,6 @@
 // The engine's services for a C program: tools/bench measures them there. What a C caller owes is said in records_c.
+#![tactic(auto)]
+
 ghost use Rattle.std.specs.Prelude.{◌≡◌};
 ghost use Rattle.engine.specs.Verdict.{judged_bytes, chosen_bytes};
 ghost use Rattle.engine.specs.Reply.{judge_reply, choose_reply, compare_reply, fit_reply, fitted_buffer};

@@ -9,6 +9,8 @@
 // A file named `-` is standard input. The reply goes to standard output. A refusal leaves that empty and puts `refused N` on
 // standard error, but for compare, whose answer it is. Other words, and a file that cannot be read, leave it empty too, and
 // standard error says what is wrong.
+#![tactic(auto)]
+
 mod compare;
 mod fit;
 mod sheets;

@@ -11,7 +11,7 @@ pub enum Field {
 }
 
 // A check's answer.
-#[derive(Drop)]
+#[derive(Clone, Copy)]
 pub enum Check {
     Passed,
     Failed,
@@ -30,7 +30,7 @@ pub struct Walk {
 }
 
 // Reads the bytes field by field: the position is where the next field starts.
-#[derive(Drop)]
+#[derive(Clone, Copy)]
 pub struct FieldReader<'a> {
     pub bytes: &'a [u8],
     pub at: usize,

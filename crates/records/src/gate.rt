@@ -7,7 +7,7 @@ ghost use Rattle.records.specs.Service.{struct_slots, gate_from};
 use super::limits::SLOTS;
 
 // A gate as it stands in a lent place: its kind, how many operands it has, and its operand slots, used or not.
-#[derive(Drop)]
+#[derive(Clone, Copy)]
 pub struct Gate {
     pub kind: u8,
     pub count: u8,

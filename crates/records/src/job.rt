@@ -11,14 +11,14 @@ use super::limits::{CANDIDATE_SIZE, CANDIDATES, GATE_SIZE, GATES, INPUTS, OUTPUT
 use super::netlist::{check_gates, check_outputs, fanout_marks};
 
 // How many gates and outputs a netlist has.
-#[derive(Drop)]
+#[derive(Clone, Copy)]
 pub struct SideCounts {
     pub gates: usize,
     pub outputs: usize,
 }
 
 // The counts of a job.
-#[derive(Drop)]
+#[derive(Clone, Copy)]
 pub struct Counts {
     pub inputs: usize,
     pub targets: usize,

@@ -2,6 +2,8 @@
 // structs or in columns, a patch sheet read against a job's candidates, the gates' values, a field put into a buffer, and a byte as a
 // number. Each service that reads or writes answers with a number of document 01, 0 where it accepts, and leaves every lent place as
 // it was where it does not.
+#![tactic(auto)]
+
 mod candidate;
 mod columns;
 mod field;

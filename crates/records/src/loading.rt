@@ -9,7 +9,7 @@ use super::job::Counts;
 use super::limits::{CANDIDATES, GATES, OUTPUTS};
 
 // A job's parts by value, beside what the check of its bytes found. Counts and places of a refused job are 0.
-#[derive(Drop)]
+#[derive(Clone, Copy)]
 pub struct JobParts {
     pub number: u8,
     pub check: Check,

@@ -12,7 +12,7 @@ use super::job::{Checked, Counts, check_job, no_counts, starts_of};
 use super::limits::{CANDIDATE_SIZE, CANDIDATES, GATES, OUTPUTS};
 
 // The number, and the counts of an accepted job; on refusal every count is 0.
-#[derive(Drop)]
+#[derive(Clone, Copy)]
 pub struct ReadReply {
     pub number: u8,
     pub counts: Counts,

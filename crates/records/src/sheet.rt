@@ -9,14 +9,14 @@ use super::field::{Check, Field, field_at, walked, wide, word_at};
 use super::limits::{CANDIDATES, TARGETS};
 
 // Candidate nets: the first len of ten places.
-#[derive(Drop)]
+#[derive(Clone, Copy)]
 pub struct Support {
     pub nets: [u16; CANDIDATES],
     pub len: usize,
 }
 
 // The number, and of an accepted sheet its support, where its table starts and its cost; on refusal all are 0.
-#[derive(Drop)]
+#[derive(Clone, Copy)]
 pub struct SheetReply {
     pub number: u8,
     pub support: Support,

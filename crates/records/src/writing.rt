@@ -13,7 +13,7 @@ use super::limits::LONGEST_JOB;
 use super::put::put_rest;
 
 // The number, and how many bytes of the buffer hold the job, 0 on refusal.
-#[derive(Drop)]
+#[derive(Clone, Copy)]
 pub struct WriteReply {
     pub number: u8,
     pub len: usize,

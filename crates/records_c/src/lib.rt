@@ -3,6 +3,8 @@
 // arguments. What the caller owes, since nothing checks a C call: each pointer, also that of an empty slice, is aligned and not null, as
 // many elements as the length says can be read there (and written, where the slice is `&mut`), `counts` points to seven numbers and
 // `number` to one, and what is lent `&mut` overlaps nothing else that is lent.
+#![tactic(auto)]
+
 ghost use Rattle.std.specs.Prelude.{◌≡◌};
 ghost use Rattle.records.specs.Columns.{side_columns, columns, columns_reply, columns_after, columns_write_reply, columns_written};
 ghost use Rattle.records_c.specs.Row.{row_after, row_counts};

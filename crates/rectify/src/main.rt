@@ -1,6 +1,7 @@
 // Reads a job from standard input and prints its verdict: a patch with its cost, support, table, vectors and notes, an unfixable input
 // or a blind reading with the vectors, or `refused` and the number. The text is made by `report::rectify_text`. Where standard
 // input cannot be read, a line on standard error says so and nothing is printed.
+#![tactic(auto)]
 
 // The text of the job's bytes, to standard output.
 fn print_verdict(job: &[u8]) {

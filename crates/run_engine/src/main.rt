@@ -1,6 +1,8 @@
 // Makes the calls of the engine that its standard input asks for, and prints one line for each. The form of the calls and
 // the lines stands in tools/reference/verdict_calls.py and fit_calls.py, which also say what each line must be. Input that is no
 // whole call ends the run.
+#![tactic(auto)]
+
 mod choose;
 mod compare;
 mod fit;

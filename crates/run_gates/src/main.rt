@@ -1,6 +1,8 @@
 // Reads a simulator's table of gate primitives over 0, 1 and x, one row a line, as `nand 0 1 = 1`, and prints each row over 0 and 1 again
 // with the value that the record library gives, and each row, also those with x, with what the engine knows of it, where x is not yet
 // known. The table is the file stdin; what is printed must be the table's own rows.
+#![tactic(auto)]
+
 use check::same;
 
 // The kind that document 01 gives the primitive of this name; 0 for any other name.

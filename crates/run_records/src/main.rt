@@ -1,6 +1,8 @@
 // Makes the calls of the record library that its standard input asks for, and prints one line for each. The form of
 // the calls and the lines stands in tools/reference/calls.py, which also says what each line must be. Input that is no
 // whole call ends the run.
+#![tactic(auto)]
+
 mod lending;
 mod lists;
 mod reading;

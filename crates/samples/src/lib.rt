@@ -1,5 +1,7 @@
 // What the programs over calls on file share: the next call of standard input, the numbers in it, a buffer with a pattern, hashes, and
 // the numbers of a line. No public function has a `requires`.
+#![tactic(auto)]
+
 mod buffer;
 mod call;
 mod number;
