@@ -21,7 +21,7 @@ pub returns-then-net-least : goal.returns-then-net-least
 unfolding check_of
 returns-then-net-least c =
     let turn : let x = c.args in let l = c.loop-i in let cs = candidates_of x.s.now in let marks = x.marks.now in let r = c.word_at-net.result in unmarked_ascending x.nets marks cs ≡ (leb l.least r && (ltb r x.nets && eqb (get_or marks r 0) 0) && unmarked_from (r + 1) x.nets marks (drop (l.i + 1) cs)) =
-        let x = c.args in
+    let x = c.args in
     let l = c.loop-i in
     sym l.invariant
     ∙ unmarked-drop l.least x.nets x.marks.now x.s.now l.i c.loop-i-test.true
@@ -32,7 +32,7 @@ pub returns-then-nets-net : goal.returns-then-nets-net
 unfolding check_of
 returns-then-nets-net c =
     let turn : let x = c.args in let l = c.loop-i in let cs = candidates_of x.s.now in let marks = x.marks.now in let r = c.word_at-net.result in unmarked_ascending x.nets marks cs ≡ (leb l.least r && (ltb r x.nets && eqb (get_or marks r 0) 0) && unmarked_from (r + 1) x.nets marks (drop (l.i + 1) cs)) =
-        let x = c.args in
+    let x = c.args in
     let l = c.loop-i in
     sym l.invariant
     ∙ unmarked-drop l.least x.nets x.marks.now x.s.now l.i c.loop-i-test.true
@@ -43,25 +43,25 @@ pub returns-then-marks-net-ne0 : goal.returns-then-marks-net-ne0
 unfolding check_of
 returns-then-marks-net-ne0 c =
     let turn : let x = c.args in let l = c.loop-i in let cs = candidates_of x.s.now in let marks = x.marks.now in let r = c.word_at-net.result in unmarked_ascending x.nets marks cs ≡ (leb l.least r && (ltb r x.nets && eqb (get_or marks r 0) 0) && unmarked_from (r + 1) x.nets marks (drop (l.i + 1) cs)) =
-        let x = c.args in
+    let x = c.args in
     let l = c.loop-i in
     sym l.invariant
     ∙ unmarked-drop l.least x.nets x.marks.now x.s.now l.i c.loop-i-test.true
     ∙ rw c.word_at-net.ensures in
     let unmarked : let x = c.args in let cs = candidates_of x.s.now in let marks = x.marks.now in let r = c.word_at-net.result in unmarked_ascending x.nets marks cs ≡ (eqb (get_or marks r 0) 0 && unmarked_from (r + 1) x.nets marks (drop (c.loop-i.i + 1) cs)) =
-        turn ∙ rw (le-leb _ _ c.if-net-least.false, lt-ltb _ _ c.if-nets-net.false) in
+    turn ∙ rw (le-leb _ _ c.if-net-least.false, lt-ltb _ _ c.if-nets-net.false) in
     rw (unmarked, ne_eqb _ _ c.if-marks-net-ne0.true)
 
 pub loop-i-preserved : goal.loop-i-preserved
 loop-i-preserved c =
     let turn : let x = c.args in let l = c.loop-i in let cs = candidates_of x.s.now in let marks = x.marks.now in let r = c.word_at-net.result in unmarked_ascending x.nets marks cs ≡ (leb l.least r && (ltb r x.nets && eqb (get_or marks r 0) 0) && unmarked_from (r + 1) x.nets marks (drop (l.i + 1) cs)) =
-        let x = c.args in
+    let x = c.args in
     let l = c.loop-i in
     sym l.invariant
     ∙ unmarked-drop l.least x.nets x.marks.now x.s.now l.i c.loop-i-test.true
     ∙ rw c.word_at-net.ensures in
     let unmarked : let x = c.args in let cs = candidates_of x.s.now in let marks = x.marks.now in let r = c.word_at-net.result in unmarked_ascending x.nets marks cs ≡ (eqb (get_or marks r 0) 0 && unmarked_from (r + 1) x.nets marks (drop (c.loop-i.i + 1) cs)) =
-        turn ∙ rw (le-leb _ _ c.if-net-least.false, lt-ltb _ _ c.if-nets-net.false) in
+    turn ∙ rw (le-leb _ _ c.if-net-least.false, lt-ltb _ _ c.if-nets-net.false) in
     sym (unmarked ∙ rw (eq-eqb _ _ c.if-marks-net-ne0.false))
 
 pub returns : goal.returns

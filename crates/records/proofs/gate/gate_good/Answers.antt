@@ -31,16 +31,16 @@ pub returns-then-not-slot_good : goal.returns-then-not-slot_good
 unfolding gate_from gate_of struct_slots
 returns-then-not-slot_good c =
     let good : let x = c.args in let slots = c.slots_of-slots.result in gate_good x.net (gate_from x.gate) ≡ slots_good x.net (x.gate.count - c.loop-i.i) (drop c.loop-i.i slots) =
-        let x = c.args in
+    let x = c.args in
     let p = c.permits in
     let t = c.if-not-permits.false in
     gate_good-permitted x.net (gate_from x.gate) (sym p.ensures ∙ t)
     ∙ ap (slots_good x.net x.gate.count) (sym c.slots_of-slots.ensures)
     ∙ sym c.loop-i.invariant in
     let four : length c.slots_of-slots.result ≡ 4 =
-        ap length c.slots_of-slots.ensures in
+    ap length c.slots_of-slots.ensures in
     let turn : let x = c.args in let slots = c.slots_of-slots.result in let i = c.loop-i.i in gate_good x.net (gate_from x.gate) ≡ (c.slot_good.result && slots_good x.net (x.gate.count - (i + 1)) (drop (i + 1) slots)) =
-        let x = c.args in
+    let x = c.args in
     let n = four in
     good
     ∙ slots_good-drop x.net x.gate.count c.loop-i.i c.slots_of-slots.result (omega arith)
@@ -51,16 +51,16 @@ pub loop-i-preserved : goal.loop-i-preserved
 unfolding gate_from gate_of struct_slots
 loop-i-preserved c =
     let good : let x = c.args in let slots = c.slots_of-slots.result in gate_good x.net (gate_from x.gate) ≡ slots_good x.net (x.gate.count - c.loop-i.i) (drop c.loop-i.i slots) =
-        let x = c.args in
+    let x = c.args in
     let p = c.permits in
     let t = c.if-not-permits.false in
     gate_good-permitted x.net (gate_from x.gate) (sym p.ensures ∙ t)
     ∙ ap (slots_good x.net x.gate.count) (sym c.slots_of-slots.ensures)
     ∙ sym c.loop-i.invariant in
     let four : length c.slots_of-slots.result ≡ 4 =
-        ap length c.slots_of-slots.ensures in
+    ap length c.slots_of-slots.ensures in
     let turn : let x = c.args in let slots = c.slots_of-slots.result in let i = c.loop-i.i in gate_good x.net (gate_from x.gate) ≡ (c.slot_good.result && slots_good x.net (x.gate.count - (i + 1)) (drop (i + 1) slots)) =
-        let x = c.args in
+    let x = c.args in
     let n = four in
     good
     ∙ slots_good-drop x.net x.gate.count c.loop-i.i c.slots_of-slots.result (omega arith)
@@ -72,14 +72,14 @@ pub returns : goal.returns
 unfolding gate_from gate_of struct_slots
 returns c =
     let good : let x = c.args in let slots = c.slots_of-slots.result in gate_good x.net (gate_from x.gate) ≡ slots_good x.net (x.gate.count - c.loop-i.i) (drop c.loop-i.i slots) =
-        let x = c.args in
+    let x = c.args in
     let p = c.permits in
     let t = c.if-not-permits.false in
     gate_good-permitted x.net (gate_from x.gate) (sym p.ensures ∙ t)
     ∙ ap (slots_good x.net x.gate.count) (sym c.slots_of-slots.ensures)
     ∙ sym c.loop-i.invariant in
     let four : length c.slots_of-slots.result ≡ 4 =
-        ap length c.slots_of-slots.ensures in
+    ap length c.slots_of-slots.ensures in
     let x = c.args in
     let n = four in
     let i = c.loop-i.i in

@@ -46,4 +46,4 @@ returns-in-8 c =
 pub returns-in_default : goal.returns-in_default
 returns-in_default c =
     let x = c.args in
-    (sym (gate_value-other (x.x ∷ x.y ∷ []) x.kind c.requires.0 c.in_default-own.rest), lit≤ tt)
+    (sym (gate_value-other (x.x ∷ x.y ∷ []) x.kind c.requires.0 c.in_default.in_default-own.rest), lit≤ tt)

@@ -15,12 +15,12 @@ returns-in_default c =
 pub starts_of-at-requires : goal.starts_of-at-requires
 starts_of-at-requires c =
     let within : counts_within c.args.counts ≡ true =
-        passes _ (sym c.check_counts-check.ensures ∙ c.in-Passed.is) in
+    passes _ (sym c.check_counts-check.ensures ∙ c.in-Passed.is) in
     counts_within-facts _ (within)
 
 pub returns : goal.returns
 unfolding gate_spans
 returns c =
     let within : counts_within c.args.counts ≡ true =
-        passes _ (sym c.check_counts-check.ensures ∙ c.in-Passed.is) in
+    passes _ (sym c.check_counts-check.ensures ∙ c.in-Passed.is) in
     rw (within, c.starts_of-at.ensures)

@@ -14,13 +14,13 @@ returns-in_default c = rw (broken-of-walk c.args.job.now c.walked-w.result c.wal
 pub bounds-job-3 : goal.bounds-job-3
 bounds-job-3 c =
     let room : 5 ≤ length c.args.job.now =
-        walk-room c.args.job.now c.walked-w.result c.walked-w.ensures c.in-Passed.is in
+    walk-room c.args.job.now c.walked-w.result c.walked-w.ensures c.in-Passed.is in
     omega (arith, room)
 
 pub bounds-job-4 : goal.bounds-job-4
 bounds-job-4 c =
     let room : 5 ≤ length c.args.job.now =
-        walk-room c.args.job.now c.walked-w.result c.walked-w.ensures c.in-Passed.is in
+    walk-room c.args.job.now c.walked-w.result c.walked-w.ensures c.in-Passed.is in
     omega (arith, room)
 
 pub counted-requires : goal.counted-requires

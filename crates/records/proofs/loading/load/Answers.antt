@@ -10,5 +10,5 @@ returns c =
     let r = c.read_gates-found in
     let l = r.new in
     load-ends c.args.job.now r.result.reply c.check_number.result
-    (places (side_places r.result.old l.1.0) (side_places r.result.golden l.1.1.0) l.1.1.1.0 l.1.1.1.1.0)
-    r.ensures.0 c.check_number.ensures r.ensures.1
+    (places (side_places r.result.old l.old_outputs) (side_places r.result.golden l.golden_outputs) l.nets l.weights)
+    c.read_gates-found.ensures.reply c.check_number.ensures c.read_gates-found.ensures.lent

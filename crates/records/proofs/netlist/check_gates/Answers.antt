@@ -23,7 +23,7 @@ pub returns-then-not-gate_good : goal.returns-then-not-gate_good
 unfolding check_of gate_at gate_from struct_at
 returns-then-not-gate_good c =
     let turn : let x = c.args in gates_good x.base (gates_of x.s.now) ≡ (c.gate_good.result && good x.base x.s.now (c.loop-i.i + 1)) =
-        let x = c.args in
+    let x = c.args in
     sym c.loop-i.invariant
     ∙ gates_good-drop x.s.now c.loop-i.i c.loop-i-test.true x.base
     ∙ rw (c.gate_good.ensures, c.gate_at.ensures) in
@@ -33,7 +33,7 @@ pub loop-i-preserved : goal.loop-i-preserved
 unfolding gate_at gate_from struct_at
 loop-i-preserved c =
     let turn : let x = c.args in gates_good x.base (gates_of x.s.now) ≡ (c.gate_good.result && good x.base x.s.now (c.loop-i.i + 1)) =
-        let x = c.args in
+    let x = c.args in
     sym c.loop-i.invariant
     ∙ gates_good-drop x.s.now c.loop-i.i c.loop-i-test.true x.base
     ∙ rw (c.gate_good.ensures, c.gate_at.ensures) in

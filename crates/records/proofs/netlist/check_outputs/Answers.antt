@@ -18,7 +18,7 @@ pub returns-then-nets-net : goal.returns-then-nets-net
 unfolding check_of word_column
 returns-then-nets-net c =
     let turn : let x = c.args in let from = below x.nets x.s.now x.at x.count in from 0 ≡ (ltb c.word_at-net.result x.nets && from (c.loop-i.i + 1)) =
-        let x = c.args in
+    let x = c.args in
     let s = x.s.now in
     let l = c.loop-i in
     sym l.invariant
@@ -30,7 +30,7 @@ pub loop-i-preserved : goal.loop-i-preserved
 unfolding word_column
 loop-i-preserved c =
     let turn : let x = c.args in let from = below x.nets x.s.now x.at x.count in from 0 ≡ (ltb c.word_at-net.result x.nets && from (c.loop-i.i + 1)) =
-        let x = c.args in
+    let x = c.args in
     let s = x.s.now in
     let l = c.loop-i in
     sym l.invariant

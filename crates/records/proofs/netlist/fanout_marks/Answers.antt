@@ -24,7 +24,7 @@ pub gate_mark-m-requires : goal.gate_mark-m-requires
 unfolding gate_at gate_from struct_at
 gate_mark-m-requires c =
     let good : let x = c.args in let i = c.loop-i.i in (gate_good (x.inputs + x.targets + i) (gate_at x.s.now i) ≡ true) × (gates_good (x.inputs + x.targets + (i + 1)) (drop (i + 1) (gates_of x.s.now)) ≡ true) =
-        let x = c.args in
+    let x = c.args in
     let l = c.loop-i in
     gates_good-both x.s.now l.i c.loop-i-test.true (x.inputs + x.targets) l.invariant.2 in
     let x = c.args in
@@ -35,7 +35,7 @@ pub loop-i-preserved : goal.loop-i-preserved
 unfolding gate_at gate_from struct_at
 loop-i-preserved c =
     let good : let x = c.args in let i = c.loop-i.i in (gate_good (x.inputs + x.targets + i) (gate_at x.s.now i) ≡ true) × (gates_good (x.inputs + x.targets + (i + 1)) (drop (i + 1) (gates_of x.s.now)) ≡ true) =
-        let x = c.args in
+    let x = c.args in
     let l = c.loop-i in
     gates_good-both x.s.now l.i c.loop-i-test.true (x.inputs + x.targets) l.invariant.2 in
     let x = c.args in

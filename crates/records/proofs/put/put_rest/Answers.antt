@@ -12,21 +12,16 @@ use Rattle.records.proofs.put.put_rest.Goals as goal
 pub headed-first-requires : goal.headed-first-requires
 headed-first-requires c =
     let long : length c.args.bytes ≡ 8188 =
-        search rules in
+    search rules in
     omega (arith, long)
 
 pub put_side-old-requires : goal.put_side-old-requires
 put_side-old-requires c =
     let long : length c.args.bytes ≡ 8188 =
-        search rules in
+    search rules in
     let first : length c.headed-first.result ≡ 8188 =
-        let n = long in
+    let n = long in
     length-headed c.args.bytes 0 1 2 (omega (arith, n)) c.headed-first.ensures ∙ n in
-    let within : (c.put_side-golden.result.len + 3 + 4 * c.args.counts.candidates ≤ 8188) × (length c.put_side-golden.result.bytes ≡ 8188) =
-        let b = c.requires in
-    let o = c.put_side-old.ensures.1.end in
-    let g = c.put_side-golden.ensures.1.end in
-    (omega (arith, o, g), c.put_side-golden.ensures.0) in
     let b = c.requires in (
       simp length-set first,
       record { tag = omega arith; within = b.within.old; held = b.old; room = omega arith },
@@ -34,11 +29,6 @@ put_side-old-requires c =
 
 pub put_side-golden-requires : goal.put_side-golden-requires
 put_side-golden-requires c =
-    let within : (c.put_side-golden.result.len + 3 + 4 * c.args.counts.candidates ≤ 8188) × (length c.put_side-golden.result.bytes ≡ 8188) =
-        let b = c.requires in
-    let o = c.put_side-old.ensures.1.end in
-    let g = c.put_side-golden.ensures.1.end in
-    (omega (arith, o, g), c.put_side-golden.ensures.0) in
     let b = c.requires in
     let o = c.put_side-old.ensures.1.end in (
       c.put_side-old.ensures.0,
@@ -48,7 +38,7 @@ put_side-golden-requires c =
 pub headed-second-requires : goal.headed-second-requires
 headed-second-requires c =
     let within : (c.put_side-golden.result.len + 3 + 4 * c.args.counts.candidates ≤ 8188) × (length c.put_side-golden.result.bytes ≡ 8188) =
-        let b = c.requires in
+    let b = c.requires in
     let o = c.put_side-old.ensures.1.end in
     let g = c.put_side-golden.ensures.1.end in
     (omega (arith, o, g), c.put_side-golden.ensures.0) in
@@ -57,7 +47,7 @@ headed-second-requires c =
 pub overflow_add-at : goal.overflow_add-at
 overflow_add-at c =
     let within : (c.put_side-golden.result.len + 3 + 4 * c.args.counts.candidates ≤ 8188) × (length c.put_side-golden.result.bytes ≡ 8188) =
-        let b = c.requires in
+    let b = c.requires in
     let o = c.put_side-old.ensures.1.end in
     let g = c.put_side-golden.ensures.1.end in
     (omega (arith, o, g), c.put_side-golden.ensures.0) in
@@ -66,12 +56,12 @@ overflow_add-at c =
 pub put_column-third-requires : goal.put_column-third-requires
 put_column-third-requires c =
     let within : (c.put_side-golden.result.len + 3 + 4 * c.args.counts.candidates ≤ 8188) × (length c.put_side-golden.result.bytes ≡ 8188) =
-        let b = c.requires in
+    let b = c.requires in
     let o = c.put_side-old.ensures.1.end in
     let g = c.put_side-golden.ensures.1.end in
     (omega (arith, o, g), c.put_side-golden.ensures.0) in
     let headed : length c.headed-second.result ≡ 8188 =
-        let k = within in
+    let k = within in
     length-headed c.put_side-golden.result.bytes c.put_side-golden.result.len 6 _ (omega (arith, k)) c.headed-second.ensures ∙ k.1 in
     let b = c.requires in
     omega (arith, within, headed, b.nets)
@@ -79,7 +69,7 @@ put_column-third-requires c =
 pub overflow_add-at-2 : goal.overflow_add-at-2
 overflow_add-at-2 c =
     let within : (c.put_side-golden.result.len + 3 + 4 * c.args.counts.candidates ≤ 8188) × (length c.put_side-golden.result.bytes ≡ 8188) =
-        let b = c.requires in
+    let b = c.requires in
     let o = c.put_side-old.ensures.1.end in
     let g = c.put_side-golden.ensures.1.end in
     (omega (arith, o, g), c.put_side-golden.ensures.0) in
@@ -88,15 +78,15 @@ overflow_add-at-2 c =
 pub put_column-fourth-requires : goal.put_column-fourth-requires
 put_column-fourth-requires c =
     let within : (c.put_side-golden.result.len + 3 + 4 * c.args.counts.candidates ≤ 8188) × (length c.put_side-golden.result.bytes ≡ 8188) =
-        let b = c.requires in
+    let b = c.requires in
     let o = c.put_side-old.ensures.1.end in
     let g = c.put_side-golden.ensures.1.end in
     (omega (arith, o, g), c.put_side-golden.ensures.0) in
     let headed : length c.headed-second.result ≡ 8188 =
-        let k = within in
+    let k = within in
     length-headed c.put_side-golden.result.bytes c.put_side-golden.result.len 6 _ (omega (arith, k)) c.headed-second.ensures ∙ k.1 in
     let netted : length c.put_column-third.result ≡ 8188 =
-        let k = within in
+    let k = within in
     let n = headed in
     ap length c.put_column-third.ensures ∙ length-spread c.headed-second.result _ 4 _ _ (omega (arith, k, n)) ∙ n in
     let b = c.requires in
@@ -105,7 +95,7 @@ put_column-fourth-requires c =
 pub overflow_add-result : goal.overflow_add-result
 overflow_add-result c =
     let within : (c.put_side-golden.result.len + 3 + 4 * c.args.counts.candidates ≤ 8188) × (length c.put_side-golden.result.bytes ≡ 8188) =
-        let b = c.requires in
+    let b = c.requires in
     let o = c.put_side-old.ensures.1.end in
     let g = c.put_side-golden.ensures.1.end in
     (omega (arith, o, g), c.put_side-golden.ensures.0) in
@@ -114,20 +104,20 @@ overflow_add-result c =
 pub returns : goal.returns
 returns c =
     let long : length c.args.bytes ≡ 8188 =
-        search rules in
+    search rules in
     let first : length c.headed-first.result ≡ 8188 =
-        let n = long in
+    let n = long in
     length-headed c.args.bytes 0 1 2 (omega (arith, n)) c.headed-first.ensures ∙ n in
     let within : (c.put_side-golden.result.len + 3 + 4 * c.args.counts.candidates ≤ 8188) × (length c.put_side-golden.result.bytes ≡ 8188) =
-        let b = c.requires in
+    let b = c.requires in
     let o = c.put_side-old.ensures.1.end in
     let g = c.put_side-golden.ensures.1.end in
     (omega (arith, o, g), c.put_side-golden.ensures.0) in
     let headed : length c.headed-second.result ≡ 8188 =
-        let k = within in
+    let k = within in
     length-headed c.put_side-golden.result.bytes c.put_side-golden.result.len 6 _ (omega (arith, k)) c.headed-second.ensures ∙ k.1 in
     let netted : length c.put_column-third.result ≡ 8188 =
-        let k = within in
+    let k = within in
     let n = headed in
     ap length c.put_column-third.ensures ∙ length-spread c.headed-second.result _ 4 _ _ (omega (arith, k, n)) ∙ n in
     let b = c.requires in

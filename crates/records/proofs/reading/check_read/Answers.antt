@@ -14,13 +14,11 @@ returns-in_default c =
 pub returns-in-Refused : goal.returns-in-Refused
 returns-in-Refused c =
     let roomy : let a = c.args in room a.old a.old_outputs a.golden a.golden_outputs a.nets a.weights ≡ true =
-        passes _ (sym c.check_room-first.ensures ∙ c.in-Passed.is) in
-    let g = c.answer-1.given in
-    c.refused-in-Refused.ensures ∙ reply-refused _ _ roomy g.0.0 (sym c.check_job-answer.ensures ∙ g.1)
+    passes _ (sym c.check_room-first.ensures ∙ c.in-Passed.is) in
+    c.refused-in-Refused.ensures ∙ reply-refused _ _ roomy c.in-Refused.number (sym c.check_job-answer.ensures ∙ c.in-Refused.is)
 
 pub returns-in-Accepted : goal.returns-in-Accepted
 returns-in-Accepted c =
     let roomy : let a = c.args in room a.old a.old_outputs a.golden a.golden_outputs a.nets a.weights ≡ true =
-        passes _ (sym c.check_room-first.ensures ∙ c.in-Passed.is) in
-    let g = c.answer-in-Accepted-1.given in
-    reply-accepted _ _ roomy g.0.0 (sym c.check_job-answer.ensures ∙ g.1)
+    passes _ (sym c.check_room-first.ensures ∙ c.in-Passed.is) in
+    reply-accepted _ _ roomy c.in-Accepted.counts (sym c.check_job-answer.ensures ∙ c.in-Accepted.is)

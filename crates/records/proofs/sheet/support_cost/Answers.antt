@@ -16,12 +16,12 @@ loop-i-init c = (omega arith, omega arith, support-start _ _)
 pub returns-then-net-least : goal.returns-then-net-least
 returns-then-net-least c =
     let support : List ℕ =
-        word_column c.args.s.now 2 3 c.args.long in
+    word_column c.args.s.now 2 3 c.args.long in
     let net : c.word_at-net.result ≡ get_or support c.loop-i.i 0 =
-        let a = c.args in
+    let a = c.args in
     c.word_at-net.ensures ∙ sym (column-at a.s.now 2 3 a.long c.loop-i.i c.loop-i-test.true) in
     let short : c.loop-i.i < length (support) =
-        let a = c.args in
+    let a = c.args in
     omega (arith, c.loop-i-test.true, length-column a.s.now 2 3 a.long) in
     let a = c.args in
     sym
@@ -32,12 +32,12 @@ returns-then-net-least c =
 pub returns-in_default : goal.returns-in_default
 returns-in_default c =
     let support : List ℕ =
-        word_column c.args.s.now 2 3 c.args.long in
+    word_column c.args.s.now 2 3 c.args.long in
     let net : c.word_at-net.result ≡ get_or support c.loop-i.i 0 =
-        let a = c.args in
+    let a = c.args in
     c.word_at-net.ensures ∙ sym (column-at a.s.now 2 3 a.long c.loop-i.i c.loop-i-test.true) in
     let short : c.loop-i.i < length (support) =
-        let a = c.args in
+    let a = c.args in
     omega (arith, c.loop-i-test.true, length-column a.s.now 2 3 a.long) in
     let a = c.args in
     let e = sym c.find-place.ensures ∙ c.in_default.is in
@@ -49,35 +49,35 @@ returns-in_default c =
 pub offset_bounds-weights-k : goal.offset_bounds-weights-k
 offset_bounds-weights-k c =
     let at : ℕ =
-        c.in-At.k in
+    c.in-At.k in
     let stands : let a = c.args in Stands (candidates_from a.count a.nets.now a.weights.now) c.word_at-net.result (get_or a.weights.now at 0) at a.count =
-        found_at c.args.nets.now c.args.weights.now c.word_at-net.result c.args.count c.requires.2 at
+    found_at c.args.nets.now c.args.weights.now c.word_at-net.result c.args.count c.requires.2 at
     (sym c.find-place.ensures ∙ c.in-At.is) in
     omega (arith, stands.below)
 
 pub bounds-weights-k : goal.bounds-weights-k
 bounds-weights-k c =
     let at : ℕ =
-        c.in-At.k in
+    c.in-At.k in
     let stands : let a = c.args in Stands (candidates_from a.count a.nets.now a.weights.now) c.word_at-net.result (get_or a.weights.now at 0) at a.count =
-        found_at c.args.nets.now c.args.weights.now c.word_at-net.result c.args.count c.requires.2 at
+    found_at c.args.nets.now c.args.weights.now c.word_at-net.result c.args.count c.requires.2 at
     (sym c.find-place.ensures ∙ c.in-At.is) in
     omega (arith, stands.below)
 
 pub overflow_cast-sum : goal.overflow_cast-sum
 overflow_cast-sum c =
     let at : ℕ =
-        c.in-At.k in
+    c.in-At.k in
     let light : get_or c.args.weights.now at 0 < 65536 =
-        (c.shared_slice_known-in-loop-i-1.given at).fits in
+    (c.shared_slice_known-in-loop-i-1.given at).fits in
     omega (arith, light)
 
 pub overflow_add-sum : goal.overflow_add-sum
 overflow_add-sum c =
     let at : ℕ =
-        c.in-At.k in
+    c.in-At.k in
     let light : get_or c.args.weights.now at 0 < 65536 =
-        (c.shared_slice_known-in-loop-i-1.given at).fits in
+    (c.shared_slice_known-in-loop-i-1.given at).fits in
     omega (arith, light)
 
 pub overflow_add-least : goal.overflow_add-least
@@ -89,20 +89,20 @@ overflow_add-least c =
 pub loop-i-preserved : goal.loop-i-preserved
 loop-i-preserved c =
     let support : List ℕ =
-        word_column c.args.s.now 2 3 c.args.long in
+    word_column c.args.s.now 2 3 c.args.long in
     let net : c.word_at-net.result ≡ get_or support c.loop-i.i 0 =
-        let a = c.args in
+    let a = c.args in
     c.word_at-net.ensures ∙ sym (column-at a.s.now 2 3 a.long c.loop-i.i c.loop-i-test.true) in
     let short : c.loop-i.i < length (support) =
-        let a = c.args in
+    let a = c.args in
     omega (arith, c.loop-i-test.true, length-column a.s.now 2 3 a.long) in
     let at : ℕ =
-        c.in-At.k in
+    c.in-At.k in
     let stands : let a = c.args in Stands (candidates_from a.count a.nets.now a.weights.now) c.word_at-net.result (get_or a.weights.now at 0) at a.count =
-        found_at c.args.nets.now c.args.weights.now c.word_at-net.result c.args.count c.requires.2 at
+    found_at c.args.nets.now c.args.weights.now c.word_at-net.result c.args.count c.requires.2 at
     (sym c.find-place.ensures ∙ c.in-At.is) in
     let light : get_or c.args.weights.now at 0 < 65536 =
-        (c.shared_slice_known-in-loop-i-1.given at).fits in
+    (c.shared_slice_known-in-loop-i-1.given at).fits in
     let a = c.args in
     let k = at in (
       omega arith,
@@ -117,7 +117,7 @@ loop-i-preserved c =
 pub returns : goal.returns
 returns c =
     let support : List ℕ =
-        word_column c.args.s.now 2 3 c.args.long in
+    word_column c.args.s.now 2 3 c.args.long in
     let a = c.args in
     sym
     (support-end support a.count a.nets.now a.weights.now c.loop-i.least c.loop-i.sum c.loop-i.i
