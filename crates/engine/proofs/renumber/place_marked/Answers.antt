@@ -9,6 +9,7 @@ use Rattle.engine.specs.Inner.Tree.{GateRoom}
 use Rattle.engine.proofs.Laws.FitCode.{Placing, PlacingOf, placing-none, placing-skip, placing-all}
 use Rattle.engine.proofs.Laws.FitCode.{placing-room, placing-nets, placing-next}
 use Rattle.engine.proofs.renumber.place_marked.Goals as goal
+use Rattle.engine.proofs.renumber.place_marked.Goals.{then-marks-net, else-marks-net}
 
 pub overflow_add-base : goal.overflow_add-base
 overflow_add-base c = let h = c.requires.old_held.0 in omega (arith, h.inputs, h.targets)
@@ -35,19 +36,15 @@ pub loop-i-preserved : goal.loop-i-preserved
 loop-i-preserved c =
     let l = c.loop-i in
     let a = c.args in
-    let next : List ℕ → List ℕ → ℕ → Type 0 = PlacingOf a.old a.mark a.new (l.i + 1) in
-    let turned : (ns cs : List ℕ) (r : ℕ) → c.if-marks-net.numbers ≡ ns → c.if-marks-net.gates ≡ cs → c.if-marks-net.count ≡ r → next ns cs r
-    → next c.if-marks-net.numbers c.if-marks-net.gates c.if-marks-net.count =
-    λ ns cs r e f g q. rw (e, f, g) q in
-    ⊎_elim
-    (λ k.
-    turned _ _ _ k.3 k.4 k.5
-    (placing-next a.old a.mark a.new l.invariant c.requires.old_held.0 c.loop-i-test.true k.0.taken c.requires.old_held.1 c.requires.gate_room
-    k.2.ensures))
-    (λ k.
-    turned _ _ _ k.1 k.2 k.3
-    (placing-skip a.old a.mark a.new l.invariant c.loop-i-test.true k.0.left))
-    c.if-marks-net.branch
+    elim c.if-marks-net.branch [
+      then-marks-net k ↦
+          rw (k.numbers-is, k.gates-is, k.count-is)
+          (placing-next a.old a.mark a.new l.invariant c.requires.old_held.0 c.loop-i-test.true k.if-marks-net.true c.requires.old_held.1 c.requires.gate_room
+          k.moved_code.ensures)
+      | else-marks-net k ↦
+          rw (k.numbers-is, k.gates-is, k.count-is)
+          (placing-skip a.old a.mark a.new l.invariant c.loop-i-test.true k.if-marks-net.false)
+    ]
 
 pub returns : goal.returns
 returns c =
