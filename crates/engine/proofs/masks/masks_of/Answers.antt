@@ -101,7 +101,7 @@ loop-step-preserved c =
           (subst (λ (x : ℕ). TargetTurned p g (turns u.result l.step) (x / 2 ^ turns u.result l.step) l.words c.turn_target.new.words) v.ensures
           (subst (λ (x : ℕ). TargetTurned p g x (v.result / 2 ^ x) l.words c.turn_target.new.words) c.turned_at-t.ensures t.ensures))
           c.equal_row-in-loop-step.ensures.1
-          (subst (λ (x : ℕ). NetSet x (row_value c.equal_row-in-loop-step.result) l.masks c.put_row-in-loop-step.new.masks) v.ensures c.put_row-in-loop-step.ensures),
+          (subst (λ (x : ℕ). NetSet x (row_value c.equal_row-in-loop-step.result) l.masks c.put_row-in-loop-step.new.rows) v.ensures c.put_row-in-loop-step.ensures),
     )
 
 pub returns : goal.returns
