@@ -8,12 +8,6 @@ use Rattle.engine.specs.Eval.{bit}
 use Rattle.engine.specs.Inner.Cover.{NextUnseen}
 use Rattle.engine.proofs.cover.next_unseen.Goals as goal
 
-pub loop-r-init : goal.loop-r-init
-loop-r-init c = record { past = omega arith; most = omega arith; seen = λ q h l. let f : ⊥ = omega arith in absurd f }
-
-pub returns-then-sets-r-ne0 : goal.returns-then-sets-r-ne0
-returns-then-sets-r-ne0 c = c.loop-r.invariant
-
 pub loop-r-preserved : goal.loop-r-preserved
 unfolding bit
 loop-r-preserved c =
@@ -25,6 +19,3 @@ loop-r-preserved c =
           λ q h i.
           ⊎_elim (λ (e : q ≡ l.r). rw e c.if-sets-r-ne0.false) (λ (u : q < l.r). l.invariant.seen q h u) (eq-or-lt_of_le (omega arith));
     }
-
-pub returns : goal.returns
-returns c = c.loop-r.invariant

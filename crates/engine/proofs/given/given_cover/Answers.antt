@@ -4,11 +4,6 @@ use Rattle.engine.proofs.Laws.Given.{all-given}
 use Rattle.engine.proofs.Laws.Imply.{unrefuted-then, cover-given}
 use Rattle.engine.proofs.given.given_cover.Goals as goal
 
-pub returns-then-left-gt-TESTED : goal.returns-then-left-gt-TESTED
-returns-then-left-gt-TESTED c =
-    let a = c.all_readings.ensures in
-    (all-given a.0 a.1, c.sort_cubes-first.ensures.1)
-
 pub returns : goal.returns
 returns c =
     let e = c.sort_cubes.ensures in

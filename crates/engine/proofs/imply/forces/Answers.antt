@@ -14,6 +14,3 @@ returns-in-2 c e = subst (Forces c.args.c) (sym (eqb-true _ 1 e)) (and-forces _ 
 
 pub returns-in-3 : goal.returns-in-3
 returns-in-3 c e = subst (Forces c.args.c) (sym (eqb-true _ 0 e)) (or-forces _ c.in-3.is)
-
-pub returns-in_default : goal.returns-in_default
-returns-in_default c e = absurd (false≢true e)

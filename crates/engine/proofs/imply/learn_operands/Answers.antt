@@ -12,12 +12,6 @@ use Rattle.engine.specs.Inner.Packed.{fields, operands_of}
 use Rattle.engine.proofs.Laws.Imply.{learns_none, learns-then, first-has, rest-have}
 use Rattle.engine.proofs.imply.learn_operands.Goals as goal
 
-pub loop-i-init : goal.loop-i-init
-loop-i-init c = (c.requires, learns_none _, λ vs a. a)
-
-pub learn-requires : goal.learn-requires
-learn-requires c = (omega arith, c.loop-i.invariant.0)
-
 pub returns-then-not-learn : goal.returns-then-not-learn
 returns-then-not-learn c =
     let i = c.loop-i.invariant in
@@ -36,6 +30,3 @@ loop-i-preserved c =
       learns-then i.1 (λ vs k a. first-has v vs c.loop-i.i c.loop-i.rest (omega arith) (i.2 vs a)) e.1 (c.if-not-learn.false),
       λ vs a. rest-have v vs c.loop-i.i c.loop-i.rest (omega arith) (i.2 vs a),
     )
-
-pub returns : goal.returns
-returns c = let i = c.loop-i.invariant in (i.0, i.1)

@@ -4,10 +4,6 @@ use borrow.Author.Tests.{not-false}
 use Rattle.engine.proofs.Laws.Imply.{cube-left, cube-refuted, none-added}
 use Rattle.engine.proofs.imply.sort_cube.Goals as goal
 
-pub returns-then-not-refuted : goal.returns-then-not-refuted
-returns-then-not-refuted c =
-    (cube-left c.args.value c.args.care c.with_cube.ensures, c.requires.cover_held.2)
-
 pub returns-then-never-eq-CUBES : goal.returns-then-never-eq-CUBES
 returns-then-never-eq-CUBES c =
     let f = c.refuted.ensures (c.if-not-refuted.false) in

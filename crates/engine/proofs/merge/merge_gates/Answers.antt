@@ -18,24 +18,6 @@ loop-i-init c =
     merging-none c.requires.2 c.number_inputs-stands.ensures
     (record { heads = below-zeros 1 1024 (omega arith); next = λ k. omega (arith, below-zeros 1 800 (omega arith) k) })
 
-pub moved_code-c-requires : goal.moved_code-c-requires
-moved_code-c-requires c =
-    let room : let a = c.args in (a.base + c.loop-i.i < 1024) × (c.loop-i.i < 800) =
-        let p = c.requires in
-    let l = c.loop-i-test.true in
-    (omega arith, omega arith) in
-    (room.0, λ k h. c.loop-i.invariant.nets k)
-
-pub find-k-requires : goal.find-k-requires
-find-k-requires c =
-    let room : let a = c.args in (a.base + c.loop-i.i < 1024) × (c.loop-i.i < 800) =
-        let p = c.requires in
-    let l = c.loop-i-test.true in
-    (omega arith, omega arith) in
-    let named : let l = c.loop-i in get_or l.heads c.place_of-at.result 0 < l.i + 1 =
-        c.loop-i.invariant.chained.heads c.place_of-at.result in
-    (omega (arith, named, room), c.loop-i.invariant.chained.next)
-
 pub loop-i-preserved : goal.loop-i-preserved
 loop-i-preserved c =
     let room : let a = c.args in (a.base + c.loop-i.i < 1024) × (c.loop-i.i < 800) =
@@ -64,6 +46,3 @@ loop-i-preserved c =
           (omega arith))
       | else-k-gt0 d ↦ rw (d.stands-is, d.heads-is, d.next-is) (merging-place moving c.requires.0 c.place_of-at.result refl)
     ]
-
-pub returns : goal.returns
-returns c = merging-all c.loop-i.invariant c.requires.0

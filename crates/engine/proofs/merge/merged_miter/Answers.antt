@@ -10,11 +10,3 @@ returns-then-job-lt-LEAST_TO_MERGE c =
       miter_room = m.miter_room;
       merged_of = λ j p. merged-self (m.miter_of j p);
     }
-
-pub returns : goal.returns
-returns c =
-    let r = c.merged.ensures in
-    record {
-      miter_room = r.miter_room;
-      merged_of = λ j p. r.merged_of j (c.miter_of-2.ensures.miter_of j p);
-    }

@@ -22,9 +22,3 @@ loop-i-preserved c =
       elim c.if-a-b.branch [ then-a-b w ↦ omega arith | else-a-b w ↦ omega arith ],
       elim c.if-a-b.branch [ then-a-b w ↦ rw (w.olds-is, w.news-is, w.count-is) (pairs-more l.invariant.2 h k (omega arith)) | else-a-b w ↦ rw (w.olds-is, w.news-is, w.count-is) (pairs-left l.invariant.2 h k w.if-a-b.false) ],
     )
-
-pub returns : goal.returns
-returns c =
-    let l = c.loop-i in
-    let e : l.i ≡ c.args.outs = omega arith in
-    rw e at l.invariant.2

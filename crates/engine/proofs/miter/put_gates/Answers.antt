@@ -27,10 +27,3 @@ loop-i-preserved c =
           l.invariant.1
           c.gate_code.ensures,
     )
-
-pub returns : goal.returns
-returns c =
-    let a = c.args in
-    let l = c.loop-i in
-    let e : l.i ≡ a.count = omega arith in
-    rw e at l.invariant.1

@@ -18,24 +18,6 @@ pub loop-k-init : goal.loop-k-init
 unfolding same
 loop-k-init c = (omega arith, λ y h. bit-ones y h)
 
-pub overflow_cast-a : goal.overflow_cast-a
-overflow_cast-a c = omega (arith, c.requires.by_index.0 c.loop-k.k)
-
-pub bounds-words-outputs : goal.bounds-words-outputs
-bounds-words-outputs c = c.requires.by_index.0 c.loop-k.k
-
-pub offset_bounds-words-outputs : goal.offset_bounds-words-outputs
-offset_bounds-words-outputs c = omega (arith, c.requires.by_index.0 c.loop-k.k)
-
-pub overflow_cast-b : goal.overflow_cast-b
-overflow_cast-b c = omega (arith, c.requires.by_index.1 c.loop-k.k)
-
-pub bounds-words-goldens : goal.bounds-words-goldens
-bounds-words-goldens c = c.requires.by_index.1 c.loop-k.k
-
-pub offset_bounds-words-goldens : goal.offset_bounds-words-goldens
-offset_bounds-words-goldens c = omega (arith, c.requires.by_index.1 c.loop-k.k)
-
 pub loop-k-preserved : goal.loop-k-preserved
 loop-k-preserved c =
     let l = c.loop-k in
@@ -47,9 +29,3 @@ loop-k-preserved c =
           (rw (net-bit ws y (get_or a.outputs l.k 0), net-bit ws y (get_or a.goldens l.k 0))
           (bit_kept y l.r (get_or ws (get_or a.outputs l.k 0) 0) (get_or ws (get_or a.goldens l.k 0) 0) h)),
     )
-
-pub returns : goal.returns
-returns c =
-    let l = c.loop-k in
-    let e : l.k ≡ c.args.count = omega arith in
-    rw e at l.invariant.1

@@ -12,21 +12,6 @@ use Rattle.engine.proofs.Laws.Leaves.{net-alike, nets-none, nets-next, gathered-
 use Rattle.engine.proofs.Laws.Narrow.{net-bit}
 use Rattle.engine.proofs.narrow.read_words.Goals as goal
 
-pub loop-k-init : goal.loop-k-init
-loop-k-init c = (omega arith, nets-none _ _ _)
-
-pub overflow_cast-r : goal.overflow_cast-r
-overflow_cast-r c = omega (arith, c.requires.below c.loop-k.k)
-
-pub bounds-words-nets : goal.bounds-words-nets
-bounds-words-nets c = c.requires.below c.loop-k.k
-
-pub offset_bounds-words-nets : goal.offset_bounds-words-nets
-offset_bounds-words-nets c = omega (arith, c.requires.below c.loop-k.k)
-
-pub put_row-requires : goal.put_row-requires
-put_row-requires c = (omega (arith, c.requires.few), c.loop-k.invariant.1.long)
-
 pub loop-k-preserved : goal.loop-k-preserved
 loop-k-preserved c =
     let l = c.loop-k in

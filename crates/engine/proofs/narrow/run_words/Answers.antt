@@ -10,9 +10,6 @@ use Rattle.engine.proofs.Laws.Narrow.{run-next}
 use Rattle.engine.proofs.Laws.PlanCode.{evaluated-end}
 use Rattle.engine.proofs.narrow.run_words.Goals as goal
 
-pub loop-i-init : goal.loop-i-init
-loop-i-init c = (refl, λ y h. refl)
-
 pub loop-i-preserved : goal.loop-i-preserved
 loop-i-preserved c =
     let l = c.loop-i in

@@ -14,9 +14,6 @@ use Rattle.engine.proofs.Laws.Gray.{ordered-lt}
 use Rattle.engine.proofs.Laws.Searching.{vectors-many}
 use Rattle.engine.proofs.narrow.word_masks.Goals as goal
 
-pub overflow_shl-vectors : goal.overflow_shl-vectors
-overflow_shl-vectors c = omega (arith, c.requires.0.targets)
-
 pub loop-step-init : goal.loop-step-init
 loop-step-init c =
     let v = shl_exact 1 c.args.miter.targets 64 (lit< tt) (omega (arith, c.requires.0.targets)) ∙ one-mul (2 ^ c.args.miter.targets) in
@@ -28,19 +25,6 @@ vector_at-v-requires c =
         omega (arith, c.loop-step.invariant.3, vectors-many c.requires.0.targets) in
     (lit< tt, step-few)
 
-pub eval_vector-requires : goal.eval_vector-requires
-eval_vector-requires c =
-    let m = c.requires.0 in
-    (m.count, m.gates, m.inputs, m.targets, c.loop-step.invariant.0)
-
-pub equal_word-r-requires : goal.equal_word-r-requires
-equal_word-r-requires c =
-    let m = c.requires.0 in
-    record {
-      count_bound = (m.outs, m.outputs, m.goldens);
-      by_index = (λ i. (m.below i).0, λ i. (m.below i).1);
-    }
-
 pub put_row-requires : goal.put_row-requires
 put_row-requires c =
     let step-few : c.loop-step.step < 16 =
@@ -48,12 +32,6 @@ put_row-requires c =
     let v = c.vector_at-v in
     let l = c.loop-step in
     (omega (arith, v.ensures, ordered-lt 0 (lit< tt) l.step step-few), l.invariant.1)
-
-pub overflow_add-step : goal.overflow_add-step
-overflow_add-step c =
-    let step-few : c.loop-step.step < 16 =
-        omega (arith, c.loop-step.invariant.3, vectors-many c.requires.0.targets) in
-    omega (arith, step-few)
 
 pub loop-step-preserved : goal.loop-step-preserved
 loop-step-preserved c =

@@ -16,10 +16,3 @@ loop-i-preserved c =
     let a = c.args in
     let l = c.loop-i in
     (omega arith, ap (λ (m : List ℕ). set m (a.from + l.i) 1) l.invariant.1 ∙ leaves-next a.from l.i (omega arith))
-
-pub returns : goal.returns
-returns c =
-    let a = c.args in
-    let l = c.loop-i in
-    let e : l.i ≡ a.k = omega arith in
-    rw e at l.invariant.1

@@ -10,9 +10,6 @@ use Rattle.engine.specs.Inner.Plan.{code_mark, marks_from}
 use Rattle.engine.proofs.Laws.PlanCode.{evaluated-next, evaluated-end}
 use Rattle.engine.proofs.plan.mark_from.Goals as goal
 
-pub leaf_marks-marks-requires : goal.leaf_marks-marks-requires
-leaf_marks-marks-requires c = c.requires.1
-
 pub loop-i-init : goal.loop-i-init
 unfolding marks_from
 loop-i-init c =

@@ -30,9 +30,3 @@ loop-i-preserved c =
       live-unmarked a.marks a.gates.now l.marks a.count l.i (omega arith) (omega arith) l.invariant.0 l.invariant.1
           c.if-marks-c-ne0.false,
     )
-
-pub returns : goal.returns
-returns c =
-    let l = c.loop-i in
-    let e : l.i ≡ 0 = omega arith in
-    rw e at l.invariant.1

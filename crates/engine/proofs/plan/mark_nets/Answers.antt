@@ -8,12 +8,6 @@ use Rattle.engine.specs.Inner.Plan.{marked_all}
 use Rattle.engine.proofs.Laws.PlanCode.{marked_all-next, marked_all-end}
 use Rattle.engine.proofs.plan.mark_nets.Goals as goal
 
-pub overflow_cast-net : goal.overflow_cast-net
-overflow_cast-net c = omega (arith, c.shared_slice_known-1.given c.loop-i.i)
-
-pub bounds-marks-net : goal.bounds-marks-net
-bounds-marks-net c = c.requires.1 c.loop-i.i
-
 pub loop-i-preserved : goal.loop-i-preserved
 loop-i-preserved c =
     let a = c.args in

@@ -8,9 +8,6 @@ use Rattle.engine.specs.Inner.Plan.{marked_all}
 use Rattle.engine.proofs.Laws.PlanCode.{marked_all-fields, marked_all-none}
 use Rattle.engine.proofs.plan.mark_operands.Goals as goal
 
-pub loop-i-init : goal.loop-i-init
-loop-i-init c = (refl, refl)
-
 pub loop-i-preserved : goal.loop-i-preserved
 loop-i-preserved c =
     let l = c.loop-i in

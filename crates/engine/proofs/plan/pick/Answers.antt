@@ -44,10 +44,3 @@ loop-i-preserved c =
               (picking-left live ms a.led gates a.out.now a.at l.out l.end l.i l.invariant.1 n (leaves (inl k.if-live-net-ne0.false)))
       ],
     )
-
-pub returns : goal.returns
-returns c =
-    let a = c.args in
-    let l = c.loop-i in
-    let e : l.i ≡ a.count = omega arith in
-    rw e at l.invariant.1

@@ -3,18 +3,6 @@ use native.Mathlib.Omega.{arith}
 use Rattle.engine.proofs.Laws.PlanLists.{plan-held, planned, turned}
 use Rattle.engine.proofs.plan.plan_of.Goals as goal
 
-pub live_marks-live-requires : goal.live_marks-live-requires
-live_marks-live-requires c =
-    let p = c.requires.0 in record {
-      count_in_bounds = (omega (arith, p.gates, p.count), p.outs, c.requires.1);
-      outputs_len = (p.outputs, λ i. (p.below i).0, p.goldens, λ i. (p.below i).1);
-    }
-
-pub lists_of-ends-requires : goal.lists_of-ends-requires
-lists_of-ends-requires c =
-    let p = c.requires.0 in
-    (omega (arith, p.gates, p.count), p.inputs, p.targets, c.requires.2, c.requires.3)
-
 pub returns : goal.returns
 returns c =
     let a = c.args in

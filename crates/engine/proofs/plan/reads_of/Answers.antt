@@ -8,13 +8,6 @@ use Rattle.engine.proofs.Laws.PlanCode.{replicate-le}
 use Rattle.engine.proofs.Laws.PlanLists.{plan-held, planned-reads}
 use Rattle.engine.proofs.plan.reads_of.Goals as goal
 
-pub live_marks-live-requires : goal.live_marks-live-requires
-live_marks-live-requires c =
-    let p = c.requires.0 in record {
-      count_in_bounds = (omega (arith, p.gates, p.count), omega arith, c.requires.1);
-      outputs_len = (p.outputs, λ i. (p.below i).0, p.goldens, λ i. (p.below i).1);
-    }
-
 pub returns : goal.returns
 returns c =
     let a = c.args in

@@ -10,9 +10,6 @@ use Rattle.engine.specs.Inner.Ranges.{code_ternary}
 use Rattle.engine.proofs.Laws.Ranges.{evaluated-next, evaluated-end}
 use Rattle.engine.proofs.ranges.eval_partial.Goals as goal
 
-pub loop-i-init : goal.loop-i-init
-loop-i-init c = (omega arith, refl)
-
 pub loop-i-preserved : goal.loop-i-preserved
 loop-i-preserved c =
     let a = c.args in

@@ -10,11 +10,6 @@ use Rattle.engine.proofs.Laws.Partial.{ReadTo, read_none, read-used, read-unused
 use Rattle.engine.proofs.ranges.known_operands.Goals as goal
 use Rattle.engine.proofs.ranges.known_operands.Goals.{then-i-count, else-i-count}
 
-pub loop-i-init : goal.loop-i-init
-loop-i-init c =
-    let x = c.args in
-    (omega arith, refl, read_none (net_at x.known.now) (x.c / 16 % 8) (x.c / 131072) (0 ∷ 0 ∷ 0 ∷ 0 ∷ []))
-
 pub loop-i-preserved : goal.loop-i-preserved
 unfolding net_at
 loop-i-preserved c =
@@ -33,9 +28,3 @@ loop-i-preserved c =
       | else-i-count w ↦ rw w.r-is (t.invariant.1, read-unused f n z t.r t.rest t.i t.invariant.2 w.if-i-count.false)
     ] in
     (omega arith, next.0, next.1)
-
-pub returns : goal.returns
-returns c =
-    let x = c.args in
-    let t = c.loop-i in
-    read-end (net_at x.known.now) (x.c / 16 % 8) (x.c / 131072) t.r t.rest t.i t.invariant.2 (omega arith)

@@ -22,10 +22,3 @@ loop-i-preserved c =
           c.partial_input.ensures
           l.invariant.1,
     )
-
-pub returns : goal.returns
-returns c =
-    let a = c.args in
-    let l = c.loop-i in
-    let e : l.i ≡ a.inputs = omega arith in
-    rw e at l.invariant.1.1

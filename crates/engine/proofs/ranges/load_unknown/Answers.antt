@@ -15,10 +15,3 @@ loop-i-preserved c =
     let a = c.args in
     let l = c.loop-i in
     (omega arith, filling-next a.known.now a.at (λ k. unknown) l.known l.i _ _ refl (omega arith) refl l.invariant.1)
-
-pub returns : goal.returns
-returns c =
-    let a = c.args in
-    let l = c.loop-i in
-    let e : l.i ≡ a.count = omega arith in
-    rw e at l.invariant.1.1

@@ -8,12 +8,3 @@ use Rattle.engine.proofs.renumber.number_inputs.Goals as goal
 
 pub loop-i-init : goal.loop-i-init
 loop-i-init c = (omega arith, inputs-none)
-
-pub loop-i-preserved : goal.loop-i-preserved
-loop-i-preserved c = let l = c.loop-i in (omega arith, inputs-next l.invariant.1 (omega arith))
-
-pub returns : goal.returns
-returns c =
-    let l = c.loop-i in
-    let e : l.i ≡ c.args.inputs = omega arith in
-    rw e at l.invariant.1

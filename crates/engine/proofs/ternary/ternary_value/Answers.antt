@@ -40,11 +40,6 @@ loop-i-init c =
     let k = x.kind in
     (omega arith, known-none (plain_of k) (even k) x.count x.operands c.if-count-lt4.i c.if-plain-eq4.r n none)
 
-pub bounds-operands-i : goal.bounds-operands-i
-bounds-operands-i c =
-    let n : length c.args.operands ≡ 4 = omega arith in
-    omega (arith, length-knowns c.args.count c.args.operands)
-
 pub loop-i-preserved : goal.loop-i-preserved
 loop-i-preserved c =
     let x = c.args in
@@ -67,10 +62,3 @@ returns-then-kind-eq1 c =
     ∙ rw (c.ternary_table.ensures, c.wide-then-kind-eq1.ensures, r)
     (sym (fold-inverts (plain_of x.kind) vs (even x.kind) (omega arith) (ternaries-knowns x.count x.operands)))
     ∙ ap (λ (n : ℕ). ternary_value n vs) (sym k)
-
-pub returns : goal.returns
-returns c =
-    let x = c.args in
-    let z : c.loop-i.i ≡ 0 = omega arith in
-    let k : plain_of x.kind ≡ x.kind = omega arith in
-    (rw z at c.loop-i.invariant.1) ∙ ap (λ (n : ℕ). ternary_value n (knowns x.count x.operands)) k
