@@ -1,10 +1,9 @@
 -- `engine::cover::cover_of` meets its contract. The invariant: the unseen readings before r are in one of the two covers. Assumes nothing.
-use Prim.Native.Nat.{◌-◌, ◌≤◌}
 use mathlib.Core.Path.{refl}
-use mathlib.Core.Logic.{◌⊎◌, inr, ⊎_elim}
+use mathlib.Core.Logic.{◌⊎◌, inr}
 use native.Mathlib.Omega.{arith}
 use Rattle.engine.specs.Inner.Cover.{CoverHeld, InCover, CoverTo}
-use Rattle.engine.proofs.Laws.Cover.{cover-none, cover-next, cover-more}
+use Rattle.engine.proofs.Laws.Cover.{cover-next, cover-more}
 use Rattle.engine.proofs.Laws.Rule.{readings-many}
 use Rattle.engine.proofs.cover.cover_of.Goals as goal
 use Rattle.engine.proofs.cover.cover_of.Goals.{then-not-in_either+else-cover-eq-CUBES, else-not-in_either}

@@ -1,12 +1,7 @@
 -- `engine::cover::cube_row` meets its contract. The invariant: where the reading is in the cube, the row says 1. Assumes nothing.
-use Prim.Native.Nat.{ℕ, ◌-◌, ◌≤◌, ◌<◌}
-use mathlib.Core.Path.{◌≡◌, refl, ◌∙◌}
-use mathlib.Core.Logic.{⊎_elim}
+use mathlib.Core.Path.{refl, ◌∙◌}
 use native.Mathlib.Omega.{arith}
-use lib.ListN.{length, take}
 use Rattle.engine.specs.Eval.{bit}
-use Rattle.engine.specs.Inner.Cover.{InCube, reading_in}
-use Rattle.engine.specs.Inner.Kernel.{row_value}
 use Rattle.engine.proofs.Laws.Cover.{cube-next}
 use Rattle.engine.proofs.Laws.Kernel.{row-replicate}
 use Rattle.engine.proofs.Laws.Word.{bit-ones}

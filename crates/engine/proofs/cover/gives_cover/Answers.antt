@@ -1,12 +1,8 @@
 -- `engine::cover::gives_cover` meets its contract. The invariant: no reading of the block is in one of the first i cubes. Assumes nothing.
-use Prim.Native.Nat.{ℕ, ◌-◌, ◌<◌}
+use Prim.Native.Nat.{◌<◌}
 use mathlib.Core.Path.{◌≡◌}
 use mathlib.Core.Logic.{⊎_elim}
-use mathlib.Core.Bool.{true≢false}
 use native.Mathlib.Omega.{arith}
-use borrow.Author.Tests.{not-false}
-use lib.ListN.{get_or, take}
-use Rattle.engine.specs.Inner.Cover.{InCube, reading_in}
 use Rattle.engine.proofs.Laws.List.{eq-or-below}
 use Rattle.engine.proofs.cover.gives_cover.Goals as goal
 

@@ -1,6 +1,4 @@
 -- `engine::given::given_cover` meets its contract: cubes that are refuted at once are left out, and then others. Assumes nothing.
-use borrow.Author.Rules.{rules}
-use Rattle.engine.proofs.Laws.Given.{all-given}
 use Rattle.engine.proofs.Laws.Imply.{unrefuted-then, cover-given}
 use Rattle.engine.proofs.given.given_cover.Goals as goal
 

@@ -42,19 +42,14 @@ returns-then-covering-eq0 c =
     let i = c.loop-b.invariant in
     (seeing-all i.1 covered.0 (inr (inr c.if-covering-eq0.true)), i.1.same)
 
-pub see_block-requires : goal.see_block-requires
-see_block-requires c =
+pub see_block-requires-clause-plan_held : goal.see_block-requires-clause-plan_held
+see_block-requires-clause-plan_held c =
     let covered : Covered c.args.plan c.args.gates.now c.loop-b.sets c.if-is_due.covering =
     elim c.if-is_due.branch [
       then-is_due w ↦ rw w.covering-is w.renewed-covering.ensures
       | else-is_due w ↦ rw w.covering-is c.loop-b.invariant.2
     ] in
-    let i = c.loop-b.invariant in
-    let r = seeing-range i.1 c.loop-b-test.true c.block_inputs.ensures in
-    record {
-      plan_held = (c.requires.0, r, covered.0);
-      words_len = (i.0, i.1.long);
-    }
+    (c.requires.0, seeing-range c.loop-b.invariant.1 c.loop-b-test.true c.block_inputs.ensures, covered.0)
 
 pub loop-b-preserved : goal.loop-b-preserved
 unfolding bit

@@ -7,11 +7,8 @@ use Rattle.engine.proofs.Laws.Rule.{readings-many}
 use Rattle.engine.proofs.Laws.Search.{first-few}
 use Rattle.engine.proofs.given.see_skipped.Goals as goal
 
-pub returns-then-skipped-eq0 : goal.returns-then-skipped-eq0
-returns-then-skipped-eq0 c = record {
-      unseen = λ j is m e good g. none-skipped g c.if-skipped-eq0.true;
-      same_vectors = λ r v h. refl;
-    }
+pub returns-then-skipped-eq0-clause-unseen : goal.returns-then-skipped-eq0-clause-unseen
+returns-then-skipped-eq0-clause-unseen c j is m e good g = none-skipped g c.if-skipped-eq0.true
 
 pub next_unseen-requires : goal.next_unseen-requires
 next_unseen-requires c =

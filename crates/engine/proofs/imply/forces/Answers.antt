@@ -1,6 +1,5 @@
 -- `engine::imply::forces` meets its contract. Assumes nothing.
 use mathlib.Core.Path.{sym, subst}
-use mathlib.Core.Bool.{false≢true}
 use borrow.Author.Tests.{eqb-true}
 use Rattle.engine.specs.Inner.Imply.{Forces}
 use Rattle.engine.proofs.Laws.Imply.{one-forces, and-forces, or-forces}

@@ -1,12 +1,7 @@
 -- `engine::imply::learn_cube` meets its contract. The invariant: the steps so far went well. Assumes nothing.
-use Prim.Native.Nat.{◌-◌}
-use mathlib.Core.Path.{◌≡◌}
-use mathlib.Core.Bool.{true}
 use native.Mathlib.Omega.{arith}
-use lib.ListN.{length}
 use Rattle.engine.specs.Eval.{bit}
-use Rattle.engine.specs.Inner.Imply.{Learns, CubeHas}
-use Rattle.engine.proofs.Laws.Imply.{learns_none, learns-then}
+use Rattle.engine.proofs.Laws.Imply.{learns-then}
 use Rattle.engine.proofs.imply.learn_cube.Goals as goal
 use Rattle.engine.proofs.imply.learn_cube.Goals.{then-care-k-eq1+else-not-learn, else-care-k-eq1}
 

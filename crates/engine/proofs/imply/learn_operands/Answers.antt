@@ -1,15 +1,7 @@
 -- `engine::imply::learn_operands` meets its contract. The invariant: the steps so far went well, and the operands left have the value. Assumes
 -- nothing.
-use Prim.Native.Nat.{ℕ}
-use mathlib.Core.Path.{◌≡◌}
-use mathlib.Core.List.{List}
-use mathlib.Core.Bool.{true}
 use native.Mathlib.Omega.{arith}
-use borrow.Author.Tests.{not-true, not-false}
-use lib.ListN.{length}
-use Rattle.engine.specs.Inner.Imply.{Learns, AllHave}
-use Rattle.engine.specs.Inner.Packed.{fields, operands_of}
-use Rattle.engine.proofs.Laws.Imply.{learns_none, learns-then, first-has, rest-have}
+use Rattle.engine.proofs.Laws.Imply.{learns-then, first-has, rest-have}
 use Rattle.engine.proofs.imply.learn_operands.Goals as goal
 
 pub returns-then-not-learn : goal.returns-then-not-learn

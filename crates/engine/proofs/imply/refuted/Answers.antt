@@ -1,7 +1,4 @@
 -- `engine::imply::refuted` meets its contract: of values that have the cube's the first step would go well. Assumes nothing.
-use native.Mathlib.Omega.{arith}
-use borrow.Author.Rules.{rules}
-use borrow.Author.Tests.{not-true}
 use Rattle.engine.proofs.Laws.Imply.{known-none, learns-never}
 use Rattle.engine.proofs.imply.refuted.Goals as goal
 

@@ -1,7 +1,5 @@
 -- `engine::imply::sort_cube` meets its contract: a cube is refuted where no values of the gates have its values. Assumes nothing.
-use borrow.Author.Rules.{rules}
-use borrow.Author.Tests.{not-false}
-use Rattle.engine.proofs.Laws.Imply.{cube-left, cube-refuted, none-added}
+use Rattle.engine.proofs.Laws.Imply.{cube-refuted, none-added}
 use Rattle.engine.proofs.imply.sort_cube.Goals as goal
 
 pub returns-then-never-eq-CUBES : goal.returns-then-never-eq-CUBES

@@ -1,6 +1,4 @@
 -- `engine::merge::merged` meets its contract. Assumes nothing.
-use native.Mathlib.Omega.{arith}
-use borrow.Author.Rules.{rules}
 use Rattle.engine.proofs.Laws.Merge.{merged-room, merged-of}
 use Rattle.engine.proofs.Laws.Pairs.{paired-room, paired-of}
 use Rattle.engine.proofs.merge.merged.Goals as goal

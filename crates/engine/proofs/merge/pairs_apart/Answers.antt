@@ -1,11 +1,8 @@
 -- `engine::merge::pairs_apart` meets its contract. The invariant: the first i pairs are kept but for those of one net. Assumes nothing.
-use Prim.Native.Nat.{◌-◌, ◌≤◌, ◌<◌}
-use mathlib.Core.Path.{◌≡◌}
-use mathlib.Core.Logic.{⊎_elim}
+use Prim.Native.Nat.{◌<◌}
 use native.Mathlib.Omega.{arith}
 use lib.ListN.{length}
-use Rattle.engine.specs.Inner.Merge.{PairsKept}
-use Rattle.engine.proofs.Laws.Pairs.{pairs, pairs-none, pairs-left, pairs-more}
+use Rattle.engine.proofs.Laws.Pairs.{pairs-none, pairs-left, pairs-more}
 use Rattle.engine.proofs.merge.pairs_apart.Goals as goal
 use Rattle.engine.proofs.merge.pairs_apart.Goals.{else-a-b, then-a-b}
 

@@ -1,6 +1,4 @@
 -- `engine::miter::gate_code` meets its contract: the slots that it packs are those of the shifted gate. Assumes nothing.
-use native.Mathlib.Omega.{arith}
-use borrow.Author.Rules.{rules}
 use Rattle.engine.proofs.Laws.MiterCode.{packed-shifted}
 use Rattle.engine.proofs.miter.gate_code.Goals as goal
 

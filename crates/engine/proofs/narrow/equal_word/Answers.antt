@@ -1,13 +1,8 @@
 -- `engine::narrow::equal_word` meets its contract. The invariant: the word says where the first k outputs are equal. Assumes nothing.
-use Prim.Native.Nat.{ℕ, ◌-◌, ◌≤◌, ◌<◌}
-use mathlib.Core.Path.{◌≡◌}
-use mathlib.Core.List.{map}
-use mathlib.Core.Bool.{cond}
 use native.Mathlib.Omega.{arith}
-use lib.ListN.{get_or, take}
+use lib.ListN.{get_or}
 use Rattle.records.specs.Netlist.{net_at}
 use Rattle.engine.specs.Choice.{same}
-use Rattle.engine.specs.Eval.{bit}
 use Rattle.engine.specs.Inner.Narrow.{values_at}
 use Rattle.engine.proofs.Laws.Leaves.{bit_kept, equal_next}
 use Rattle.engine.proofs.Laws.Narrow.{net-bit}

@@ -1,6 +1,5 @@
 -- `engine::narrow::eval_vector` meets its contract: the leaves loaded, and all gates run. Assumes nothing.
 use mathlib.Core.Path.{◌∙◌}
-use borrow.Author.Rules.{rules}
 use Rattle.engine.proofs.Laws.Narrow.{values-run}
 use Rattle.engine.proofs.narrow.eval_vector.Goals as goal
 

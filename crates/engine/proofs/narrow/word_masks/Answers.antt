@@ -1,11 +1,10 @@
 -- `engine::narrow::word_masks` meets its contract. The invariant: the rows of the vectors taken so far are done, and the words are those at the
 -- last of them. Assumes nothing.
-use Prim.Native.Nat.{ℕ, ◌-◌, ◌^◌, ◌≤◌, ◌<◌}
+use Prim.Native.Nat.{ℕ, ◌^◌, ◌<◌}
 use mathlib.Core.Path.{◌≡◌, refl, ◌∙◌, subst}
 use native.Mathlib.Nat.{one-mul}
 use native.Mathlib.Omega.{arith}
 use lib.Dec.{lit<}
-use lib.ListN.{length}
 use lib.Pow.{shl_exact}
 use Rattle.records.specs.Job.{Job}
 use Rattle.engine.specs.Inner.Miter.{MergedOf}

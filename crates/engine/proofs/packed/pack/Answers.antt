@@ -1,6 +1,5 @@
 -- `engine::packed::pack` meets its contract: four slots of ten bits each fit behind the net. Assumes nothing.
 use mathlib.Core.Path.{sym}
-use native.Mathlib.Omega.{arith}
 use borrow.Author.Rules.{rules}
 use Rattle.engine.proofs.Laws.Packed.{packed-of}
 use Rattle.engine.proofs.packed.pack.Goals as goal

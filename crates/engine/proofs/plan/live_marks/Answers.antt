@@ -1,9 +1,8 @@
 -- `engine::plan::live_marks` meets its contract: the marks of outputs, goldens and nets, one after the other, and then backwards.
 -- Assumes nothing.
 use Prim.Native.Nat.{ℕ}
-use mathlib.Core.Path.{sym, ◌∙◌, ap}
+use mathlib.Core.Path.{◌∙◌, ap}
 use mathlib.Core.List.{List}
-use native.Mathlib.Omega.{arith}
 use lib.ListN.{take}
 use Rattle.engine.specs.Inner.Plan.{marked_all, live_from, live_marks}
 use Rattle.engine.proofs.plan.live_marks.Goals as goal

@@ -1,10 +1,7 @@
 -- `engine::plan::mark_nets` meets its contract. The invariant: the marks so far, with those of the nets left, give the whole.
 -- Assumes nothing.
-use Prim.Native.Nat.{◌-◌}
-use mathlib.Core.Path.{◌≡◌, refl, sym, ◌∙◌}
+use mathlib.Core.Path.{sym, ◌∙◌}
 use native.Mathlib.Omega.{arith}
-use lib.ListN.{take, drop}
-use Rattle.engine.specs.Inner.Plan.{marked_all}
 use Rattle.engine.proofs.Laws.PlanCode.{marked_all-next, marked_all-end}
 use Rattle.engine.proofs.plan.mark_nets.Goals as goal
 

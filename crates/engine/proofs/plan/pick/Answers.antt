@@ -1,12 +1,10 @@
 -- `engine::plan::pick` meets its contract. The invariant: the wanted ones of the first i gates are put, as far as there is room.
 -- Assumes nothing.
-use Prim.Native.Nat.{ℕ, ◌+◌, ◌-◌, ◌≤◌, ◌<◌}
-use mathlib.Core.List.{List}
-use mathlib.Core.Path.{◌≡◌}
-use mathlib.Core.Logic.{inl, inr, ⊎_elim}
+use Prim.Native.Nat.{◌<◌}
+use mathlib.Core.Logic.{inl, inr}
 use native.Mathlib.Omega.{arith}
 use lib.ListN.{length, get_or}
-use Rattle.engine.proofs.Laws.PlanCode.{wanted-true, wanted-false, Picking, picking-none, picking-put, picking_full, picking-left}
+use Rattle.engine.proofs.Laws.PlanCode.{wanted-true, wanted-false, picking-none, picking-put, picking_full, picking-left}
 use Rattle.engine.proofs.plan.pick.Goals as goal
 use Rattle.engine.proofs.plan.pick.Goals.{then-live-net-ne0+then-marks-net+then-end-lt-LISTED, then-live-net-ne0+then-marks-net+else-end-lt-LISTED, then-live-net-ne0+else-marks-net, else-live-net-ne0}
 

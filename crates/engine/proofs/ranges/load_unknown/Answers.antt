@@ -1,10 +1,9 @@
 -- `engine::ranges::load_unknown` meets its contract. The invariant: the first i of the places are not yet known.
 -- Assumes nothing.
-use Prim.Native.Nat.{◌-◌, ◌≤◌}
-use mathlib.Core.Path.{◌≡◌, refl}
+use mathlib.Core.Path.{refl}
 use native.Mathlib.Omega.{arith}
 use Rattle.engine.specs.Ternary.{unknown}
-use Rattle.engine.proofs.Laws.Partial.{Filling, filling-none, filling-next}
+use Rattle.engine.proofs.Laws.Partial.{filling-none, filling-next}
 use Rattle.engine.proofs.ranges.load_unknown.Goals as goal
 
 pub loop-i-init : goal.loop-i-init

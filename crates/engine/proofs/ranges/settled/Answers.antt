@@ -4,12 +4,11 @@ use Prim.Native.Nat.{ℕ, ◌+◌}
 use mathlib.Core.Path.{◌≡◌}
 use mathlib.Core.List.{◌++◌}
 use native.Mathlib.Omega.{arith}
-use borrow.Author.Rules.{rules}
 use lib.ListN.{length, replicate}
 use Rattle.engine.specs.Eval.{bits}
-use Rattle.engine.specs.Inner.Ranges.{partial_input, InRange, Completed}
+use Rattle.engine.specs.Inner.Ranges.{InRange, Completed}
 use Rattle.engine.proofs.Laws.Partial.{leaves-loaded}
-use Rattle.engine.proofs.Laws.Ranges.{length-loaded, rectifies-range}
+use Rattle.engine.proofs.Laws.Ranges.{rectifies-range}
 use Rattle.engine.proofs.ranges.settled.Goals as goal
 
 pub returns : goal.returns

@@ -1,6 +1,5 @@
 -- `engine::renumber::moved_code` meets its contract. Assumes nothing.
 use mathlib.Core.Path.{◌∙◌, ap}
-use native.Mathlib.Omega.{arith}
 use Rattle.engine.specs.Inner.Packed.{packed}
 use Rattle.engine.proofs.Laws.FitCode.{gate-moved}
 use Rattle.engine.proofs.renumber.moved_code.Goals as goal

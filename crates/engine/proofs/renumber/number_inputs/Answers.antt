@@ -1,9 +1,6 @@
 -- `engine::renumber::number_inputs` meets its contract. The invariant: the first i inputs have their numbers. Assumes nothing.
-use Prim.Native.Nat.{◌-◌, ◌≤◌}
-use mathlib.Core.Path.{◌≡◌}
 use native.Mathlib.Omega.{arith}
-use Rattle.engine.specs.Inner.Renumber.{InputsNumbered}
-use Rattle.engine.proofs.Laws.FitCode.{inputs-none, inputs-next}
+use Rattle.engine.proofs.Laws.FitCode.{inputs-none}
 use Rattle.engine.proofs.renumber.number_inputs.Goals as goal
 
 pub loop-i-init : goal.loop-i-init

@@ -1,11 +1,10 @@
 -- `engine::ternary::ternary_value` meets its contract. The loop's invariant: r is what is known of the plain kind on the operands from i
 -- on; at the end the table of not inverts it for an odd kind. Assumes nothing.
-use lib.ListN.{length, drop}
+use lib.ListN.{length}
 use mathlib.Core.List.{[]}
-use mathlib.Core.Logic.{⊎_elim}
 use mathlib.Core.Path.{◌≡◌, sym, ◌∙◌, ap}
 use native.Mathlib.Omega.{arith}
-use Prim.Native.Nat.{ℕ, suc, ◌-◌, ◌%◌, ◌≤◌}
+use Prim.Native.Nat.{ℕ, suc, ◌-◌, ◌%◌}
 use Rattle.records.specs.Gate.{gate_value, conj}
 use Rattle.records.proofs.Laws.Gate.{gate_value-nil}
 use Rattle.engine.specs.Ternary.{ternary_value}
