@@ -1,12 +1,7 @@
 -- `engine::cover::cube_row` meets its contract. The invariant: where the reading is in the cube, the row says 1. Assumes nothing.
-use Prim.Native.Nat.{ℕ, ◌-◌, ◌≤◌, ◌<◌}
-use mathlib.Core.Path.{◌≡◌, refl, ◌∙◌}
-use mathlib.Core.Logic.{⊎_elim}
+use mathlib.Core.Path.{refl, ◌∙◌}
 use native.Mathlib.Omega.{arith}
-use lib.ListN.{length, take}
 use Rattle.engine.specs.Eval.{bit}
-use Rattle.engine.specs.Inner.Cover.{InCube, reading_in}
-use Rattle.engine.specs.Inner.Kernel.{row_value}
 use Rattle.engine.proofs.Laws.Cover.{cube-next}
 use Rattle.engine.proofs.Laws.Kernel.{row-replicate}
 use Rattle.engine.proofs.Laws.Word.{bit-ones}
@@ -15,13 +10,6 @@ use Rattle.engine.proofs.cover.cube_row.Goals.{then-care-k-eq1, else-care-k-eq1}
 
 pub loop-k-init : goal.loop-k-init
 loop-k-init c = (omega arith, refl, λ y h m. row-replicate _ y h ∙ bit-ones _ (omega arith))
-
-pub overflow_cast-nets : goal.overflow_cast-nets
-overflow_cast-nets c = omega (arith, c.requires.2 c.loop-k.k)
-
-pub keep_value-requires : goal.keep_value-requires
-keep_value-requires c =
-    (c.requires.2 c.loop-k.k, c.loop-k.invariant.1)
 
 pub loop-k-preserved : goal.loop-k-preserved
 unfolding bit
@@ -39,6 +27,3 @@ loop-k-preserved c =
           )
       | else-care-k-eq1 w ↦ rw w.r-is (omega arith, l.invariant.1, l.invariant.2)
     ]
-
-pub returns : goal.returns
-returns c = c.loop-k.invariant.2

@@ -1,13 +1,7 @@
 -- `engine::cover::gives_cover` meets its contract. The invariant: no reading of the block is in one of the first i cubes. Assumes nothing.
 use Prim.Native.Nat.{ℕ, ◌-◌, ◌<◌}
-use mathlib.Core.Path.{◌≡◌}
-use mathlib.Core.Logic.{⊎_elim}
-use mathlib.Core.Bool.{true≢false}
-use native.Mathlib.Omega.{arith}
-use borrow.Author.Tests.{not-false}
 use lib.ListN.{get_or, take}
 use Rattle.engine.specs.Inner.Cover.{InCube, reading_in}
-use Rattle.engine.proofs.Laws.List.{eq-or-below}
 use Rattle.engine.proofs.cover.gives_cover.Given as goal
 
 abbrev pub invariant-loop-i : goal.invariant-loop-i

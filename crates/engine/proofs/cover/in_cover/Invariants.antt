@@ -1,7 +1,5 @@
 -- `engine::cover::in_cover` meets its contract. The loop needs no invariant. Assumes nothing.
 use Prim.Native.Nat.{◌-◌}
-use mathlib.Core.Bool.{false≢true}
-use native.Mathlib.Omega.{arith}
 use Rattle.engine.proofs.cover.in_cover.Given as goal
 
 abbrev pub invariant-loop-i : goal.invariant-loop-i

@@ -1,10 +1,5 @@
 -- `engine::cover::next_unseen` meets its contract. The invariant: every reading from at on before r is seen. Assumes nothing.
-use Prim.Native.Nat.{◌-◌, ◌<◌}
-use mathlib.Core.Path.{◌≡◌}
-use mathlib.Core.Logic.{⊎_elim}
-use native.Mathlib.Nat.{eq-or-lt_of_le}
-use native.Mathlib.Omega.{arith}
-use Rattle.engine.specs.Eval.{bit}
+use Prim.Native.Nat.{◌-◌}
 use Rattle.engine.specs.Inner.Cover.{NextUnseen}
 use Rattle.engine.proofs.cover.next_unseen.Given as goal
 

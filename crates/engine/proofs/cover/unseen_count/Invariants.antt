@@ -1,6 +1,5 @@
 -- `engine::cover::unseen_count` meets its contract, which asks nothing of its answer. The invariant: n is at most r. Assumes nothing.
 use Prim.Native.Nat.{◌-◌, ◌≤◌}
-use native.Mathlib.Omega.{arith}
 use Rattle.engine.proofs.cover.unseen_count.Given as goal
 
 abbrev pub invariant-loop-r : goal.invariant-loop-r

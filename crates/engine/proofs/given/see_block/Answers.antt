@@ -10,18 +10,13 @@ pub free_block-requires : goal.free_block-requires
 free_block-requires c =
     (c.requires.plan_held.0, block-small c.requires.plan_held.1 c.requires.plan_held.0.inputs, c.requires.words_len.0)
 
-pub returns-then-not-gives_cover : goal.returns-then-not-gives_cover
-returns-then-not-gives_cover c =
-    let l = c.free_block.ensures in record {
-      block_seen = block-passed c.args.b c.args.count c.requires.plan_held.1 l c.requires.plan_held.2 (c.gives_cover.ensures (c.if-not-gives_cover.true));
-      words_len_2 = l.long;
-    }
+pub returns-then-not-gives_cover-clause-block_seen : goal.returns-then-not-gives_cover-clause-block_seen
+returns-then-not-gives_cover-clause-block_seen c =
+    block-passed c.args.b c.args.count c.requires.plan_held.1 c.free_block.ensures c.requires.plan_held.2
+    (c.gives_cover.ensures c.if-not-gives_cover.true)
 
-pub returns : goal.returns
-returns c =
+pub returns-clause-block_seen : goal.returns-clause-block_seen
+returns-clause-block_seen c =
     let e = c.read_rows-readings in
-    let b = block-rows c.args.plan c.args.gates.now c.free_block.ensures c.read_rows-readings.ensures.0 c.read_rows-readings.ensures.1 in
-    record {
-      block_seen = block-seen c.args.b c.args.count e.result _ _ _ c.requires.plan_held.0.reads c.requires.plan_held.1 b c.meet_block.ensures;
-      words_len_2 = b.long;
-    }
+    let b = block-rows c.args.plan c.args.gates.now c.free_block.ensures e.ensures.0 e.ensures.1 in
+    block-seen c.args.b c.args.count e.result _ _ _ c.requires.plan_held.0.reads c.requires.plan_held.1 b c.meet_block.ensures

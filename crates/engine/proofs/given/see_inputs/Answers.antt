@@ -18,14 +18,6 @@ use Rattle.engine.proofs.given.see_inputs.Invariants.{Covered}
 use Rattle.engine.proofs.given.see_inputs.Goals as goal
 use Rattle.engine.proofs.given.see_inputs.Goals.{then-is_due, else-is_due, then-skipped-b-eq1, else-skipped-b-eq1}
 
-pub reading_count-count-requires : goal.reading_count-count-requires
-reading_count-count-requires c = c.requires.0.reads
-
-pub covering_of-covering-requires : goal.covering_of-covering-requires
-covering_of-covering-requires c =
-    let e = c.no_cubes.ensures in
-    (c.requires.0, no-cubes-given e.0 e.1)
-
 pub next_unseen-next-requires : goal.next_unseen-next-requires
 next_unseen-next-requires c =
     let m = readings-many c.requires.0.reads in
@@ -40,12 +32,6 @@ loop-b-init c =
       c.covering_of-covering.ensures,
     )
 
-pub returns-then-next-count : goal.returns-then-next-count
-returns-then-next-count c = let i = c.loop-b.invariant in (seeing-all i.1 i.2.0 (inr (inl c.if-next-count.true)), i.1.same)
-
-pub is_due-requires : goal.is_due-requires
-is_due-requires c = omega (arith, c.loop-b.invariant.1.few)
-
 pub returns-then-covering-eq0 : goal.returns-then-covering-eq0
 returns-then-covering-eq0 c =
     let covered : Covered c.args.plan c.args.gates.now c.loop-b.sets c.if-is_due.covering =
@@ -56,28 +42,14 @@ returns-then-covering-eq0 c =
     let i = c.loop-b.invariant in
     (seeing-all i.1 covered.0 (inr (inr c.if-covering-eq0.true)), i.1.same)
 
-pub overflow_shr-skipped : goal.overflow_shr-skipped
-overflow_shr-skipped c = omega (arith, c.loop-b.invariant.1.few)
-
-pub renewed-covering-requires : goal.renewed-covering-requires
-renewed-covering-requires c = (c.requires.0, c.loop-b.invariant.2.0, c.loop-b.invariant.2.1)
-
-pub see_block-requires : goal.see_block-requires
-see_block-requires c =
+pub see_block-requires-clause-plan_held : goal.see_block-requires-clause-plan_held
+see_block-requires-clause-plan_held c =
     let covered : Covered c.args.plan c.args.gates.now c.loop-b.sets c.if-is_due.covering =
     elim c.if-is_due.branch [
       then-is_due w ↦ rw w.covering-is w.renewed-covering.ensures
       | else-is_due w ↦ rw w.covering-is c.loop-b.invariant.2
     ] in
-    let i = c.loop-b.invariant in
-    let r = seeing-range i.1 c.loop-b-test.true c.block_inputs.ensures in
-    record {
-      plan_held = (c.requires.0, r, covered.0);
-      words_len = (i.0, i.1.long);
-    }
-
-pub next_unseen-next-requires-then-skipped-b-eq1 : goal.next_unseen-next-requires-then-skipped-b-eq1
-next_unseen-next-requires-then-skipped-b-eq1 c = let i = c.loop-b.invariant.1 in (i.most, i.places)
+    (c.requires.0, seeing-range c.loop-b.invariant.1 c.loop-b-test.true c.block_inputs.ensures, covered.0)
 
 pub loop-b-preserved : goal.loop-b-preserved
 unfolding bit

@@ -2,11 +2,8 @@
 use Prim.Native.Nat.{◌-◌}
 use mathlib.Core.Path.{◌≡◌}
 use mathlib.Core.Bool.{true}
-use native.Mathlib.Omega.{arith}
-use borrow.Author.Tests.{not-true, not-false}
 use lib.ListN.{length}
 use Rattle.engine.specs.Inner.Imply.{Learns, ValuesOf}
-use Rattle.engine.proofs.Laws.Imply.{learns_none, learns-then}
 use Rattle.engine.proofs.imply.learn_forward.Given as goal
 
 abbrev pub invariant-loop-i : goal.invariant-loop-i

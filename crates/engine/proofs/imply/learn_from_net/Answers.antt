@@ -1,7 +1,6 @@
 -- `engine::imply::learn_from_net` meets its contract. Assumes nothing.
 use mathlib.Core.Path.{refl}
 use native.Mathlib.Omega.{arith}
-use borrow.Author.Rules.{rules}
 use Rattle.engine.specs.Inner.Packed.{own}
 use Rattle.engine.proofs.Laws.Imply.{learns_none, learns-then, gate-plain}
 use Rattle.engine.proofs.imply.learn_from_net.Goals as goal

@@ -4,12 +4,9 @@ use Prim.Native.Nat.{ℕ}
 use mathlib.Core.Path.{◌≡◌}
 use mathlib.Core.List.{List}
 use mathlib.Core.Bool.{true}
-use native.Mathlib.Omega.{arith}
-use borrow.Author.Tests.{not-true, not-false}
 use lib.ListN.{length}
 use Rattle.engine.specs.Inner.Imply.{Learns, AllHave}
 use Rattle.engine.specs.Inner.Packed.{fields, operands_of}
-use Rattle.engine.proofs.Laws.Imply.{learns_none, learns-then, first-has, rest-have}
 use Rattle.engine.proofs.imply.learn_operands.Given as goal
 
 abbrev pub invariant-loop-i : goal.invariant-loop-i

@@ -1,6 +1,5 @@
 -- `engine::imply::open_net` meets its contract, which asks of its answer only that it is a net or none. Assumes nothing.
 use Prim.Native.Nat.{◌≤◌}
-use native.Mathlib.Omega.{arith}
 use Rattle.engine.proofs.imply.open_net.Given as goal
 
 abbrev pub invariant-loop-i : goal.invariant-loop-i

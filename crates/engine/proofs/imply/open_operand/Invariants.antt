@@ -1,5 +1,4 @@
 -- `engine::imply::open_operand` meets its contract, which asks of its answer only that it is a net. Assumes nothing.
-use native.Mathlib.Omega.{arith}
 use Rattle.engine.proofs.imply.open_operand.Given as goal
 
 abbrev pub invariant-loop-i : goal.invariant-loop-i

@@ -1,12 +1,6 @@
 -- `engine::imply::sort_cube` meets its contract: a cube is refuted where no values of the gates have its values. Assumes nothing.
-use borrow.Author.Rules.{rules}
-use borrow.Author.Tests.{not-false}
-use Rattle.engine.proofs.Laws.Imply.{cube-left, cube-refuted, none-added}
+use Rattle.engine.proofs.Laws.Imply.{cube-refuted, none-added}
 use Rattle.engine.proofs.imply.sort_cube.Goals as goal
-
-pub returns-then-not-refuted : goal.returns-then-not-refuted
-returns-then-not-refuted c =
-    (cube-left c.args.value c.args.care c.with_cube.ensures, c.requires.cover_held.2)
 
 pub returns-then-never-eq-CUBES : goal.returns-then-never-eq-CUBES
 returns-then-never-eq-CUBES c =

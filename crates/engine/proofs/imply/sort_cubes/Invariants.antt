@@ -1,15 +1,11 @@
 -- `engine::imply::sort_cubes` meets its contract. The invariant: what may be given of the first i cubes is in the cubes left. Assumes nothing.
 use Prim.Native.Nat.{ℕ, ◌-◌, ◌≤◌, ◌<◌}
-use mathlib.Core.Path.{◌≡◌}
-use mathlib.Core.Logic.{⊎_elim}
 use mathlib.Core.List.{List, map}
-use native.Mathlib.Omega.{arith}
 use lib.ListN.{get_or, take}
 use Rattle.records.specs.Netlist.{net_at}
 use Rattle.engine.specs.Eval.{number_of}
 use Rattle.engine.specs.Inner.Cover.{InCube, CoverHeld, InCover}
 use Rattle.engine.specs.Inner.Imply.{ValuesOf, NoneGives}
-use Rattle.engine.proofs.Laws.List.{eq-or-below}
 use Rattle.engine.proofs.imply.sort_cubes.Given as goal
 
 abbrev pub invariant-loop-i : goal.invariant-loop-i

@@ -1,7 +1,5 @@
 -- `engine::merge::find` meets its contract. The invariant: k is at most from. Assumes nothing.
-use Prim.Native.Nat.{◌-◌, ◌≤◌}
-use native.Mathlib.Omega.{arith}
-use lib.ListN.{get_or}
+use Prim.Native.Nat.{◌≤◌}
 use Rattle.engine.proofs.merge.find.Given as goal
 
 abbrev pub invariant-loop-k : goal.invariant-loop-k

@@ -1,15 +1,13 @@
 -- `engine::merge::merge_gates` meets its contract. The invariant: the gates may stand for those at the start, each net has one that
 -- stands for it, and the chains are of earlier gates. Assumes nothing.
-use Prim.Native.Nat.{ℕ, ◌+◌, ◌-◌, ◌≤◌, ◌<◌}
+use Prim.Native.Nat.{◌+◌, ◌-◌, ◌≤◌, ◌<◌}
 use mathlib.Core.Path.{◌≡◌, refl, sym, ◌∙◌, ap}
-use mathlib.Core.Logic.{⊎_elim}
-use mathlib.Core.List.{List}
 use native.Mathlib.Omega.{arith}
 use lib.ListN.{get_or, set}
 use lib.Seq.{get_or-set_same}
 use Rattle.engine.specs.Inner.Renumber.{gate_in}
 use Rattle.engine.proofs.Laws.Loaded.{below-zeros}
-use Rattle.engine.proofs.Laws.Merge.{Merging, merging-none, merging-moved, merging-stands, merging-place, merging-all}
+use Rattle.engine.proofs.Laws.Merge.{Merging, merging-none, merging-moved, merging-stands, merging-place}
 use Rattle.engine.proofs.merge.merge_gates.Goals as goal
 use Rattle.engine.proofs.merge.merge_gates.Goals.{then-k-gt0, else-k-gt0}
 
@@ -17,24 +15,6 @@ pub loop-i-init : goal.loop-i-init
 loop-i-init c =
     merging-none c.requires.2 c.number_inputs-stands.ensures
     (record { heads = below-zeros 1 1024 (omega arith); next = λ k. omega (arith, below-zeros 1 800 (omega arith) k) })
-
-pub moved_code-c-requires : goal.moved_code-c-requires
-moved_code-c-requires c =
-    let room : let a = c.args in (a.base + c.loop-i.i < 1024) × (c.loop-i.i < 800) =
-        let p = c.requires in
-    let l = c.loop-i-test.true in
-    (omega arith, omega arith) in
-    (room.0, λ k h. c.loop-i.invariant.nets k)
-
-pub find-k-requires : goal.find-k-requires
-find-k-requires c =
-    let room : let a = c.args in (a.base + c.loop-i.i < 1024) × (c.loop-i.i < 800) =
-        let p = c.requires in
-    let l = c.loop-i-test.true in
-    (omega arith, omega arith) in
-    let named : let l = c.loop-i in get_or l.heads c.place_of-at.result 0 < l.i + 1 =
-        c.loop-i.invariant.chained.heads c.place_of-at.result in
-    (omega (arith, named, room), c.loop-i.invariant.chained.next)
 
 pub loop-i-preserved : goal.loop-i-preserved
 loop-i-preserved c =
@@ -64,6 +44,3 @@ loop-i-preserved c =
           (omega arith))
       | else-k-gt0 d ↦ rw (d.stands-is, d.heads-is, d.next-is) (merging-place moving c.requires.0 c.place_of-at.result refl)
     ]
-
-pub returns : goal.returns
-returns c = merging-all c.loop-i.invariant c.requires.0

@@ -1,11 +1,8 @@
 -- `engine::merge::pairs_apart` meets its contract. The invariant: the first i pairs are kept but for those of one net. Assumes nothing.
-use Prim.Native.Nat.{◌-◌, ◌≤◌, ◌<◌}
-use mathlib.Core.Path.{◌≡◌}
-use mathlib.Core.Logic.{⊎_elim}
+use Prim.Native.Nat.{◌<◌}
 use native.Mathlib.Omega.{arith}
 use lib.ListN.{length}
-use Rattle.engine.specs.Inner.Merge.{PairsKept}
-use Rattle.engine.proofs.Laws.Pairs.{pairs, pairs-none, pairs-left, pairs-more}
+use Rattle.engine.proofs.Laws.Pairs.{pairs-none, pairs-left, pairs-more}
 use Rattle.engine.proofs.merge.pairs_apart.Goals as goal
 use Rattle.engine.proofs.merge.pairs_apart.Goals.{else-a-b, then-a-b}
 
@@ -22,9 +19,3 @@ loop-i-preserved c =
       elim c.if-a-b.branch [ then-a-b w ↦ omega arith | else-a-b w ↦ omega arith ],
       elim c.if-a-b.branch [ then-a-b w ↦ rw (w.olds-is, w.news-is, w.count-is) (pairs-more l.invariant.2 h k (omega arith)) | else-a-b w ↦ rw (w.olds-is, w.news-is, w.count-is) (pairs-left l.invariant.2 h k w.if-a-b.false) ],
     )
-
-pub returns : goal.returns
-returns c =
-    let l = c.loop-i in
-    let e : l.i ≡ c.args.outs = omega arith in
-    rw e at l.invariant.2

@@ -1,11 +1,7 @@
 -- `engine::merge::pairs_apart` meets its contract. The invariant: the first i pairs are kept but for those of one net. Assumes nothing.
-use Prim.Native.Nat.{◌-◌, ◌≤◌, ◌<◌}
-use mathlib.Core.Path.{◌≡◌}
-use mathlib.Core.Logic.{⊎_elim}
-use native.Mathlib.Omega.{arith}
-use lib.ListN.{length}
+use Prim.Native.Nat.{◌-◌, ◌≤◌}
 use Rattle.engine.specs.Inner.Merge.{PairsKept}
-use Rattle.engine.proofs.Laws.Pairs.{pairs, pairs-none, pairs-left, pairs-more}
+use Rattle.engine.proofs.Laws.Pairs.{pairs}
 use Rattle.engine.proofs.merge.pairs_apart.Given as goal
 
 abbrev pub invariant-loop-i : goal.invariant-loop-i

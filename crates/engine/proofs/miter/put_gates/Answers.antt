@@ -1,9 +1,6 @@
 -- `engine::miter::put_gates` meets its contract: after i turns the first i gates stand packed behind the places before. Assumes nothing.
-use Prim.Native.Nat.{◌-◌, ◌≤◌}
-use mathlib.Core.Path.{◌≡◌}
 use native.Mathlib.Omega.{arith}
 use Rattle.records.specs.Service.{no_gate}
-use Rattle.engine.specs.Inner.Miter.{CodesPut}
 use Rattle.engine.proofs.Laws.MiterCode.{codes-none, codes-next}
 use Rattle.engine.proofs.miter.put_gates.Goals as goal
 
@@ -27,10 +24,3 @@ loop-i-preserved c =
           l.invariant.1
           c.gate_code.ensures,
     )
-
-pub returns : goal.returns
-returns c =
-    let a = c.args in
-    let l = c.loop-i in
-    let e : l.i ≡ a.count = omega arith in
-    rw e at l.invariant.1

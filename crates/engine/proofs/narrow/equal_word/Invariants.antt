@@ -3,15 +3,11 @@ use Prim.Native.Nat.{ℕ, ◌-◌, ◌≤◌, ◌<◌}
 use mathlib.Core.Path.{◌≡◌}
 use mathlib.Core.List.{map}
 use mathlib.Core.Bool.{cond}
-use native.Mathlib.Omega.{arith}
-use lib.ListN.{get_or, take}
+use lib.ListN.{take}
 use Rattle.records.specs.Netlist.{net_at}
 use Rattle.engine.specs.Choice.{same}
 use Rattle.engine.specs.Eval.{bit}
 use Rattle.engine.specs.Inner.Narrow.{values_at}
-use Rattle.engine.proofs.Laws.Leaves.{bit_kept, equal_next}
-use Rattle.engine.proofs.Laws.Narrow.{net-bit}
-use Rattle.engine.proofs.Laws.Word.{bit-ones}
 use Rattle.engine.proofs.narrow.equal_word.Given as goal
 
 abbrev pub invariant-loop-k : goal.invariant-loop-k

@@ -1,8 +1,7 @@
 -- `engine::narrow::gate_word` meets its contract. The invariant: the word so far, with the operands left, gives the whole. Assumes nothing.
-use Prim.Native.Nat.{ℕ, ◌<◌}
 use mathlib.Core.Path.{◌∙◌}
 use native.Mathlib.Omega.{arith}
-use Rattle.engine.proofs.Laws.Narrow.{WordLeft, word-start, word_next, word-all}
+use Rattle.engine.proofs.Laws.Narrow.{word-start, word_next, word-all}
 use Rattle.engine.proofs.Laws.Word.{bit-lowest}
 use Rattle.engine.proofs.narrow.gate_word.Goals as goal
 

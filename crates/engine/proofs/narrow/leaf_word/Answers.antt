@@ -2,7 +2,6 @@
 use Prim.Native.Nat.{◌-◌}
 use mathlib.Core.Path.{◌∙◌, sym}
 use native.Mathlib.Omega.{arith}
-use borrow.Author.Rules.{rules}
 use Rattle.engine.proofs.Laws.Narrow.{leaf-of-input, leaf-of-target}
 use Rattle.engine.proofs.Laws.Shift.{bit_shifted}
 use Rattle.engine.proofs.narrow.leaf_word.Goals as goal

@@ -14,10 +14,6 @@ use Rattle.engine.proofs.narrow.list_of_words.Goals as goal
 size_of : (n : ℕ) → n ≤ 6 → 1 * 2 ^ n % 2 ^ 64 ≡ 2 ^ n
 size_of n h = shl_exact 1 n 64 (lit< tt) (omega arith) ∙ one-mul (2 ^ n)
 
-pub list_block-requires : goal.list_block-requires
-list_block-requires c =
-    (omega (arith, size_of c.args.miter.inputs c.requires.1, pow_mono {j = 6} c.requires.1), lit< tt, c.first_list.ensures.0)
-
 pub returns : goal.returns
 returns c =
     let w = c.word_masks-masks in (

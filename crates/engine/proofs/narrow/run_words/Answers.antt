@@ -1,17 +1,13 @@
 -- `engine::narrow::run_words` meets its contract. The invariant: at each input the values so far, with the gates left, give the whole.
 -- Assumes nothing.
-use Prim.Native.Nat.{ℕ, ◌-◌, ◌<◌}
-use mathlib.Core.Path.{◌≡◌, refl, sym, ◌∙◌}
+use mathlib.Core.Path.{sym, ◌∙◌}
 use native.Mathlib.Omega.{arith}
-use lib.ListN.{length, take, drop, length-set}
-use Rattle.engine.specs.Inner.Packed.{code_value, evaluated}
+use lib.ListN.{length-set}
+use Rattle.engine.specs.Inner.Packed.{code_value}
 use Rattle.engine.specs.Inner.Narrow.{values_at}
 use Rattle.engine.proofs.Laws.Narrow.{run-next}
 use Rattle.engine.proofs.Laws.PlanCode.{evaluated-end}
 use Rattle.engine.proofs.narrow.run_words.Goals as goal
-
-pub loop-i-init : goal.loop-i-init
-loop-i-init c = (refl, λ y h. refl)
 
 pub loop-i-preserved : goal.loop-i-preserved
 loop-i-preserved c =

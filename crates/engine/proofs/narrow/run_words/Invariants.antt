@@ -1,13 +1,10 @@
 -- `engine::narrow::run_words` meets its contract. The invariant: at each input the values so far, with the gates left, give the whole.
 -- Assumes nothing.
 use Prim.Native.Nat.{ℕ, ◌-◌, ◌<◌}
-use mathlib.Core.Path.{◌≡◌, refl, sym, ◌∙◌}
-use native.Mathlib.Omega.{arith}
-use lib.ListN.{length, take, drop, length-set}
+use mathlib.Core.Path.{◌≡◌}
+use lib.ListN.{length, take, drop}
 use Rattle.engine.specs.Inner.Packed.{code_value, evaluated}
 use Rattle.engine.specs.Inner.Narrow.{values_at}
-use Rattle.engine.proofs.Laws.Narrow.{run-next}
-use Rattle.engine.proofs.Laws.PlanCode.{evaluated-end}
 use Rattle.engine.proofs.narrow.run_words.Given as goal
 
 abbrev pub invariant-loop-i : goal.invariant-loop-i

@@ -1,11 +1,10 @@
 -- `engine::narrow::word_masks` meets its contract. The invariant: the rows of the vectors taken so far are done, and the words are those at the
 -- last of them. Assumes nothing.
-use Prim.Native.Nat.{ℕ, ◌-◌, ◌^◌, ◌≤◌, ◌<◌}
+use Prim.Native.Nat.{ℕ, ◌^◌, ◌<◌}
 use mathlib.Core.Path.{◌≡◌, refl, ◌∙◌, subst}
 use native.Mathlib.Nat.{one-mul}
 use native.Mathlib.Omega.{arith}
 use lib.Dec.{lit<}
-use lib.ListN.{length}
 use lib.Pow.{shl_exact}
 use Rattle.records.specs.Job.{Job}
 use Rattle.engine.specs.Inner.Miter.{MergedOf}
@@ -13,9 +12,6 @@ use Rattle.engine.proofs.Laws.Narrow.{narrow-of, WordsTo, words-none, words-next
 use Rattle.engine.proofs.Laws.Gray.{ordered-lt}
 use Rattle.engine.proofs.Laws.Searching.{vectors-many}
 use Rattle.engine.proofs.narrow.word_masks.Goals as goal
-
-pub overflow_shl-vectors : goal.overflow_shl-vectors
-overflow_shl-vectors c = omega (arith, c.requires.0.targets)
 
 pub loop-step-init : goal.loop-step-init
 loop-step-init c =
@@ -28,19 +24,6 @@ vector_at-v-requires c =
         omega (arith, c.loop-step.invariant.3, vectors-many c.requires.0.targets) in
     (lit< tt, step-few)
 
-pub eval_vector-requires : goal.eval_vector-requires
-eval_vector-requires c =
-    let m = c.requires.0 in
-    (m.count, m.gates, m.inputs, m.targets, c.loop-step.invariant.0)
-
-pub equal_word-r-requires : goal.equal_word-r-requires
-equal_word-r-requires c =
-    let m = c.requires.0 in
-    record {
-      count_bound = (m.outs, m.outputs, m.goldens);
-      by_index = (λ i. (m.below i).0, λ i. (m.below i).1);
-    }
-
 pub put_row-requires : goal.put_row-requires
 put_row-requires c =
     let step-few : c.loop-step.step < 16 =
@@ -48,12 +31,6 @@ put_row-requires c =
     let v = c.vector_at-v in
     let l = c.loop-step in
     (omega (arith, v.ensures, ordered-lt 0 (lit< tt) l.step step-few), l.invariant.1)
-
-pub overflow_add-step : goal.overflow_add-step
-overflow_add-step c =
-    let step-few : c.loop-step.step < 16 =
-        omega (arith, c.loop-step.invariant.3, vectors-many c.requires.0.targets) in
-    omega (arith, step-few)
 
 pub loop-step-preserved : goal.loop-step-preserved
 loop-step-preserved c =

@@ -1,10 +1,7 @@
 -- `engine::plan::lists_of` meets its contract. The invariant: the first t + 2 lists stand. Assumes nothing.
-use Prim.Native.Nat.{◌+◌, ◌-◌, ◌≤◌, ◌<◌}
-use mathlib.Core.Path.{◌≡◌, refl}
-use native.Mathlib.Omega.{arith}
+use Prim.Native.Nat.{◌+◌, ◌-◌, ◌≤◌}
 use lib.ListN.{take}
 use Rattle.engine.specs.Inner.Plan.{ListsUpTo}
-use Rattle.engine.proofs.Laws.PlanCode.{lists-none, list-fan, list-led, lists-next}
 use Rattle.engine.proofs.plan.lists_of.Given as goal
 
 abbrev pub invariant-loop-t : goal.invariant-loop-t

@@ -1,7 +1,7 @@
 -- `engine::plan::mark_from` meets its contract. The invariant: the marks so far, with those of the gates left, give the whole.
 -- Assumes nothing.
-use Prim.Native.Nat.{ℕ, ◌+◌, ◌-◌}
-use mathlib.Core.Path.{◌≡◌, sym, ◌∙◌, ap}
+use Prim.Native.Nat.{ℕ, ◌+◌}
+use mathlib.Core.Path.{sym, ◌∙◌, ap}
 use mathlib.Core.List.{List}
 use native.Mathlib.Omega.{arith}
 use lib.ListN.{get_or, take, drop, set}
@@ -9,9 +9,6 @@ use Rattle.engine.specs.Inner.Packed.{own, evaluated}
 use Rattle.engine.specs.Inner.Plan.{code_mark, marks_from}
 use Rattle.engine.proofs.Laws.PlanCode.{evaluated-next, evaluated-end}
 use Rattle.engine.proofs.plan.mark_from.Goals as goal
-
-pub leaf_marks-marks-requires : goal.leaf_marks-marks-requires
-leaf_marks-marks-requires c = c.requires.1
 
 pub loop-i-init : goal.loop-i-init
 unfolding marks_from

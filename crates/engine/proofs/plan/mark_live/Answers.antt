@@ -1,9 +1,6 @@
 -- `engine::plan::mark_live` meets its contract. The invariant: the marks are those that the gates from i on give. Assumes nothing.
-use Prim.Native.Nat.{◌≤◌}
-use mathlib.Core.Path.{◌≡◌, ◌∙◌}
+use mathlib.Core.Path.{◌∙◌}
 use native.Mathlib.Omega.{arith}
-use lib.ListN.{take, drop}
-use Rattle.engine.specs.Inner.Plan.{live_from}
 use Rattle.engine.proofs.Laws.PlanCode.{live-none, live-marked, live-unmarked}
 use Rattle.engine.proofs.plan.mark_live.Goals as goal
 
@@ -30,9 +27,3 @@ loop-i-preserved c =
       live-unmarked a.marks a.gates.now l.marks a.count l.i (omega arith) (omega arith) l.invariant.0 l.invariant.1
           c.if-marks-c-ne0.false,
     )
-
-pub returns : goal.returns
-returns c =
-    let l = c.loop-i in
-    let e : l.i ≡ 0 = omega arith in
-    rw e at l.invariant.1

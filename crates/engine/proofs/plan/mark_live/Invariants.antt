@@ -1,10 +1,8 @@
 -- `engine::plan::mark_live` meets its contract. The invariant: the marks are those that the gates from i on give. Assumes nothing.
 use Prim.Native.Nat.{◌≤◌}
-use mathlib.Core.Path.{◌≡◌, ◌∙◌}
-use native.Mathlib.Omega.{arith}
+use mathlib.Core.Path.{◌≡◌}
 use lib.ListN.{take, drop}
 use Rattle.engine.specs.Inner.Plan.{live_from}
-use Rattle.engine.proofs.Laws.PlanCode.{live-none, live-marked, live-unmarked}
 use Rattle.engine.proofs.plan.mark_live.Given as goal
 
 abbrev pub invariant-loop-i : goal.invariant-loop-i

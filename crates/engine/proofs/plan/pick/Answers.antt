@@ -1,12 +1,10 @@
 -- `engine::plan::pick` meets its contract. The invariant: the wanted ones of the first i gates are put, as far as there is room.
 -- Assumes nothing.
-use Prim.Native.Nat.{ℕ, ◌+◌, ◌-◌, ◌≤◌, ◌<◌}
-use mathlib.Core.List.{List}
-use mathlib.Core.Path.{◌≡◌}
-use mathlib.Core.Logic.{inl, inr, ⊎_elim}
+use Prim.Native.Nat.{◌<◌}
+use mathlib.Core.Logic.{inl, inr}
 use native.Mathlib.Omega.{arith}
 use lib.ListN.{length, get_or}
-use Rattle.engine.proofs.Laws.PlanCode.{wanted-true, wanted-false, Picking, picking-none, picking-put, picking_full, picking-left}
+use Rattle.engine.proofs.Laws.PlanCode.{wanted-true, wanted-false, picking-none, picking-put, picking_full, picking-left}
 use Rattle.engine.proofs.plan.pick.Goals as goal
 use Rattle.engine.proofs.plan.pick.Goals.{then-live-net-ne0+then-marks-net+then-end-lt-LISTED, then-live-net-ne0+then-marks-net+else-end-lt-LISTED, then-live-net-ne0+else-marks-net, else-live-net-ne0}
 
@@ -44,10 +42,3 @@ loop-i-preserved c =
               (picking-left live ms a.led gates a.out.now a.at l.out l.end l.i l.invariant.1 n (leaves (inl k.if-live-net-ne0.false)))
       ],
     )
-
-pub returns : goal.returns
-returns c =
-    let a = c.args in
-    let l = c.loop-i in
-    let e : l.i ≡ a.count = omega arith in
-    rw e at l.invariant.1

@@ -1,12 +1,7 @@
 -- `engine::plan::pick` meets its contract. The invariant: the wanted ones of the first i gates are put, as far as there is room.
 -- Assumes nothing.
-use Prim.Native.Nat.{ℕ, ◌+◌, ◌-◌, ◌≤◌, ◌<◌}
-use mathlib.Core.List.{List}
-use mathlib.Core.Path.{◌≡◌}
-use mathlib.Core.Logic.{inl, inr, ⊎_elim}
-use native.Mathlib.Omega.{arith}
-use lib.ListN.{length, get_or}
-use Rattle.engine.proofs.Laws.PlanCode.{wanted-true, wanted-false, Picking, picking-none, picking-put, picking_full, picking-left}
+use Prim.Native.Nat.{◌-◌, ◌≤◌}
+use Rattle.engine.proofs.Laws.PlanCode.{Picking}
 use Rattle.engine.proofs.plan.pick.Given as goal
 
 abbrev pub invariant-loop-i : goal.invariant-loop-i

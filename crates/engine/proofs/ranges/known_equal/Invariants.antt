@@ -1,13 +1,9 @@
 -- `engine::ranges::known_equal` meets its contract. The invariant: each of the first i outputs has one known value in both.
 -- Assumes nothing.
 use Prim.Native.Nat.{ℕ, ◌-◌, ◌≤◌, ◌<◌}
-use mathlib.Core.Path.{◌≡◌, refl}
 use mathlib.Core.List.{List}
-use native.Mathlib.Omega.{arith}
-use borrow.Author.Count.{below_more}
 use lib.ListN.{get_or}
 use Rattle.engine.specs.Inner.Ranges.{Known}
-use Rattle.engine.proofs.Laws.Choice.{not-both}
 use Rattle.engine.proofs.ranges.known_equal.Given as goal
 
 -- output i has one known value in both

@@ -1,19 +1,13 @@
 -- `engine::ranges::known_operands` meets its contract. The loop's invariant: what is read, and then what the slots left give, is what
 -- is known of all operands. Assumes nothing.
 use lib.ListN.{length, length-set}
-use mathlib.Core.List.{[], ◌∷◌}
-use mathlib.Core.Path.{◌≡◌, refl, ◌∙◌}
+use mathlib.Core.Path.{◌≡◌, ◌∙◌}
 use native.Mathlib.Omega.{arith}
-use Prim.Native.Nat.{◌+◌, ◌-◌, ◌/◌, ◌%◌, ◌≤◌}
+use Prim.Native.Nat.{◌+◌, ◌/◌, ◌%◌}
 use Rattle.records.specs.Netlist.{net_at}
-use Rattle.engine.proofs.Laws.Partial.{ReadTo, read_none, read-used, read-unused, read-end}
+use Rattle.engine.proofs.Laws.Partial.{ReadTo, read-used, read-unused}
 use Rattle.engine.proofs.ranges.known_operands.Goals as goal
 use Rattle.engine.proofs.ranges.known_operands.Goals.{then-i-count, else-i-count}
-
-pub loop-i-init : goal.loop-i-init
-loop-i-init c =
-    let x = c.args in
-    (omega arith, refl, read_none (net_at x.known.now) (x.c / 16 % 8) (x.c / 131072) (0 ∷ 0 ∷ 0 ∷ 0 ∷ []))
 
 pub loop-i-preserved : goal.loop-i-preserved
 unfolding net_at
@@ -33,9 +27,3 @@ loop-i-preserved c =
       | else-i-count w ↦ rw w.r-is (t.invariant.1, read-unused f n z t.r t.rest t.i t.invariant.2 w.if-i-count.false)
     ] in
     (omega arith, next.0, next.1)
-
-pub returns : goal.returns
-returns c =
-    let x = c.args in
-    let t = c.loop-i in
-    read-end (net_at x.known.now) (x.c / 16 % 8) (x.c / 131072) t.r t.rest t.i t.invariant.2 (omega arith)

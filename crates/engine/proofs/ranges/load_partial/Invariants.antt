@@ -1,11 +1,8 @@
 -- `engine::ranges::load_partial` meets its contract. The invariant: what is known of the first i inputs stands in its places.
 -- Assumes nothing.
 use Prim.Native.Nat.{◌-◌, ◌≤◌}
-use mathlib.Core.Path.{◌≡◌, sym}
-use native.Mathlib.Nat.{zero-add}
-use native.Mathlib.Omega.{arith}
 use Rattle.engine.specs.Inner.Ranges.{partial_input}
-use Rattle.engine.proofs.Laws.Partial.{Filling, filling-none, filling-next}
+use Rattle.engine.proofs.Laws.Partial.{Filling}
 use Rattle.engine.proofs.ranges.load_partial.Given as goal
 
 abbrev pub invariant-loop-i : goal.invariant-loop-i

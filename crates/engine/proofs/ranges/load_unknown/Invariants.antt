@@ -1,10 +1,8 @@
 -- `engine::ranges::load_unknown` meets its contract. The invariant: the first i of the places are not yet known.
 -- Assumes nothing.
 use Prim.Native.Nat.{◌-◌, ◌≤◌}
-use mathlib.Core.Path.{◌≡◌, refl}
-use native.Mathlib.Omega.{arith}
 use Rattle.engine.specs.Ternary.{unknown}
-use Rattle.engine.proofs.Laws.Partial.{Filling, filling-none, filling-next}
+use Rattle.engine.proofs.Laws.Partial.{Filling}
 use Rattle.engine.proofs.ranges.load_unknown.Given as goal
 
 abbrev pub invariant-loop-i : goal.invariant-loop-i

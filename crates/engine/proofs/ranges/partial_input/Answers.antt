@@ -1,5 +1,4 @@
 -- `engine::ranges::partial_input` meets its contract, by the two cases of the definition. Assumes nothing.
-use borrow.Author.Rules.{rules}
 use mathlib.Core.Path.{sym}
 use Rattle.engine.specs.Eval.{bit}
 use Rattle.engine.proofs.Laws.Partial.{partial_input-low, partial_input-high}

@@ -1,7 +1,6 @@
 -- `engine::ranges::ternary_gate` meets its contract: the kind's value on what is known of the operands. Assumes nothing.
 use mathlib.Core.Path.{◌∙◌}
 use native.Mathlib.Omega.{arith}
-use borrow.Author.Rules.{rules}
 use Rattle.records.specs.Netlist.{net_at}
 use Rattle.engine.proofs.Laws.Partial.{code_ternary-operands, code_ternary-two}
 use Rattle.engine.proofs.ranges.ternary_gate.Goals as goal

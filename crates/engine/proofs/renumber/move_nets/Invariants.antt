@@ -1,11 +1,9 @@
 -- `engine::renumber::move_nets` meets its contract. The invariant: the first i places hold the new numbers of the first i nets.
 -- Assumes nothing.
-use Prim.Native.Nat.{◌-◌, ◌≤◌, ◌<◌}
-use mathlib.Core.Path.{◌≡◌, refl, ◌∙◌}
+use Prim.Native.Nat.{◌-◌, ◌≤◌}
+use mathlib.Core.Path.{◌≡◌}
 use mathlib.Core.List.{map}
-use native.Mathlib.Omega.{arith}
-use lib.ListN.{length, get_or, take, length-set}
-use Rattle.engine.proofs.Laws.Outputs.{select-turn}
+use lib.ListN.{length, get_or, take}
 use Rattle.engine.proofs.renumber.move_nets.Given as goal
 
 abbrev pub invariant-loop-i : goal.invariant-loop-i

@@ -1,9 +1,6 @@
 -- `engine::renumber::number_inputs` meets its contract. The invariant: the first i inputs have their numbers. Assumes nothing.
 use Prim.Native.Nat.{◌-◌, ◌≤◌}
-use mathlib.Core.Path.{◌≡◌}
-use native.Mathlib.Omega.{arith}
 use Rattle.engine.specs.Inner.Renumber.{InputsNumbered}
-use Rattle.engine.proofs.Laws.FitCode.{inputs-none, inputs-next}
 use Rattle.engine.proofs.renumber.number_inputs.Given as goal
 
 abbrev pub invariant-loop-i : goal.invariant-loop-i

@@ -1,17 +1,10 @@
 -- `engine::renumber::place_marked` meets its contract. The invariant: the gates with the mark among the first i have their numbers,
 -- and stand at these behind the new gates. Assumes nothing.
-use Prim.Native.Nat.{ℕ, ◌+◌, ◌-◌, ◌≤◌}
-use mathlib.Core.Path.{◌≡◌}
-use mathlib.Core.List.{List}
-use mathlib.Core.Logic.{⊎_elim}
 use native.Mathlib.Omega.{arith}
-use Rattle.engine.proofs.Laws.FitCode.{Placing, PlacingOf, placing-none, placing-skip, placing-all}
+use Rattle.engine.proofs.Laws.FitCode.{placing-none, placing-skip}
 use Rattle.engine.proofs.Laws.FitCode.{placing-room, placing-nets, placing-next}
 use Rattle.engine.proofs.renumber.place_marked.Goals as goal
 use Rattle.engine.proofs.renumber.place_marked.Goals.{then-marks-net, else-marks-net}
-
-pub overflow_add-base : goal.overflow_add-base
-overflow_add-base c = let h = c.requires.old_held.0 in omega (arith, h.inputs, h.targets)
 
 pub loop-i-init : goal.loop-i-init
 loop-i-init c =
@@ -72,8 +65,3 @@ loop-i-preserved c =
           rw (k.numbers-is, k.gates-is, k.count-is)
           (placing-skip a.old a.mark a.new l.invariant c.loop-i-test.true k.if-marks-net.false)
     ]
-
-pub returns : goal.returns
-returns c =
-    let a = c.args in
-    placing-all a.old a.mark a.new c.loop-i.invariant (omega arith)

@@ -1,6 +1,5 @@
 -- `engine::ternary::ternary_table` meets its contract: the constant is the list of the ten tables, which antt computes.
 -- Assumes nothing.
-use borrow.Author.Rules.{rules}
 use mathlib.Core.Path.{sym}
 use mathlib.Core.List.{[]}
 use Rattle.records.specs.Bytes.{up_from, tabulate, all}

@@ -1,11 +1,10 @@
 -- `engine::ternary::ternary_value` meets its contract. The loop's invariant: r is what is known of the plain kind on the operands from i
 -- on; at the end the table of not inverts it for an odd kind. Assumes nothing.
-use lib.ListN.{length, drop}
+use lib.ListN.{length}
 use mathlib.Core.List.{[]}
-use mathlib.Core.Logic.{⊎_elim}
 use mathlib.Core.Path.{◌≡◌, sym, ◌∙◌, ap}
 use native.Mathlib.Omega.{arith}
-use Prim.Native.Nat.{ℕ, suc, ◌-◌, ◌%◌, ◌≤◌}
+use Prim.Native.Nat.{ℕ, suc, ◌-◌, ◌%◌}
 use Rattle.records.specs.Gate.{gate_value, conj}
 use Rattle.records.proofs.Laws.Gate.{gate_value-nil}
 use Rattle.engine.specs.Ternary.{ternary_value}
@@ -40,11 +39,6 @@ loop-i-init c =
     let k = x.kind in
     (omega arith, known-none (plain_of k) (even k) x.count x.operands c.if-count-lt4.i c.if-plain-eq4.r n none)
 
-pub bounds-operands-i : goal.bounds-operands-i
-bounds-operands-i c =
-    let n : length c.args.operands ≡ 4 = omega arith in
-    omega (arith, length-knowns c.args.count c.args.operands)
-
 pub loop-i-preserved : goal.loop-i-preserved
 loop-i-preserved c =
     let x = c.args in
@@ -67,10 +61,3 @@ returns-then-kind-eq1 c =
     ∙ rw (c.ternary_table.ensures, c.wide-then-kind-eq1.ensures, r)
     (sym (fold-inverts (plain_of x.kind) vs (even x.kind) (omega arith) (ternaries-knowns x.count x.operands)))
     ∙ ap (λ (n : ℕ). ternary_value n vs) (sym k)
-
-pub returns : goal.returns
-returns c =
-    let x = c.args in
-    let z : c.loop-i.i ≡ 0 = omega arith in
-    let k : plain_of x.kind ≡ x.kind = omega arith in
-    (rw z at c.loop-i.invariant.1) ∙ ap (λ (n : ℕ). ternary_value n (knowns x.count x.operands)) k
