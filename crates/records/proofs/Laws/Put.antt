@@ -55,11 +55,13 @@ module _ (d : List ℕ) (at : ℕ) (xs : List ℕ) where
   -- what put_field gives and leaves
   abbrev pub FieldPut : ℕ → ℕ → List ℕ → Type 0
   FieldPut t r d' =
-      (r ≡ cond (field_fits d at xs) (at + head_size + length xs) at)
-      × (d' ≡ cond (field_fits d at xs) (placed d at (field t xs)) d)
+      record {
+        end : r ≡ cond (field_fits d at xs) (at + head_size + length xs) at;
+        lent : d' ≡ cond (field_fits d at xs) (placed d at (field t xs)) d;
+      }
 
   pub field-left : (t : ℕ) → field_fits d at xs ≡ false → FieldPut t at d
-  field-left t e = (rw e, rw e)
+  field-left t e = record { end = rw e; lent = rw e }
 
   -- the head put, and the bytes at the start of what stands behind it
   pub field_put : (t a : ℕ) (d₁ : List ℕ) {p : List ℕ} → at + 3 + length xs ≤ length d → length xs < 65536
@@ -72,15 +74,15 @@ module _ (d : List ℕ) (at : ℕ) (xs : List ℕ) where
       ap (λ (r : List ℕ). take a d₁ ++ (r ++ drop k (drop a d₁))) f
       ∙ part_placed d₁ a k xs (omega arith) (omega arith) in
       let b : field_fits d at xs ≡ true = put-field-fits h l in
-      (rw b (omega arith), rw b (field-placed d at t (length xs) xs a refl q h e g))
+      record { end = rw b (omega arith); lent = rw b (field-placed d at t (length xs) xs a refl q h e g) }
 
   -- for callers: where there is room, the field is put and the position is the one behind it
   pub put-field-put : (t r : ℕ) {d' : List ℕ} → at + 3 + length xs ≤ length d → length xs < 65536 → FieldPut t r d'
       → (r ≡ at + length (field t xs)) × (d' ≡ placed d at (field t xs))
   put-field-put t r h l w =
       let e : field_fits d at xs ≡ true = put-field-fits h l in
-      let f : r ≡ at + 3 + length xs = rw e at w.0 in
-      (omega (arith, length-field t xs), rw e at w.1)
+      let f : r ≡ at + 3 + length xs = rw e at w.end in
+      (omega (arith, length-field t xs), rw e at w.lent)
 
 -- ---- numbers put from a position on, so many bytes apart
 

@@ -149,6 +149,11 @@ module _ (s : List ℕ) (t : ℕ) where
         end = omega (arith, end-within s w.at w.tag _ refl);
       }
 
+pub noted-count : (w : Walk) (f : Field) → (noted w f).count ≡ suc w.count
+unfolding noted
+noted-count w Missing = refl
+noted-count w (Body a b) = refl
+
 -- ---- the walk's end
 
 pub ends_there : (s : List ℕ) (at : ℕ) → at ≤ length s → eqb (length (drop at s)) 0 ≡ eqb at (length s)

@@ -1,0 +1,56 @@
+-- `records::fill::fill_words` meets its contract: after i turns the first i numbers of the column stand at the places'
+-- start, and at is where the number of record i stands. Assumes nothing.
+use Prim.Native.Nat.{◌+◌, ◌≤◌, ◌-◌, ◌*◌, ◌%◌}
+use mathlib.Core.Path.{◌≡◌, ◌∙◌, ap}
+use native.Mathlib.Omega.{arith}
+use native.Mathlib.Nat.{mul-zero}
+use Rattle.records.specs.Bytes.{word}
+use Rattle.records.specs.Inner.{word_column}
+use Rattle.records.proofs.Laws.Job.{next-record, record-within, Filled, filled_none, filled_next}
+use Rattle.records.proofs.fill.fill_words.Goals as goal
+
+pub loop-i-init : goal.loop-i-init
+loop-i-init c =
+    let a = c.args in (
+      omega arith,
+      omega (arith, mul-zero a.size),
+      filled_none a.places.now (λ k. word a.s.now (a.size * k + a.offset)),
+    )
+
+pub word_at-requires : goal.word_at-requires
+word_at-requires c =
+    let l = c.loop-i in
+    let a = c.args in
+    omega (arith, record-within a.size l.i a.count c.loop-i-test.true)
+
+pub overflow_add-at : goal.overflow_add-at
+overflow_add-at c =
+    let l = c.loop-i in
+    let a = c.args in
+    omega (arith, record-within a.size l.i a.count c.loop-i-test.true)
+
+pub loop-i-preserved : goal.loop-i-preserved
+unfolding word
+loop-i-preserved c =
+    let l = c.loop-i in
+    let a = c.args in
+    let s = a.s.now in
+    let byte = c.shared_slice_known-1.given in
+    let e : c.word_at.result % 65536 ≡ word s (a.size * l.i + a.offset) =
+    rw c.word_at.ensures (omega (arith, byte l.at, byte (l.at + 1)))
+    ∙ ap (word s) l.invariant.1 in (
+      omega arith,
+      omega (arith, next-record a.size l.i),
+      filled_next a.places.now (λ k. word s (a.size * k + a.offset)) l.places l.i _ (omega arith) e l.invariant.2,
+    )
+
+pub shape_of-places : goal.shape_of-places
+shape_of-places c = c.loop-i.invariant.2.0
+
+pub returns : goal.returns
+unfolding word_column
+returns c =
+    let a = c.args in
+    let l = c.loop-i in
+    let e : l.i ≡ a.count = omega arith in
+    rw e at l.invariant.2.1

@@ -1,0 +1,18 @@
+-- `records::gate::value` meets its contract. The loop's invariant: r is the plain kind's value on the operands from i on; at
+-- the end an odd kind inverts it. Assumes nothing.
+use lib.ListN.{length, drop}
+use mathlib.Core.List.{[]}
+use mathlib.Core.Logic.{⊎_elim}
+use mathlib.Core.Path.{◌≡◌, sym, ◌∙◌, ap}
+use native.Mathlib.Omega.{arith}
+use Prim.Native.Nat.{ℕ, suc, ◌-◌, ◌%◌, ◌≤◌, ◌<◌}
+use Rattle.records.specs.Gate.{gate_value, conj, inverted}
+use Rattle.records.proofs.Laws.Gate.{lowest, length-lowest, gate_value-high, gate_value-nil, fold-none, fold-back, odd-inverts}
+use Rattle.records.proofs.gate.value.Given as goal
+
+abbrev pub invariant-loop-i : goal.invariant-loop-i
+invariant-loop-i l =
+    (l.i ≤ length (lowest l.count l.operands)) × (l.r < 2) × (l.r ≡ gate_value l.plain (drop l.i (lowest l.count l.operands)))
+
+abbrev pub decreases-loop-i : goal.decreases-loop-i
+decreases-loop-i l = l.i

@@ -1,0 +1,24 @@
+-- `records::netlist::check_outputs` meets its contract. The loop's invariant: the nets from i on pass the test exactly
+-- when all do. Assumes nothing.
+use Prim.Native.Nat.{ℕ, ◌+◌, ◌*◌, ◌-◌}
+use mathlib.Core.Path.{◌≡◌, refl, ◌∙◌, sym}
+use native.Mathlib.Omega.{arith}
+use borrow.Author.Tests.{lt-ltb, le-ltb}
+use mathlib.Core.List.{List}
+use mathlib.Core.Bool.{Bool, ◌&&◌}
+use lib.ListN.{drop}
+use lib.Dec.{ltb}
+use Rattle.records.specs.Bytes.{all, word}
+use Rattle.records.specs.Inner.{check_of, word_column}
+use Rattle.records.proofs.Laws.Bytes.{all_drop, drop-tabulate-past}
+use Rattle.records.proofs.netlist.check_outputs.Given as goal
+
+-- the nets from i on pass the test
+abbrev pub below : ℕ → List ℕ → ℕ → ℕ → ℕ → Bool
+below nets s at count i = all (λ k. ltb k nets) (drop i (word_column s 2 at count))
+
+abbrev pub invariant-loop-i : goal.invariant-loop-i
+invariant-loop-i l = below l.nets l.s l.at l.count l.i ≡ below l.nets l.s l.at l.count 0
+
+abbrev pub decreases-loop-i : goal.decreases-loop-i
+decreases-loop-i l = l.count - l.i

@@ -1,0 +1,19 @@
+-- `records::netlist::gate_mark` meets its contract. The loop's invariant: r is the greatest mark of the operands from i on.
+-- Assumes nothing.
+use lib.ListN.{length, get_or, take, drop}
+use mathlib.Core.List.{map}
+use mathlib.Core.Path.{◌≡◌, sym, ◌∙◌, ap}
+use native.Mathlib.Omega.{arith}
+use Prim.Native.Nat.{◌-◌, ◌≤◌, ◌<◌}
+use Rattle.records.specs.Gate.{gate_of, operands, disj}
+use Rattle.records.specs.Netlist.{net_at, mark_of}
+use Rattle.records.specs.Service.{gate_from}
+use Rattle.records.specs.Inner.{struct_slots}
+use Rattle.records.proofs.Laws.Netlist.{disj-none, disj-back}
+use Rattle.records.proofs.netlist.gate_mark.Given as goal
+
+abbrev pub invariant-loop-i : goal.invariant-loop-i
+invariant-loop-i l = (l.i ≤ l.initial.i) × (l.r ≡ disj (map (net_at l.marks) (drop l.i (take l.initial.i l.slots))))
+
+abbrev pub decreases-loop-i : goal.decreases-loop-i
+decreases-loop-i l = l.i

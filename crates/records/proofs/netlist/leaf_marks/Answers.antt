@@ -1,0 +1,24 @@
+-- `records::netlist::leaf_marks` meets its contract. The loop's invariant: the marks of the inputs and of the first i
+-- targets are as they should be. Assumes nothing.
+use lib.ListN.{length, take, length-set}
+use mathlib.Core.Path.{◌≡◌, refl, ◌∙◌}
+use native.Mathlib.Omega.{arith}
+use Prim.Native.Nat.{◌+◌, ◌-◌, ◌≤◌}
+use Rattle.records.specs.Inner.{leaf_marks}
+use Rattle.records.proofs.Laws.Netlist.{leaf_marks-none, leaf_marks-more}
+use Rattle.records.proofs.netlist.leaf_marks.Goals as goal
+
+pub loop-i-init : goal.loop-i-init
+loop-i-init c = (omega arith, refl, leaf_marks-none c.args.inputs 424 (omega arith))
+
+pub loop-i-preserved : goal.loop-i-preserved
+loop-i-preserved c =
+    let l = c.loop-i in
+    let more = leaf_marks-more c.args.inputs l.i l.marks (omega arith) l.invariant.2 in
+    (omega arith, length-set l.marks _ _ ∙ l.invariant.1, more)
+
+pub returns : goal.returns
+returns c =
+    let l = c.loop-i in
+    let e : c.args.targets ≡ l.i = omega arith in
+    (l.invariant.1, rw e l.invariant.2)

@@ -1,0 +1,20 @@
+-- `records::put::put_word` meets its contract: two stores. Assumes nothing.
+use borrow.Author.Rules.{rules}
+use Prim.Native.Nat.{◌/◌, ◌%◌}
+use mathlib.Core.List.{[], ◌∷◌}
+use native.Mathlib.Omega.{arith}
+use native.Mathlib.Numerals.{add-one}
+use lib.ListN.{length-set}
+use Rattle.records.specs.Bytes.{byte_pair}
+use Rattle.records.proofs.Laws.Job.{sets-placed, high_byte}
+use Rattle.records.proofs.put.put_word.Goals as goal
+
+pub bounds-buf-at-2 : goal.bounds-buf-at-2
+bounds-buf-at-2 c = simp length-set (omega arith)
+
+pub returns : goal.returns
+unfolding byte_pair
+returns c =
+    let x = c.args.x in
+    rw (high_byte x (omega arith), add-one)
+    (sets-placed c.args.buf.now c.args.at (x / 256 ∷ x % 256 ∷ []) (omega arith))

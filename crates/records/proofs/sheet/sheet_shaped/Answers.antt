@@ -1,0 +1,23 @@
+-- `records::sheet::sheet_shaped` meets its contract: the walk and the lengths say whether the sheet is whole.
+-- Assumes nothing.
+use mathlib.Core.Path.{◌∙◌}
+use native.Mathlib.Omega.{arith}
+use Rattle.records.proofs.Laws.SheetShape.{broken-of-walk, walk-spans}
+use Rattle.records.proofs.sheet.sheet_shaped.Goals as goal
+
+pub returns-in_default : goal.returns-in_default
+returns-in_default c =
+    let a = c.args in
+    broken-of-walk a.sheet.now c.walked-w.result c.walked-w.ensures c.in_default.is
+
+pub spanned-requires : goal.spanned-requires
+spanned-requires c =
+    let l = c.walked-w.ensures.sizes in
+    (l.0, l.1)
+
+pub returns : goal.returns
+returns c =
+    let a = c.args in
+    c.spanned.ensures
+    ∙ walk-spans a.sheet.now c.walked-w.result c.walked-w.ensures
+    (λ i. (c.shared_slice_known-1.given i).fits) c.in-Passed.is

@@ -1,0 +1,16 @@
+-- `records::sheet::support_from` meets its contract. The loop's invariant: the places hold the first i nets, and zeros
+-- after them. Assumes nothing.
+use Prim.Native.Nat.{ℕ, ◌+◌, ◌-◌, ◌*◌, ◌%◌, ◌≤◌}
+use mathlib.Core.Path.{◌≡◌, refl, sym, ◌∙◌, ap}
+use native.Mathlib.Nat.{mod-eq_of_lt}
+use native.Mathlib.Omega.{arith}
+use lib.ListN.{length, get_or}
+use Rattle.records.specs.Inner.{word_column}
+use Rattle.records.proofs.Laws.Sheet.{word_lt, column-at, length-column, ten, ten-next, ten-all}
+use Rattle.records.proofs.sheet.support_from.Given as goal
+
+abbrev pub invariant-loop-i : goal.invariant-loop-i
+invariant-loop-i l = (l.i ≤ l.len) × (l.nets ≡ ten (word_column l.s 2 3 l.len) l.i)
+
+abbrev pub decreases-loop-i : goal.decreases-loop-i
+decreases-loop-i l = l.len - l.i
