@@ -15,7 +15,7 @@ use super::tree::trees_size;
 use records::{CANDIDATES, Support};
 
 // The priced nets that a support is chosen from, with their weights, and how many targets there are.
-#[derive(Drop)]
+#[derive(Clone, Copy)]
 pub struct Priced {
     pub count: usize,
     pub weights: [u16; CANDIDATES],
@@ -23,7 +23,7 @@ pub struct Priced {
 }
 
 // A set of candidates, bit i for candidate i, its cost, how many nets it has, and how many gates its patch, 0 until they are counted.
-#[derive(Drop)]
+#[derive(Clone, Copy)]
 pub struct Pick {
     pub set: usize,
     pub cost: u32,

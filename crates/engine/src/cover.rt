@@ -13,7 +13,7 @@ use super::word::{broadcast, zero_row};
 use records::CANDIDATES;
 
 // The first count cubes: the readings that have the bits of a value at the nets that care says.
-#[derive(Drop)]
+#[derive(Clone, Copy)]
 pub struct Cover {
     pub count: usize,
     pub values: [u16; CUBES],

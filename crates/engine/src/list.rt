@@ -7,7 +7,7 @@ ghost use Rattle.engine.specs.Inner.List.{lowest, Held, Appended, Stepped};
 use super::limits::VECTORS;
 
 // The first len places hold the vector list. Where stuck, no vector rectifies this input.
-#[derive(Drop)]
+#[derive(Clone, Copy)]
 pub struct Vectors {
     pub list: [u8; VECTORS],
     pub len: usize,

@@ -12,7 +12,7 @@ use super::packed::pack;
 use records::{GATES, Gate, JobParts, OUTPUTS, SLOTS, slots_of};
 
 // Inputs, targets, old gates, golden gates. The golden nets are those of the golden outputs in the miter.
-#[derive(Drop)]
+#[derive(Clone, Copy)]
 pub struct Miter {
     pub inputs: usize,
     pub targets: usize,

@@ -17,7 +17,7 @@ use records::{CANDIDATES, OUTPUTS};
 // What the search needs: counts, the nets of the outputs in both circuits, the nets that are read, and where the lists of gates end.
 // Before ends[0] stand the live gates that no target leads to, from there to ends[1] the others; those that target t leads to are
 // gates[ends[t + 1]..ends[t + 2]].
-#[derive(Drop)]
+#[derive(Clone, Copy)]
 pub struct Plan {
     pub inputs: usize,
     pub targets: usize,

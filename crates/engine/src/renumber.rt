@@ -11,7 +11,7 @@ use super::packed::{COUNT_AT, COUNTS, NET, SLOTS_AT, pack};
 use records::{GATES, SLOTS};
 
 // A job's old netlist as fit reads it: packed gates, the first of the miter's, and a mark for each net that a target leads to.
-#[derive(Drop)]
+#[derive(Clone, Copy)]
 pub struct OldSide {
     pub inputs: usize,
     pub targets: usize,

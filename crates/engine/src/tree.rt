@@ -15,7 +15,7 @@ use records::{CANDIDATES, GATES};
 
 // How the halves of a column, which differ, are joined: the gate that chooses, and the half that has a tree of its own, where one
 // has. A half that is all 0 or all 1 has none (card 2 of document 02).
-#[derive(Drop)]
+#[derive(Clone, Copy)]
 pub enum Join {
     Buf,
     Not,

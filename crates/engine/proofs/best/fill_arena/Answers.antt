@@ -1,0 +1,28 @@
+-- `engine::best::fill_arena` meets its contract. The invariant: the first r sets are copied. Assumes nothing.
+use Prim.Native.Nat.{◌-◌, ◌≤◌, ◌<◌}
+use mathlib.Core.Path.{◌≡◌, refl, ◌∙◌}
+use native.Mathlib.Omega.{arith}
+use lib.ListN.{length, get_or}
+use Rattle.engine.specs.Inner.Kernel.{Filled}
+use Rattle.engine.proofs.Laws.Fill.{fill_none, fill-next, fill-at}
+use Rattle.engine.proofs.Laws.Rule.{readings-many}
+use Rattle.engine.proofs.best.fill_arena.Goals as goal
+
+pub loop-r-init : goal.loop-r-init
+loop-r-init c = (omega arith, c.requires.1, fill_none _ _ _)
+
+pub loop-r-preserved : goal.loop-r-preserved
+loop-r-preserved c =
+    let place-lt : c.loop-r.r < 1024 =
+        let m = readings-many c.requires.0 in
+    omega (arith, c.reading_count-count.ensures) in
+    let l = c.loop-r in
+    let p = place-lt in
+    let n = fill-next _ _ _ _ _ l.invariant.2 l.r _ (omega arith) (omega (arith, l.invariant.1)) refl in
+    (omega arith, n.long ∙ c.requires.1, n)
+
+pub returns : goal.returns
+returns c =
+    let l = c.loop-r in
+    let n = c.reading_count-count.ensures in
+    (l.invariant.1, λ k h. fill-at l.invariant.2 k (omega arith))

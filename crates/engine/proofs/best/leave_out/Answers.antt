@@ -1,0 +1,141 @@
+-- `engine::best::leave_out` meets its contract. The invariant: the readings before q have their sets behind those of all nets, none of them
+-- empty. Assumes nothing.
+use Prim.Native.Nat.{ℕ, ◌+◌, ◌-◌, ◌*◌, ◌/◌, ◌%◌, ◌^◌, ◌≤◌, ◌<◌}
+use mathlib.Core.Path.{◌≡◌, refl, sym, ◌∙◌, ap}
+use native.Mathlib.Omega.{arith}
+use borrow.Author.Count.{below_more}
+use lib.Bits.{bit_and}
+use lib.ListN.{get_or, drop}
+use lib.Pow.{pow_mono}
+use Rattle.engine.specs.Inner.Kernel.{Filled}
+use Rattle.engine.specs.Inner.Best.{NotEmpty, spread, joined_at}
+use Rattle.engine.proofs.Laws.Arena.{kept-filled, joined-read, left-filled, left-empty}
+use Rattle.engine.proofs.Laws.Fill.{fill_none, fill-next}
+use Rattle.engine.proofs.Laws.Sets.{spread-word, holds-some}
+use Rattle.engine.proofs.best.leave_out.Goals as goal
+
+pub loop-q-init : goal.loop-q-init
+loop-q-init c = (omega arith, fill_none _ _ _, λ r h. let f : ⊥ = omega arith in absurd f)
+
+pub overflow_add-to : goal.overflow_add-to
+overflow_add-to c = omega (arith, c.requires.2.room, c.reading_count.ensures)
+
+pub overflow_add-r : goal.overflow_add-r
+overflow_add-r c =
+    let places : let a = c.args in let q = c.loop-q.q in (q + q / 2 ^ a.place * 2 ^ a.place % 18446744073709551616 ≡ spread a.place q) × (spread a.place q + 2 ^ a.place < 2 ^ a.len) =
+        spread-word c.args.place c.args.len c.loop-q.q c.requires.0 c.requires.1
+    (rw c.reading_count-count.ensures at c.loop-q-test.true) in
+    omega (arith, places, c.requires.2.room)
+
+pub overflow_add-r-in-loop-q : goal.overflow_add-r-in-loop-q
+overflow_add-r-in-loop-q c =
+    let places : let a = c.args in let q = c.loop-q.q in (q + q / 2 ^ a.place * 2 ^ a.place % 18446744073709551616 ≡ spread a.place q) × (spread a.place q + 2 ^ a.place < 2 ^ a.len) =
+        spread-word c.args.place c.args.len c.loop-q.q c.requires.0 c.requires.1
+    (rw c.reading_count-count.ensures at c.loop-q-test.true) in
+    omega (arith, places, c.requires.2.room)
+
+pub offset_bounds-arena-r : goal.offset_bounds-arena-r
+offset_bounds-arena-r c =
+    let places : let a = c.args in let q = c.loop-q.q in (q + q / 2 ^ a.place * 2 ^ a.place % 18446744073709551616 ≡ spread a.place q) × (spread a.place q + 2 ^ a.place < 2 ^ a.len) =
+        spread-word c.args.place c.args.len c.loop-q.q c.requires.0 c.requires.1
+    (rw c.reading_count-count.ensures at c.loop-q-test.true) in
+    omega (arith, places, c.requires.2.room)
+
+pub bounds-arena-r : goal.bounds-arena-r
+bounds-arena-r c =
+    let places : let a = c.args in let q = c.loop-q.q in (q + q / 2 ^ a.place * 2 ^ a.place % 18446744073709551616 ≡ spread a.place q) × (spread a.place q + 2 ^ a.place < 2 ^ a.len) =
+        spread-word c.args.place c.args.len c.loop-q.q c.requires.0 c.requires.1
+    (rw c.reading_count-count.ensures at c.loop-q-test.true) in
+    omega (arith, places, c.requires.2.room)
+
+pub overflow_add-both : goal.overflow_add-both
+overflow_add-both c =
+    let places : let a = c.args in let q = c.loop-q.q in (q + q / 2 ^ a.place * 2 ^ a.place % 18446744073709551616 ≡ spread a.place q) × (spread a.place q + 2 ^ a.place < 2 ^ a.len) =
+        spread-word c.args.place c.args.len c.loop-q.q c.requires.0 c.requires.1
+    (rw c.reading_count-count.ensures at c.loop-q-test.true) in
+    omega (arith, places, c.requires.2.room, c.reading_count-other.ensures)
+
+pub offset_bounds-arena-r-in-loop-q : goal.offset_bounds-arena-r-in-loop-q
+offset_bounds-arena-r-in-loop-q c =
+    let places : let a = c.args in let q = c.loop-q.q in (q + q / 2 ^ a.place * 2 ^ a.place % 18446744073709551616 ≡ spread a.place q) × (spread a.place q + 2 ^ a.place < 2 ^ a.len) =
+        spread-word c.args.place c.args.len c.loop-q.q c.requires.0 c.requires.1
+    (rw c.reading_count-count.ensures at c.loop-q-test.true) in
+    omega (arith, places, c.requires.2.room, c.reading_count-other.ensures)
+
+pub bounds-arena-r-in-loop-q : goal.bounds-arena-r-in-loop-q
+bounds-arena-r-in-loop-q c =
+    let places : let a = c.args in let q = c.loop-q.q in (q + q / 2 ^ a.place * 2 ^ a.place % 18446744073709551616 ≡ spread a.place q) × (spread a.place q + 2 ^ a.place < 2 ^ a.len) =
+        spread-word c.args.place c.args.len c.loop-q.q c.requires.0 c.requires.1
+    (rw c.reading_count-count.ensures at c.loop-q-test.true) in
+    omega (arith, places, c.requires.2.room, c.reading_count-other.ensures)
+
+pub returns-then-both-eq0 : goal.returns-then-both-eq0
+returns-then-both-eq0 c =
+    let places : let a = c.args in let q = c.loop-q.q in (q + q / 2 ^ a.place * 2 ^ a.place % 18446744073709551616 ≡ spread a.place q) × (spread a.place q + 2 ^ a.place < 2 ^ a.len) =
+        spread-word c.args.place c.args.len c.loop-q.q c.requires.0 c.requires.1
+    (rw c.reading_count-count.ensures at c.loop-q-test.true) in
+    let joined : let a = c.args in let l = c.loop-q in let r = a.at + (l.q + l.q / 2 ^ a.place * 2 ^ a.place % 18446744073709551616) in bit_and (get_or l.arena r 0) (get_or l.arena (r + c.reading_count-other.result) 0) ≡ joined_at (drop a.at a.arena.now) a.place l.q =
+        let a = c.args in
+    let l = c.loop-q in
+    let p = places in
+    rw (p.0, c.reading_count-other.ensures)
+    (joined-read a.place l.q a.at _ a.arena.now l.arena (kept-filled l.invariant.1).same
+    (omega (arith, c.reading_count.ensures))) in
+    (
+      left-empty (rw c.reading_count-count.ensures at c.loop-q-test.true) (ap (λ (t : ℕ). t % 65536) (sym joined) ∙ c.if-both-eq0.true),
+      rw (← c.reading_count.ensures) (kept-filled c.loop-q.invariant.1),
+    )
+
+pub overflow_add-arena : goal.overflow_add-arena
+overflow_add-arena c =
+    let put-lt : c.args.at + c.reading_count.result + c.loop-q.q < 2048 =
+        let l : c.args.len - 1 ≤ c.args.len = omega arith in
+    let m : 2 ^ (s.args.len - 1) ≤ 2 ^ s.args.len = pow_mono l in
+    omega (arith, s.requires.2.room, n.reading_count.ensures, n.reading_count-count.ensures) in
+    omega (arith, put-lt)
+
+pub offset_bounds-arena-to : goal.offset_bounds-arena-to
+offset_bounds-arena-to c =
+    let put-lt : c.args.at + c.reading_count.result + c.loop-q.q < 2048 =
+        let l : c.args.len - 1 ≤ c.args.len = omega arith in
+    let m : 2 ^ (s.args.len - 1) ≤ 2 ^ s.args.len = pow_mono l in
+    omega (arith, s.requires.2.room, n.reading_count.ensures, n.reading_count-count.ensures) in
+    omega (arith, put-lt)
+
+pub bounds-arena-to : goal.bounds-arena-to
+bounds-arena-to c =
+    let put-lt : c.args.at + c.reading_count.result + c.loop-q.q < 2048 =
+        let l : c.args.len - 1 ≤ c.args.len = omega arith in
+    let m : 2 ^ (s.args.len - 1) ≤ 2 ^ s.args.len = pow_mono l in
+    omega (arith, s.requires.2.room, n.reading_count.ensures, n.reading_count-count.ensures) in
+    put-lt
+
+pub loop-q-preserved : goal.loop-q-preserved
+loop-q-preserved c =
+    let places : let a = c.args in let q = c.loop-q.q in (q + q / 2 ^ a.place * 2 ^ a.place % 18446744073709551616 ≡ spread a.place q) × (spread a.place q + 2 ^ a.place < 2 ^ a.len) =
+        spread-word c.args.place c.args.len c.loop-q.q c.requires.0 c.requires.1
+    (rw c.reading_count-count.ensures at c.loop-q-test.true) in
+    let joined : let a = c.args in let l = c.loop-q in let r = a.at + (l.q + l.q / 2 ^ a.place * 2 ^ a.place % 18446744073709551616) in bit_and (get_or l.arena r 0) (get_or l.arena (r + c.reading_count-other.result) 0) ≡ joined_at (drop a.at a.arena.now) a.place l.q =
+        let a = c.args in
+    let l = c.loop-q in
+    let p = places in
+    rw (p.0, c.reading_count-other.ensures)
+    (joined-read a.place l.q a.at _ a.arena.now l.arena (kept-filled l.invariant.1).same
+    (omega (arith, c.reading_count.ensures))) in
+    let put-lt : c.args.at + c.reading_count.result + c.loop-q.q < 2048 =
+        let l : c.args.len - 1 ≤ c.args.len = omega arith in
+    let m : 2 ^ (s.args.len - 1) ≤ 2 ^ s.args.len = pow_mono l in
+    omega (arith, s.requires.2.room, n.reading_count.ensures, n.reading_count-count.ensures) in
+    let l = c.loop-q in
+    let e = joined in (
+      omega arith,
+      fill-next _ _ _ _ _ l.invariant.1 _ _ refl (omega (arith, put-lt, l.invariant.1.long, c.requires.2.long)) e,
+      below_more _ _ l.invariant.2 (rw (← e) (holds-some _ c.if-both-eq0.false)),
+    )
+
+pub returns : goal.returns
+returns c =
+    let l = c.loop-q in
+    let e : l.q ≡ 2 ^ (c.args.len - 1) = omega (arith, c.reading_count-count.ensures) in
+    let f = rw (e, c.reading_count.ensures) at l.invariant.1 in
+    (left-filled f (rw e at l.invariant.2), kept-filled f)

@@ -1,0 +1,44 @@
+-- `engine::choosing::choose` meets its contract: the job is loaded, and the choice made. Assumes nothing.
+use mathlib.Core.Path.{◌∙◌}
+use borrow.Author.Rules.{rules}
+use Rattle.records.specs.Job.{job_of}
+use Rattle.engine.proofs.Laws.Reply.{choose-short, choose-refused, choose-accepted}
+use Rattle.engine.proofs.Laws.Loaded.{refused-number, refused-job, accepted-job, accepted-parts, some-parts, nets-small}
+use Rattle.engine.proofs.choosing.choose.Goals as goal
+
+pub returns-then-reply-lt-LONGEST_CHOOSE : goal.returns-then-reply-lt-LONGEST_CHOOSE
+returns-then-reply-lt-LONGEST_CHOOSE c =
+    let a = c.args in
+    let e = choose-short a.reply.now a.job.now c.if-reply-lt-LONGEST_CHOOSE.true in
+    record {
+      reply = c.declined.ensures ∙ e.0;
+      lent = e.1;
+    }
+
+pub returns-in_default : goal.returns-in_default
+returns-in_default c =
+    let a = c.args in
+    let l = c.load-parts.ensures in
+    let e =
+    choose-refused a.reply.now a.job.now _ c.if-reply-lt-LONGEST_CHOOSE.false (refused-number a.job.now l)
+    (refused-job a.job.now l c.in_default.is) in
+    record {
+      reply = c.declined-in_default.ensures ∙ e.0;
+      lent = e.1;
+    }
+
+pub choose_job-requires : goal.choose_job-requires
+choose_job-requires c =
+    let s = c.args.job.now in
+    let f = c.in-Passed.is in
+    (some-parts s c.load-parts.ensures f, nets-small s c.load-parts.ensures f, c.if-reply-lt-LONGEST_CHOOSE.false)
+
+pub returns : goal.returns
+returns c =
+    let a = c.args in
+    let l = c.load-parts.ensures in
+    let f = c.in-Passed.is in
+    let whole = choose-accepted a.reply.now a.job.now c.if-reply-lt-LONGEST_CHOOSE.false
+    (accepted-job a.job.now l f)
+    (c.choose_job.ensures (job_of a.job.now) (accepted-parts a.job.now l f)) in
+    record { reply = whole.0; lent = whole.1 }

@@ -1,0 +1,53 @@
+-- `engine::cover::cover_of` meets its contract. The invariant: the unseen readings before r are in one of the two covers. Assumes nothing.
+use Prim.Native.Nat.{◌-◌, ◌≤◌}
+use mathlib.Core.Path.{refl}
+use mathlib.Core.Logic.{◌⊎◌, inr, ⊎_elim}
+use native.Mathlib.Omega.{arith}
+use borrow.Author.Tests.{not-false}
+use Rattle.engine.specs.Inner.Cover.{CoverHeld, InCover, CoverTo}
+use Rattle.engine.proofs.Laws.Cover.{cover-none, cover-next, cover-more}
+use Rattle.engine.proofs.Laws.Rule.{readings-many}
+use Rattle.engine.proofs.cover.cover_of.Goals as goal
+use Rattle.engine.proofs.cover.cover_of.Goals.{else-not-in_either, then-not-in_either}
+
+pub next_unseen-r-requires : goal.next_unseen-r-requires
+next_unseen-r-requires c = (omega arith, omega (arith, c.reading_count-count.ensures, readings-many c.requires.0))
+
+pub loop-r-init : goal.loop-r-init
+loop-r-init c = (c.no_cubes-cover.ensures.0, c.next_unseen-r.ensures.most, cover-none _ c.next_unseen-r.ensures)
+
+pub in_either-requires : goal.in_either-requires
+in_either-requires c = (c.requires.1, c.loop-r.invariant.0)
+
+pub returns-then-cover-eq-CUBES : goal.returns-then-cover-eq-CUBES
+returns-then-cover-eq-CUBES c = let a = c.all_readings.ensures in record { held = a.0; covers = λ q h o. inr (a.1 q) }
+
+pub widened-requires : goal.widened-requires
+widened-requires c = c.requires.0
+
+pub with_cube-cover-requires : goal.with_cube-cover-requires
+with_cube-cover-requires c =
+    let i = c.loop-r.invariant in
+    (i.0, omega (arith, i.0.few), omega (arith, c.reading_count-count.ensures, readings-many c.requires.0), c.widened.ensures)
+
+pub next_unseen-r-requires-in-loop-r : goal.next_unseen-r-requires-in-loop-r
+next_unseen-r-requires-in-loop-r c =
+    (omega arith, omega (arith, c.reading_count-count.ensures, readings-many c.requires.0))
+
+pub loop-r-smaller : goal.loop-r-smaller
+loop-r-smaller c = omega (arith, c.next_unseen-r-in-loop-r.ensures.past)
+
+pub loop-r-preserved : goal.loop-r-preserved
+loop-r-preserved c =
+    let x = c.args in
+    let ss = x.sets.now in
+    let u = c.next_unseen-r-in-loop-r.ensures in
+    let d = c.if-not-in_either.cover in
+    let so : CoverHeld d × CoverTo ss c.loop-r.r x.never d × (InCover x.never c.loop-r.r ⊎ InCover d c.loop-r.r) =
+    elim c.if-not-in_either.branch [ then-not-in_either w ↦ let a = w.4.ensures in rw w.5 (a.held, cover-more ss c.loop-r.invariant.2 a, inr (a.added c.loop-r.r (λ k h. refl))) | else-not-in_either w ↦ rw w.1 (c.loop-r.invariant.0, c.loop-r.invariant.2, c.in_either.ensures (not-false _ w.0.left)) ] in
+    (so.0, u.most, cover-next ss so.1 so.2 u)
+
+pub returns : goal.returns
+returns c =
+    let l = c.loop-r in
+    record { held = l.invariant.0; covers = λ q h o. l.invariant.2 q (omega (arith, c.reading_count-count.ensures)) o }

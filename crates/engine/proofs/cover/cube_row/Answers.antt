@@ -1,0 +1,43 @@
+-- `engine::cover::cube_row` meets its contract. The invariant: where the reading is in the cube, the row says 1. Assumes nothing.
+use Prim.Native.Nat.{ℕ, ◌-◌, ◌≤◌, ◌<◌}
+use mathlib.Core.Path.{◌≡◌, refl, ◌∙◌}
+use mathlib.Core.Logic.{⊎_elim}
+use native.Mathlib.Omega.{arith}
+use lib.ListN.{length, take}
+use Rattle.engine.specs.Eval.{bit}
+use Rattle.engine.specs.Inner.Cover.{InCube, reading_in}
+use Rattle.engine.specs.Inner.Kernel.{row_value}
+use Rattle.engine.proofs.Laws.Cover.{cube-next}
+use Rattle.engine.proofs.Laws.Kernel.{row-replicate}
+use Rattle.engine.proofs.Laws.Word.{bit-ones}
+use Rattle.engine.proofs.cover.cube_row.Goals as goal
+
+pub loop-k-init : goal.loop-k-init
+loop-k-init c = (omega arith, refl, λ y h m. row-replicate _ y h ∙ bit-ones _ (omega arith))
+
+pub overflow_cast-nets : goal.overflow_cast-nets
+overflow_cast-nets c = omega (arith, c.requires.2 c.loop-k.k)
+
+pub keep_value-requires : goal.keep_value-requires
+keep_value-requires c =
+    (c.requires.2 c.loop-k.k, c.loop-k.invariant.1)
+
+pub loop-k-preserved : goal.loop-k-preserved
+unfolding bit
+loop-k-preserved c =
+    let l = c.loop-k in
+    ⊎_elim
+    (λ w.
+    rw w.3 (
+      omega arith,
+      w.2.ensures.0,
+      λ y h m.
+          w.2.ensures.1 y h
+          ∙ cube-next c.args.words.now c.args.nets c.args.reads c.args.value c.args.care y l.k (omega (arith, c.requires.0, c.requires.1)) (omega arith) w.0.taken m
+          (l.invariant.2 y h m),
+    ))
+    (λ w. rw w.1 (omega arith, l.invariant.1, l.invariant.2))
+    c.if-care-k-eq1.branch
+
+pub returns : goal.returns
+returns c = c.loop-k.invariant.2

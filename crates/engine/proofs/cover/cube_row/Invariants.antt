@@ -1,0 +1,22 @@
+-- `engine::cover::cube_row` meets its contract. The invariant: where the reading is in the cube, the row says 1. Assumes nothing.
+use Prim.Native.Nat.{ℕ, ◌-◌, ◌≤◌, ◌<◌}
+use mathlib.Core.Path.{◌≡◌, refl, ◌∙◌}
+use mathlib.Core.Logic.{⊎_elim}
+use native.Mathlib.Omega.{arith}
+use lib.ListN.{length, take}
+use Rattle.engine.specs.Eval.{bit}
+use Rattle.engine.specs.Inner.Cover.{InCube, reading_in}
+use Rattle.engine.specs.Inner.Kernel.{row_value}
+use Rattle.engine.proofs.Laws.Cover.{cube-next}
+use Rattle.engine.proofs.Laws.Kernel.{row-replicate}
+use Rattle.engine.proofs.Laws.Word.{bit-ones}
+use Rattle.engine.proofs.cover.cube_row.Given as goal
+
+abbrev pub invariant-loop-k : goal.invariant-loop-k
+invariant-loop-k l =
+    (l.k ≤ l.reads)
+    × (length l.r ≡ 16)
+    × ((y : ℕ) → y < 1024 → InCube l.value l.care (reading_in l.words (take l.reads l.nets) y) → row_value l.r y ≡ 1)
+
+abbrev pub decreases-loop-k : goal.decreases-loop-k
+decreases-loop-k l = l.reads - l.k

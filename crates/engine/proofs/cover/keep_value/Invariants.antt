@@ -1,0 +1,19 @@
+-- `engine::cover::keep_value` meets its contract. The invariant: the first w words are kept where the net has the value, the others as at
+-- entry. Assumes nothing.
+use Prim.Native.Nat.{◌+◌, ◌*◌, ◌-◌, ◌^◌, ◌≤◌}
+use mathlib.Core.Path.{◌≡◌}
+use mathlib.Core.Logic.{inr}
+use native.Mathlib.Omega.{arith}
+use lib.Bits.{bit_and, bit_xor}
+use lib.ListN.{get_or}
+use Rattle.engine.specs.Inner.Kernel.{Filled}
+use Rattle.engine.proofs.Laws.Cover.{row-valued}
+use Rattle.engine.proofs.Laws.Fill.{fill_none, fill-next}
+use Rattle.engine.proofs.cover.keep_value.Given as goal
+
+abbrev pub invariant-loop-w : goal.invariant-loop-w
+invariant-loop-w l =
+    (l.w ≤ 16) × Filled (λ k. bit_and (get_or l.initial.r k 0) (bit_xor (bit_xor (get_or l.words (16 * l.i + k) 0) l.v) (2 ^ 64 - 1))) 0 l.w l.initial.r l.r
+
+abbrev pub decreases-loop-w : goal.decreases-loop-w
+decreases-loop-w l = 16 - l.w

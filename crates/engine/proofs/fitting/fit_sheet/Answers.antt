@@ -1,0 +1,64 @@
+-- `engine::fitting::fit_sheet` meets its contract. Assumes nothing.
+use Prim.Native.Nat.{◌+◌, ◌≤◌}
+use mathlib.Core.Path.{sym}
+use native.Mathlib.Omega.{arith}
+use lib.ListN.{length}
+use Rattle.engine.proofs.Laws.FitSheet.{outputs-count, outputs-most, outputs-old}
+use Rattle.engine.proofs.Laws.FitSheet.{sheet-refused, sheet-fittable, sheet-accepted}
+use Rattle.engine.proofs.Laws.PartsSheet.{parts-sheet, parts-few}
+use Rattle.engine.proofs.fitting.fit_sheet.Goals as goal
+
+pub slice_bounds-read_sheet-end : goal.slice_bounds-read_sheet-end
+slice_bounds-read_sheet-end c = sym c.requires.0.parts.nets-long
+
+pub slice_bounds-read_sheet-end-2 : goal.slice_bounds-read_sheet-end-2
+slice_bounds-read_sheet-end-2 c = sym c.requires.0.parts.weights-long
+
+pub returns-then-answer-ne0 : goal.returns-then-answer-ne0
+returns-then-answer-ne0 c j q w =
+    let a = c.args in
+    sheet-refused q a.sheet.now c.read_sheet-answer.ensures a.reply.now c.if-answer-ne0.true
+
+pub reading_count-requires : goal.reading_count-requires
+reading_count-requires c =
+    parts-few c.requires.0.parts c.args.sheet.now c.read_sheet-answer.ensures c.if-answer-ne0.false
+
+pub overflow_add-end : goal.overflow_add-end
+overflow_add-end c =
+    let ended : c.read_sheet-answer.result.table + c.reading_count.result ≤ length c.args.sheet.now =
+        omega (
+      arith,
+      c.reading_count.ensures,
+      (parts-sheet c.requires.0.parts c.args.sheet.now c.read_sheet-answer.ensures c.if-answer-ne0.false).end,
+    ) in
+    let g = omega arith in omega (arith, ended)
+
+pub slice_bounds-fit_patch-end : goal.slice_bounds-fit_patch-end
+slice_bounds-fit_patch-end c =
+    let ended : c.read_sheet-answer.result.table + c.reading_count.result ≤ length c.args.sheet.now =
+        omega (
+      arith,
+      c.reading_count.ensures,
+      (parts-sheet c.requires.0.parts c.args.sheet.now c.read_sheet-answer.ensures c.if-answer-ne0.false).end,
+    ) in
+    omega (arith, ended)
+
+pub fit_patch-requires : goal.fit_patch-requires
+fit_patch-requires c =
+    let a = c.args in
+    let q = c.requires.0.parts in
+    let w = c.requires.0.old in record {
+      fittable = (
+        sheet-fittable q a.sheet.now c.read_sheet-answer.ensures c.if-answer-ne0.false w _ c.reading_count.ensures,
+        c.requires.1,
+      );
+      count_bound = (outputs-most q, outputs-old q.good w a.job.outputs (outputs-count q) q.outputs);
+    }
+
+pub returns : goal.returns
+returns c j q w =
+    let a = c.args in
+    sheet-accepted q a.sheet.now c.read_sheet-answer.ensures c.if-answer-ne0.false w _ c.reading_count.ensures a.job.outputs
+    (outputs-count q)
+    q.outputs
+    c.fit_patch.ensures

@@ -1,0 +1,28 @@
+-- `engine::fitting::place_trees` meets its contract. Assumes nothing.
+use borrow.Author.Rules.{rules}
+use mathlib.Core.Path.{refl}
+use Rattle.engine.proofs.Laws.FitCode.{moved-nets, trees-placed}
+use Rattle.engine.proofs.fitting.place_trees.Goals as goal
+
+pub move_nets-requires : goal.move_nets-requires
+move_nets-requires c =
+    (c.requires.len_bound.1, c.requires.len_bound.0, c.requires.len_bound.3)
+
+pub put_trees-count-requires : goal.put_trees-count-requires
+put_trees-count-requires c =
+    let a = c.args in (
+      (
+        c.requires.len_bound.0,
+        c.requires.len_bound.2,
+        c.requires.targets_bound.0.0,
+        moved-nets a.support.len a.new.numbers a.support.nets _ c.requires.len_bound.1 c.move_nets.ensures c.requires.len_bound.3
+            c.requires.targets_bound.0.3,
+      ),
+      ((c.requires.targets_bound.0.1, c.requires.targets_bound.0.2), c.requires.targets_bound.1),
+    )
+
+pub returns : goal.returns
+returns c =
+    let a = c.args in
+    trees-placed a.inputs a.targets a.support.len a.support.nets a.new _ c.move_nets.ensures
+    c.put_trees-count.ensures

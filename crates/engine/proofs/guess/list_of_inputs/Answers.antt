@@ -1,0 +1,96 @@
+-- `engine::guess::list_of_inputs` meets its contract. The invariant: the list after the inputs passed, and a table of its vectors
+-- while the tables are trusted. Assumes nothing.
+use Prim.Native.Nat.{ℕ, ◌+◌, ◌-◌, ◌*◌, ◌^◌, min, ◌≤◌, ◌<◌}
+use mathlib.Core.Path.{◌≡◌, sym, subst}
+use mathlib.Core.Logic.{⊎_elim}
+use mathlib.Core.List.{List}
+use native.Mathlib.Omega.{arith}
+use lib.ListN.{length, length-replicate}
+use Rattle.engine.specs.Inner.Guess.{OfListed}
+use Rattle.engine.specs.Inner.List.{Held}
+use Rattle.engine.specs.declared.list.Vectors.{Vectors}
+use Rattle.engine.proofs.Laws.Guess.{ListsTo, zeros-listed, lists-start, lists-skip, lists-stuck, lists-all}
+use Rattle.engine.proofs.Laws.Search.{WalkTo, block-range, walk_start, walk_here, walk_block, walk-skip, walk_end}
+use Rattle.engine.proofs.guess.list_of_inputs.Goals as goal
+use Rattle.engine.proofs.guess.list_of_inputs.Goals.{else-next, then-next}
+
+pub first_trust-trust-requires : goal.first_trust-trust-requires
+first_trust-trust-requires c = c.requires.inputs
+
+pub first_tries-tries-requires : goal.first_tries-tries-requires
+first_tries-tries-requires c = c.requires
+
+pub loop-b-init : goal.loop-b-init
+loop-b-init c =
+    let f = c.first_list-list in
+    (
+      length-replicate {A = ℕ} 16384 0,
+      length-replicate {A = ℕ} 1024 4294967295,
+      record { held = c.first_list-list.ensures.0; few = c.first_trust-trust.ensures; table = λ l. zeros-listed f.result },
+      walk_start (ListsTo c.args.plan c.args.gates.now f.result) c.requires.inputs (lists-start f.result c.first_list-list.ensures.1),
+      c.first_tries-tries.ensures,
+    )
+
+pub settled_from-skip-requires : goal.settled_from-skip-requires
+settled_from-skip-requires c = (c.requires, omega (arith, c.loop-b.invariant.3.inputs))
+
+-- ---- a block
+pub list_inputs-next-requires : goal.list_inputs-next-requires
+list_inputs-next-requires c =
+    let i = c.loop-b.invariant in
+    let t = i.2 in
+    record {
+      plan_held = (c.requires, omega (arith, i.3.inputs), t.held);
+      of_listed = (t.table, i.1, i.0, t.few);
+    }
+
+pub returns-then-list : goal.returns-then-list
+returns-then-list c =
+    let listed : (let a = c.args in let x = 1024 * c.loop-b.b in ListsTo a.plan a.gates.now c.list_inputs-next.result.list (x + min (2 ^ a.plan.inputs - x) 1024)) =
+        λ j q. c.list_inputs-next.ensures.block_listed.0.listed j q (walk_here c.loop-b.invariant.3 (omega arith) j q) in
+    let v = c.list_inputs-next.result.list in
+    let r = block-range c.args.plan.inputs c.loop-b.b (omega (arith, c.loop-b.invariant.3.inputs, c.loop-b-test.true)) in
+    record {
+      held = c.list_inputs-next.ensures.block_listed.0.held;
+      list_to = lists-all v (lists-stuck v r.within c.if-list.true listed);
+    }
+
+pub loop-b-preserved-then-skip-eq0 : goal.loop-b-preserved-then-skip-eq0
+loop-b-preserved-then-skip-eq0 c =
+    let listed : (let a = c.args in let x = 1024 * c.loop-b.b in ListsTo a.plan a.gates.now c.list_inputs-next.result.list (x + min (2 ^ a.plan.inputs - x) 1024)) =
+        λ j q. c.list_inputs-next.ensures.block_listed.0.listed j q (walk_here c.loop-b.invariant.3 (omega arith) j q) in
+    let table-after : (let i = c.list_inputs-next in 0 < i.result.trust → OfListed i.result.list c.if-next.table) =
+        λ h. let i = c.list_inputs-next in
+    elim c.if-next.branch [ then-next u ↦ subst (OfListed i.result.list) (sym u.2) u.1.ensures | else-next u ↦ subst (OfListed i.result.list) (sym u.1) (c.list_inputs-next.ensures.block_listed.2 u.0.left h) ] in
+    let i = c.loop-b.invariant.3 in
+    let e = c.list_inputs-next.ensures in (
+      e.sets_len.1,
+      e.sets_len.0,
+      record { held = e.block_listed.0.held; few = e.block_listed.1; table = table-after },
+      walk_block i (omega (arith, c.loop-b-test.true)) (omega (arith, i.inputs))
+          (ListsTo _ _ c.list_inputs-next.result.list) listed,
+      c.next_tries-tries.ensures,
+    )
+
+-- ---- blocks that need no look
+pub overflow_add-b-else-skip-eq0 : goal.overflow_add-b-else-skip-eq0
+overflow_add-b-else-skip-eq0 c = omega (arith, c.settled_from-skip.ensures.few)
+
+pub loop-b-preserved : goal.loop-b-preserved
+loop-b-preserved c =
+    let i = c.loop-b.invariant in
+    let s = c.settled_from-skip.ensures in (
+      i.0,
+      i.1,
+      i.2,
+      walk-skip i.3 (omega arith) _ _ s.within (lists-skip _ s (walk_here i.3 (omega arith))),
+      c.next_tries-tries.ensures,
+    )
+
+pub returns : goal.returns
+returns c =
+    let i = c.loop-b.invariant in
+    record {
+      held = i.2.held;
+      list_to = lists-all _ (walk_end i.3 (omega arith));
+    }

@@ -1,0 +1,25 @@
+-- `engine::guess::list_of_inputs` meets its contract. The invariant: the list after the inputs passed, and a table of its vectors
+-- while the tables are trusted. Assumes nothing.
+use Prim.Native.Nat.{ℕ, ◌+◌, ◌-◌, ◌*◌, ◌^◌, min, ◌≤◌, ◌<◌}
+use mathlib.Core.Path.{◌≡◌, sym, subst}
+use mathlib.Core.Logic.{⊎_elim}
+use mathlib.Core.List.{List}
+use native.Mathlib.Omega.{arith}
+use lib.ListN.{length, length-replicate}
+use Rattle.engine.specs.Inner.Guess.{OfListed}
+use Rattle.engine.specs.Inner.List.{Held}
+use Rattle.engine.specs.declared.list.Vectors.{Vectors}
+use Rattle.engine.proofs.Laws.Guess.{ListsTo, zeros-listed, lists-start, lists-skip, lists-stuck, lists-all}
+use Rattle.engine.proofs.Laws.Search.{WalkTo, block-range, walk_start, walk_here, walk_block, walk-skip, walk_end}
+use Rattle.engine.proofs.guess.list_of_inputs.Given as goal
+
+abbrev pub invariant-loop-b : goal.invariant-loop-b
+invariant-loop-b l =
+    (length l.words ≡ 16384)
+    × (length l.sets ≡ 1024)
+    × Trusted l.list l.table l.trust
+    × WalkTo (ListsTo l.plan l.gates l.list) l.plan.inputs l.size l.b
+    × (l.tries ≤ 64)
+
+abbrev pub decreases-loop-b : goal.decreases-loop-b
+decreases-loop-b l = l.size - 1024 * l.b

@@ -1,0 +1,32 @@
+-- `engine::guess::listed_table` meets its contract. The invariant: each entry holds two vectors, 0 or in the set of the listed ones.
+-- Assumes nothing.
+use Prim.Native.Nat.{◌-◌, ◌/◌, ◌^◌, ◌≤◌, ◌<◌}
+use native.Mathlib.Omega.{arith}
+use borrow.Author.Rules.{rules}
+use lib.ListN.{get_or}
+use Rattle.engine.proofs.Laws.Guess.{TableIn, table_none, table-next, table-listed}
+use Rattle.engine.proofs.Laws.VectorSets.{lowest-lt}
+use Rattle.engine.proofs.guess.listed_table.Goals as goal
+
+pub listed_set-listed-requires : goal.listed_set-listed-requires
+listed_set-listed-requires c = let h = c.requires in (h.long, h.below)
+
+pub overflow_cast-listed : goal.overflow_cast-listed
+overflow_cast-listed c = search rules
+
+pub loop-r-init : goal.loop-r-init
+loop-r-init c = (omega arith, table_none c.listed_set-listed.result)
+
+pub overflow_cast-both : goal.overflow_cast-both
+overflow_cast-both c = search rules
+
+pub loop-r-preserved : goal.loop-r-preserved
+loop-r-preserved c =
+    let x = get_or c.args.sets c.loop-r.r 0 in
+    let n = table-next c.listed_set-listed.result c.loop-r.table c.loop-r.r x (x / 2 ^ 16) c.loop-r.invariant.1 in
+    (omega arith, rw (c.lowest_of-first.ensures, c.lowest_of-second.ensures) n)
+
+pub returns : goal.returns
+returns c =
+    let f = c.listed_set-listed in
+    table-listed f.result c.args.list f.ensures c.loop-r.invariant.1

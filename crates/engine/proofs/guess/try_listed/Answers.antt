@@ -1,0 +1,90 @@
+-- `engine::guess::try_listed` meets its contract. The invariant: the row says 1 only of inputs that a listed vector rectifies. Assumes
+-- nothing.
+use Prim.Native.Nat.{◌-◌}
+use mathlib.Core.Path.{◌≡◌, ◌∙◌}
+use mathlib.Core.Bool.{false≢true}
+use native.Mathlib.Omega.{arith}
+use lib.ListN.{length, get_or, take}
+use Rattle.engine.specs.Inner.List.{listed_of}
+use Rattle.engine.specs.Inner.Search.{FreeKept}
+use Rattle.engine.proofs.Laws.Guess.{any_at, RowShown, shown-none, shown-next, vector-free}
+use Rattle.engine.proofs.Laws.Stream.{places}
+use Rattle.engine.proofs.guess.try_listed.Goals as goal
+
+pub loop-i-init : goal.loop-i-init
+loop-i-init c =
+    (c.requires.2, λ j is q b f. f, shown-none c.args.plan c.args.gates.now c.args.words.now _)
+
+pub bounds-vectors-i : goal.bounds-vectors-i
+bounds-vectors-i c = omega (arith, c.requires.1.long)
+
+pub overflow_cast-vectors : goal.overflow_cast-vectors
+overflow_cast-vectors c = omega (arith, c.requires.1.below c.loop-i.i)
+
+pub vector_block-requires : goal.vector_block-requires
+vector_block-requires c = (c.requires.0, c.loop-i.invariant.0)
+
+pub equal_row-requires : goal.equal_row-requires
+equal_row-requires c =
+    let h = c.requires.0 in
+    record {
+      count_bound = (h.outs, h.outputs, h.goldens);
+      by_index = (h.outputs-below, h.goldens-below);
+    }
+
+pub returns-then-count-first_zero : goal.returns-then-count-first_zero
+unfolding listed_of
+returns-then-count-first_zero c =
+    let shown : (let a = c.args in RowShown a.plan a.gates.now a.words.now (take a.list.len a.list.list) c.join_rows-next.result) =
+        let a = c.args in
+    let l = c.loop-i in
+    let e = c.equal_row in
+    let n : length a.list.list ≡ 16 = places a.list.list 16 s.good.1.1.0.1.1.0.1.0.1 in
+    shown-next a.plan a.gates.now a.words.now (take a.list.len a.list.list) l.row e.result c.join_rows-next.result
+    (get_or a.list.list l.i 0)
+    (any_at a.list.list a.list.len l.i t.loop-i-test.true (omega (arith, s.requires.1.long)))
+    l.invariant.2
+    l.invariant.1
+    v.vector_block.ensures
+    c.equal_row.ensures.1
+    c.join_rows-next.ensures in
+    let words : (let a = c.args in let w = c.vector_block.last.1.1.1.0 in (length w ≡ 16384) × FreeKept a.plan a.gates.now a.words.now w) =
+        let l = c.loop-i in
+    let w = c.vector_block.ensures in
+    (w.long ∙ l.invariant.0, vector-free l.invariant.1 w) in
+    let f = c.first_zero.ensures in
+    let w = words in
+    record {
+      free_kept = (w.1, w.0);
+      block_shown = λ t j is q b g y h. shown j is q b g y (omega (arith, f.most)) (f.ones y (omega arith));
+    }
+
+pub loop-i-preserved : goal.loop-i-preserved
+loop-i-preserved c =
+    let shown : (let a = c.args in RowShown a.plan a.gates.now a.words.now (take a.list.len a.list.list) c.join_rows-next.result) =
+        let a = c.args in
+    let l = c.loop-i in
+    let e = c.equal_row in
+    let n : length a.list.list ≡ 16 = places a.list.list 16 s.good.1.1.0.1.1.0.1.0.1 in
+    shown-next a.plan a.gates.now a.words.now (take a.list.len a.list.list) l.row e.result c.join_rows-next.result
+    (get_or a.list.list l.i 0)
+    (any_at a.list.list a.list.len l.i t.loop-i-test.true (omega (arith, s.requires.1.long)))
+    l.invariant.2
+    l.invariant.1
+    v.vector_block.ensures
+    c.equal_row.ensures.1
+    c.join_rows-next.ensures in
+    let words : (let a = c.args in let w = c.vector_block.last.1.1.1.0 in (length w ≡ 16384) × FreeKept a.plan a.gates.now a.words.now w) =
+        let l = c.loop-i in
+    let w = c.vector_block.ensures in
+    (w.long ∙ l.invariant.0, vector-free l.invariant.1 w) in
+    let w = words in
+    (w.0, w.1, shown)
+
+pub returns : goal.returns
+returns c =
+    let l = c.loop-i in
+    record {
+      free_kept = (l.invariant.1, l.invariant.0);
+      block_shown = λ t. absurd (false≢true t);
+    }

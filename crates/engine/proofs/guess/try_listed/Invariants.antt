@@ -1,0 +1,19 @@
+-- `engine::guess::try_listed` meets its contract. The invariant: the row says 1 only of inputs that a listed vector rectifies. Assumes
+-- nothing.
+use Prim.Native.Nat.{◌-◌}
+use mathlib.Core.Path.{◌≡◌, ◌∙◌}
+use mathlib.Core.Bool.{false≢true}
+use native.Mathlib.Omega.{arith}
+use lib.ListN.{length, get_or, take}
+use Rattle.engine.specs.Inner.List.{listed_of}
+use Rattle.engine.specs.Inner.Search.{FreeKept}
+use Rattle.engine.proofs.Laws.Guess.{any_at, RowShown, shown-none, shown-next, vector-free}
+use Rattle.engine.proofs.Laws.Stream.{places}
+use Rattle.engine.proofs.guess.try_listed.Given as goal
+
+abbrev pub invariant-loop-i : goal.invariant-loop-i
+invariant-loop-i l =
+    (length l.words ≡ 16384) × FreeKept l.plan l.gates l.initial.words l.words × RowShown l.plan l.gates l.initial.words (take l.list.len l.list.list) l.row
+
+abbrev pub decreases-loop-i : goal.decreases-loop-i
+decreases-loop-i l = l.list.len - l.i

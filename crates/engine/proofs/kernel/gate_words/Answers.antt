@@ -1,0 +1,34 @@
+-- `engine::kernel::gate_words` meets its contract. The invariant: the words so far, with the operands left, give the whole. Assumes nothing.
+use Prim.Native.Nat.{ℕ, ◌%◌, ◌<◌}
+use mathlib.Core.Path.{◌≡◌, refl, sym, ◌∙◌}
+use mathlib.Core.List.{map}
+use native.Mathlib.Omega.{arith}
+use lib.ListN.{length}
+use Rattle.engine.specs.Inner.Packed.{fields, operation, operands_of, folded}
+use Rattle.engine.specs.Inner.Kernel.{row_value, value_in}
+use Rattle.engine.proofs.Laws.Word.{bit-zero}
+use Rattle.engine.proofs.Laws.Kernel.{row-replicate, left, left-all, words-next, left-none}
+use Rattle.engine.proofs.kernel.gate_words.Goals as goal
+
+pub loop-i-init : goal.loop-i-init
+loop-i-init c =
+    let x = c.args.c in
+    (refl, λ y h. rw (row-replicate 0 y h, bit-zero (y % 64)) (left-all (operation x) (map (value_in c.args.words.now y) (operands_of x))))
+
+pub join-requires : goal.join-requires
+join-requires c = (omega arith, omega arith)
+
+pub loop-i-preserved : goal.loop-i-preserved
+loop-i-preserved c =
+    let a = c.args in
+    let l = c.loop-i in (
+      c.join.ensures.long ∙ l.invariant.0,
+      λ y h.
+          words-next a.words.now l.r _ l.op (operation a.c) l.i l.rest c.join.ensures (omega arith) y h
+          ∙ l.invariant.1 y h,
+    )
+
+pub returns : goal.returns
+returns c y h =
+    let l = c.loop-i in
+    sym (left-none _ _ _ _ l.i l.rest (omega arith)) ∙ l.invariant.1 y h

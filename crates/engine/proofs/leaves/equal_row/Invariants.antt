@@ -1,0 +1,23 @@
+-- `engine::leaves::equal_row` meets its contract. The invariant: the row says where the first k outputs are equal. Assumes nothing.
+use Prim.Native.Nat.{ℕ, ◌-◌, ◌≤◌, ◌<◌}
+use mathlib.Core.Path.{◌≡◌, refl, ◌∙◌}
+use mathlib.Core.List.{map}
+use mathlib.Core.Bool.{cond}
+use native.Mathlib.Omega.{arith}
+use lib.ListN.{length, take}
+use Rattle.engine.specs.Choice.{same}
+use Rattle.engine.specs.Inner.Kernel.{row_value, value_in}
+use Rattle.engine.proofs.Laws.Kernel.{row-replicate}
+use Rattle.engine.proofs.Laws.Leaves.{equal_next}
+use Rattle.engine.proofs.Laws.Word.{bit-ones}
+use Rattle.engine.proofs.leaves.equal_row.Given as goal
+
+abbrev pub invariant-loop-k : goal.invariant-loop-k
+invariant-loop-k l =
+    (l.k ≤ l.count)
+    × (length l.r ≡ 16)
+    × ((y : ℕ) → y < 1024
+    → row_value l.r y ≡ cond (same (map (value_in l.words y) (take l.k l.outputs)) (map (value_in l.words y) (take l.k l.goldens))) 1 0)
+
+abbrev pub decreases-loop-k : goal.decreases-loop-k
+decreases-loop-k l = l.count - l.k

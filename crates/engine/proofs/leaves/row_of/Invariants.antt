@@ -1,0 +1,16 @@
+-- `engine::leaves::row_of` meets its contract. The invariant: the first w words are those of the net. Assumes nothing.
+use Prim.Native.Nat.{ℕ, ◌+◌, ◌*◌, ◌-◌, ◌%◌, ◌≤◌, ◌<◌}
+use mathlib.Core.Path.{◌≡◌, refl, sym, ◌∙◌, ap}
+use native.Mathlib.Omega.{arith}
+use lib.ListN.{length, get_or, length-set}
+use Rattle.engine.specs.Eval.{bit}
+use Rattle.engine.specs.Inner.Kernel.{row_value, value_in}
+use Rattle.engine.proofs.Laws.Leaves.{row_next}
+use Rattle.engine.proofs.leaves.row_of.Given as goal
+
+abbrev pub invariant-loop-w : goal.invariant-loop-w
+invariant-loop-w l =
+    (l.w ≤ 16) × (length l.r ≡ 16) × ((y : ℕ) → y < 64 * l.w → row_value l.r y ≡ value_in l.words y l.i)
+
+abbrev pub decreases-loop-w : goal.decreases-loop-w
+decreases-loop-w l = 16 - l.w

@@ -1,0 +1,23 @@
+-- `engine::masks::masks_of` meets its contract. The invariant: the words are those at the vector of the step before, and the rows of
+-- the steps so far are done. Assumes nothing.
+use Prim.Native.Nat.{ℕ, ◌-◌, ◌/◌, ◌^◌, ◌≤◌, ◌<◌}
+use mathlib.Core.Path.{◌≡◌, refl, ◌∙◌, subst}
+use native.Mathlib.Nat.{one-mul}
+use native.Mathlib.Omega.{arith}
+use lib.Pow.{pow_pos, shl_exact}
+use lib.Dec.{lit<}
+use lib.ListN.{length}
+use Rattle.engine.specs.Inner.Masks.{turns}
+use Rattle.engine.specs.Inner.Kernel.{row_value, NetSet}
+use Rattle.engine.specs.Inner.Search.{TargetTurned}
+use Rattle.engine.proofs.Laws.Gray.{ordered-lt, turns-lt}
+use Rattle.engine.proofs.Laws.Searching.{MasksDone, masks-first, masks-turned, masks-all, vectors-many}
+use Rattle.engine.proofs.masks.masks_of.Given as goal
+
+abbrev pub invariant-loop-step : goal.invariant-loop-step
+invariant-loop-step l =
+    (length l.words ≡ 16384) × (length l.masks ≡ 256) × ((0 < l.step) × (l.step ≤ l.vectors)) × (l.vectors ≡ 2 ^ l.plan.targets)
+    × MasksDone l.plan l.gates l.u l.initial.words l.step l.words l.masks
+
+abbrev pub decreases-loop-step : goal.decreases-loop-step
+decreases-loop-step l = l.vectors - l.step

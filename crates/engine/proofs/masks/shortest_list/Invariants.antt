@@ -1,0 +1,13 @@
+-- `engine::masks::shortest_list` meets its contract. The invariant: the best so far is 0 or a target. Assumes nothing.
+use Prim.Native.Nat.{◌+◌, ◌-◌, ◌<◌}
+use mathlib.Core.Path.{refl}
+use mathlib.Core.Logic.{inl, inr, ⊎_elim}
+use native.Mathlib.Omega.{arith}
+use Rattle.engine.specs.Inner.Masks.{Among}
+use Rattle.engine.proofs.masks.shortest_list.Given as goal
+
+abbrev pub invariant-loop-t : goal.invariant-loop-t
+invariant-loop-t l = (l.best < 4) × Among l.targets l.best
+
+abbrev pub decreases-loop-t : goal.decreases-loop-t
+decreases-loop-t l = l.targets - l.t

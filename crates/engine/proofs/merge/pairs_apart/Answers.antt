@@ -1,0 +1,30 @@
+-- `engine::merge::pairs_apart` meets its contract. The invariant: the first i pairs are kept but for those of one net. Assumes nothing.
+use Prim.Native.Nat.{◌-◌, ◌≤◌, ◌<◌}
+use mathlib.Core.Path.{◌≡◌}
+use mathlib.Core.Logic.{⊎_elim}
+use native.Mathlib.Omega.{arith}
+use lib.ListN.{length}
+use Rattle.engine.specs.Inner.Merge.{PairsKept}
+use Rattle.engine.proofs.Laws.Pairs.{pairs, pairs-none, pairs-left, pairs-more}
+use Rattle.engine.proofs.merge.pairs_apart.Goals as goal
+use Rattle.engine.proofs.merge.pairs_apart.Goals.{else-a-b, then-a-b}
+
+pub loop-i-init : goal.loop-i-init
+loop-i-init c = (omega arith, omega arith, pairs-none _ _)
+
+pub loop-i-preserved : goal.loop-i-preserved
+loop-i-preserved c =
+    let a = c.args in
+    let l = c.loop-i in
+    let h : l.i < length a.outputs = omega (arith, c.requires.1) in
+    let k : l.i < length a.goldens = omega (arith, c.requires.2) in (
+      omega arith,
+      elim c.if-a-b.branch [ then-a-b w ↦ omega (arith, w.3) | else-a-b w ↦ omega (arith, w.3) ],
+      elim c.if-a-b.branch [ then-a-b w ↦ rw (w.1, w.2, w.3) (pairs-more l.invariant.2 h k (omega arith)) | else-a-b w ↦ rw (w.1, w.2, w.3) (pairs-left l.invariant.2 h k w.0.left) ],
+    )
+
+pub returns : goal.returns
+returns c =
+    let l = c.loop-i in
+    let e : l.i ≡ c.args.outs = omega arith in
+    rw e at l.invariant.2

@@ -1,0 +1,20 @@
+-- `engine::narrow::run_words` meets its contract. The invariant: at each input the values so far, with the gates left, give the whole.
+-- Assumes nothing.
+use Prim.Native.Nat.{ℕ, ◌-◌, ◌<◌}
+use mathlib.Core.Path.{◌≡◌, refl, sym, ◌∙◌}
+use native.Mathlib.Omega.{arith}
+use lib.ListN.{length, take, drop, length-set}
+use Rattle.engine.specs.Inner.Packed.{code_value, evaluated}
+use Rattle.engine.specs.Inner.Narrow.{values_at}
+use Rattle.engine.proofs.Laws.Narrow.{run-next}
+use Rattle.engine.proofs.Laws.PlanCode.{evaluated-end}
+use Rattle.engine.proofs.narrow.run_words.Given as goal
+
+abbrev pub invariant-loop-i : goal.invariant-loop-i
+invariant-loop-i l =
+    (length l.words ≡ length l.initial.words)
+    × ((y : ℕ) → y < 64
+    → evaluated code_value (values_at l.words y) (drop l.i (take l.count l.gates)) ≡ evaluated code_value (values_at l.initial.words y) (take l.count l.gates))
+
+abbrev pub decreases-loop-i : goal.decreases-loop-i
+decreases-loop-i l = l.count - l.i

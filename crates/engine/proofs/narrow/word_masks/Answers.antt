@@ -1,0 +1,86 @@
+-- `engine::narrow::word_masks` meets its contract. The invariant: the rows of the vectors taken so far are done, and the words are those at the
+-- last of them. Assumes nothing.
+use Prim.Native.Nat.{ℕ, ◌-◌, ◌^◌, ◌≤◌, ◌<◌}
+use mathlib.Core.Path.{◌≡◌, refl, ◌∙◌, subst}
+use native.Mathlib.Nat.{one-mul}
+use native.Mathlib.Omega.{arith}
+use lib.Dec.{lit<}
+use lib.ListN.{length}
+use lib.Pow.{shl_exact}
+use Rattle.records.specs.Job.{Job}
+use Rattle.engine.specs.Inner.Miter.{MergedOf}
+use Rattle.engine.proofs.Laws.Narrow.{narrow-of, WordsTo, words-none, words-next, words-all}
+use Rattle.engine.proofs.Laws.Gray.{ordered-lt}
+use Rattle.engine.proofs.Laws.Searching.{vectors-many}
+use Rattle.engine.proofs.narrow.word_masks.Goals as goal
+
+pub overflow_shl-vectors : goal.overflow_shl-vectors
+overflow_shl-vectors c = omega (arith, c.requires.0.targets)
+
+pub loop-step-init : goal.loop-step-init
+loop-step-init c =
+    let v = shl_exact 1 c.args.miter.targets 64 (lit< tt) (omega (arith, c.requires.0.targets)) ∙ one-mul (2 ^ c.args.miter.targets) in
+    (c.requires.2, refl, omega arith, v, λ j q. words-none j c.args.miter _)
+
+pub vector_at-v-requires : goal.vector_at-v-requires
+vector_at-v-requires c =
+    let step-few : c.loop-step.step < 16 =
+        omega (arith, c.loop-step.invariant.3, vectors-many c.requires.0.targets) in
+    (lit< tt, step-few)
+
+pub eval_vector-requires : goal.eval_vector-requires
+eval_vector-requires c =
+    let m = c.requires.0 in
+    (m.count, m.gates, m.inputs, m.targets, c.loop-step.invariant.0)
+
+pub equal_word-r-requires : goal.equal_word-r-requires
+equal_word-r-requires c =
+    let m = c.requires.0 in
+    record {
+      count_bound = (m.outs, m.outputs, m.goldens);
+      by_index = (λ i. (m.below i).0, λ i. (m.below i).1);
+    }
+
+pub put_row-requires : goal.put_row-requires
+put_row-requires c =
+    let step-few : c.loop-step.step < 16 =
+        omega (arith, c.loop-step.invariant.3, vectors-many c.requires.0.targets) in
+    let v = c.vector_at-v in
+    let l = c.loop-step in
+    (omega (arith, v.ensures, ordered-lt 0 (lit< tt) l.step step-few), l.invariant.1)
+
+pub overflow_add-step : goal.overflow_add-step
+overflow_add-step c =
+    let step-few : c.loop-step.step < 16 =
+        omega (arith, c.loop-step.invariant.3, vectors-many c.requires.0.targets) in
+    omega (arith, step-few)
+
+pub loop-step-preserved : goal.loop-step-preserved
+loop-step-preserved c =
+    let step-few : c.loop-step.step < 16 =
+        omega (arith, c.loop-step.invariant.3, vectors-many c.requires.0.targets) in
+    let e = c.eval_vector in
+    let m = c.args.miter in
+    let v = c.vector_at-v in (
+      c.eval_vector.ensures.0,
+      c.put_row.ensures.long ∙ c.loop-step.invariant.1,
+      omega arith,
+      c.loop-step.invariant.3,
+      λ j q.
+          words-next j m c.loop-step.step v.result c.equal_word-r.result q c.requires.1 step-few v.ensures
+          (c.loop-step.invariant.4 j q)
+          (c.eval_vector.ensures.1 j (narrow-of q c.requires.1))
+          c.equal_word-r.ensures
+          c.put_row.ensures,
+    )
+
+pub returns : goal.returns
+returns c =
+    let m = c.args.miter in
+    let e : c.loop-step.step ≡ 2 ^ m.targets = omega (arith, c.loop-step.invariant.3, c.loop-step.invariant.2) in
+    let all : (j : Job) → MergedOf j m → _ =
+    λ j q. words-all j m q c.requires.0.targets (subst (λ (k : ℕ). WordsTo j m k c.loop-step.words c.loop-step.masks) e (c.loop-step.invariant.4 j q)) in
+    record {
+      result_len = (c.loop-step.invariant.1, λ j q. (all j q).0);
+      by_index = λ j q. (all j q).1;
+    }

@@ -1,0 +1,36 @@
+-- `engine::note::meet_block` meets its contract. The invariant: the sets after the columns below w. Assumes nothing.
+use Prim.Native.Nat.{◌-◌, ◌≤◌}
+use mathlib.Core.Path.{◌≡◌}
+use native.Mathlib.Omega.{arith}
+use Rattle.engine.proofs.Laws.Rows.{ColumnsMet, columns-none, columns-next}
+use Rattle.engine.proofs.note.meet_block.Goals as goal
+
+pub transpose-requires : goal.transpose-requires
+transpose-requires c = let p = c.requires in (p.0, p.2)
+
+pub transpose-requires-2 : goal.transpose-requires-2
+transpose-requires-2 c = let p = c.requires in (p.1, p.2)
+
+pub loop-w-init : goal.loop-w-init
+loop-w-init c =
+    let a = c.args in
+    (omega arith, columns-none a.columns c.transpose.new.x c.transpose-2.new.x a.sets.now)
+
+pub loop-w-preserved : goal.loop-w-preserved
+loop-w-preserved c =
+    let l = c.loop-w in
+    let a = c.args in (
+      omega arith,
+      columns-next a.columns c.transpose.new.x c.transpose-2.new.x l.w a.sets.now l.sets
+          c.meet_column.new.readings.1.1.0
+          (omega arith)
+          l.invariant.1
+          c.meet_column.ensures,
+    )
+
+pub returns : goal.returns
+returns c =
+    let l = c.loop-w in
+    let a = c.args in
+    let e : l.w ≡ a.columns = omega arith in
+    rw e at (l.invariant.1 a.masks a.readings c.transpose.ensures.1 c.transpose-2.ensures.1)

@@ -1,0 +1,41 @@
+-- `engine::ranges::known_operands` meets its contract. The loop's invariant: what is read, and then what the slots left give, is what
+-- is known of all operands. Assumes nothing.
+use lib.ListN.{length, length-set}
+use mathlib.Core.List.{[], ◌∷◌}
+use mathlib.Core.Logic.{⊎_elim}
+use mathlib.Core.Path.{◌≡◌, refl, ◌∙◌}
+use native.Mathlib.Omega.{arith}
+use Prim.Native.Nat.{◌+◌, ◌-◌, ◌/◌, ◌%◌, ◌≤◌}
+use Rattle.records.specs.Netlist.{net_at}
+use Rattle.engine.proofs.Laws.Partial.{ReadTo, read_none, read-used, read-unused, read-end}
+use Rattle.engine.proofs.ranges.known_operands.Goals as goal
+
+pub loop-i-init : goal.loop-i-init
+loop-i-init c =
+    let x = c.args in
+    (omega arith, refl, read_none (net_at x.known.now) (x.c / 16 % 8) (x.c / 131072) (0 ∷ 0 ∷ 0 ∷ 0 ∷ []))
+
+pub loop-i-preserved : goal.loop-i-preserved
+unfolding net_at
+loop-i-preserved c =
+    let x = c.args in
+    let t = c.loop-i in
+    let f = net_at x.known.now in
+    let n = x.c / 16 % 8 in
+    let z = x.c / 131072 in
+    let next : (length c.if-i-count.r ≡ 4) × ReadTo f n z c.if-i-count.r (t.rest / 1024) (t.i + 1) =
+    ⊎_elim
+    (λ w.
+    rw w.2 (
+      length-set t.r t.i (f (t.rest % 1024)) ∙ t.invariant.1,
+      read-used f n z t.r t.rest t.i t.invariant.2 w.0.taken (omega arith) t.invariant.1,
+    ))
+    (λ w. rw w.1 (t.invariant.1, read-unused f n z t.r t.rest t.i t.invariant.2 w.0.left))
+    c.if-i-count.branch in
+    (omega arith, next.0, next.1)
+
+pub returns : goal.returns
+returns c =
+    let x = c.args in
+    let t = c.loop-i in
+    read-end (net_at x.known.now) (x.c / 16 % 8) (x.c / 131072) t.r t.rest t.i t.invariant.2 (omega arith)

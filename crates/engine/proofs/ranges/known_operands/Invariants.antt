@@ -1,0 +1,18 @@
+-- `engine::ranges::known_operands` meets its contract. The loop's invariant: what is read, and then what the slots left give, is what
+-- is known of all operands. Assumes nothing.
+use lib.ListN.{length, length-set}
+use mathlib.Core.List.{[], ◌∷◌}
+use mathlib.Core.Logic.{⊎_elim}
+use mathlib.Core.Path.{◌≡◌, refl, ◌∙◌}
+use native.Mathlib.Omega.{arith}
+use Prim.Native.Nat.{◌+◌, ◌-◌, ◌/◌, ◌%◌, ◌≤◌}
+use Rattle.records.specs.Netlist.{net_at}
+use Rattle.engine.proofs.Laws.Partial.{ReadTo, read_none, read-used, read-unused, read-end}
+use Rattle.engine.proofs.ranges.known_operands.Given as goal
+
+abbrev pub invariant-loop-i : goal.invariant-loop-i
+invariant-loop-i l =
+    (l.i ≤ 4) × (length l.r ≡ 4) × ReadTo (net_at l.known) l.count (l.c / 131072) l.r l.rest l.i
+
+abbrev pub decreases-loop-i : goal.decreases-loop-i
+decreases-loop-i l = 4 - l.i

@@ -1,0 +1,13 @@
+-- `engine::renumber::moved_slots` meets its contract. The invariant: the first i slots stand in r as they are to be, and the others,
+-- as they were, in the number rest. Assumes nothing.
+use Prim.Native.Nat.{◌-◌}
+use mathlib.Core.Logic.{⊎_elim}
+use native.Mathlib.Omega.{arith}
+use Rattle.engine.proofs.Laws.FitCode.{Moving, moving-none, slot-used, slot-unused, moving-next, moving-all}
+use Rattle.engine.proofs.renumber.moved_slots.Given as goal
+
+abbrev pub invariant-loop-i : goal.invariant-loop-i
+invariant-loop-i l = Moving l.numbers l.c l.r l.rest l.i
+
+abbrev pub decreases-loop-i : goal.decreases-loop-i
+decreases-loop-i l = 4 - l.i

@@ -1,0 +1,17 @@
+-- `engine::sheet::net_bytes` meets its contract: after i turns the first i nets stand at the start, two bytes each. Assumes
+-- nothing.
+use Prim.Native.Nat.{◌*◌, ◌-◌, ◌≤◌}
+use mathlib.Core.Path.{◌≡◌}
+use native.Mathlib.Omega.{arith}
+use borrow.Author.Rules.{rules}
+use lib.ListN.{length, get_or, replicate}
+use Rattle.records.specs.Bytes.{byte_pair}
+use Rattle.records.proofs.Laws.Job.{Put, put-none, put_next, length-byte_pair}
+use Rattle.engine.proofs.Laws.Sheet.{ten, pair-placed, pairs-take}
+use Rattle.engine.proofs.sheet.net_bytes.Given as goal
+
+abbrev pub invariant-loop-i : goal.invariant-loop-i
+invariant-loop-i l = (l.i ≤ l.len) × Put byte_pair (λ k. get_or l.nets k 0) l.initial.bytes 0 l.bytes l.i
+
+abbrev pub decreases-loop-i : goal.decreases-loop-i
+decreases-loop-i l = l.len - l.i

@@ -1,0 +1,22 @@
+-- `engine::sheet::put_rows` meets its contract. Assumes nothing.
+use Prim.Native.Nat.{ℕ, ◌^◌}
+use mathlib.Core.Path.{sym, ap}
+use native.Mathlib.Omega.{arith}
+use borrow.Author.Rules.{rules}
+use lib.ListN.{take}
+use lib.Seq.{length-take-le}
+use Rattle.engine.proofs.Laws.Sheet.{field-bytes, shl-pow, pow-table}
+use Rattle.engine.proofs.sheet.put_rows.Goals as goal
+
+pub slice_bounds-put_field-end : goal.slice_bounds-put_field-end
+slice_bounds-put_field-end c =
+    let a = c.args in
+    sym (length-take-le _ _ (rw (shl-pow a.len (omega arith)) (omega arith)))
+
+pub returns : goal.returns
+returns c =
+    let a = c.args in
+    let p = pow-table a.len (omega arith) in
+    let n = length-take-le (2 ^ a.len) a.rows.now (omega arith) in
+    field-bytes a.reply.now a.at a.tag _ (ap (λ (k : ℕ). take k a.rows.now) (shl-pow a.len (omega arith)))
+    (omega arith) (omega arith) c.put_field.ensures

@@ -1,0 +1,17 @@
+-- `engine::sheet::put_vectors` meets its contract. Assumes nothing.
+use mathlib.Core.Path.{refl, sym}
+use native.Mathlib.Omega.{arith}
+use borrow.Author.Rules.{rules}
+use lib.Seq.{length-take-le}
+use lib.ListN.{take}
+use Rattle.engine.proofs.Laws.Sheet.{field-bytes}
+use Rattle.engine.proofs.sheet.put_vectors.Goals as goal
+
+pub slice_bounds-put_field-end : goal.slice_bounds-put_field-end
+slice_bounds-put_field-end c = sym (length-take-le _ _ (omega arith))
+
+pub returns : goal.returns
+returns c =
+    let a = c.args in
+    let n = length-take-le a.len a.list (omega arith) in
+    field-bytes a.reply.now a.at 19 (take a.len a.list) refl (omega arith) (omega arith) c.put_field.ensures

@@ -1,0 +1,40 @@
+-- `engine::sole::keep_block` meets its contract: the table's vectors at the block's readings, and where they rectify. Assumes nothing.
+use Prim.Native.Nat.{ℕ, max}
+use mathlib.Core.Path.{refl, sym, ◌∙◌, ap}
+use borrow.Author.Rules.{rules}
+use borrow.Author.Tests.{leb-true, not-false}
+use native.Mathlib.Omega.{arith}
+use lib.Dec.{lit≤}
+use Rattle.engine.specs.Inner.Kernel.{row_value}
+use Rattle.engine.specs.Inner.Note.{gathered}
+use Rattle.engine.proofs.Laws.Rows.{rows_whole}
+use Rattle.engine.proofs.Laws.Choice.{not-both}
+use Rattle.engine.proofs.Laws.Sole.{sole-kept}
+use Rattle.engine.proofs.sole.keep_block.Goals as goal
+
+pub returns-then-not-zero_row : goal.returns-then-not-zero_row
+returns-then-not-zero_row c =
+    record {
+      free_kept = (λ j is q b f. f, c.requires.2);
+      block_kept = λ e. absurd (not-both e refl);
+    }
+
+pub driven_row-row-requires : goal.driven_row-row-requires
+driven_row-row-requires c =
+    let p = c.requires in
+    (p.0, lit≤ tt, p.2)
+
+pub returns : goal.returns
+returns c =
+    let row = c.driven_row-row in
+    let a = row.ensures (gathered c.table_rows-vectors.result) (rows_whole c.table_rows-vectors.result c.args.plan.targets (omega (arith, c.requires.0.targets))) in record {
+      free_kept = (a.free, a.long ∙ c.requires.2);
+      block_kept = λ o.
+          sole-kept c.args.readings c.args.table.now c.table_rows-vectors.result row.result c.table_rows-vectors.ensures.1
+          (λ y l. sym (c.row_at.ensures y l) ∙ c.zero_row.ensures (not-false c.zero_row.result c.if-not-zero_row.false) y l)
+          (λ y l.
+          ap (λ (n : ℕ). max (row_value row.result y) n) (sym (c.row_at-2.ensures y l))
+          ∙ sym (c.join_rows.ensures y l)
+          ∙ c.first_zero.ensures.ones y (omega (arith, leb-true)))
+          a;
+    }

@@ -1,0 +1,44 @@
+-- `engine::table::fill_notes` meets its contract. The invariant: the readings before r have their notes. Assumes nothing.
+use Prim.Native.Nat.{◌-◌, ◌≤◌, ◌<◌}
+use borrow.Author.Rules.{rules}
+use native.Mathlib.Omega.{arith}
+use lib.ListN.{get_or}
+use Rattle.engine.specs.Inner.Kernel.{Filled}
+use Rattle.engine.specs.Inner.Table.{note_from}
+use Rattle.engine.proofs.Laws.Fill.{fill_none, fill-next, fill-at}
+use Rattle.engine.proofs.Laws.Notes.{notes-sets}
+use Rattle.engine.proofs.Laws.Rule.{readings-many}
+use Rattle.engine.proofs.table.fill_notes.Goals as goal
+
+pub loop-r-init : goal.loop-r-init
+loop-r-init c = (omega arith, fill_none _ 0 _)
+
+pub offset_bounds-sets-r : goal.offset_bounds-sets-r
+offset_bounds-sets-r c =
+    let place-lt : c.loop-r.r < 1024 =
+        let m = readings-many c.requires in
+    omega (arith, c.reading_count-count.ensures) in
+    let l = place-lt in omega arith
+
+pub loop-r-preserved : goal.loop-r-preserved
+loop-r-preserved c =
+    let place-lt : c.loop-r.r < 1024 =
+        let m = readings-many c.requires in
+    omega (arith, c.reading_count-count.ensures) in
+    let l = c.loop-r in
+    let n = place-lt in
+    (omega arith, fill-next _ 0 _ _ _ l.invariant.1 l.r _ (omega arith) (omega (arith, l.invariant.1.long)) c.note_of.ensures)
+
+pub returns : goal.returns
+returns c =
+    let l = c.loop-r in
+    let n = c.reading_count-count.ensures in
+    let m = readings-many c.requires in
+    record {
+      long = l.invariant.1.long;
+      notes =
+          λ j is h g e.
+          rw (← e)
+          (notes-sets j is c.args.sets.now h g l.notes (rw e (omega (arith, l.invariant.1.long)))
+          (λ r i. fill-at l.invariant.1 r (omega (arith, rw e at i))));
+    }

@@ -1,0 +1,49 @@
+-- `engine::table::fill_table` meets its contract. The invariant: the readings before r have their vectors in the table.
+-- Assumes nothing.
+use Prim.Native.Nat.{◌-◌, ◌≤◌, ◌<◌}
+use mathlib.Core.Path.{◌≡◌, refl, ◌∙◌}
+use borrow.Author.Rules.{rules}
+use native.Mathlib.Omega.{arith}
+use lib.ListN.{length, length-set}
+use Rattle.engine.proofs.Laws.Rule.{readings-many}
+use Rattle.engine.proofs.Laws.Sets.{TableTo, table-next, table-sets}
+use Rattle.engine.proofs.table.fill_table.Goals as goal
+
+pub loop-r-init : goal.loop-r-init
+loop-r-init c = (omega arith, refl, λ r h. let f : ⊥ = omega arith in absurd f)
+
+pub offset_bounds-sets-r : goal.offset_bounds-sets-r
+offset_bounds-sets-r c =
+    let place-lt : c.loop-r.r < 1024 =
+        let m = readings-many c.requires.0 in
+    omega (arith, c.reading_count-count.ensures) in
+    let l = place-lt in omega arith
+
+pub bounds-sets-r : goal.bounds-sets-r
+bounds-sets-r c =
+    omega (arith, c.reading_count-count.ensures, c.requires.1)
+
+pub loop-r-preserved : goal.loop-r-preserved
+loop-r-preserved c =
+    let place-lt : c.loop-r.r < 1024 =
+        let m = readings-many c.requires.0 in
+    omega (arith, c.reading_count-count.ensures) in
+    let ss = c.args.sets.now in
+    let l = c.loop-r in (
+      omega arith,
+      length-set l.table l.r c.lowest_vector.result ∙ l.invariant.1,
+      rw c.lowest_vector.ensures (table-next ss l.table l.r (omega (arith, place-lt, l.invariant.1)) l.invariant.2),
+    )
+
+pub returns : goal.returns
+returns c =
+    let l = c.loop-r in
+    let n = c.reading_count-count.ensures in
+    let m = readings-many c.requires.0 in
+    record {
+      long = l.invariant.1;
+      table =
+          λ j is h e.
+          rw (← e)
+          (table-sets j is c.args.sets.now h l.table (rw e (omega arith)) (λ r i. l.invariant.2 r (omega (arith, rw e at i))));
+    }

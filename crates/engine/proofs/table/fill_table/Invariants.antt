@@ -1,0 +1,16 @@
+-- `engine::table::fill_table` meets its contract. The invariant: the readings before r have their vectors in the table.
+-- Assumes nothing.
+use Prim.Native.Nat.{◌-◌, ◌≤◌, ◌<◌}
+use mathlib.Core.Path.{◌≡◌, refl, ◌∙◌}
+use borrow.Author.Rules.{rules}
+use native.Mathlib.Omega.{arith}
+use lib.ListN.{length, length-set}
+use Rattle.engine.proofs.Laws.Rule.{readings-many}
+use Rattle.engine.proofs.Laws.Sets.{TableTo, table-next, table-sets}
+use Rattle.engine.proofs.table.fill_table.Given as goal
+
+abbrev pub invariant-loop-r : goal.invariant-loop-r
+invariant-loop-r l = (l.r ≤ l.count) × (length l.table ≡ 1024) × TableTo l.sets l.table l.r
+
+abbrev pub decreases-loop-r : goal.decreases-loop-r
+decreases-loop-r l = l.count - l.r

@@ -1,0 +1,61 @@
+-- `engine::tree::column_word` meets its contract. The invariant: w has the entries from place i on. Assumes nothing.
+use Prim.Native.Nat.{◌+◌, ◌-◌, ◌*◌, ◌^◌, ◌≤◌, ◌<◌}
+use mathlib.Core.Path.{◌≡◌, sym}
+use native.Mathlib.Omega.{arith}
+use borrow.Author.Rules.{rules}
+use lib.ListN.{get_or, drop}
+use Rattle.engine.specs.Eval.{bit, number_of}
+use Rattle.engine.specs.Inner.Tree.{column_part}
+use Rattle.engine.proofs.Laws.TreeWord.{word_fits, column-turn, column-end, column-rest}
+use Rattle.engine.proofs.tree.column_word.Goals as goal
+
+pub loop-i-init : goal.loop-i-init
+loop-i-init c =
+    let e = c.reading_count-i.ensures in
+    (omega arith, rw e (sym (column-end c.requires.0)))
+
+pub overflow_mul-w : goal.overflow_mul-w
+overflow_mul-w c =
+    let turn : let a = c.args in let l = c.loop-i in let n = number_of (drop (l.i - 1) (column_part a.table.now a.at a.k a.t)) in (n ≡ 2 * l.w + bit a.t (get_or a.table.now (a.at + (l.i - 1)) 0)) × (n < 18446744073709551616) =
+        let l = c.loop-i in
+    let e : l.i - 1 + 1 ≡ l.i = omega arith in
+    let d : l.i - 1 < 2 ^ s.args.k = omega (arith, l.invariant.0) in
+    let p = rw (e, sym l.invariant.1) at (column-turn s.requires.0 (l.i - 1) d) in
+    (p, omega (arith, column-rest s.requires.0 (l.i - 1), word_fits s.args.k s.requires.1)) in
+    omega (arith, turn)
+
+pub overflow_add-at : goal.overflow_add-at
+overflow_add-at c = omega (arith, c.loop-i.invariant.0, c.requires.0.within)
+
+pub table_bit-requires : goal.table_bit-requires
+table_bit-requires c =
+    let p = c.requires.0 in
+    (omega (arith, c.loop-i.invariant.0, p.within), p.target)
+
+pub overflow_add-w : goal.overflow_add-w
+overflow_add-w c =
+    let turn : let a = c.args in let l = c.loop-i in let n = number_of (drop (l.i - 1) (column_part a.table.now a.at a.k a.t)) in (n ≡ 2 * l.w + bit a.t (get_or a.table.now (a.at + (l.i - 1)) 0)) × (n < 18446744073709551616) =
+        let l = c.loop-i in
+    let e : l.i - 1 + 1 ≡ l.i = omega arith in
+    let d : l.i - 1 < 2 ^ s.args.k = omega (arith, l.invariant.0) in
+    let p = rw (e, sym l.invariant.1) at (column-turn s.requires.0 (l.i - 1) d) in
+    (p, omega (arith, column-rest s.requires.0 (l.i - 1), word_fits s.args.k s.requires.1)) in
+    omega (arith, turn, c.table_bit.ensures)
+
+pub loop-i-preserved : goal.loop-i-preserved
+loop-i-preserved c =
+    let turn : let a = c.args in let l = c.loop-i in let n = number_of (drop (l.i - 1) (column_part a.table.now a.at a.k a.t)) in (n ≡ 2 * l.w + bit a.t (get_or a.table.now (a.at + (l.i - 1)) 0)) × (n < 18446744073709551616) =
+        let l = c.loop-i in
+    let e : l.i - 1 + 1 ≡ l.i = omega arith in
+    let d : l.i - 1 < 2 ^ s.args.k = omega (arith, l.invariant.0) in
+    let p = rw (e, sym l.invariant.1) at (column-turn s.requires.0 (l.i - 1) d) in
+    (p, omega (arith, column-rest s.requires.0 (l.i - 1), word_fits s.args.k s.requires.1)) in
+    let p = turn.0 in
+    let b = c.table_bit.ensures in
+    (omega (arith, c.loop-i.invariant.0), omega arith)
+
+pub returns : goal.returns
+returns c =
+    let l = c.loop-i in
+    let e : l.i ≡ 0 = omega arith in
+    rw e at l.invariant.1

@@ -1,0 +1,16 @@
+-- `engine::tree::column_word` meets its contract. The invariant: w has the entries from place i on. Assumes nothing.
+use Prim.Native.Nat.{◌+◌, ◌-◌, ◌*◌, ◌^◌, ◌≤◌, ◌<◌}
+use mathlib.Core.Path.{◌≡◌, sym}
+use native.Mathlib.Omega.{arith}
+use borrow.Author.Rules.{rules}
+use lib.ListN.{get_or, drop}
+use Rattle.engine.specs.Eval.{bit, number_of}
+use Rattle.engine.specs.Inner.Tree.{column_part}
+use Rattle.engine.proofs.Laws.TreeWord.{word_fits, column-turn, column-end, column-rest}
+use Rattle.engine.proofs.tree.column_word.Given as goal
+
+abbrev pub invariant-loop-i : goal.invariant-loop-i
+invariant-loop-i l = (l.i ≤ 2 ^ l.k) × (l.w ≡ number_of (drop l.i (column_part l.table l.at l.k l.t)))
+
+abbrev pub decreases-loop-i : goal.decreases-loop-i
+decreases-loop-i l = l.i

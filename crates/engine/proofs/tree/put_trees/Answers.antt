@@ -1,0 +1,45 @@
+-- `engine::tree::put_trees` meets its contract. The invariant: the gates so far and the trees left are the whole.
+-- Assumes nothing.
+use Prim.Native.Nat.{◌+◌, ◌-◌, ◌≤◌, ◌<◌}
+use native.Mathlib.Omega.{arith}
+use lib.ListN.{length}
+use Rattle.engine.proofs.Laws.Tree.{Growing, growing-none, growing-room, growing-net, growing-next, growing-all}
+use Rattle.engine.proofs.tree.put_trees.Goals as goal
+
+pub loop-t-init : goal.loop-t-init
+loop-t-init c = growing-none _ _ _ _ _ _ _ _
+
+pub put_tree-next-requires : goal.put_tree-next-requires
+put_tree-next-requires c =
+    let p = c.requires.k_bound in record {
+      table_part = (record { most = p.0; within = omega (arith, p.1); target = omega (arith, p.2) }, p.3);
+      gate_room = growing-room c.loop-t.invariant c.loop-t-test.true c.requires.targets_bound.1;
+    }
+
+pub overflow_add-numbers : goal.overflow_add-numbers
+overflow_add-numbers c =
+    let net : (0 < c.put_tree-next.result) × (c.args.base + c.put_tree-next.result ≤ 1024) =
+        growing-net c.loop-t.invariant c.loop-t-test.true c.requires.targets_bound.1 c.put_tree-next.ensures in
+    let n = net in omega arith
+
+pub overflow_sub-numbers : goal.overflow_sub-numbers
+overflow_sub-numbers c =
+    let net : (0 < c.put_tree-next.result) × (c.args.base + c.put_tree-next.result ≤ 1024) =
+        growing-net c.loop-t.invariant c.loop-t-test.true c.requires.targets_bound.1 c.put_tree-next.ensures in
+    let n = net in omega arith
+
+pub overflow_cast-numbers : goal.overflow_cast-numbers
+overflow_cast-numbers c =
+    let net : (0 < c.put_tree-next.result) × (c.args.base + c.put_tree-next.result ≤ 1024) =
+        growing-net c.loop-t.invariant c.loop-t-test.true c.requires.targets_bound.1 c.put_tree-next.ensures in
+    let n = net in omega arith
+
+pub loop-t-preserved : goal.loop-t-preserved
+loop-t-preserved c =
+    let n : c.args.k ≤ length c.args.support = omega (arith, c.requires.k_bound.0) in
+    growing-next c.loop-t.invariant c.loop-t-test.true n (omega (arith, c.requires.targets_bound.0)) c.put_tree-next.ensures
+
+pub returns : goal.returns
+returns c =
+    let n : c.args.k ≤ length c.args.support = omega (arith, c.requires.k_bound.0) in
+    growing-all c.loop-t.invariant (omega arith) n

@@ -1,0 +1,14 @@
+-- `engine::tree::put_trees` meets its contract. The invariant: the gates so far and the trees left are the whole.
+-- Assumes nothing.
+use Prim.Native.Nat.{◌+◌, ◌-◌, ◌≤◌, ◌<◌}
+use native.Mathlib.Omega.{arith}
+use lib.ListN.{length}
+use Rattle.engine.proofs.Laws.Tree.{Growing, growing-none, growing-room, growing-net, growing-next, growing-all}
+use Rattle.engine.proofs.tree.put_trees.Given as goal
+
+abbrev pub invariant-loop-t : goal.invariant-loop-t
+invariant-loop-t l =
+    Growing l.targets l.k l.base l.support l.table l.count l.initial.numbers l.initial.gates l.numbers l.gates l.next l.t
+
+abbrev pub decreases-loop-t : goal.decreases-loop-t
+decreases-loop-t l = l.targets - l.t

@@ -1,0 +1,9 @@
+-- `engine::tree::table_bit` meets its contract. Assumes nothing.
+use borrow.Author.Rules.{rules}
+use Rattle.engine.specs.Eval.{bit}
+use mathlib.Core.Path.{refl}
+use Rattle.engine.proofs.tree.table_bit.Goals as goal
+
+pub returns : goal.returns
+unfolding bit
+returns c = refl
