@@ -4,11 +4,8 @@
 --   low_value j v, high_value j v     the value of the low, the high half: v, that of its tree, where it has one, else its constant
 use Prim.Native.Nat.{ℕ, zero, suc, ◌+◌, ◌-◌, min, max, ◌≤◌, ◌<◌}
 use mathlib.Core.Path.{◌≡◌, refl, sym, ◌∙◌, ap}
-use mathlib.Core.List.{List, [], ◌∷◌, map}
-use mathlib.Core.Logic.{⊎_elim}
+use mathlib.Core.List.{List, [], ◌∷◌}
 use mathlib.Core.Bool.{Bool, true, false, cond}
-use denote.Enum.Declared.{tag_of}
-use types.Run.{OneOf}
 use native.Mathlib.Nat.{add-zero}
 use native.Mathlib.Omega.{arith}
 use borrow.Author.Tests.{eqb-true, lt-ltb}
@@ -25,33 +22,8 @@ use Rattle.engine.specs.Inner.Packed.{formed}
 use Rattle.engine.specs.Inner.Tree.{join_size}
 use Rattle.engine.specs.declared.tree.Join.{Join}
 use Rattle.engine.specs.declared.tree.Join.TheVariants.{Buf, Not, AndHigh, AndLow, OrHigh, OrLow, Both}
-use Rattle.engine.specs.contracts.tree.Join.{the_type}
 use Rattle.engine.proofs.Laws.Eval.{Bits, net_at-lt}
 use Rattle.engine.proofs.Laws.FitGates.{Consistent}
-
--- ---- a match on a join
-
-abbrev join_at : ℕ → Join
-join_at i = get_or (Buf ∷ Not ∷ AndHigh ∷ AndLow ∷ OrHigh ∷ OrLow ∷ Both ∷ []) i Both
-
-join-tag : (j : Join) → j ≡ join_at (tag_of the_type j)
-join-tag Buf = refl
-join-tag Not = refl
-join-tag AndHigh = refl
-join-tag AndLow = refl
-join-tag OrHigh = refl
-join-tag OrLow = refl
-join-tag Both = refl
-
-join-told : {A : Type 0} (f : Join → A) (v : A) (j : Join) (n : ℕ) → f (join_at n) ≡ v → tag_of the_type j ≡ n → v ≡ f j
-join-told f v j n e k = sym (ap f (join-tag j) ∙ ap (λ (i : ℕ). f (join_at i)) k ∙ e)
-
--- f gives v on each of the variants ns, of which j is one
-pub join-one-of : {A : Type 0} (f : Join → A) (v : A) (j : Join) (ns : List ℕ)
-    → map (λ (i : ℕ). f (join_at i)) ns ≡ map (λ (i : ℕ). v) ns → OneOf ns (tag_of the_type j) → v ≡ f j
-join-one-of f v j [] e k = absurd k
-join-one-of f v j (n ∷ []) e k = join-told f v j n (cc) k
-join-one-of f v j (n ∷ m ∷ ns) e k = ⊎_elim (join-told f v j n (cc)) (join-one-of f v j (m ∷ ns) (cc)) k
 
 -- ---- the join by what the tests of the halves gave
 

@@ -90,24 +90,24 @@ pub overflow_add-arena : goal.overflow_add-arena
 overflow_add-arena c =
     let put-lt : c.args.at + c.reading_count.result + c.loop-q.q < 2048 =
         let l : c.args.len - 1 ≤ c.args.len = omega arith in
-    let m : 2 ^ (s.args.len - 1) ≤ 2 ^ s.args.len = pow_mono l in
-    omega (arith, s.requires.2.room, n.reading_count.ensures, n.reading_count-count.ensures) in
+    let m : 2 ^ (c.args.len - 1) ≤ 2 ^ c.args.len = pow_mono l in
+    omega (arith, c.requires.2.room, c.reading_count.ensures, c.reading_count-count.ensures) in
     omega (arith, put-lt)
 
 pub offset_bounds-arena-to : goal.offset_bounds-arena-to
 offset_bounds-arena-to c =
     let put-lt : c.args.at + c.reading_count.result + c.loop-q.q < 2048 =
         let l : c.args.len - 1 ≤ c.args.len = omega arith in
-    let m : 2 ^ (s.args.len - 1) ≤ 2 ^ s.args.len = pow_mono l in
-    omega (arith, s.requires.2.room, n.reading_count.ensures, n.reading_count-count.ensures) in
+    let m : 2 ^ (c.args.len - 1) ≤ 2 ^ c.args.len = pow_mono l in
+    omega (arith, c.requires.2.room, c.reading_count.ensures, c.reading_count-count.ensures) in
     omega (arith, put-lt)
 
 pub bounds-arena-to : goal.bounds-arena-to
 bounds-arena-to c =
     let put-lt : c.args.at + c.reading_count.result + c.loop-q.q < 2048 =
         let l : c.args.len - 1 ≤ c.args.len = omega arith in
-    let m : 2 ^ (s.args.len - 1) ≤ 2 ^ s.args.len = pow_mono l in
-    omega (arith, s.requires.2.room, n.reading_count.ensures, n.reading_count-count.ensures) in
+    let m : 2 ^ (c.args.len - 1) ≤ 2 ^ c.args.len = pow_mono l in
+    omega (arith, c.requires.2.room, c.reading_count.ensures, c.reading_count-count.ensures) in
     put-lt
 
 pub loop-q-preserved : goal.loop-q-preserved
@@ -124,8 +124,8 @@ loop-q-preserved c =
     (omega (arith, c.reading_count.ensures))) in
     let put-lt : c.args.at + c.reading_count.result + c.loop-q.q < 2048 =
         let l : c.args.len - 1 ≤ c.args.len = omega arith in
-    let m : 2 ^ (s.args.len - 1) ≤ 2 ^ s.args.len = pow_mono l in
-    omega (arith, s.requires.2.room, n.reading_count.ensures, n.reading_count-count.ensures) in
+    let m : 2 ^ (c.args.len - 1) ≤ 2 ^ c.args.len = pow_mono l in
+    omega (arith, c.requires.2.room, c.reading_count.ensures, c.reading_count-count.ensures) in
     let l = c.loop-q in
     let e = joined in (
       omega arith,

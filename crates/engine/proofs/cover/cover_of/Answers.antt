@@ -3,12 +3,11 @@ use Prim.Native.Nat.{◌-◌, ◌≤◌}
 use mathlib.Core.Path.{refl}
 use mathlib.Core.Logic.{◌⊎◌, inr, ⊎_elim}
 use native.Mathlib.Omega.{arith}
-use borrow.Author.Tests.{not-false}
 use Rattle.engine.specs.Inner.Cover.{CoverHeld, InCover, CoverTo}
 use Rattle.engine.proofs.Laws.Cover.{cover-none, cover-next, cover-more}
 use Rattle.engine.proofs.Laws.Rule.{readings-many}
 use Rattle.engine.proofs.cover.cover_of.Goals as goal
-use Rattle.engine.proofs.cover.cover_of.Goals.{else-not-in_either, then-not-in_either}
+use Rattle.engine.proofs.cover.cover_of.Goals.{then-not-in_either+else-cover-eq-CUBES, else-not-in_either}
 
 pub next_unseen-r-requires : goal.next_unseen-r-requires
 next_unseen-r-requires c = (omega arith, omega (arith, c.reading_count-count.ensures, readings-many c.requires.0))
@@ -44,7 +43,7 @@ loop-r-preserved c =
     let u = c.next_unseen-r-in-loop-r.ensures in
     let d = c.if-not-in_either.cover in
     let so : CoverHeld d × CoverTo ss c.loop-r.r x.never d × (InCover x.never c.loop-r.r ⊎ InCover d c.loop-r.r) =
-    elim c.if-not-in_either.branch [ then-not-in_either w ↦ let a = w.4.ensures in rw w.5 (a.held, cover-more ss c.loop-r.invariant.2 a, inr (a.added c.loop-r.r (λ k h. refl))) | else-not-in_either w ↦ rw w.1 (c.loop-r.invariant.0, c.loop-r.invariant.2, c.in_either.ensures (not-false _ w.0.left)) ] in
+    elim c.if-not-in_either.branch [ then-not-in_either+else-cover-eq-CUBES w ↦ let a = w.with_cube-cover.ensures in rw w.cover-is (a.held, cover-more ss c.loop-r.invariant.2 a, inr (a.added c.loop-r.r (λ k h. refl))) | else-not-in_either w ↦ rw w.cover-is (c.loop-r.invariant.0, c.loop-r.invariant.2, c.in_either.ensures w.if-not-in_either.false) ] in
     (so.0, u.most, cover-next ss so.1 so.2 u)
 
 pub returns : goal.returns

@@ -11,6 +11,7 @@ use Rattle.engine.proofs.Laws.Cover.{cube-next}
 use Rattle.engine.proofs.Laws.Kernel.{row-replicate}
 use Rattle.engine.proofs.Laws.Word.{bit-ones}
 use Rattle.engine.proofs.cover.cube_row.Goals as goal
+use Rattle.engine.proofs.cover.cube_row.Goals.{then-care-k-eq1, else-care-k-eq1}
 
 pub loop-k-init : goal.loop-k-init
 loop-k-init c = (omega arith, refl, λ y h m. row-replicate _ y h ∙ bit-ones _ (omega arith))
@@ -26,18 +27,18 @@ pub loop-k-preserved : goal.loop-k-preserved
 unfolding bit
 loop-k-preserved c =
     let l = c.loop-k in
-    ⊎_elim
-    (λ w.
-    rw w.3 (
-      omega arith,
-      w.2.ensures.0,
-      λ y h m.
-          w.2.ensures.1 y h
-          ∙ cube-next c.args.words.now c.args.nets c.args.reads c.args.value c.args.care y l.k (omega (arith, c.requires.0, c.requires.1)) (omega arith) w.0.taken m
-          (l.invariant.2 y h m),
-    ))
-    (λ w. rw w.1 (omega arith, l.invariant.1, l.invariant.2))
-    c.if-care-k-eq1.branch
+    elim c.if-care-k-eq1.branch [
+      then-care-k-eq1 w ↦
+          rw w.r-is (
+            omega arith,
+            w.keep_value.ensures.0,
+            λ y h m.
+                w.keep_value.ensures.1 y h
+                ∙ cube-next c.args.words.now c.args.nets c.args.reads c.args.value c.args.care y l.k (omega (arith, c.requires.0, c.requires.1)) (omega arith) w.if-care-k-eq1.true m
+                (l.invariant.2 y h m),
+          )
+      | else-care-k-eq1 w ↦ rw w.r-is (omega arith, l.invariant.1, l.invariant.2)
+    ]
 
 pub returns : goal.returns
 returns c = c.loop-k.invariant.2

@@ -16,7 +16,7 @@ use Rattle.engine.proofs.Laws.Imply.{no-cubes-given}
 use Rattle.engine.proofs.Laws.Rule.{readings-many}
 use Rattle.engine.proofs.given.see_inputs.Invariants.{Covered}
 use Rattle.engine.proofs.given.see_inputs.Goals as goal
-use Rattle.engine.proofs.given.see_inputs.Goals.{else-is_due, then-is_due}
+use Rattle.engine.proofs.given.see_inputs.Goals.{then-is_due, else-is_due, then-skipped-b-eq1, else-skipped-b-eq1}
 
 pub reading_count-count-requires : goal.reading_count-count-requires
 reading_count-count-requires c = c.requires.0.reads
@@ -49,9 +49,10 @@ is_due-requires c = omega (arith, c.loop-b.invariant.1.few)
 pub returns-then-covering-eq0 : goal.returns-then-covering-eq0
 returns-then-covering-eq0 c =
     let covered : Covered c.args.plan c.args.gates.now c.loop-b.sets c.if-is_due.covering =
-        let x = c.args in
-    let P : Covering → Type 0 = Covered x.plan x.gates.now l.loop-b.sets in
-    elim c.if-is_due.branch [ then-is_due w ↦ subst P (sym w.3) w.2.ensures | else-is_due w ↦ subst P (sym w.1) l.loop-b.invariant.2 ] in
+    elim c.if-is_due.branch [
+      then-is_due w ↦ rw w.covering-is w.renewed-covering.ensures
+      | else-is_due w ↦ rw w.covering-is c.loop-b.invariant.2
+    ] in
     let i = c.loop-b.invariant in
     (seeing-all i.1 covered.0 (inr (inr c.if-covering-eq0.true)), i.1.same)
 
@@ -64,9 +65,10 @@ renewed-covering-requires c = (c.requires.0, c.loop-b.invariant.2.0, c.loop-b.in
 pub see_block-requires : goal.see_block-requires
 see_block-requires c =
     let covered : Covered c.args.plan c.args.gates.now c.loop-b.sets c.if-is_due.covering =
-        let x = c.args in
-    let P : Covering → Type 0 = Covered x.plan x.gates.now l.loop-b.sets in
-    elim c.if-is_due.branch [ then-is_due w ↦ subst P (sym w.3) w.2.ensures | else-is_due w ↦ subst P (sym w.1) l.loop-b.invariant.2 ] in
+    elim c.if-is_due.branch [
+      then-is_due w ↦ rw w.covering-is w.renewed-covering.ensures
+      | else-is_due w ↦ rw w.covering-is c.loop-b.invariant.2
+    ] in
     let i = c.loop-b.invariant in
     let r = seeing-range i.1 c.loop-b-test.true c.block_inputs.ensures in
     record {
@@ -81,18 +83,19 @@ pub loop-b-preserved : goal.loop-b-preserved
 unfolding bit
 loop-b-preserved c =
     let covered : Covered c.args.plan c.args.gates.now c.loop-b.sets c.if-is_due.covering =
-        let x = c.args in
-    let P : Covering → Type 0 = Covered x.plan x.gates.now l.loop-b.sets in
-    elim c.if-is_due.branch [ then-is_due w ↦ subst P (sym w.3) w.2.ensures | else-is_due w ↦ subst P (sym w.1) l.loop-b.invariant.2 ] in
+    elim c.if-is_due.branch [
+      then-is_due w ↦ rw w.covering-is w.renewed-covering.ensures
+      | else-is_due w ↦ rw w.covering-is c.loop-b.invariant.2
+    ] in
     let i = c.loop-b.invariant in
-    let o = covered in
-    ⊎_elim
-    (λ w.
-    let e = w.4.ensures in
-    let s = seeing-next i.1 (omega arith) w.1.ensures w.0.taken e.0 w.6.ensures in
-    rw (w.7, w.8, w.9) (e.1, s, (given-kept o.0 c.requires.0.reads i.1.long e.0, o.1)))
-    (λ w. rw (w.1, w.2, w.3) (i.0, seeing-pass i.1 (omega arith) refl w.0.left, o))
-    c.if-skipped-b-eq1.branch
+    elim c.if-skipped-b-eq1.branch [
+      then-skipped-b-eq1 w ↦
+          let e = w.see_block.ensures in
+          let s = seeing-next i.1 (omega arith) w.block_inputs.ensures w.if-skipped-b-eq1.true e.block_seen w.next_unseen-next-then-skipped-b-eq1.ensures in
+          rw (w.words-is, w.sets-is, w.next-is) (e.words_len_2, s, (given-kept covered.0 c.requires.0.reads i.1.long e.block_seen, covered.1))
+      | else-skipped-b-eq1 w ↦
+          rw (w.words-is, w.sets-is, w.next-is) (i.0, seeing-pass i.1 (omega arith) refl w.if-skipped-b-eq1.false, covered)
+    ]
 
 pub returns : goal.returns
 returns c = let i = c.loop-b.invariant in (seeing-all i.1 i.2.0 (inl (omega arith)), i.1.same)

@@ -3,46 +3,35 @@ use mathlib.Core.Path.{◌∙◌}
 use borrow.Author.Rules.{rules}
 use borrow.Author.Tests.{leb-true}
 use lib.Dec.{lit≤}
-use Rattle.engine.specs.Inner.Search.{DrivenRow}
 use Rattle.engine.proofs.Laws.Guess.{vectors_at, guessed-first, guessed-either}
 use Rattle.engine.proofs.Laws.Rows.{rows_four}
 use Rattle.engine.proofs.guess.guess_block.Goals as goal
 
 pub returns-then-count-first_zero : goal.returns-then-count-first_zero
 returns-then-count-first_zero c =
-    let first-row : (let a = c.args in DrivenRow a.plan a.gates.now (vectors_at c.table_rows-vectors.result 0) a.words.now c.driven_row-one.result c.driven_row-one.new.rows.1.1.1.0) =
-        let v = c.table_rows-vectors.result in
-    c.driven_row-one.ensures (vectors_at v 0) (rows_four v 0 _ (lit≤ tt) c.requires.0.targets) in
-    let e = first-row in record {
+    let v = c.table_rows-vectors in
+    let e = c.driven_row-one.ensures (vectors_at v.result 0) (rows_four v.result 0 _ (lit≤ tt) c.requires.0.targets) in
+    record {
       free_kept = (e.free, e.long ∙ c.requires.2);
       block_guessed = λ t.
-          guessed-first c.args.readings c.args.table.now c.table_rows-vectors.result c.table_rows-vectors.ensures.1
-          e
-          c.first_zero.ensures
+          guessed-first c.args.readings c.args.table.now v.result v.ensures.1 e c.first_zero.ensures
           c.if-count-first_zero.true;
     }
 
 pub driven_row-two-requires : goal.driven_row-two-requires
 driven_row-two-requires c =
-    let first-row : (let a = c.args in DrivenRow a.plan a.gates.now (vectors_at c.table_rows-vectors.result 0) a.words.now c.driven_row-one.result c.driven_row-one.new.rows.1.1.1.0) =
-        let v = c.table_rows-vectors.result in
-    c.driven_row-one.ensures (vectors_at v 0) (rows_four v 0 _ (lit≤ tt) c.requires.0.targets) in
-    (c.requires.0, lit≤ tt, first-row.long ∙ c.requires.2)
+    let v = c.table_rows-vectors.result in
+    let e = c.driven_row-one.ensures (vectors_at v 0) (rows_four v 0 _ (lit≤ tt) c.requires.0.targets) in
+    (c.requires.0, lit≤ tt, e.long ∙ c.requires.2)
 
 pub returns : goal.returns
 returns c =
-    let first-row : (let a = c.args in DrivenRow a.plan a.gates.now (vectors_at c.table_rows-vectors.result 0) a.words.now c.driven_row-one.result c.driven_row-one.new.rows.1.1.1.0) =
-        let v = c.table_rows-vectors.result in
-    c.driven_row-one.ensures (vectors_at v 0) (rows_four v 0 _ (lit≤ tt) c.requires.0.targets) in
-    let e = first-row in
-    let v = c.table_rows-vectors.result in
-    let e₂ = c.driven_row-two.ensures (vectors_at v 4) (rows_four v 4 _ (lit≤ tt) c.requires.0.targets) in record {
+    let v = c.table_rows-vectors in
+    let e = c.driven_row-one.ensures (vectors_at v.result 0) (rows_four v.result 0 _ (lit≤ tt) c.requires.0.targets) in
+    let e₂ = c.driven_row-two.ensures (vectors_at v.result 4) (rows_four v.result 4 _ (lit≤ tt) c.requires.0.targets) in
+    record {
       free_kept = (λ j is q b f. e₂.free j is q b (e.free j is q b f), e₂.long ∙ e.long ∙ c.requires.2);
       block_guessed = λ t.
-          guessed-either c.args.readings c.args.table.now c.table_rows-vectors.result c.table_rows-vectors.ensures.1
-          e
-          e₂
-          c.join_rows.ensures
-          c.first_zero-2.ensures
+          guessed-either c.args.readings c.args.table.now v.result v.ensures.1 e e₂ c.join_rows.ensures c.first_zero-2.ensures
           (leb-true _ _ t);
     }

@@ -2,7 +2,6 @@
 -- while the tables are trusted. Assumes nothing.
 use Prim.Native.Nat.{ℕ, ◌+◌, ◌-◌, ◌*◌, ◌^◌, min, ◌≤◌, ◌<◌}
 use mathlib.Core.Path.{◌≡◌, sym, subst}
-use mathlib.Core.Logic.{⊎_elim}
 use mathlib.Core.List.{List}
 use native.Mathlib.Omega.{arith}
 use lib.ListN.{length, length-replicate}
@@ -46,29 +45,35 @@ list_inputs-next-requires c =
 
 pub returns-then-list : goal.returns-then-list
 returns-then-list c =
-    let listed : (let a = c.args in let x = 1024 * c.loop-b.b in ListsTo a.plan a.gates.now c.list_inputs-next.result.list (x + min (2 ^ a.plan.inputs - x) 1024)) =
-        λ j q. c.list_inputs-next.ensures.block_listed.0.listed j q (walk_here c.loop-b.invariant.3 (omega arith) j q) in
-    let v = c.list_inputs-next.result.list in
-    let r = block-range c.args.plan.inputs c.loop-b.b (omega (arith, c.loop-b.invariant.3.inputs, c.loop-b-test.true)) in
+    let i = c.loop-b.invariant.3 in
+    let e = c.list_inputs-next in
+    let v = e.result.list in
+    let r = block-range c.args.plan.inputs c.loop-b.b (omega (arith, i.inputs)) in
     record {
-      held = c.list_inputs-next.ensures.block_listed.0.held;
-      list_to = lists-all v (lists-stuck v r.within c.if-list.true listed);
+      held = e.ensures.block_listed.0.held;
+      list_to =
+          lists-all v
+          (lists-stuck v r.within c.if-list.true (λ j q. e.ensures.block_listed.0.listed j q (walk_here i (omega arith) j q)));
     }
 
 pub loop-b-preserved-then-skip-eq0 : goal.loop-b-preserved-then-skip-eq0
 loop-b-preserved-then-skip-eq0 c =
-    let listed : (let a = c.args in let x = 1024 * c.loop-b.b in ListsTo a.plan a.gates.now c.list_inputs-next.result.list (x + min (2 ^ a.plan.inputs - x) 1024)) =
-        λ j q. c.list_inputs-next.ensures.block_listed.0.listed j q (walk_here c.loop-b.invariant.3 (omega arith) j q) in
-    let table-after : (let i = c.list_inputs-next in 0 < i.result.trust → OfListed i.result.list c.if-next.table) =
-        λ h. let i = c.list_inputs-next in
-    elim c.if-next.branch [ then-next u ↦ subst (OfListed i.result.list) (sym u.2) u.1.ensures | else-next u ↦ subst (OfListed i.result.list) (sym u.1) (c.list_inputs-next.ensures.block_listed.2 u.0.left h) ] in
     let i = c.loop-b.invariant.3 in
+    let v = c.list_inputs-next.result.list in
     let e = c.list_inputs-next.ensures in (
       e.sets_len.1,
       e.sets_len.0,
-      record { held = e.block_listed.0.held; few = e.block_listed.1; table = table-after },
-      walk_block i (omega (arith, c.loop-b-test.true)) (omega (arith, i.inputs))
-          (ListsTo _ _ c.list_inputs-next.result.list) listed,
+      record {
+        held = e.block_listed.0.held;
+        few = e.block_listed.1;
+        table = λ h.
+            elim c.if-next.branch [
+              then-next u ↦ rw u.table-is u.listed_table-table.ensures
+            | else-next u ↦ rw u.table-is (e.block_listed.2 u.if-next.false h)
+            ];
+      },
+      walk_block i (omega arith) (omega (arith, i.inputs)) (ListsTo _ _ v)
+          (λ j q. e.block_listed.0.listed j q (walk_here i (omega arith) j q)),
       c.next_tries-tries.ensures,
     )
 

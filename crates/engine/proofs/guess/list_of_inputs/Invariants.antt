@@ -13,6 +13,12 @@ use Rattle.engine.proofs.Laws.Guess.{ListsTo, zeros-listed, lists-start, lists-s
 use Rattle.engine.proofs.Laws.Search.{WalkTo, block-range, walk_start, walk_here, walk_block, walk-skip, walk_end}
 use Rattle.engine.proofs.guess.list_of_inputs.Given as goal
 
+-- the list, the table and the trust between two blocks
+pub record Trusted (v : Vectors) (t : List ℕ) (n : ℕ) : Type 0 where
+  pub held : Held v
+  pub few : n ≤ 64
+  pub table : 0 < n → OfListed v t
+
 abbrev pub invariant-loop-b : goal.invariant-loop-b
 invariant-loop-b l =
     (length l.words ≡ 16384)

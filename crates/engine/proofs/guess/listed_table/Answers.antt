@@ -2,7 +2,6 @@
 -- Assumes nothing.
 use Prim.Native.Nat.{◌-◌, ◌/◌, ◌^◌, ◌≤◌, ◌<◌}
 use native.Mathlib.Omega.{arith}
-use borrow.Author.Rules.{rules}
 use lib.ListN.{get_or}
 use Rattle.engine.proofs.Laws.Guess.{TableIn, table_none, table-next, table-listed}
 use Rattle.engine.proofs.Laws.VectorSets.{lowest-lt}
@@ -11,14 +10,17 @@ use Rattle.engine.proofs.guess.listed_table.Goals as goal
 pub listed_set-listed-requires : goal.listed_set-listed-requires
 listed_set-listed-requires c = let h = c.requires in (h.long, h.below)
 
-pub overflow_cast-listed : goal.overflow_cast-listed
-overflow_cast-listed c = search rules
-
 pub loop-r-init : goal.loop-r-init
 loop-r-init c = (omega arith, table_none c.listed_set-listed.result)
 
-pub overflow_cast-both : goal.overflow_cast-both
-overflow_cast-both c = search rules
+pub overflow_mul-table : goal.overflow_mul-table
+overflow_mul-table c = omega (arith, lowest-lt)
+
+pub overflow_add-table : goal.overflow_add-table
+overflow_add-table c = omega (arith, lowest-lt)
+
+pub overflow_cast-table : goal.overflow_cast-table
+overflow_cast-table c = omega (arith, lowest-lt)
 
 pub loop-r-preserved : goal.loop-r-preserved
 loop-r-preserved c =

@@ -8,7 +8,6 @@ use lib.ListN.{length, get_or, take}
 use Rattle.engine.specs.Inner.List.{listed_of}
 use Rattle.engine.specs.Inner.Search.{FreeKept}
 use Rattle.engine.proofs.Laws.Guess.{any_at, RowShown, shown-none, shown-next, vector-free}
-use Rattle.engine.proofs.Laws.Stream.{places}
 use Rattle.engine.proofs.guess.try_listed.Goals as goal
 
 pub loop-i-init : goal.loop-i-init
@@ -35,51 +34,39 @@ equal_row-requires c =
 pub returns-then-count-first_zero : goal.returns-then-count-first_zero
 unfolding listed_of
 returns-then-count-first_zero c =
-    let shown : (let a = c.args in RowShown a.plan a.gates.now a.words.now (take a.list.len a.list.list) c.join_rows-next.result) =
-        let a = c.args in
+    let a = c.args in
     let l = c.loop-i in
-    let e = c.equal_row in
-    let n : length a.list.list ≡ 16 = places a.list.list 16 s.good.1.1.0.1.1.0.1.0.1 in
-    shown-next a.plan a.gates.now a.words.now (take a.list.len a.list.list) l.row e.result c.join_rows-next.result
+    let w = c.vector_block.ensures in
+    let shown =
+    shown-next a.plan a.gates.now a.words.now (take a.list.len a.list.list) l.row c.equal_row.result c.join_rows-next.result
     (get_or a.list.list l.i 0)
-    (any_at a.list.list a.list.len l.i t.loop-i-test.true (omega (arith, s.requires.1.long)))
+    (any_at a.list.list a.list.len l.i c.loop-i-test.true (omega arith))
     l.invariant.2
     l.invariant.1
-    v.vector_block.ensures
+    w
     c.equal_row.ensures.1
     c.join_rows-next.ensures in
-    let words : (let a = c.args in let w = c.vector_block.last.1.1.1.0 in (length w ≡ 16384) × FreeKept a.plan a.gates.now a.words.now w) =
-        let l = c.loop-i in
-    let w = c.vector_block.ensures in
-    (w.long ∙ l.invariant.0, vector-free l.invariant.1 w) in
     let f = c.first_zero.ensures in
-    let w = words in
     record {
-      free_kept = (w.1, w.0);
+      free_kept = (vector-free l.invariant.1 w, w.long ∙ l.invariant.0);
       block_shown = λ t j is q b g y h. shown j is q b g y (omega (arith, f.most)) (f.ones y (omega arith));
     }
 
 pub loop-i-preserved : goal.loop-i-preserved
 loop-i-preserved c =
-    let shown : (let a = c.args in RowShown a.plan a.gates.now a.words.now (take a.list.len a.list.list) c.join_rows-next.result) =
-        let a = c.args in
+    let a = c.args in
     let l = c.loop-i in
-    let e = c.equal_row in
-    let n : length a.list.list ≡ 16 = places a.list.list 16 s.good.1.1.0.1.1.0.1.0.1 in
-    shown-next a.plan a.gates.now a.words.now (take a.list.len a.list.list) l.row e.result c.join_rows-next.result
+    let w = c.vector_block.ensures in
+    let shown =
+    shown-next a.plan a.gates.now a.words.now (take a.list.len a.list.list) l.row c.equal_row.result c.join_rows-next.result
     (get_or a.list.list l.i 0)
-    (any_at a.list.list a.list.len l.i t.loop-i-test.true (omega (arith, s.requires.1.long)))
+    (any_at a.list.list a.list.len l.i c.loop-i-test.true (omega arith))
     l.invariant.2
     l.invariant.1
-    v.vector_block.ensures
+    w
     c.equal_row.ensures.1
     c.join_rows-next.ensures in
-    let words : (let a = c.args in let w = c.vector_block.last.1.1.1.0 in (length w ≡ 16384) × FreeKept a.plan a.gates.now a.words.now w) =
-        let l = c.loop-i in
-    let w = c.vector_block.ensures in
-    (w.long ∙ l.invariant.0, vector-free l.invariant.1 w) in
-    let w = words in
-    (w.0, w.1, shown)
+    (w.long ∙ l.invariant.0, vector-free l.invariant.1 w, shown)
 
 pub returns : goal.returns
 returns c =

@@ -8,7 +8,6 @@ use lib.ListN.{length, get_or, take}
 use Rattle.engine.specs.Inner.List.{listed_of}
 use Rattle.engine.specs.Inner.Search.{FreeKept}
 use Rattle.engine.proofs.Laws.Guess.{any_at, RowShown, shown-none, shown-next, vector-free}
-use Rattle.engine.proofs.Laws.Stream.{places}
 use Rattle.engine.proofs.guess.try_listed.Given as goal
 
 abbrev pub invariant-loop-i : goal.invariant-loop-i

@@ -5,7 +5,7 @@ use native.Mathlib.Omega.{arith}
 use lib.ListN.{take}
 use Rattle.engine.specs.Choice.{any}
 use Rattle.engine.proofs.Laws.VectorSets.{in_set, lowest-lt}
-use Rattle.engine.proofs.Laws.Stream.{places, step-stuck, step-listed, step-none, step-full, step-append}
+use Rattle.engine.proofs.Laws.Stream.{step-stuck, step-listed, step-none, step-full, step-append}
 use Rattle.engine.proofs.list.list_step.Goals as goal
 
 pub returns-then-v : goal.returns-then-v
@@ -37,7 +37,7 @@ returns-then-v-ge-VECTORS c =
     let a = c.args in
     step-full a.v a.set a.input c.requires.0 c.if-v.false unrectified c.requires.1
     c.if-set-eq0.false
-    (places a.v.list 16 c.well-formed.0.1.1.0.1.0.1)
+    (omega arith)
     c.if-v-ge-VECTORS.true
 
 pub append-requires : goal.append-requires

@@ -98,10 +98,10 @@ loop-step-preserved c =
           l.invariant.2.0
           (omega (arith, l.invariant.3))
           l.invariant.4
-          (subst (λ (x : ℕ). TargetTurned p g (turns u.result l.step) (x / 2 ^ turns u.result l.step) l.words c.turn_target.new.words.1.1.1.0) v.ensures
-          (subst (λ (x : ℕ). TargetTurned p g x (v.result / 2 ^ x) l.words c.turn_target.new.words.1.1.1.0) c.turned_at-t.ensures t.ensures))
+          (subst (λ (x : ℕ). TargetTurned p g (turns u.result l.step) (x / 2 ^ turns u.result l.step) l.words c.turn_target.new.words) v.ensures
+          (subst (λ (x : ℕ). TargetTurned p g x (v.result / 2 ^ x) l.words c.turn_target.new.words) c.turned_at-t.ensures t.ensures))
           c.equal_row-in-loop-step.ensures.1
-          (subst (λ (x : ℕ). NetSet x (row_value c.equal_row-in-loop-step.result) l.masks c.put_row-in-loop-step.new.1.1.0) v.ensures c.put_row-in-loop-step.ensures),
+          (subst (λ (x : ℕ). NetSet x (row_value c.equal_row-in-loop-step.result) l.masks c.put_row-in-loop-step.new.rows) v.ensures c.put_row-in-loop-step.ensures),
     )
 
 pub returns : goal.returns

@@ -23,7 +23,7 @@ overflow_add-ends-in-loop-t c =
 pub loop-t-preserved : goal.loop-t-preserved
 loop-t-preserved c =
     let l = c.loop-t in
-    elim c.if-ends-t.branch [ then-ends-t k ↦ rw k.1 (omega arith, inr (omega arith)) | else-ends-t k ↦ rw k.1 l.invariant ]
+    elim c.if-ends-t.branch [ then-ends-t k ↦ rw k.best-is (omega arith, inr (omega arith)) | else-ends-t k ↦ rw k.best-is l.invariant ]
 
 pub returns : goal.returns
 returns c = c.loop-t.invariant

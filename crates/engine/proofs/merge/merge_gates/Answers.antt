@@ -11,6 +11,7 @@ use Rattle.engine.specs.Inner.Renumber.{gate_in}
 use Rattle.engine.proofs.Laws.Loaded.{below-zeros}
 use Rattle.engine.proofs.Laws.Merge.{Merging, merging-none, merging-moved, merging-stands, merging-place, merging-all}
 use Rattle.engine.proofs.merge.merge_gates.Goals as goal
+use Rattle.engine.proofs.merge.merge_gates.Goals.{then-k-gt0, else-k-gt0}
 
 pub loop-i-init : goal.loop-i-init
 loop-i-init c =
@@ -51,22 +52,18 @@ loop-i-preserved c =
     let i = c.loop-i.i in
     let r = c.moved_code-c.result in
     let gates = set c.loop-i.gates i r in
-    let Next : List ℕ → List ℕ → List ℕ → Type 0 = Merging a.base a.count a.gates (i + 1) gates in
-    let turned : (ns hs xs : List ℕ) → c.if-k-gt0.stands ≡ ns → c.if-k-gt0.heads ≡ hs → c.if-k-gt0.next ≡ xs → Next ns hs xs
-    → Next c.if-k-gt0.stands c.if-k-gt0.heads c.if-k-gt0.next =
-    λ ns hs xs e f g q. rw (e, f, g) q in
     let h = c.loop-i-test.true in
     let k = c.find-k.result in
     let same : get_or gates i 0 ≡ r =
     get_or-set_same c.loop-i.gates i r 0 (omega (arith, c.loop-i.invariant.long, room.1)) in
-    ⊎_elim
-    (λ d.
-    let z = d.0.taken in
-    turned _ _ _ d.1 d.2 d.3
-    (merging-stands moving c.requires.0 h (k - 1) (omega (arith, found)) (c.find-k.ensures.1 z ∙ ap gate_in (sym same))
-    (omega arith)))
-    (λ d. turned _ _ _ d.1 d.2 d.3 (merging-place moving c.requires.0 c.place_of-at.result refl))
-    c.if-k-gt0.branch
+    elim c.if-k-gt0.branch [
+      then-k-gt0 d ↦
+          rw (d.stands-is, d.heads-is, d.next-is)
+          (merging-stands moving c.requires.0 h (k - 1) (omega (arith, found))
+          (c.find-k.ensures.1 d.if-k-gt0.true ∙ ap gate_in (sym same))
+          (omega arith))
+      | else-k-gt0 d ↦ rw (d.stands-is, d.heads-is, d.next-is) (merging-place moving c.requires.0 c.place_of-at.result refl)
+    ]
 
 pub returns : goal.returns
 returns c = merging-all c.loop-i.invariant c.requires.0

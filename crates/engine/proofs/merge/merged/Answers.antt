@@ -17,7 +17,7 @@ move_nets-requires-2 c =
 
 pub pairs_apart-pairs-requires : goal.pairs_apart-pairs-requires
 pairs_apart-pairs-requires c =
-    (c.requires.outs, c.move_nets.kept.1.1.1.0, c.move_nets-2.auto.numbers.1.1.0)
+    (c.requires.outs, c.move_nets.auto.out, c.move_nets-2.auto.out)
 
 pub returns : goal.returns
 returns c =
@@ -25,7 +25,7 @@ returns c =
     let w = c.merge_gates-merged.ensures in
     let d = c.move_nets.ensures in
     let e = c.move_nets-2.ensures in
-    let m = merged-room r w _ _ d e c.move_nets.kept.1.1.1.0 c.move_nets-2.auto.numbers.1.1.0 in
+    let m = merged-room r w _ _ d e c.move_nets.auto.out c.move_nets-2.auto.out in
     let k = c.pairs_apart-pairs.ensures in
     record {
       miter_room = paired-room m k;

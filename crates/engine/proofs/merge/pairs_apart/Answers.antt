@@ -19,8 +19,8 @@ loop-i-preserved c =
     let h : l.i < length a.outputs = omega (arith, c.requires.1) in
     let k : l.i < length a.goldens = omega (arith, c.requires.2) in (
       omega arith,
-      elim c.if-a-b.branch [ then-a-b w ↦ omega (arith, w.3) | else-a-b w ↦ omega (arith, w.3) ],
-      elim c.if-a-b.branch [ then-a-b w ↦ rw (w.1, w.2, w.3) (pairs-more l.invariant.2 h k (omega arith)) | else-a-b w ↦ rw (w.1, w.2, w.3) (pairs-left l.invariant.2 h k w.0.left) ],
+      elim c.if-a-b.branch [ then-a-b w ↦ omega arith | else-a-b w ↦ omega arith ],
+      elim c.if-a-b.branch [ then-a-b w ↦ rw (w.olds-is, w.news-is, w.count-is) (pairs-more l.invariant.2 h k (omega arith)) | else-a-b w ↦ rw (w.olds-is, w.news-is, w.count-is) (pairs-left l.invariant.2 h k w.if-a-b.false) ],
     )
 
 pub returns : goal.returns

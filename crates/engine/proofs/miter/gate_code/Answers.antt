@@ -17,6 +17,6 @@ pack-requires c =
 pub returns : goal.returns
 returns c =
     let a = c.args in
-    packed-shifted a.gate a.own_val a.inputs a.shift
+    packed-shifted a.gate a.own a.inputs a.shift
     (rw c.slots_of.ensures at c.shift_slots-slots.ensures.0)
     c.pack.ensures

@@ -22,7 +22,7 @@ returns c j q e =
     let few : j.inputs ≤ 6 = omega (arith, c.requires.1, q.inputs) in
     let m = c.requires.0.targets in
     let v = c.word_masks-masks.ensures.by_index j q in
-    let words = c.word_masks-masks.new.1.0 in
+    let words = c.word_masks-masks.new.words in
     sets-of-masks j few (c.word_masks-masks.ensures.result_len.1 j q) r.result _ (omega (arith, q.targets))
     (omega (arith, ap length (sym e), length-take c.args.reads c.args.nets, c.requires.2.few))
     (λ y h.

@@ -25,8 +25,8 @@ returns-then-list c =
         let a = c.args in
     let l = c.loop-y in
     let e : min l.y a.count ≡ l.y = omega arith in
-    list-next a.masks a.first a.list l.y l.list g.gather_rows-set.result c.list_step-list.result (rw e at l.invariant)
-    g.gather_rows-set.ensures.0
+    list-next a.masks a.first a.list l.y l.list c.gather_rows-set.result c.list_step-list.result (rw e at l.invariant)
+    c.gather_rows-set.ensures.0
     c.list_step-list.ensures in
     let a = c.args in
     list-stuck a.masks a.first a.list _ a.count c.list_step-list.result stepped c.if-list.true (omega arith)
@@ -43,8 +43,8 @@ loop-y-preserved c =
         let a = c.args in
     let l = c.loop-y in
     let e : min l.y a.count ≡ l.y = omega arith in
-    list-next a.masks a.first a.list l.y l.list g.gather_rows-set.result c.list_step-list.result (rw e at l.invariant)
-    g.gather_rows-set.ensures.0
+    list-next a.masks a.first a.list l.y l.list c.gather_rows-set.result c.list_step-list.result (rw e at l.invariant)
+    c.gather_rows-set.ensures.0
     c.list_step-list.ensures in
     let a = c.args in
     let p = c.next_uncovered-y-in-loop-y.ensures.past in

@@ -22,7 +22,7 @@ loop-w-preserved c =
     let a = c.args in (
       omega arith,
       columns-next a.columns c.transpose.new.x c.transpose-2.new.x l.w a.sets.now l.sets
-          c.meet_column.new.readings.1.1.0
+          c.meet_column.new.sets
           (omega arith)
           l.invariant.1
           c.meet_column.ensures,

@@ -13,7 +13,7 @@ loop-i-preserved c =
     let a = c.args in
     let l = c.loop-i in (
       omega arith,
-      quarters-next a.masks.now a.readings.now a.w a.sets.now l.sets c.meet_four.new.1.1.0 l.i
+      quarters-next a.masks.now a.readings.now a.w a.sets.now l.sets c.meet_four.new.sets l.i
           l.invariant.1
           c.meet_four.ensures,
     )

@@ -45,4 +45,4 @@ overflow_add-result-3 c =
     record { fits = omega arith }
 
 pub returns : goal.returns
-returns c = let a = c.args in sym (packed-of a.own_val a.kind a.count a.slots (search rules))
+returns c = let a = c.args in sym (packed-of a.own a.kind a.count a.slots (search rules))

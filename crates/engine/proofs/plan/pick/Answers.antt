@@ -8,6 +8,7 @@ use native.Mathlib.Omega.{arith}
 use lib.ListN.{length, get_or}
 use Rattle.engine.proofs.Laws.PlanCode.{wanted-true, wanted-false, Picking, picking-none, picking-put, picking_full, picking-left}
 use Rattle.engine.proofs.plan.pick.Goals as goal
+use Rattle.engine.proofs.plan.pick.Goals.{then-live-net-ne0+then-marks-net+then-end-lt-LISTED, then-live-net-ne0+then-marks-net+else-end-lt-LISTED, then-live-net-ne0+else-marks-net, else-live-net-ne0}
 
 pub loop-i-init : goal.loop-i-init
 loop-i-init c =
@@ -24,30 +25,24 @@ loop-i-preserved c =
     let gates = a.gates.now in
     let n : l.i < length gates = omega arith in
     let wants = wanted-true live ms a.led (get_or gates l.i 0) in
-    let leaves = wanted-false live ms a.led (get_or gates l.i 0) in
-    let turned : (d : List ℕ) (e : ℕ) → c.if-live-net-ne0.out ≡ d → c.if-live-net-ne0.end ≡ e
-    → Picking live ms a.led gates a.out.now a.at d e (l.i + 1)
-    → Picking live ms a.led gates a.out.now a.at c.if-live-net-ne0.out c.if-live-net-ne0.end (l.i + 1) =
-    λ d e p q r. rw (p, q) r in (
+    let leaves = wanted-false live ms a.led (get_or gates l.i 0) in (
       omega arith,
-      ⊎_elim
-          (λ k.
-          turned _ _ k.4 k.5
-          (picking-put live ms a.led gates a.out.now a.at l.out l.end l.i l.invariant.1 n (wants k.0.taken k.2.taken)
-          k.3.taken))
-          (⊎_elim
-          (λ k.
-          turned _ _ k.4 k.5
-          (picking_full live ms a.led gates a.out.now a.at l.out l.end l.i l.invariant.1 n (wants k.0.taken k.2.taken)
-          k.3.left))
-          (⊎_elim
-          (λ k.
-          turned _ _ k.3 k.4
-          (picking-left live ms a.led gates a.out.now a.at l.out l.end l.i l.invariant.1 n (leaves (inr k.2.left))))
-          (λ k.
-          turned _ _ k.1 k.2
-          (picking-left live ms a.led gates a.out.now a.at l.out l.end l.i l.invariant.1 n (leaves (inl k.0.left))))))
-          c.if-live-net-ne0.branch,
+      elim c.if-live-net-ne0.branch [
+          then-live-net-ne0+then-marks-net+then-end-lt-LISTED k ↦
+              rw (k.out-is, k.end-is)
+              (picking-put live ms a.led gates a.out.now a.at l.out l.end l.i l.invariant.1 n (wants k.if-live-net-ne0.true k.if-marks-net.true)
+              k.if-end-lt-LISTED.true)
+          | then-live-net-ne0+then-marks-net+else-end-lt-LISTED k ↦
+              rw (k.out-is, k.end-is)
+              (picking_full live ms a.led gates a.out.now a.at l.out l.end l.i l.invariant.1 n (wants k.if-live-net-ne0.true k.if-marks-net.true)
+              k.if-end-lt-LISTED.false)
+          | then-live-net-ne0+else-marks-net k ↦
+              rw (k.out-is, k.end-is)
+              (picking-left live ms a.led gates a.out.now a.at l.out l.end l.i l.invariant.1 n (leaves (inr k.if-marks-net.false)))
+          | else-live-net-ne0 k ↦
+              rw (k.out-is, k.end-is)
+              (picking-left live ms a.led gates a.out.now a.at l.out l.end l.i l.invariant.1 n (leaves (inl k.if-live-net-ne0.false)))
+      ],
     )
 
 pub returns : goal.returns

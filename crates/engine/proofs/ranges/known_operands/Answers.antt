@@ -2,13 +2,13 @@
 -- is known of all operands. Assumes nothing.
 use lib.ListN.{length, length-set}
 use mathlib.Core.List.{[], ◌∷◌}
-use mathlib.Core.Logic.{⊎_elim}
 use mathlib.Core.Path.{◌≡◌, refl, ◌∙◌}
 use native.Mathlib.Omega.{arith}
 use Prim.Native.Nat.{◌+◌, ◌-◌, ◌/◌, ◌%◌, ◌≤◌}
 use Rattle.records.specs.Netlist.{net_at}
 use Rattle.engine.proofs.Laws.Partial.{ReadTo, read_none, read-used, read-unused, read-end}
 use Rattle.engine.proofs.ranges.known_operands.Goals as goal
+use Rattle.engine.proofs.ranges.known_operands.Goals.{then-i-count, else-i-count}
 
 pub loop-i-init : goal.loop-i-init
 loop-i-init c =
@@ -24,14 +24,14 @@ loop-i-preserved c =
     let n = x.c / 16 % 8 in
     let z = x.c / 131072 in
     let next : (length c.if-i-count.r ≡ 4) × ReadTo f n z c.if-i-count.r (t.rest / 1024) (t.i + 1) =
-    ⊎_elim
-    (λ w.
-    rw w.2 (
-      length-set t.r t.i (f (t.rest % 1024)) ∙ t.invariant.1,
-      read-used f n z t.r t.rest t.i t.invariant.2 w.0.taken (omega arith) t.invariant.1,
-    ))
-    (λ w. rw w.1 (t.invariant.1, read-unused f n z t.r t.rest t.i t.invariant.2 w.0.left))
-    c.if-i-count.branch in
+    elim c.if-i-count.branch [
+      then-i-count w ↦
+          rw w.r-is (
+            length-set t.r t.i (f (t.rest % 1024)) ∙ t.invariant.1,
+            read-used f n z t.r t.rest t.i t.invariant.2 w.if-i-count.true (omega arith) t.invariant.1,
+          )
+      | else-i-count w ↦ rw w.r-is (t.invariant.1, read-unused f n z t.r t.rest t.i t.invariant.2 w.if-i-count.false)
+    ] in
     (omega arith, next.0, next.1)
 
 pub returns : goal.returns

@@ -23,7 +23,7 @@ load_unknown-requires c =
 
 pub eval_partial-requires : goal.eval_partial-requires
 eval_partial-requires c =
-    let loaded : let a = c.args in let p = a.plan in let known = c.load_unknown.last.1.1.0 in (length known ≡ 1024) × ((x v : ℕ) → InRange a.low a.prefix x → Completed (p.inputs + p.targets) (bits p.inputs x ++ bits p.targets v) known) =
+    let loaded : let a = c.args in let p = a.plan in let known = c.load_unknown.new.known in (length known ≡ 1024) × ((x v : ℕ) → InRange a.low a.prefix x → Completed (p.inputs + p.targets) (bits p.inputs x ++ bits p.targets v) known) =
         let a = c.args in
     leaves-loaded a.plan.inputs a.plan.targets a.low a.prefix (replicate 1024 0) _ _
     (omega (arith, c.requires.inputs, c.requires.targets))
@@ -34,7 +34,7 @@ eval_partial-requires c =
 
 pub returns : goal.returns
 returns c t j is o =
-    let loaded : let a = c.args in let p = a.plan in let known = c.load_unknown.last.1.1.0 in (length known ≡ 1024) × ((x v : ℕ) → InRange a.low a.prefix x → Completed (p.inputs + p.targets) (bits p.inputs x ++ bits p.targets v) known) =
+    let loaded : let a = c.args in let p = a.plan in let known = c.load_unknown.new.known in (length known ≡ 1024) × ((x v : ℕ) → InRange a.low a.prefix x → Completed (p.inputs + p.targets) (bits p.inputs x ++ bits p.targets v) known) =
         let a = c.args in
     leaves-loaded a.plan.inputs a.plan.targets a.low a.prefix (replicate 1024 0) _ _
     (omega (arith, c.requires.inputs, c.requires.targets))

@@ -17,4 +17,4 @@ pub returns : goal.returns
 returns c =
     let x = c.args in
     let k = c.known_operands-operands in
-    c.ternary_value.ensures ∙ code_ternary-operands x.known.now x.c k.result k.ok.1.0.1 k.ensures
+    c.ternary_value.ensures ∙ code_ternary-operands x.known.now x.c k.result (omega arith) k.ensures

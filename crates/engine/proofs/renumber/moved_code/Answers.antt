@@ -11,4 +11,4 @@ pack-requires c = (omega arith, omega arith, c.requires.0, c.moved_slots-slots.e
 pub returns : goal.returns
 returns c =
     let a = c.args in
-    c.pack.ensures ∙ ap (packed a.own_val) (gate-moved a.numbers.now a.c c.moved_slots-slots.ensures.0)
+    c.pack.ensures ∙ ap (packed a.own) (gate-moved a.numbers.now a.c c.moved_slots-slots.ensures.0)

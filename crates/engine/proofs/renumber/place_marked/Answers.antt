@@ -5,10 +5,10 @@ use mathlib.Core.Path.{◌≡◌}
 use mathlib.Core.List.{List}
 use mathlib.Core.Logic.{⊎_elim}
 use native.Mathlib.Omega.{arith}
-use Rattle.engine.specs.Inner.Tree.{GateRoom}
 use Rattle.engine.proofs.Laws.FitCode.{Placing, PlacingOf, placing-none, placing-skip, placing-all}
 use Rattle.engine.proofs.Laws.FitCode.{placing-room, placing-nets, placing-next}
 use Rattle.engine.proofs.renumber.place_marked.Goals as goal
+use Rattle.engine.proofs.renumber.place_marked.Goals.{then-marks-net, else-marks-net}
 
 pub overflow_add-base : goal.overflow_add-base
 overflow_add-base c = let h = c.requires.old_held.0 in omega (arith, h.inputs, h.targets)
@@ -18,12 +18,22 @@ loop-i-init c =
     let a = c.args in
     placing-none a.old a.mark a.new
 
+pub overflow_add-own : goal.overflow_add-own
+overflow_add-own c =
+    let a = c.args in
+    let room = placing-room a.old a.mark a.new c.loop-i.invariant c.requires.old_held.0 c.loop-i-test.true c.if-marks-net.true c.requires.gate_room in
+    omega (arith, room.nets)
+
+pub overflow_cast-numbers : goal.overflow_cast-numbers
+overflow_cast-numbers c =
+    let a = c.args in
+    let room = placing-room a.old a.mark a.new c.loop-i.invariant c.requires.old_held.0 c.loop-i-test.true c.if-marks-net.true c.requires.gate_room in
+    omega (arith, room.nets)
+
 pub moved_code-requires : goal.moved_code-requires
 moved_code-requires c =
-    let room : GateRoom c.args.old.inputs (c.loop-i.count + 1) c.loop-i.gates =
-        let a = c.args in
-    placing-room a.old a.mark a.new c.loop-i.invariant c.requires.old_held.0 c.loop-i-test.true c.if-marks-net.true c.requires.gate_room in
     let a = c.args in
+    let room = placing-room a.old a.mark a.new c.loop-i.invariant c.requires.old_held.0 c.loop-i-test.true c.if-marks-net.true c.requires.gate_room in
     let h = c.requires.old_held.0 in (
       omega (arith, room.nets),
       placing-nets a.old a.mark a.new c.loop-i.invariant h c.loop-i-test.true c.if-marks-net.true c.requires.old_held.1
@@ -31,23 +41,37 @@ moved_code-requires c =
           c.requires.old_held.2,
     )
 
+pub offset_bounds-gates-count : goal.offset_bounds-gates-count
+offset_bounds-gates-count c =
+    let a = c.args in
+    let room = placing-room a.old a.mark a.new c.loop-i.invariant c.requires.old_held.0 c.loop-i-test.true c.if-marks-net.true c.requires.gate_room in
+    omega (arith, room.room)
+
+pub bounds-gates-count : goal.bounds-gates-count
+bounds-gates-count c =
+    let a = c.args in
+    let room = placing-room a.old a.mark a.new c.loop-i.invariant c.requires.old_held.0 c.loop-i-test.true c.if-marks-net.true c.requires.gate_room in
+    omega (arith, room.room)
+
+pub overflow_add-count : goal.overflow_add-count
+overflow_add-count c =
+    let a = c.args in
+    let room = placing-room a.old a.mark a.new c.loop-i.invariant c.requires.old_held.0 c.loop-i-test.true c.if-marks-net.true c.requires.gate_room in
+    omega (arith, room.room)
+
 pub loop-i-preserved : goal.loop-i-preserved
 loop-i-preserved c =
     let l = c.loop-i in
     let a = c.args in
-    let next : List ℕ → List ℕ → ℕ → Type 0 = PlacingOf a.old a.mark a.new (l.i + 1) in
-    let turned : (ns cs : List ℕ) (r : ℕ) → c.if-marks-net.numbers ≡ ns → c.if-marks-net.gates ≡ cs → c.if-marks-net.count ≡ r → next ns cs r
-    → next c.if-marks-net.numbers c.if-marks-net.gates c.if-marks-net.count =
-    λ ns cs r e f g q. rw (e, f, g) q in
-    ⊎_elim
-    (λ k.
-    turned _ _ _ k.3 k.4 k.5
-    (placing-next a.old a.mark a.new l.invariant c.requires.old_held.0 c.loop-i-test.true k.0.taken c.requires.old_held.1 c.requires.gate_room
-    k.2.ensures))
-    (λ k.
-    turned _ _ _ k.1 k.2 k.3
-    (placing-skip a.old a.mark a.new l.invariant c.loop-i-test.true k.0.left))
-    c.if-marks-net.branch
+    elim c.if-marks-net.branch [
+      then-marks-net k ↦
+          rw (k.numbers-is, k.gates-is, k.count-is)
+          (placing-next a.old a.mark a.new l.invariant c.requires.old_held.0 c.loop-i-test.true k.if-marks-net.true c.requires.old_held.1 c.requires.gate_room
+          k.moved_code.ensures)
+      | else-marks-net k ↦
+          rw (k.numbers-is, k.gates-is, k.count-is)
+          (placing-skip a.old a.mark a.new l.invariant c.loop-i-test.true k.if-marks-net.false)
+    ]
 
 pub returns : goal.returns
 returns c =

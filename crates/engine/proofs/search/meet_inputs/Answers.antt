@@ -1,14 +1,13 @@
 -- `engine::search::meet_inputs` meets its contract: the block's readings; where the table does, the sets stay, and else they are those after
 -- its masks. Assumes nothing.
 use mathlib.Core.Path.{◌≡◌, refl, ◌∙◌, ap}
-use mathlib.Core.Logic.{⊎_elim}
 use borrow.Author.Rules.{rules}
 use lib.ListN.{length}
 use Rattle.engine.proofs.Laws.Choice.{not-both}
 use Rattle.engine.proofs.Laws.Search.{block-met, block-kept}
 use Rattle.engine.proofs.Laws.Searching.{block-small}
 use Rattle.engine.proofs.search.meet_inputs.Goals as goal
-use Rattle.engine.proofs.search.meet_inputs.Goals.{else-tried, then-tried}
+use Rattle.engine.proofs.search.meet_inputs.Goals.{else-tried, then-tried+else-keep_block}
 
 pub read_block-readings-requires : goal.read_block-readings-requires
 read_block-readings-requires c =
@@ -31,13 +30,13 @@ returns-then-keep_block c =
 pub vector_block-requires : goal.vector_block-requires
 vector_block-requires c =
     let words_long : length c.if-tried.words ≡ 16384 =
-        elim c.if-tried.branch [ then-tried w ↦ ap length w.4 ∙ w.2.ensures.0.1 | else-tried w ↦ ap length w.1 ∙ c.read_block-readings.ensures.long ] in
+        elim c.if-tried.branch [ then-tried+else-keep_block w ↦ ap length w.words-is ∙ w.keep_block.ensures.free_kept.1 | else-tried w ↦ ap length w.words-is ∙ c.read_block-readings.ensures.long ] in
     (c.requires.plan_held.0, words_long)
 
 pub masks_of-masks-requires : goal.masks_of-masks-requires
 masks_of-masks-requires c =
     let words_long : length c.if-tried.words ≡ 16384 =
-        elim c.if-tried.branch [ then-tried w ↦ ap length w.4 ∙ w.2.ensures.0.1 | else-tried w ↦ ap length w.1 ∙ c.read_block-readings.ensures.long ] in
+        elim c.if-tried.branch [ then-tried+else-keep_block w ↦ ap length w.words-is ∙ w.keep_block.ensures.free_kept.1 | else-tried w ↦ ap length w.words-is ∙ c.read_block-readings.ensures.long ] in
     (c.requires.plan_held.0, c.vector_block.ensures.long ∙ words_long)
 
 pub returns : goal.returns
@@ -45,7 +44,7 @@ returns c =
     let p = c.requires.plan_held in record {
       block_met = (
         block-met p.0 c.args.b c.args.count c.read_block-readings.ensures p.1
-            (elim c.if-tried.branch [ then-tried w ↦ rw w.4 w.2.ensures.0.0 | else-tried w ↦ rw w.1 (λ j is q b f. f) ])
+            (elim c.if-tried.branch [ then-tried+else-keep_block w ↦ rw w.words-is w.keep_block.ensures.free_kept.0 | else-tried w ↦ rw w.words-is (λ j is q b f. f) ])
             c.vector_block.ensures
             c.masks_of-masks.ensures.block_masks
             c.meet_block.ensures,

@@ -19,6 +19,7 @@ use Rattle.engine.proofs.Laws.Sole.{sole-start}
 use Rattle.engine.proofs.Laws.Search.{WalkTo, walk_start, walk_here, walk-range, walk_block, walk-skip, walk_end}
 use Rattle.engine.proofs.search.sets_of_inputs.Invariants.{SetsAfter}
 use Rattle.engine.proofs.search.sets_of_inputs.Goals as goal
+use Rattle.engine.proofs.search.sets_of_inputs.Goals.{else-kept-pace, then-kept-pace}
 
 pub overflow_shl-size : goal.overflow_shl-size
 overflow_shl-size c = omega (arith, c.requires.inputs)
@@ -67,16 +68,17 @@ loop-b-preserved-then-skip-eq0 c =
       c.next_pace-pace.ensures,
       -- the table is made again; or the sets stay; or it is not tried next
       λ o.
-          ⊎_elim (λ w. rw w.2 w.1.ensures)
-          (λ w.
-          rw w.1
-          (⊎_elim
-          (λ k.
-          let s = e.tried_value (not-false c.meet_inputs-kept.result k) in
-          rw s.1 (i.3 (eqb-true c.loop-b.pace.wait 0 s.0)))
-          (λ z. absurd (eqb-false c.next_pace-pace.result.wait 0 z o))
-          (and_cases _ _ w.0.left)))
-          c.if-kept-pace.branch,
+          elim c.if-kept-pace.branch [
+            then-kept-pace w ↦ rw w.table-is w.sole_table-table.ensures
+          | else-kept-pace w ↦
+            rw w.table-is
+            (⊎_elim
+            (λ k.
+            let s = e.tried_value (not-false c.meet_inputs-kept.result k) in
+            rw s.1 (i.3 (eqb-true c.loop-b.pace.wait 0 s.0)))
+            (λ z. absurd (eqb-false c.next_pace-pace.result.wait 0 z o))
+            (and_cases _ _ w.if-kept-pace.false))
+          ],
       walk_block i.4 (omega arith) c.block_inputs-count.ensures (SetsAfter _ _ _ _)
           (λ j q. e.block_met.0.sets j c.loop-b.skipped q (walk_here i.4 (omega arith) j q)),
       c.next_tries-tries.ensures,

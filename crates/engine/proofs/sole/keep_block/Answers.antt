@@ -2,7 +2,7 @@
 use Prim.Native.Nat.{ℕ, max}
 use mathlib.Core.Path.{refl, sym, ◌∙◌, ap}
 use borrow.Author.Rules.{rules}
-use borrow.Author.Tests.{leb-true, not-false}
+use borrow.Author.Tests.{leb-true}
 use native.Mathlib.Omega.{arith}
 use lib.Dec.{lit≤}
 use Rattle.engine.specs.Inner.Kernel.{row_value}
@@ -31,7 +31,7 @@ returns c =
       free_kept = (a.free, a.long ∙ c.requires.2);
       block_kept = λ o.
           sole-kept c.args.readings c.args.table.now c.table_rows-vectors.result row.result c.table_rows-vectors.ensures.1
-          (λ y l. sym (c.row_at.ensures y l) ∙ c.zero_row.ensures (not-false c.zero_row.result c.if-not-zero_row.false) y l)
+          (λ y l. sym (c.row_at.ensures y l) ∙ c.zero_row.ensures c.if-not-zero_row.false y l)
           (λ y l.
           ap (λ (n : ℕ). max (row_value row.result y) n) (sym (c.row_at-2.ensures y l))
           ∙ sym (c.join_rows.ensures y l)

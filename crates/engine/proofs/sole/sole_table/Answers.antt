@@ -13,7 +13,7 @@ loop-r-init c = (omega arith, fill_none _ 0 _)
 pub loop-r-preserved : goal.loop-r-preserved
 loop-r-preserved c =
     let l = c.loop-r in
-    (omega arith, fill-next _ 0 _ _ _ l.invariant.1 l.r _ (omega arith) (omega (arith, l.invariant.1.long)) c.Sole-of.ensures)
+    (omega arith, fill-next _ 0 _ _ _ l.invariant.1 l.r _ (omega arith) (omega (arith, l.invariant.1.long)) c.sole_of.ensures)
 
 pub returns : goal.returns
 returns c r h = fill-at c.loop-r.invariant.1 r (omega arith)

@@ -30,7 +30,7 @@ unfolding gate_value conj
 loop-i-init c =
     let none : c.if-plain-eq4.r ≡ gate_value (plain_of c.args.kind) [] =
         let k = c.args.kind in
-    elim c.if-plain-eq4.branch [ then-plain-eq4 w ↦ rw (w.0.taken, w.1) | else-plain-eq4 w ↦ w.1 ∙ sym (gate_value-nil (plain_of k) (even k) w.0.left) ] in
+    elim c.if-plain-eq4.branch [ then-plain-eq4 w ↦ rw (w.if-plain-eq4.true, w.r-is) | else-plain-eq4 w ↦ w.r-is ∙ sym (gate_value-nil (plain_of k) (even k) w.if-plain-eq4.false) ] in
     let all : let x = c.args in c.if-count-lt4.i ≡ length (knowns x.count x.operands) =
         let n : length c.args.operands ≡ 4 = omega arith in
     let m = length-knowns c.args.count c.args.operands in

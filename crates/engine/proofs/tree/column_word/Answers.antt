@@ -19,9 +19,9 @@ overflow_mul-w c =
     let turn : let a = c.args in let l = c.loop-i in let n = number_of (drop (l.i - 1) (column_part a.table.now a.at a.k a.t)) in (n ≡ 2 * l.w + bit a.t (get_or a.table.now (a.at + (l.i - 1)) 0)) × (n < 18446744073709551616) =
         let l = c.loop-i in
     let e : l.i - 1 + 1 ≡ l.i = omega arith in
-    let d : l.i - 1 < 2 ^ s.args.k = omega (arith, l.invariant.0) in
-    let p = rw (e, sym l.invariant.1) at (column-turn s.requires.0 (l.i - 1) d) in
-    (p, omega (arith, column-rest s.requires.0 (l.i - 1), word_fits s.args.k s.requires.1)) in
+    let d : l.i - 1 < 2 ^ c.args.k = omega (arith, l.invariant.0) in
+    let p = rw (e, sym l.invariant.1) at (column-turn c.requires.0 (l.i - 1) d) in
+    (p, omega (arith, column-rest c.requires.0 (l.i - 1), word_fits c.args.k c.requires.1)) in
     omega (arith, turn)
 
 pub overflow_add-at : goal.overflow_add-at
@@ -37,9 +37,9 @@ overflow_add-w c =
     let turn : let a = c.args in let l = c.loop-i in let n = number_of (drop (l.i - 1) (column_part a.table.now a.at a.k a.t)) in (n ≡ 2 * l.w + bit a.t (get_or a.table.now (a.at + (l.i - 1)) 0)) × (n < 18446744073709551616) =
         let l = c.loop-i in
     let e : l.i - 1 + 1 ≡ l.i = omega arith in
-    let d : l.i - 1 < 2 ^ s.args.k = omega (arith, l.invariant.0) in
-    let p = rw (e, sym l.invariant.1) at (column-turn s.requires.0 (l.i - 1) d) in
-    (p, omega (arith, column-rest s.requires.0 (l.i - 1), word_fits s.args.k s.requires.1)) in
+    let d : l.i - 1 < 2 ^ c.args.k = omega (arith, l.invariant.0) in
+    let p = rw (e, sym l.invariant.1) at (column-turn c.requires.0 (l.i - 1) d) in
+    (p, omega (arith, column-rest c.requires.0 (l.i - 1), word_fits c.args.k c.requires.1)) in
     omega (arith, turn, c.table_bit.ensures)
 
 pub loop-i-preserved : goal.loop-i-preserved
@@ -47,9 +47,9 @@ loop-i-preserved c =
     let turn : let a = c.args in let l = c.loop-i in let n = number_of (drop (l.i - 1) (column_part a.table.now a.at a.k a.t)) in (n ≡ 2 * l.w + bit a.t (get_or a.table.now (a.at + (l.i - 1)) 0)) × (n < 18446744073709551616) =
         let l = c.loop-i in
     let e : l.i - 1 + 1 ≡ l.i = omega arith in
-    let d : l.i - 1 < 2 ^ s.args.k = omega (arith, l.invariant.0) in
-    let p = rw (e, sym l.invariant.1) at (column-turn s.requires.0 (l.i - 1) d) in
-    (p, omega (arith, column-rest s.requires.0 (l.i - 1), word_fits s.args.k s.requires.1)) in
+    let d : l.i - 1 < 2 ^ c.args.k = omega (arith, l.invariant.0) in
+    let p = rw (e, sym l.invariant.1) at (column-turn c.requires.0 (l.i - 1) d) in
+    (p, omega (arith, column-rest c.requires.0 (l.i - 1), word_fits c.args.k c.requires.1)) in
     let p = turn.0 in
     let b = c.table_bit.ensures in
     (omega (arith, c.loop-i.invariant.0), omega arith)

@@ -1,20 +1,29 @@
 -- `engine::tree::join_size` meets its contract. Assumes nothing.
-use mathlib.Core.List.{[], ◌∷◌}
-use mathlib.Core.Path.{refl, sym, ap}
-use borrow.Author.Rules.{rules}
+use mathlib.Core.Path.{◌≡◌, refl}
+use native.Mathlib.Omega.{arith}
 use Rattle.engine.specs.Tree.{join_gates}
 use Rattle.engine.specs.Inner.Tree.{join_size}
-use Rattle.engine.proofs.Laws.Join.{join-one-of}
+use Rattle.engine.specs.declared.tree.Join.{Join}
+use Rattle.engine.specs.declared.tree.Join.TheVariants.{Buf, Not, AndHigh, AndLow, OrHigh, OrLow, Both}
 use Rattle.engine.proofs.tree.join_size.Goals as goal
+
+one : (j : Join) → (j ≡ AndLow → ⊥) → (j ≡ OrHigh → ⊥) → (j ≡ Both → ⊥) → 1 ≡ join_size j
+unfolding join_size join_gates
+one Buf p q r = refl
+one Not p q r = refl
+one AndHigh p q r = refl
+one AndLow p q r = absurd (p refl)
+one OrHigh p q r = absurd (q refl)
+one OrLow p q r = refl
+one Both p q r = absurd (r refl)
 
 pub returns-in-AndLow : goal.returns-in-AndLow
 unfolding join_size join_gates
-returns-in-AndLow c = join-one-of join_size 2 c.args.join (3 ∷ 4 ∷ []) refl c.in_default.in_default-own.keys1
+returns-in-AndLow c = grind arith
 
 pub returns-in-Both : goal.returns-in-Both
 unfolding join_size join_gates
-returns-in-Both c = ap join_size (sym c.in-Both.is)
+returns-in-Both c = grind arith
 
 pub returns-in_default : goal.returns-in_default
-unfolding join_size join_gates
-returns-in_default c = join-one-of join_size 1 c.args.join (0 ∷ 1 ∷ 2 ∷ 5 ∷ []) refl c.in_default.in_default-own.keys3
+returns-in_default c = one c.args.join c.in_default.not-AndLow c.in_default.not-OrHigh c.in_default.not-Both

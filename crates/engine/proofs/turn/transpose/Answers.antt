@@ -14,7 +14,7 @@ pub loop-w-preserved : goal.loop-w-preserved
 loop-w-preserved c =
     let l = c.loop-w in (
       omega arith,
-      turned-next l.w c.args.x.now l.x c.put_column.new.1.1.0 c.column.result c.turn-c.result
+      turned-next l.w c.args.x.now l.x c.put_column.new.x c.column.result c.turn-c.result
           (omega arith)
           l.invariant.1
           c.column.ensures
