@@ -1,5 +1,12 @@
 // Arguments, and a file or standard input read into a lent buffer. What fails is told on standard error in one line: the name, and why.
+ghost use Rattle.std.specs.Prelude.{◌≡◌};
 ghost use Rattle.io.specs.Counts.{IsPrefixLen};
+
+use super::output::tell;
+use std::env::FillError;
+use std::io::{self, Read};
+use std::rt::{Env, Runtime};
+use std::{fs, str};
 
 // How many bytes of a file stand at the start of the buffer, and whether the file was opened and each read of it went well.
 #[derive(Drop)]
@@ -8,82 +15,79 @@ pub struct Filled {
     pub len: usize,
 }
 
-// Reads until the buffer is full or the input ends. A read that fails answers -1 and the end of the input 0, so neither is taken
-// for the other, be it the first read or a later one. A full buffer is read no further: what stands behind it is unknown.
-fn fill(fd: i32, buf: &mut [u8]) -> Filled
+// Reads until the buffer is full or the input ends, and tells of a read that fails under this name. The end of the input gives 0 bytes and
+// a read that fails an error, so neither is taken for the other, be it the first read or a later one. A full buffer is read no further: what
+// stands behind it is unknown.
+fn fill<S: Read>(rt: &(impl Eprint + Alloc), name: &str, source: &mut S, buf: &mut [u8]) -> Filled
     ensures { IsPrefixLen result.len buf.new }
 {
     let mut len = 0usize;
     while len < buf.len() {
-        let got = libc::read(fd, &mut buf[len..]);
-        if got < 0 {
-            return Filled { failed: true, len };
+        match source.read(&mut buf[len..]) {
+            Ok(0) => break,
+            Ok(more) => len += more,
+            Err(error) => {
+                tell(rt, name, error);
+                return Filled { failed: true, len };
+            }
         }
-        let more = io::count(got, &buf[len..]);
-        if more == 0 {
-            break;
-        }
-        len += more;
     }
     Filled { failed: false, len }
 }
 
+// Tells of a file that cannot be opened; of it stands nothing in the buffer.
+fn refused(rt: &(impl Eprint + Alloc), name: &str, error: io::Error) -> Filled
+    ensures { result.len ≡ 0 }
+{
+    tell(rt, name, error);
+    Filled {
+        failed: true,
+        len: 0,
+    }
+}
+
 // Standard input, at the start of the buffer.
-pub fn read_standard(buf: &mut [u8]) -> Filled
+pub fn read_standard(rt: &(impl Input + Eprint + Alloc), buf: &mut [u8]) -> Filled
     ensures { IsPrefixLen result.len buf.new }
 {
-    let filled = fill(libc::STDIN_FILENO, buf);
-    if filled.failed {
-        os::fail(b"standard input");
-    }
-    filled
+    fill(rt, "standard input", &mut rt.reader(), buf)
 }
 
 // The file of this name, at the start of the buffer; `-` names standard input.
-pub fn read_named(name: &[u8], buf: &mut [u8]) -> Filled
+pub fn read_named(rt: &impl Runtime, name: &[u8], buf: &mut [u8]) -> Filled
     ensures { IsPrefixLen result.len buf.new }
 {
-    if check::same(name, b"-") {
-        return read_standard(buf);
+    match str::from_utf8(name) {
+        Ok("-") => read_standard(rt, buf),
+        Ok(name) => match fs::open(rt, name) {
+            Ok(mut file) => fill(rt, name, &mut file, buf),
+            Err(error) => refused(rt, name, error),
+        },
+        Err(_) => refused(
+            rt,
+            "file name",
+            io::Error::from(io::ErrorKind::InvalidFilename),
+        ),
     }
-    let fd = os::open_read(name);
-    if fd < 0 {
-        os::fail(name);
-        return Filled {
-            failed: true,
-            len: 0,
-        };
-    }
-    let filled = fill(fd, buf);
-    if filled.failed {
-        os::fail(name);
-    }
-    libc::close(fd);
-    filled
 }
 
 // The file that argument i names, at the start of the buffer.
-pub fn read_argument(i: usize, buf: &mut [u8]) -> Filled
+pub fn read_argument(rt: &impl Runtime, i: usize, buf: &mut [u8]) -> Filled
     ensures { IsPrefixLen result.len buf.new }
 {
-    let mut name = io::buffer();
-    let n = os::arg(i, &mut name);
-    if os::errno() != 0 {
-        os::fail(b"file name");
-        return Filled {
-            failed: true,
-            len: 0,
-        };
+    let mut name = [0u8; 4096];
+    match rt.arg(i, &mut name) {
+        Ok(n) => read_named(rt, &name[..n], buf),
+        Err(FillError::NotPresent) => refused(rt, "file name", io::Error::from_raw_os_error(22)),
+        Err(FillError::TooLong) => refused(rt, "file name", io::Error::from_raw_os_error(36)),
     }
-    read_named(&name[..n], buf)
 }
 
 // Whether argument i is this word.
-pub fn is_argument(i: usize, word: &[u8]) -> bool {
-    let mut text = io::buffer();
-    let n = os::arg(i, &mut text);
-    if os::errno() != 0 {
-        return false;
+pub fn is_argument(rt: &impl Env, i: usize, word: &[u8]) -> bool {
+    let mut text = [0u8; 4096];
+    match rt.arg(i, &mut text) {
+        Ok(n) => &text[..n] == word,
+        Err(_) => false,
     }
-    check::same(&text[..n], word)
 }

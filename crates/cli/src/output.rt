@@ -1,23 +1,37 @@
-// Lines of text to a file descriptor, and replies to standard output.
+// Lines of text and replies to standard output, and on standard error why something failed.
+use std::io;
+
+// Says on standard error what failed, and why, without the number that the library puts behind the system's words. What standard
+// error does not take is lost.
+pub(super) fn tell(rt: &(impl Eprint + Alloc), what: &str, error: io::Error) {
+    let _ = match format!(in rt.alloc(); "{error}") {
+        Ok(text) => match text.split_once(" (os error ") {
+            Some((why, _)) => eprintln!(rt; "{what}: {why}"),
+            None => eprintln!(rt; "{what}: {text}"),
+        },
+        Err(_) => eprintln!(rt; "{what}: {error}"),
+    };
+}
 
 // Says on standard error why standard output could not be written, where it was not.
-pub fn check_written(is_written: bool) {
-    if !is_written {
-        os::fail(b"standard output");
+pub fn check_written(rt: &(impl Eprint + Alloc), written: io::Result<()>) {
+    if let Err(error) = written {
+        tell(rt, "standard output", error);
     }
 }
 
-// A space and a number; whether they were written.
-pub fn print_number(fd: i32, x: u64) -> bool {
-    io::write_all(fd, b" ") && io::print_decimal(fd, x)
+// A space and a number.
+pub fn print_number(rt: &impl Print, x: u64) -> io::Result<()> {
+    print!(rt; " {x}")
 }
 
-// The line of a word and a number; whether it was written.
-pub fn print_line(fd: i32, word: &[u8], x: u64) -> bool {
-    io::write_all(fd, word) && print_number(fd, x) && io::write_all(fd, b"\n")
+// The line of a word and a number.
+pub fn print_line(rt: &impl Print, word: &[u8], x: u64) -> io::Result<()> {
+    rt.write_all(word)?;
+    println!(rt; " {x}")
 }
 
 // All the bytes, to standard output.
-pub fn write_reply(bytes: &[u8]) {
-    check_written(io::write_all(libc::STDOUT_FILENO, bytes));
+pub fn write_reply(rt: &(impl Print + Eprint + Alloc), bytes: &[u8]) {
+    check_written(rt, rt.write_all(bytes));
 }

@@ -1,19 +1,20 @@
 // Whether the old circuit of a job, driven by a sheet's table, has the golden outputs.
+use std::io;
 
-fn print_result(res: engine::Comparison) {
+fn print_result(rt: &impl Print, res: engine::Comparison) -> io::Result<()> {
     match res {
-        engine::Comparison::Equal => cli::write_reply(b"equal\n"),
+        engine::Comparison::Equal => println!(rt; "equal"),
         engine::Comparison::Differs(differs) => {
-            cli::check_written(cli::print_line(1, b"differs", differs.input as u64));
+            cli::print_line(rt, b"differs", differs.input as u64)
         }
-        engine::Comparison::Declined => {}
+        engine::Comparison::Declined => Ok(()),
     }
 }
 
 // The comparison's line, and 0; or the number of the refusal. Costs what compare costs.
-pub(super) fn print_comparison(job: &[u8], sheet: &[u8]) -> u8 {
+pub(super) fn print_comparison(rt: &impl Print, job: &[u8], sheet: &[u8]) -> io::Result<u8> {
     let reply = engine::compare(job, sheet);
     let result = reply.result;
-    print_result(result);
-    reply.number
+    print_result(rt, result)?;
+    Ok(reply.number)
 }

@@ -18,7 +18,11 @@ mod show;
 
 ghost use Rattle.io.specs.Counts.{IsPrefixLen};
 
-#[derive(Drop)]
+use std::env::FillError;
+use std::io;
+use std::rt::{Env, Runtime};
+
+#[derive(Clone, Copy)]
 enum Command {
     Judge,
     Choose,
@@ -28,113 +32,130 @@ enum Command {
     Unknown,
 }
 
+// Whether there is an argument i.
+fn has_argument(rt: &impl Env, i: usize) -> bool {
+    let mut text = [0u8; 1];
+    !matches!(rt.arg(i, &mut text), Err(FillError::NotPresent))
+}
+
 // The command on one file.
-fn job_command() -> Command {
-    if cli::is_argument(1, b"judge") {
+fn job_command(rt: &impl Env) -> Command {
+    if cli::is_argument(rt, 1, b"judge") {
         return Command::Judge;
     }
-    if cli::is_argument(1, b"choose") {
+    if cli::is_argument(rt, 1, b"choose") {
         return Command::Choose;
     }
-    if cli::is_argument(1, b"show") {
+    if cli::is_argument(rt, 1, b"show") {
         return Command::Show;
     }
     Command::Unknown
 }
 
 // The command on two files. Only one of them can be standard input.
-fn pair_command() -> Command {
-    if cli::is_argument(2, b"-") && cli::is_argument(3, b"-") {
+fn pair_command(rt: &impl Env) -> Command {
+    if cli::is_argument(rt, 2, b"-") && cli::is_argument(rt, 3, b"-") {
         return Command::Unknown;
     }
-    if cli::is_argument(1, b"fit") {
+    if cli::is_argument(rt, 1, b"fit") {
         return Command::Fit;
     }
-    if cli::is_argument(1, b"compare") {
+    if cli::is_argument(rt, 1, b"compare") {
         return Command::Compare;
     }
     Command::Unknown
 }
 
-fn print_usage() {
-    io::write_all(
-        2,
-        b"usage: patcher judge JOB
+fn print_usage(rt: &impl Eprint) -> io::Result<()> {
+    rt.eprintln(
+        "usage: patcher judge JOB
        patcher choose JOB
        patcher fit JOB SHEET
        patcher compare JOB SHEET
        patcher show JOB
-One of the files can be -, standard input.
-",
-    );
+One of the files can be -, standard input.",
+    )
 }
 
 // Prints the reply and gives 0, or gives the number of the refusal. A job that fills the buffer is refused with 2, as 01 has it for
 // `rectify`, since what stands behind is not known; read whole it might have its fields in order and get 3, for a count. A sheet
 // that fills the buffer is cut short, so the service refuses it with 7. Of the right shape only one over fifteen nets, with notes, is as
 // long; read whole it would get 8, as no job has so many candidates.
-fn answer(command: Command, job: &[u8], sheet: &[u8]) -> u8 {
+fn answer(rt: &impl Print, command: Command, job: &[u8], sheet: &[u8]) -> io::Result<u8> {
     if 65535 < job.len() {
-        return 2;
+        return Ok(2);
     }
     match command {
-        Command::Judge => sheets::write_judged(job),
-        Command::Choose => sheets::write_chosen(job),
-        Command::Fit => fit::write_netlist(job, sheet),
-        Command::Compare => compare::print_comparison(job, sheet),
-        _ => show::print_job(job),
+        Command::Judge => sheets::write_judged(rt, job),
+        Command::Choose => sheets::write_chosen(rt, job),
+        Command::Fit => fit::write_netlist(rt, job, sheet),
+        Command::Compare => compare::print_comparison(rt, job, sheet),
+        _ => show::print_job(rt, job),
     }
 }
 
-// Where the command says that it refuses.
-fn refusal_stream(command: Command) -> i32 {
+// Says that the command refuses, where it says so.
+fn print_refusal(rt: &(impl Print + Eprint), command: Command, number: u8) -> io::Result<()> {
     match command {
-        Command::Compare => libc::STDOUT_FILENO,
-        _ => libc::STDERR_FILENO,
+        Command::Compare => cli::print_line(rt, b"refused", number as u64),
+        _ => eprintln!(rt; "refused {number}"),
     }
 }
 
 // The sheet that argument 3 names; no bytes where there is no such argument.
-fn read_sheet(buf: &mut [u8]) -> cli::Filled
+fn read_sheet(rt: &impl Runtime, buf: &mut [u8]) -> cli::Filled
     ensures { IsPrefixLen result.len buf.new }
 {
-    if os::arg_count() < 4 {
+    if !has_argument(rt, 3) {
         return cli::Filled {
             failed: false,
             len: 0,
         };
     }
-    cli::read_argument(3, buf)
+    cli::read_argument(rt, 3, buf)
+}
+
+// Prints the reply, or the number of the refusal.
+fn reply(rt: &(impl Print + Eprint), command: Command, job: &[u8], sheet: &[u8]) -> io::Result<()> {
+    match answer(rt, command, job, sheet)? {
+        0 => Ok(()),
+        number => print_refusal(rt, command, number),
+    }
 }
 
 // Reads the command's files and answers.
-fn run(command: Command) {
-    let mut job = io::large_buffer();
-    let mut sheet = io::large_buffer();
-    let first = cli::read_argument(2, &mut job);
+fn run(rt: &impl Runtime, command: Command) {
+    let mut job = [0u8; 65536];
+    let mut sheet = [0u8; 65536];
+    let first = cli::read_argument(rt, 2, &mut job);
     if first.failed {
         return;
     }
-    let second = read_sheet(&mut sheet);
+    let second = read_sheet(rt, &mut sheet);
     if second.failed {
         return;
     }
     let m = first.len;
     let n = second.len;
-    let number = answer(command, &job[..m], &sheet[..n]);
-    if number != 0 {
-        cli::check_written(cli::print_line(refusal_stream(command), b"refused", number as u64));
+    cli::check_written(rt, reply(rt, command, &job[..m], &sheet[..n]));
+}
+
+// The command, of which the first word is the program's name.
+fn given_command(rt: &impl Env) -> Command {
+    if has_argument(rt, 4) || !has_argument(rt, 2) {
+        return Command::Unknown;
+    }
+    if has_argument(rt, 3) {
+        pair_command(rt)
+    } else {
+        job_command(rt)
     }
 }
 
-fn main() {
-    let command = match os::arg_count() {
-        3 => job_command(),
-        4 => pair_command(),
-        _ => Command::Unknown,
-    };
-    match command {
-        Command::Unknown => print_usage(),
-        _ => run(command),
+fn main(rt: HostRuntime) -> io::Result<()> {
+    match given_command(&rt) {
+        Command::Unknown => print_usage(&rt)?,
+        command => run(&rt, command),
     }
+    Ok(())
 }

@@ -4,18 +4,18 @@
 #![tactic(auto)]
 
 // The text of the job's bytes, to standard output.
-fn print_verdict(job: &[u8]) {
+fn print_verdict(rt: &(impl Print + Eprint + Alloc), job: &[u8]) {
     let mut text = [0u8; report::LONGEST_TEXT];
     let n = report::rectify_text(job, &mut text);
-    cli::write_reply(&text[..n]);
+    cli::write_reply(rt, &text[..n]);
 }
 
-fn main() {
-    let mut job = io::large_buffer();
-    let input = cli::read_standard(&mut job);
+fn main(rt: HostRuntime) {
+    let mut job = [0u8; 65536];
+    let input = cli::read_standard(&rt, &mut job);
     if input.failed {
         return;
     }
     let n = input.len;
-    print_verdict(&job[..n]);
+    print_verdict(&rt, &job[..n]);
 }

@@ -4,6 +4,7 @@ use super::compare::print_compared;
 use super::verdict::print_hash;
 use engine::{LONGEST_CHOOSE, LONGEST_FIT};
 use samples::{least, print_number, wide, word_at};
+use std::io;
 
 // The buffers of the sheets and of the netlists.
 #[derive(Drop)]
@@ -13,61 +14,65 @@ pub struct Buffers {
 }
 
 // Fits with so much of the buffer lent, and prints the reply; the buffer afterwards.
-fn fitted(job: &[u8], sheet: &[u8], mut buf: [u8; 8200], room: usize) -> [u8; 8200] {
+fn fitted(
+    rt: &impl Print,
+    job: &[u8],
+    sheet: &[u8],
+    mut buf: [u8; 8200],
+    room: usize,
+) -> io::Result<[u8; 8200]> {
     let k = samples::lent(room, buf);
     let r = engine::fit(job, sheet, &mut buf[..k]);
-    print_number(wide(r.number));
-    print_number(r.len);
-    buf
+    print_number(rt, wide(r.number))?;
+    print_number(rt, r.len)?;
+    Ok(buf)
 }
 
-pub(super) fn fit_call(s: &[u8]) -> bool {
+pub(super) fn fit_call(rt: &impl Print, s: &[u8]) -> io::Result<bool> {
     if s.len() < 4 {
-        return false;
+        return Ok(false);
     }
     let end = least(4 + word_at(s, 2), s.len());
     if end < 4 {
-        return false;
+        return Ok(false);
     }
-    io::write_all(1, b"fit");
+    print!(rt; "fit")?;
     let room = least(word_at(s, 0), 4200);
-    print_hash(
-        fitted(&s[4..end], &s[end..], samples::new_buffer(), room),
-        4200,
-    );
-    true
+    let buf = fitted(rt, &s[4..end], &s[end..], samples::new_buffer(), room)?;
+    print_hash(rt, buf, 4200)?;
+    Ok(true)
 }
 
 // A job chosen for, fitted and compared, the last two with the sheet that choose wrote.
-fn row(job: &[u8], buffers: Buffers) -> Buffers {
+fn row(rt: &impl Print, job: &[u8], buffers: Buffers) -> io::Result<Buffers> {
     let sheets = buffers.sheets;
     let netlists = buffers.netlists;
-    let a = chosen(job, sheets, LONGEST_CHOOSE);
+    let a = chosen(rt, job, sheets, LONGEST_CHOOSE)?;
     let sheets = a.buf;
     let k = samples::lent(a.len, sheets);
-    let netlists = fitted(job, &sheets[..k], netlists, LONGEST_FIT);
-    print_compared(job, &sheets[..k]);
-    Buffers { sheets, netlists }
+    let netlists = fitted(rt, job, &sheets[..k], netlists, LONGEST_FIT)?;
+    print_compared(rt, job, &sheets[..k])?;
+    Ok(Buffers { sheets, netlists })
 }
 
 // Two jobs in turn with the same buffers.
-pub(super) fn row_call(s: &[u8]) -> bool {
+pub(super) fn row_call(rt: &impl Print, s: &[u8]) -> io::Result<bool> {
     if s.len() < 2 {
-        return false;
+        return Ok(false);
     }
     let end = least(2 + word_at(s, 0), s.len());
     if end < 2 {
-        return false;
+        return Ok(false);
     }
-    io::write_all(1, b"row");
+    print!(rt; "row")?;
     let fresh = Buffers {
         sheets: samples::new_buffer(),
         netlists: samples::new_buffer(),
     };
-    let buffers = row(&s[end..], row(&s[2..end], fresh));
+    let buffers = row(rt, &s[end..], row(rt, &s[2..end], fresh)?)?;
     let sheets = buffers.sheets;
     let netlists = buffers.netlists;
-    print_number(samples::hash_front(sheets, 4200));
-    print_hash(netlists, 4200);
-    true
+    print_number(rt, samples::hash_front(sheets, 4200))?;
+    print_hash(rt, netlists, 4200)?;
+    Ok(true)
 }

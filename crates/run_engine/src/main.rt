@@ -9,32 +9,37 @@ mod fit;
 mod judge;
 mod verdict;
 
+use std::io;
+use std::rt::Runtime;
+
 // One call with these bytes; whether it was a whole one.
-fn answered(service: u8, s: &[u8]) -> bool {
+fn answered(rt: &impl Print, service: u8, s: &[u8]) -> io::Result<bool> {
     match service {
-        1 => verdict::judge_call(s),
-        2 => compare::compare_call(s),
-        3 => verdict::order_call(s),
-        4 => fit::fit_call(s),
-        5 => fit::row_call(s),
-        _ => false,
+        1 => verdict::judge_call(rt, s),
+        2 => compare::compare_call(rt, s),
+        3 => verdict::order_call(rt, s),
+        4 => fit::fit_call(rt, s),
+        5 => fit::row_call(rt, s),
+        _ => Ok(false),
     }
 }
 
 // The next call of the input; whether there was one.
-fn next_call() -> bool {
-    let mut body = io::large_buffer();
-    let call = samples::read_call(&mut body);
+fn next_call(rt: &impl Runtime) -> io::Result<bool> {
+    let mut body = [0u8; 65536];
+    let call = samples::read_call(rt, &mut body);
     if !call.whole {
-        return false;
+        return Ok(false);
     }
     let n = call.len;
-    answered(call.service, &body[..n])
+    answered(rt, call.service, &body[..n])
 }
 
-fn main() {
-    let mut turns = 100000000u64;
-    while turns > 0 && next_call() {
-        turns -= 1;
+fn main(rt: HostRuntime) -> io::Result<()> {
+    for _ in 0..100000000u64 {
+        if !next_call(&rt)? {
+            break;
+        }
     }
+    Ok(())
 }

@@ -3,35 +3,21 @@
 // known. The table is the file stdin; what is printed must be the table's own rows.
 #![tactic(auto)]
 
-use check::same;
+use std::io;
 
 // The kind that document 01 gives the primitive of this name; 0 for any other name.
 fn kind_of(name: &[u8]) -> u8 {
-    if same(name, b"buf") {
-        return 2;
+    match name {
+        b"buf" => 2,
+        b"not" => 3,
+        b"and" => 4,
+        b"nand" => 5,
+        b"or" => 6,
+        b"nor" => 7,
+        b"xor" => 8,
+        b"xnor" => 9,
+        _ => 0,
     }
-    if same(name, b"not") {
-        return 3;
-    }
-    if same(name, b"and") {
-        return 4;
-    }
-    if same(name, b"nand") {
-        return 5;
-    }
-    if same(name, b"or") {
-        return 6;
-    }
-    if same(name, b"nor") {
-        return 7;
-    }
-    if same(name, b"xor") {
-        return 8;
-    }
-    if same(name, b"xnor") {
-        return 9;
-    }
-    0
 }
 
 // How many operands stand in so many characters, each behind a space; 0 where they are not one to four.
@@ -58,24 +44,24 @@ fn operand_at(operands: &[u8], at: usize) -> u8 {
 }
 
 // The row up to its value, and this one.
-fn print_value(row: &[u8], value: u8) {
+fn print_value(rt: &impl Print, row: &[u8], value: u8) -> io::Result<()> {
     if row.len() == 0 {
-        return;
+        return Ok(());
     }
     let end = row.len() - 1;
-    io::write_all(1, &row[0..end]);
+    rt.write_all(&row[0..end])?;
     match value {
-        0 => io::write_all(1, b"0\n"),
-        1 => io::write_all(1, b"1\n"),
-        _ => io::write_all(1, b"x\n"),
-    };
+        0 => println!(rt; "0"),
+        1 => println!(rt; "1"),
+        _ => println!(rt; "x"),
+    }
 }
 
 // A row with these operands, each behind a space: with the library's value where none is x, and with the engine's.
-fn print_values(row: &[u8], kind: u8, operands: &[u8]) {
+fn print_values(rt: &impl Print, row: &[u8], kind: u8, operands: &[u8]) -> io::Result<()> {
     let count = count_of(operands.len());
     if count == 0 {
-        return;
+        return Ok(());
     }
     let all = [
         operand_at(operands, 1),
@@ -83,42 +69,40 @@ fn print_values(row: &[u8], kind: u8, operands: &[u8]) {
         operand_at(operands, 5),
         operand_at(operands, 7),
     ];
-    let len = operands.len();
-    if bytes::scan::find(operands, 0, len, b'x') == len {
-        print_value(row, records::value(kind, count, all));
+    if !operands.contains(&b'x') {
+        print_value(rt, row, records::value(kind, count, all))?;
     }
-    print_value(row, engine::ternary_value(kind, count, all));
+    print_value(rt, row, engine::ternary_value(kind, count, all))
 }
 
 // A row is a name, its operands, the equals sign and the value, with a space before each but the name.
-fn print_row(row: &[u8]) {
-    let p = bytes::scan::find(row, 0, row.len(), b' ');
+fn print_row(rt: &impl Print, row: &[u8]) -> io::Result<()> {
+    let p = row.iter().position(|b| *b == b' ').unwrap_or(row.len());
     let kind = kind_of(&row[0..p]);
     if kind == 0 {
-        return;
+        return Ok(());
     }
     if row.len() - p < 4 {
-        return;
+        return Ok(());
     }
     let end = row.len() - 4;
-    print_values(row, kind, &row[p..end]);
+    print_values(rt, row, kind, &row[p..end])
 }
 
-fn print_rows(table: &[u8]) {
+fn print_rows(rt: &impl Print, table: &[u8]) -> io::Result<()> {
     let mut start = 0usize;
-    let mut i = 0usize;
-    while i < table.len() {
+    for i in 0..table.len() {
         if table[i] == b'\n' {
-            print_row(&table[start..i]);
+            print_row(rt, &table[start..i])?;
             start = i + 1;
         }
-        i += 1;
     }
+    Ok(())
 }
 
-fn main() {
-    let mut table = io::large_buffer();
-    let input = cli::read_standard(&mut table);
+fn main(rt: HostRuntime) -> io::Result<()> {
+    let mut table = [0u8; 65536];
+    let input = cli::read_standard(&rt, &mut table);
     let n = input.len;
-    print_rows(&table[..n]);
+    print_rows(&rt, &table[..n])
 }

@@ -34,20 +34,16 @@ pub(super) fn lent_words(list: [u16; 1620], lens: [usize; 10], k: usize) -> usiz
 // The pattern of the list which.
 fn new_bytes(which: usize) -> [u8; 420] {
     let mut list = [0u8; 420];
-    let mut i = 0usize;
-    while i < 420 {
+    for i in 0..420 {
         list[i] = (samples::patterned(which, i) % 256) as u8;
-        i += 1;
     }
     list
 }
 
 fn new_words(which: usize) -> [u16; 1620] {
     let mut list = [0u16; 1620];
-    let mut i = 0usize;
-    while i < 1620 {
+    for i in 0..1620 {
         list[i] = (samples::patterned(which, i) % 65536) as u16;
-        i += 1;
     }
     list
 }

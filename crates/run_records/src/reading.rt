@@ -4,6 +4,7 @@ ghost use Rattle.std.specs.Prelude.{◌≤◌};
 use super::lending::{Read, read_lists};
 use super::lists::{Lists, hash_lists, new_lists, whole_lists};
 use samples::{least, print_number, wide, word_at};
+use std::io;
 
 // How many places are lent as the k-th of ten, of which read asks for so many: one more where short is 11, one less
 // where it is k.
@@ -33,48 +34,48 @@ fn short_lists(short: u8) -> Lists {
 }
 
 // The number, the counts and the hash of the lists.
-fn print_read(r: Read) {
+fn print_read(rt: &impl Print, r: Read) -> io::Result<()> {
     let reply = r.reply;
     let lists = r.lists;
     let counts = reply.counts;
     let old = counts.old;
     let golden = counts.golden;
-    print_number(wide(reply.number));
-    print_number(counts.inputs);
-    print_number(counts.targets);
-    print_number(old.gates);
-    print_number(old.outputs);
-    print_number(golden.gates);
-    print_number(golden.outputs);
-    print_number(counts.candidates);
-    print_number(hash_lists(lists));
-    io::write_all(1, b"\n");
+    print_number(rt, wide(reply.number))?;
+    print_number(rt, counts.inputs)?;
+    print_number(rt, counts.targets)?;
+    print_number(rt, old.gates)?;
+    print_number(rt, old.outputs)?;
+    print_number(rt, golden.gates)?;
+    print_number(rt, golden.outputs)?;
+    print_number(rt, counts.candidates)?;
+    print_number(rt, hash_lists(lists))?;
+    println!(rt)
 }
 
-pub(super) fn read_call(s: &[u8]) -> bool {
+pub(super) fn read_call(rt: &impl Print, s: &[u8]) -> io::Result<bool> {
     if s.len() == 0 {
-        return false;
+        return Ok(false);
     }
-    io::write_all(1, b"read");
-    print_read(read_lists(&s[1..], short_lists(s[0])));
-    true
+    print!(rt; "read")?;
+    print_read(rt, read_lists(&s[1..], short_lists(s[0])))?;
+    Ok(true)
 }
 
-fn read_after(first: &[u8], second: &[u8]) {
+fn read_after(rt: &impl Print, first: &[u8], second: &[u8]) -> io::Result<()> {
     let before = read_lists(first, whole_lists());
     let lists = before.lists;
-    io::write_all(1, b"after");
-    print_read(read_lists(second, lists));
+    print!(rt; "after")?;
+    print_read(rt, read_lists(second, lists))
 }
 
-pub(super) fn after_call(s: &[u8]) -> bool {
+pub(super) fn after_call(rt: &impl Print, s: &[u8]) -> io::Result<bool> {
     if s.len() < 2 {
-        return false;
+        return Ok(false);
     }
     let end = least(2 + word_at(s, 0), s.len());
     if end < 2 {
-        return false;
+        return Ok(false);
     }
-    read_after(&s[2..end], &s[end..]);
-    true
+    read_after(rt, &s[2..end], &s[end..])?;
+    Ok(true)
 }

@@ -36,10 +36,8 @@ fn bytes_at(s: &[u8], from: usize) -> Bytes {
     let mut places = [0u8; 420];
     let at = least(from, 65536);
     let len = least(word_at(s, at), 420);
-    let mut i = 0usize;
-    while i < len {
+    for i in 0..len {
         places[i] = byte_at(s, at + 2 + i);
-        i += 1;
     }
     Bytes {
         places,
@@ -55,10 +53,8 @@ pub(super) fn words_at(s: &[u8], from: usize) -> Words
     let mut places = [0u16; 1620];
     let at = least(from, 65536);
     let len = least(word_at(s, at), 1620);
-    let mut i = 0usize;
-    while i < len {
+    for i in 0..len {
         places[i] = (word_at(s, at + 2 + 2 * i) % 65536) as u16;
-        i += 1;
     }
     Words {
         places,

@@ -1,11 +1,6 @@
 -- Laws of the hash of a list. Assumes nothing.
-use Prim.Native.Nat.{ℕ, ◌+◌, ◌≤◌, ◌<◌}
-use mathlib.Core.Path.{◌≡◌, refl}
-use mathlib.Core.List.{List}
-use native.Mathlib.Numerals.{add-one}
-use native.Mathlib.Omega.{arith}
-use lib.ListN.{length, drop, get_or}
-use lib.Seq.{drop-cons, drop-length}
+use Rattle.std.proofs.Common.{ℕ, ◌+◌, ◌≤◌, ◌<◌, ◌≡◌, List, length, drop, get_or, refl, add-one, arith, drop-cons}
+use Rattle.std.proofs.Math.Seq.{drop-length}
 use Rattle.samples.specs.Sample.{mixed, hashed}
 
 -- the value at i, and then those after it

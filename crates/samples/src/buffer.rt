@@ -6,6 +6,7 @@ ghost use Rattle.samples.specs.Sample.{mixed as Sample·mixed, hashed, patterned
 use super::number::{least, wide, wide_word};
 
 // The pattern's number at place i of the list which.
+#[tactic(auto, unfolding(crate::specs::Sample::patterned))]
 pub fn patterned(which: usize, i: usize) -> usize
     ensures { result ≡ Sample·patterned which i }
 {
@@ -18,10 +19,8 @@ pub fn new_buffer() -> [u8; 8200]
     ensures by_index { (k : ℕ) → k < 8200 → get_or result k 0 ≡ Sample·patterned 11 k % 256 }
 {
     let mut a = [0u8; 8200];
-    let mut i = 0usize;
-    while i < 8200 {
+    for i in 0..8200 {
         a[i] = (patterned(11, i) % 256) as u8;
-        i += 1;
     }
     a
 }
@@ -35,6 +34,7 @@ pub fn lent(n: usize, buf: [u8; 8200]) -> usize
 }
 
 // The hash h with one more value.
+#[tactic(auto, unfolding(crate::specs::Sample::mixed))]
 fn mixed(h: usize, x: usize) -> usize
     ensures { result ≡ Sample·mixed h x }
 {
@@ -45,10 +45,8 @@ pub fn hash_bytes(from: usize, a: &[u8]) -> usize
     ensures { result ≡ hashed from a.now }
 {
     let mut h = from;
-    let mut i = 0usize;
-    while i < a.len() {
-        h = mixed(h, wide(a[i]));
-        i += 1;
+    for x in a {
+        h = mixed(h, wide(*x));
     }
     h
 }
@@ -57,10 +55,8 @@ pub fn hash_words(from: usize, a: &[u16]) -> usize
     ensures { result ≡ hashed from a.now }
 {
     let mut h = from;
-    let mut i = 0usize;
-    while i < a.len() {
-        h = mixed(h, wide_word(a[i]));
-        i += 1;
+    for x in a {
+        h = mixed(h, wide_word(*x));
     }
     h
 }

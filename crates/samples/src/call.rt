@@ -12,11 +12,11 @@ pub struct Call {
 }
 
 // Reads the next call. It is not whole where the input ends before it does, cannot be read, or has more bytes than the buffer.
-pub fn read_call(buf: &mut [u8]) -> Call
+pub fn read_call(rt: &(impl Input + Eprint + Alloc), buf: &mut [u8]) -> Call
     ensures { IsPrefixLen result.len buf.new }
 {
     let mut head = [0u8; 3];
-    let start = cli::read_standard(&mut head);
+    let start = cli::read_standard(rt, &mut head);
     if start.len != 3 {
         return Call {
             whole: false,
@@ -26,7 +26,7 @@ pub fn read_call(buf: &mut [u8]) -> Call
     }
     let len = 256 * wide(head[1]) + wide(head[2]);
     let room = least(len, buf.len());
-    let rest = cli::read_standard(&mut buf[..room]);
+    let rest = cli::read_standard(rt, &mut buf[..room]);
     Call {
         whole: rest.len == len,
         service: head[0],

@@ -2,6 +2,8 @@
 ghost use Rattle.std.specs.Prelude.{◌<◌, ◌≤◌, min, ◌≡◌};
 ghost use Rattle.samples.specs.Sample.{word_at};
 
+use std::io;
+
 pub fn wide(x: u8) -> usize
     ensures value { result ≡ x }
     ensures upper_bound { result < 256 }
@@ -38,6 +40,6 @@ pub fn word_at(s: &[u8], at: usize) -> usize
 }
 
 // A space and a number, to standard output.
-pub fn print_number(x: usize) {
-    cli::print_number(1, x as u64);
+pub fn print_number(rt: &impl Print, x: usize) -> io::Result<()> {
+    cli::print_number(rt, x as u64)
 }
