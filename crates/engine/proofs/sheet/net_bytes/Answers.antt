@@ -29,5 +29,5 @@ returns c =
     let l = c.loop-i in
     let a = c.args.support in
     let e : l.i ≡ a.len = omega arith in
-    let n : length a.nets ≡ 10 = ten a.nets c.well-formed.0.1.1.0.1.0.1 in
+    let n : length a.nets ≡ 10 = omega arith in
     pairs-take (replicate 20 0) a.nets a.len (omega arith) (omega arith) (rw e at l.invariant.1)

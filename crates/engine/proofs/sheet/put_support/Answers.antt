@@ -15,7 +15,7 @@ pub returns : goal.returns
 returns c =
     let a = c.args in
     let f = c.net_bytes-bytes in
-    let m : length a.support.nets ≡ 10 = ten a.support.nets c.well-formed.1.0.1.1.0.1.0.1 in
+    let m : length a.support.nets ≡ 10 = omega arith in
     let n = length-nets a.support.nets a.support.len (omega arith) in
     field-bytes a.reply.now 0 16 (take (2 * a.support.len) f.result) f.ensures (omega arith) (omega arith)
     c.put_field.ensures
