@@ -16,7 +16,7 @@ use Rattle.engine.proofs.Laws.Imply.{no-cubes-given}
 use Rattle.engine.proofs.Laws.Rule.{readings-many}
 use Rattle.engine.proofs.given.see_inputs.Invariants.{Covered}
 use Rattle.engine.proofs.given.see_inputs.Goals as goal
-use Rattle.engine.proofs.given.see_inputs.Goals.{then-is_due, else-is_due, then-skipped-b-eq1, else-skipped-b-eq1}
+use Rattle.engine.proofs.given.see_inputs.Goals.{Joined-is_due, then-is_due, else-is_due, then-skipped-b-eq1, else-skipped-b-eq1}
 
 pub next_unseen-next-requires : goal.next_unseen-next-requires
 next_unseen-next-requires c =
@@ -32,41 +32,37 @@ loop-b-init c =
       c.covering_of-covering.ensures,
     )
 
-pub returns-then-covering-eq0 : goal.returns-then-covering-eq0
-returns-then-covering-eq0 c =
-    let covered : Covered c.args.plan c.args.gates.now c.loop-b.sets c.if-is_due.covering =
+-- the cover, made anew or not
+covered : (c : Joined-is_due) → Covered c.args.plan c.args.gates.now c.loop-b.sets c.if-is_due.covering
+covered c =
     elim c.if-is_due.branch [
       then-is_due w ↦ rw w.covering-is w.renewed-covering.ensures
       | else-is_due w ↦ rw w.covering-is c.loop-b.invariant.2
-    ] in
+    ]
+
+pub returns-then-covering-eq0 : goal.returns-then-covering-eq0
+returns-then-covering-eq0 c =
+    let o = covered (goal.at.returns-then-covering-eq0 c).Joined-is_due in
     let i = c.loop-b.invariant in
-    (seeing-all i.1 covered.0 (inr (inr c.if-covering-eq0.true)), i.1.same)
+    (seeing-all i.1 o.0 (inr (inr c.if-covering-eq0.true)), i.1.same)
 
 pub see_block-requires-clause-plan_held : goal.see_block-requires-clause-plan_held
 see_block-requires-clause-plan_held c =
-    let covered : Covered c.args.plan c.args.gates.now c.loop-b.sets c.if-is_due.covering =
-    elim c.if-is_due.branch [
-      then-is_due w ↦ rw w.covering-is w.renewed-covering.ensures
-      | else-is_due w ↦ rw w.covering-is c.loop-b.invariant.2
-    ] in
-    (c.requires.0, seeing-range c.loop-b.invariant.1 c.loop-b-test.true c.block_inputs.ensures, covered.0)
+    let o = covered (goal.at.see_block-requires-clause-plan_held c).Joined-is_due in
+    (c.requires.0, seeing-range c.loop-b.invariant.1 c.loop-b-test.true c.block_inputs.ensures, o.0)
 
 pub loop-b-preserved : goal.loop-b-preserved
 unfolding bit
 loop-b-preserved c =
-    let covered : Covered c.args.plan c.args.gates.now c.loop-b.sets c.if-is_due.covering =
-    elim c.if-is_due.branch [
-      then-is_due w ↦ rw w.covering-is w.renewed-covering.ensures
-      | else-is_due w ↦ rw w.covering-is c.loop-b.invariant.2
-    ] in
+    let o = covered (goal.at.loop-b-preserved c).Joined-is_due in
     let i = c.loop-b.invariant in
     elim c.if-skipped-b-eq1.branch [
       then-skipped-b-eq1 w ↦
           let e = w.see_block.ensures in
           let s = seeing-next i.1 (omega arith) w.block_inputs.ensures w.if-skipped-b-eq1.true e.block_seen w.next_unseen-next-then-skipped-b-eq1.ensures in
-          rw (w.words-is, w.sets-is, w.next-is) (e.words_len_2, s, (given-kept covered.0 c.requires.0.reads i.1.long e.block_seen, covered.1))
+          rw (w.words-is, w.sets-is, w.next-is) (e.words_len_2, s, (given-kept o.0 c.requires.0.reads i.1.long e.block_seen, o.1))
       | else-skipped-b-eq1 w ↦
-          rw (w.words-is, w.sets-is, w.next-is) (i.0, seeing-pass i.1 (omega arith) refl w.if-skipped-b-eq1.false, covered)
+          rw (w.words-is, w.sets-is, w.next-is) (i.0, seeing-pass i.1 (omega arith) refl w.if-skipped-b-eq1.false, o)
     ]
 
 pub returns : goal.returns

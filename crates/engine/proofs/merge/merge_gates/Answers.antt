@@ -1,13 +1,12 @@
 -- `engine::merge::merge_gates` meets its contract. The invariant: the gates may stand for those at the start, each net has one that
 -- stands for it, and the chains are of earlier gates. Assumes nothing.
-use Prim.Native.Nat.{◌+◌, ◌-◌, ◌≤◌, ◌<◌}
-use mathlib.Core.Path.{◌≡◌, refl, sym, ◌∙◌, ap}
+use Prim.Native.Nat.{◌-◌, ◌≤◌}
+use mathlib.Core.Path.{refl, sym, ◌∙◌, ap}
 use native.Mathlib.Omega.{arith}
-use lib.ListN.{get_or, set}
 use lib.Seq.{get_or-set_same}
 use Rattle.engine.specs.Inner.Renumber.{gate_in}
 use Rattle.engine.proofs.Laws.Loaded.{below-zeros}
-use Rattle.engine.proofs.Laws.Merge.{Merging, merging-none, merging-moved, merging-stands, merging-place}
+use Rattle.engine.proofs.Laws.Merge.{merging-none, merging-moved, merging-stands, merging-place}
 use Rattle.engine.proofs.merge.merge_gates.Goals as goal
 use Rattle.engine.proofs.merge.merge_gates.Goals.{then-k-gt0, else-k-gt0}
 
@@ -18,24 +17,12 @@ loop-i-init c =
 
 pub loop-i-preserved : goal.loop-i-preserved
 loop-i-preserved c =
-    let room : let a = c.args in (a.base + c.loop-i.i < 1024) × (c.loop-i.i < 800) =
-        let p = c.requires in
-    let l = c.loop-i-test.true in
-    (omega arith, omega arith) in
-    let named : let l = c.loop-i in get_or l.heads c.place_of-at.result 0 < l.i + 1 =
-        c.loop-i.invariant.chained.heads c.place_of-at.result in
-    let found : c.find-k.result ≤ c.loop-i.i =
-        omega (arith, c.find-k.ensures.0, named) in
-    let moving : let a = c.args in Merging a.base a.count a.gates c.loop-i.i (set c.loop-i.gates c.loop-i.i c.moved_code-c.result) c.loop-i.stands c.loop-i.heads c.loop-i.next =
-        merging-moved c.loop-i.invariant c.requires.0 c.loop-i-test.true c.moved_code-c.ensures in
-    let a = c.args in
-    let i = c.loop-i.i in
-    let r = c.moved_code-c.result in
-    let gates = set c.loop-i.gates i r in
+    let l = c.loop-i in
     let h = c.loop-i-test.true in
     let k = c.find-k.result in
-    let same : get_or gates i 0 ≡ r =
-    get_or-set_same c.loop-i.gates i r 0 (omega (arith, c.loop-i.invariant.long, room.1)) in
+    let found : k ≤ l.i = omega (arith, c.find-k.ensures.0, l.invariant.chained.heads c.place_of-at.result) in
+    let moving = merging-moved l.invariant c.requires.0 h c.moved_code-c.ensures in
+    let same = get_or-set_same l.gates l.i c.moved_code-c.result 0 (omega (arith, l.invariant.long)) in
     elim c.if-k-gt0.branch [
       then-k-gt0 d ↦
           rw (d.stands-is, d.heads-is, d.next-is)

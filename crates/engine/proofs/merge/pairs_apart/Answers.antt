@@ -17,5 +17,8 @@ loop-i-preserved c =
     let k : l.i < length a.goldens = omega (arith, c.requires.2) in (
       omega arith,
       elim c.if-a-b.branch [ then-a-b w ↦ omega arith | else-a-b w ↦ omega arith ],
-      elim c.if-a-b.branch [ then-a-b w ↦ rw (w.olds-is, w.news-is, w.count-is) (pairs-more l.invariant.2 h k (omega arith)) | else-a-b w ↦ rw (w.olds-is, w.news-is, w.count-is) (pairs-left l.invariant.2 h k w.if-a-b.false) ],
+      elim c.if-a-b.branch [
+          then-a-b w ↦ rw (w.olds-is, w.news-is, w.count-is) (pairs-more l.invariant.2 h k (omega arith))
+          | else-a-b w ↦ rw (w.olds-is, w.news-is, w.count-is) (pairs-left l.invariant.2 h k w.if-a-b.false)
+      ],
     )

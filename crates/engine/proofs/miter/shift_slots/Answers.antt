@@ -17,4 +17,7 @@ loop-i-preserved c =
     let a = c.args in
     let h = c.requires.1 in
     let w = c.loop-i.invariant in
-    elim c.if-i-count.branch [ then-i-count k ↦ shifting-used _ _ _ _ h w (omega arith) k.if-i-count.true (k.r-is ∙ k.shift_net.ensures) | else-i-count k ↦ shifting-unused _ _ _ _ h w k.if-i-count.false k.r-is ]
+    elim c.if-i-count.branch [
+      then-i-count k ↦ shifting-used _ _ _ _ h w (omega arith) k.if-i-count.true (k.r-is ∙ k.shift_net.ensures)
+      | else-i-count k ↦ shifting-unused _ _ _ _ h w k.if-i-count.false k.r-is
+    ]

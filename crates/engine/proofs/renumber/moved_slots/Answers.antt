@@ -12,7 +12,10 @@ pub loop-i-preserved : goal.loop-i-preserved
 loop-i-preserved c =
     let a = c.args in
     moving-next a.numbers.now a.c c.loop-i.invariant c.requires (omega arith)
-    (elim c.if-i-count.branch [ then-i-count k ↦ slot-used _ _ _ _ k.if-i-count.true k.r-is | else-i-count k ↦ slot-unused _ _ _ _ k.if-i-count.false k.r-is ])
+    (elim c.if-i-count.branch [
+      then-i-count k ↦ slot-used _ _ _ _ k.if-i-count.true k.r-is
+      | else-i-count k ↦ slot-unused _ _ _ _ k.if-i-count.false k.r-is
+    ])
 
 pub returns : goal.returns
 returns c =

@@ -27,17 +27,17 @@ even k = omega arith
 pub loop-i-init : goal.loop-i-init
 unfolding gate_value conj
 loop-i-init c =
-    let none : c.if-plain-eq4.r ≡ gate_value (plain_of c.args.kind) [] =
-        let k = c.args.kind in
-    elim c.if-plain-eq4.branch [ then-plain-eq4 w ↦ rw (w.if-plain-eq4.true, w.r-is) | else-plain-eq4 w ↦ w.r-is ∙ sym (gate_value-nil (plain_of k) (even k) w.if-plain-eq4.false) ] in
-    let all : let x = c.args in c.if-count-lt4.i ≡ length (knowns x.count x.operands) =
-        let n : length c.args.operands ≡ 4 = omega arith in
-    let m = length-knowns c.args.count c.args.operands in
-    elim c.if-count-lt4.branch [ then-count-lt4 w ↦ omega arith | else-count-lt4 w ↦ omega arith ] in
     let x = c.args in
-    let n = all in
     let k = x.kind in
-    (omega arith, known-none (plain_of k) (even k) x.count x.operands c.if-count-lt4.i c.if-plain-eq4.r n none)
+    let none : c.if-plain-eq4.r ≡ gate_value (plain_of k) [] =
+    elim c.if-plain-eq4.branch [
+      then-plain-eq4 w ↦ rw (w.if-plain-eq4.true, w.r-is)
+      | else-plain-eq4 w ↦ w.r-is ∙ sym (gate_value-nil (plain_of k) (even k) w.if-plain-eq4.false)
+    ] in
+    let m = length-knowns x.count x.operands in
+    let all : c.if-count-lt4.i ≡ length (knowns x.count x.operands) =
+    elim c.if-count-lt4.branch [ then-count-lt4 w ↦ omega arith | else-count-lt4 w ↦ omega arith ] in
+    (omega arith, known-none (plain_of k) (even k) x.count x.operands c.if-count-lt4.i c.if-plain-eq4.r all none)
 
 pub loop-i-preserved : goal.loop-i-preserved
 loop-i-preserved c =
