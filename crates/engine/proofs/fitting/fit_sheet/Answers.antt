@@ -31,7 +31,7 @@ overflow_add-end c =
       c.reading_count.ensures,
       (parts-sheet c.requires.0.parts c.args.sheet.now c.read_sheet-answer.ensures c.if-answer-ne0.false).end,
     ) in
-    let g = omega arith in omega (arith, ended)
+    omega (arith, ended)
 
 pub slice_bounds-fit_patch-end : goal.slice_bounds-fit_patch-end
 slice_bounds-fit_patch-end c =

@@ -13,31 +13,31 @@ pub put_tree-next-requires : goal.put_tree-next-requires
 put_tree-next-requires c =
     let p = c.requires.k_bound in record {
       table_part = (record { most = p.0; within = omega (arith, p.1); target = omega (arith, p.2) }, p.3);
-      gate_room = growing-room c.loop-t.invariant c.loop-t-test.true c.requires.targets_bound.1;
+      gate_room = growing-room c.loop-t.invariant c.loop-t-test.true c.requires.gate_room;
     }
 
 pub overflow_add-numbers : goal.overflow_add-numbers
 overflow_add-numbers c =
     let net : (0 < c.put_tree-next.result) × (c.args.base + c.put_tree-next.result ≤ 1024) =
-        growing-net c.loop-t.invariant c.loop-t-test.true c.requires.targets_bound.1 c.put_tree-next.ensures in
+        growing-net c.loop-t.invariant c.loop-t-test.true c.requires.gate_room c.put_tree-next.ensures in
     let n = net in omega arith
 
 pub overflow_sub-numbers : goal.overflow_sub-numbers
 overflow_sub-numbers c =
     let net : (0 < c.put_tree-next.result) × (c.args.base + c.put_tree-next.result ≤ 1024) =
-        growing-net c.loop-t.invariant c.loop-t-test.true c.requires.targets_bound.1 c.put_tree-next.ensures in
+        growing-net c.loop-t.invariant c.loop-t-test.true c.requires.gate_room c.put_tree-next.ensures in
     let n = net in omega arith
 
 pub overflow_cast-numbers : goal.overflow_cast-numbers
 overflow_cast-numbers c =
     let net : (0 < c.put_tree-next.result) × (c.args.base + c.put_tree-next.result ≤ 1024) =
-        growing-net c.loop-t.invariant c.loop-t-test.true c.requires.targets_bound.1 c.put_tree-next.ensures in
+        growing-net c.loop-t.invariant c.loop-t-test.true c.requires.gate_room c.put_tree-next.ensures in
     let n = net in omega arith
 
 pub loop-t-preserved : goal.loop-t-preserved
 loop-t-preserved c =
     let n : c.args.k ≤ length c.args.support = omega (arith, c.requires.k_bound.0) in
-    growing-next c.loop-t.invariant c.loop-t-test.true n (omega (arith, c.requires.targets_bound.0)) c.put_tree-next.ensures
+    growing-next c.loop-t.invariant c.loop-t-test.true n (omega (arith, c.requires.targets_bound)) c.put_tree-next.ensures
 
 pub returns : goal.returns
 returns c =
