@@ -7,17 +7,25 @@ use Rattle.engine.specs.Inner.Kernel.{Filled}
 use Rattle.engine.proofs.Laws.Fill.{fill_none, fill-next, fill-at}
 use Rattle.engine.proofs.Laws.Rule.{readings-many}
 use Rattle.engine.proofs.best.fill_arena.Goals as goal
+use Rattle.engine.proofs.best.fill_arena.Goals.{In-loop-r}
 
 pub loop-r-init : goal.loop-r-init
 loop-r-init c = (omega arith, c.requires.1, fill_none _ _ _)
 
+-- a reading stands among the 1,024 places
+place-lt : (c : In-loop-r) → c.loop-r.r < 1024
+place-lt c = let m = readings-many c.requires.0 in omega (arith, c.reading_count-count.ensures)
+
+pub bounds-sets-r : goal.bounds-sets-r
+bounds-sets-r c = omega (arith, place-lt (goal.at.bounds-sets-r c).In-loop-r)
+
+pub bounds-arena-r : goal.bounds-arena-r
+bounds-arena-r c = omega (arith, place-lt (goal.at.bounds-arena-r c).In-loop-r)
+
 pub loop-r-preserved : goal.loop-r-preserved
 loop-r-preserved c =
-    let place-lt : c.loop-r.r < 1024 =
-        let m = readings-many c.requires.0 in
-    omega (arith, c.reading_count-count.ensures) in
     let l = c.loop-r in
-    let p = place-lt in
+    let p = place-lt (goal.at.loop-r-preserved c).In-loop-r in
     let n = fill-next _ _ _ _ _ l.invariant.2 l.r _ (omega arith) (omega (arith, l.invariant.1)) refl in
     (omega arith, n.long ∙ c.requires.1, n)
 

@@ -13,123 +13,84 @@ use Rattle.engine.proofs.Laws.Arena.{kept-filled, joined-read, left-filled, left
 use Rattle.engine.proofs.Laws.Fill.{fill_none, fill-next}
 use Rattle.engine.proofs.Laws.Sets.{spread-word, holds-some}
 use Rattle.engine.proofs.best.leave_out.Goals as goal
+use Rattle.engine.proofs.best.leave_out.Goals.{In-loop-q}
 
 pub loop-q-init : goal.loop-q-init
 loop-q-init c = (omega arith, fill_none _ _ _, λ r h. let f : ⊥ = omega arith in absurd f)
+
+-- the readings that reading q comes from
+places : (c : In-loop-q) → let a = c.args in
+    let q = c.loop-q.q in
+    (q + q / 2 ^ a.place * 2 ^ a.place % 18446744073709551616 ≡ spread a.place q) × (spread a.place q + 2 ^ a.place < 2 ^ a.len)
+places c =
+    spread-word c.args.place c.args.len c.loop-q.q c.requires.0 c.requires.1 (rw c.reading_count-count.ensures at c.loop-q-test.true)
+
+-- .. and what their sets share
+joined : (c : In-loop-q) → let a = c.args in
+    let l = c.loop-q in
+    let r = a.at + (l.q + l.q / 2 ^ a.place * 2 ^ a.place % 18446744073709551616) in
+    bit_and (get_or l.arena r 0) (get_or l.arena (r + c.reading_count-other.result) 0) ≡ joined_at (drop a.at a.arena.now) a.place l.q
+joined c =
+    let a = c.args in
+    let l = c.loop-q in
+    let p = places c in
+    rw (p.0, c.reading_count-other.ensures)
+    (joined-read a.place l.q a.at _ a.arena.now l.arena (kept-filled l.invariant.1).same (omega (arith, c.reading_count.ensures)))
+
+-- the set that is put stands in the arena
+put-lt : (c : In-loop-q) → c.args.at + c.reading_count.result + c.loop-q.q < 2048
+put-lt c =
+    let l : c.args.len - 1 ≤ c.args.len = omega arith in
+    let m : 2 ^ (c.args.len - 1) ≤ 2 ^ c.args.len = pow_mono l in
+    omega (arith, c.requires.2.room, c.reading_count.ensures, c.reading_count-count.ensures)
 
 pub overflow_add-to : goal.overflow_add-to
 overflow_add-to c = omega (arith, c.requires.2.room, c.reading_count.ensures)
 
 pub overflow_add-r : goal.overflow_add-r
-overflow_add-r c =
-    let places : let a = c.args in let q = c.loop-q.q in (q + q / 2 ^ a.place * 2 ^ a.place % 18446744073709551616 ≡ spread a.place q) × (spread a.place q + 2 ^ a.place < 2 ^ a.len) =
-        spread-word c.args.place c.args.len c.loop-q.q c.requires.0 c.requires.1
-    (rw c.reading_count-count.ensures at c.loop-q-test.true) in
-    omega (arith, places, c.requires.2.room)
+overflow_add-r c = omega (arith, places (goal.at.overflow_add-r c).In-loop-q)
 
 pub overflow_add-r-in-loop-q : goal.overflow_add-r-in-loop-q
-overflow_add-r-in-loop-q c =
-    let places : let a = c.args in let q = c.loop-q.q in (q + q / 2 ^ a.place * 2 ^ a.place % 18446744073709551616 ≡ spread a.place q) × (spread a.place q + 2 ^ a.place < 2 ^ a.len) =
-        spread-word c.args.place c.args.len c.loop-q.q c.requires.0 c.requires.1
-    (rw c.reading_count-count.ensures at c.loop-q-test.true) in
-    omega (arith, places, c.requires.2.room)
+overflow_add-r-in-loop-q c = omega (arith, places (goal.at.overflow_add-r-in-loop-q c).In-loop-q)
 
 pub offset_bounds-arena-r : goal.offset_bounds-arena-r
-offset_bounds-arena-r c =
-    let places : let a = c.args in let q = c.loop-q.q in (q + q / 2 ^ a.place * 2 ^ a.place % 18446744073709551616 ≡ spread a.place q) × (spread a.place q + 2 ^ a.place < 2 ^ a.len) =
-        spread-word c.args.place c.args.len c.loop-q.q c.requires.0 c.requires.1
-    (rw c.reading_count-count.ensures at c.loop-q-test.true) in
-    omega (arith, places, c.requires.2.room)
+offset_bounds-arena-r c = omega (arith, places (goal.at.offset_bounds-arena-r c).In-loop-q)
 
 pub bounds-arena-r : goal.bounds-arena-r
-bounds-arena-r c =
-    let places : let a = c.args in let q = c.loop-q.q in (q + q / 2 ^ a.place * 2 ^ a.place % 18446744073709551616 ≡ spread a.place q) × (spread a.place q + 2 ^ a.place < 2 ^ a.len) =
-        spread-word c.args.place c.args.len c.loop-q.q c.requires.0 c.requires.1
-    (rw c.reading_count-count.ensures at c.loop-q-test.true) in
-    omega (arith, places, c.requires.2.room)
+bounds-arena-r c = omega (arith, places (goal.at.bounds-arena-r c).In-loop-q)
 
 pub overflow_add-both : goal.overflow_add-both
-overflow_add-both c =
-    let places : let a = c.args in let q = c.loop-q.q in (q + q / 2 ^ a.place * 2 ^ a.place % 18446744073709551616 ≡ spread a.place q) × (spread a.place q + 2 ^ a.place < 2 ^ a.len) =
-        spread-word c.args.place c.args.len c.loop-q.q c.requires.0 c.requires.1
-    (rw c.reading_count-count.ensures at c.loop-q-test.true) in
-    omega (arith, places, c.requires.2.room, c.reading_count-other.ensures)
+overflow_add-both c = omega (arith, places (goal.at.overflow_add-both c).In-loop-q)
 
 pub offset_bounds-arena-r-in-loop-q : goal.offset_bounds-arena-r-in-loop-q
-offset_bounds-arena-r-in-loop-q c =
-    let places : let a = c.args in let q = c.loop-q.q in (q + q / 2 ^ a.place * 2 ^ a.place % 18446744073709551616 ≡ spread a.place q) × (spread a.place q + 2 ^ a.place < 2 ^ a.len) =
-        spread-word c.args.place c.args.len c.loop-q.q c.requires.0 c.requires.1
-    (rw c.reading_count-count.ensures at c.loop-q-test.true) in
-    omega (arith, places, c.requires.2.room, c.reading_count-other.ensures)
+offset_bounds-arena-r-in-loop-q c = omega (arith, places (goal.at.offset_bounds-arena-r-in-loop-q c).In-loop-q)
 
 pub bounds-arena-r-in-loop-q : goal.bounds-arena-r-in-loop-q
-bounds-arena-r-in-loop-q c =
-    let places : let a = c.args in let q = c.loop-q.q in (q + q / 2 ^ a.place * 2 ^ a.place % 18446744073709551616 ≡ spread a.place q) × (spread a.place q + 2 ^ a.place < 2 ^ a.len) =
-        spread-word c.args.place c.args.len c.loop-q.q c.requires.0 c.requires.1
-    (rw c.reading_count-count.ensures at c.loop-q-test.true) in
-    omega (arith, places, c.requires.2.room, c.reading_count-other.ensures)
+bounds-arena-r-in-loop-q c = omega (arith, places (goal.at.bounds-arena-r-in-loop-q c).In-loop-q)
 
 pub returns-then-both-eq0 : goal.returns-then-both-eq0
 returns-then-both-eq0 c =
-    let places : let a = c.args in let q = c.loop-q.q in (q + q / 2 ^ a.place * 2 ^ a.place % 18446744073709551616 ≡ spread a.place q) × (spread a.place q + 2 ^ a.place < 2 ^ a.len) =
-        spread-word c.args.place c.args.len c.loop-q.q c.requires.0 c.requires.1
-    (rw c.reading_count-count.ensures at c.loop-q-test.true) in
-    let joined : let a = c.args in let l = c.loop-q in let r = a.at + (l.q + l.q / 2 ^ a.place * 2 ^ a.place % 18446744073709551616) in bit_and (get_or l.arena r 0) (get_or l.arena (r + c.reading_count-other.result) 0) ≡ joined_at (drop a.at a.arena.now) a.place l.q =
-        let a = c.args in
-    let l = c.loop-q in
-    let p = places in
-    rw (p.0, c.reading_count-other.ensures)
-    (joined-read a.place l.q a.at _ a.arena.now l.arena (kept-filled l.invariant.1).same
-    (omega (arith, c.reading_count.ensures))) in
-    (
-      left-empty (rw c.reading_count-count.ensures at c.loop-q-test.true) (ap (λ (t : ℕ). t % 65536) (sym joined) ∙ c.if-both-eq0.true),
+    let e = joined (goal.at.returns-then-both-eq0 c).In-loop-q in (
+      left-empty (rw c.reading_count-count.ensures at c.loop-q-test.true) (ap (λ (t : ℕ). t % 65536) (sym e) ∙ c.if-both-eq0.true),
       rw (← c.reading_count.ensures) (kept-filled c.loop-q.invariant.1),
     )
 
 pub overflow_add-arena : goal.overflow_add-arena
-overflow_add-arena c =
-    let put-lt : c.args.at + c.reading_count.result + c.loop-q.q < 2048 =
-        let l : c.args.len - 1 ≤ c.args.len = omega arith in
-    let m : 2 ^ (c.args.len - 1) ≤ 2 ^ c.args.len = pow_mono l in
-    omega (arith, c.requires.2.room, c.reading_count.ensures, c.reading_count-count.ensures) in
-    omega (arith, put-lt)
+overflow_add-arena c = omega (arith, put-lt (goal.at.overflow_add-arena c).In-loop-q)
 
 pub offset_bounds-arena-to : goal.offset_bounds-arena-to
-offset_bounds-arena-to c =
-    let put-lt : c.args.at + c.reading_count.result + c.loop-q.q < 2048 =
-        let l : c.args.len - 1 ≤ c.args.len = omega arith in
-    let m : 2 ^ (c.args.len - 1) ≤ 2 ^ c.args.len = pow_mono l in
-    omega (arith, c.requires.2.room, c.reading_count.ensures, c.reading_count-count.ensures) in
-    omega (arith, put-lt)
+offset_bounds-arena-to c = omega (arith, put-lt (goal.at.offset_bounds-arena-to c).In-loop-q)
 
 pub bounds-arena-to : goal.bounds-arena-to
-bounds-arena-to c =
-    let put-lt : c.args.at + c.reading_count.result + c.loop-q.q < 2048 =
-        let l : c.args.len - 1 ≤ c.args.len = omega arith in
-    let m : 2 ^ (c.args.len - 1) ≤ 2 ^ c.args.len = pow_mono l in
-    omega (arith, c.requires.2.room, c.reading_count.ensures, c.reading_count-count.ensures) in
-    put-lt
+bounds-arena-to c = omega (arith, put-lt (goal.at.bounds-arena-to c).In-loop-q)
 
 pub loop-q-preserved : goal.loop-q-preserved
 loop-q-preserved c =
-    let places : let a = c.args in let q = c.loop-q.q in (q + q / 2 ^ a.place * 2 ^ a.place % 18446744073709551616 ≡ spread a.place q) × (spread a.place q + 2 ^ a.place < 2 ^ a.len) =
-        spread-word c.args.place c.args.len c.loop-q.q c.requires.0 c.requires.1
-    (rw c.reading_count-count.ensures at c.loop-q-test.true) in
-    let joined : let a = c.args in let l = c.loop-q in let r = a.at + (l.q + l.q / 2 ^ a.place * 2 ^ a.place % 18446744073709551616) in bit_and (get_or l.arena r 0) (get_or l.arena (r + c.reading_count-other.result) 0) ≡ joined_at (drop a.at a.arena.now) a.place l.q =
-        let a = c.args in
+    let i = (goal.at.loop-q-preserved c).In-loop-q in
     let l = c.loop-q in
-    let p = places in
-    rw (p.0, c.reading_count-other.ensures)
-    (joined-read a.place l.q a.at _ a.arena.now l.arena (kept-filled l.invariant.1).same
-    (omega (arith, c.reading_count.ensures))) in
-    let put-lt : c.args.at + c.reading_count.result + c.loop-q.q < 2048 =
-        let l : c.args.len - 1 ≤ c.args.len = omega arith in
-    let m : 2 ^ (c.args.len - 1) ≤ 2 ^ c.args.len = pow_mono l in
-    omega (arith, c.requires.2.room, c.reading_count.ensures, c.reading_count-count.ensures) in
-    let l = c.loop-q in
-    let e = joined in (
+    let e = joined i in (
       omega arith,
-      fill-next _ _ _ _ _ l.invariant.1 _ _ refl (omega (arith, put-lt, l.invariant.1.long, c.requires.2.long)) e,
+      fill-next _ _ _ _ _ l.invariant.1 _ _ refl (omega (arith, put-lt i, l.invariant.1.long, c.requires.2.long)) e,
       below_more _ _ l.invariant.2 (rw (← e) (holds-some _ c.if-both-eq0.false)),
     )
 

@@ -9,24 +9,28 @@ use Rattle.engine.proofs.Laws.Fill.{fill_none, fill-next, fill-at}
 use Rattle.engine.proofs.Laws.Notes.{notes-sets}
 use Rattle.engine.proofs.Laws.Rule.{readings-many}
 use Rattle.engine.proofs.table.fill_notes.Goals as goal
+use Rattle.engine.proofs.table.fill_notes.Goals.{In-loop-r}
 
 pub loop-r-init : goal.loop-r-init
 loop-r-init c = (omega arith, fill_none _ 0 _)
 
+-- a reading stands among the 1,024 places
+place-lt : (c : In-loop-r) → c.loop-r.r < 1024
+place-lt c = let m = readings-many c.requires in omega (arith, c.reading_count-count.ensures)
+
 pub offset_bounds-sets-r : goal.offset_bounds-sets-r
-offset_bounds-sets-r c =
-    let place-lt : c.loop-r.r < 1024 =
-        let m = readings-many c.requires in
-    omega (arith, c.reading_count-count.ensures) in
-    let l = place-lt in omega arith
+offset_bounds-sets-r c = omega (arith, place-lt (goal.at.offset_bounds-sets-r c).In-loop-r)
+
+pub bounds-sets-r : goal.bounds-sets-r
+bounds-sets-r c = omega (arith, place-lt (goal.at.bounds-sets-r c).In-loop-r)
+
+pub bounds-notes-r : goal.bounds-notes-r
+bounds-notes-r c = omega (arith, place-lt (goal.at.bounds-notes-r c).In-loop-r)
 
 pub loop-r-preserved : goal.loop-r-preserved
 loop-r-preserved c =
-    let place-lt : c.loop-r.r < 1024 =
-        let m = readings-many c.requires in
-    omega (arith, c.reading_count-count.ensures) in
     let l = c.loop-r in
-    let n = place-lt in
+    let n = place-lt (goal.at.loop-r-preserved c).In-loop-r in
     (omega arith, fill-next _ 0 _ _ _ l.invariant.1 l.r _ (omega arith) (omega (arith, l.invariant.1.long)) c.note_of.ensures)
 
 pub returns : goal.returns

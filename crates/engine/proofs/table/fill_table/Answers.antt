@@ -8,16 +8,20 @@ use lib.ListN.{length, length-set}
 use Rattle.engine.proofs.Laws.Rule.{readings-many}
 use Rattle.engine.proofs.Laws.Sets.{TableTo, table-next, table-sets}
 use Rattle.engine.proofs.table.fill_table.Goals as goal
+use Rattle.engine.proofs.table.fill_table.Goals.{In-loop-r}
 
 pub loop-r-init : goal.loop-r-init
 loop-r-init c = (omega arith, refl, λ r h. let f : ⊥ = omega arith in absurd f)
 
+-- a reading stands among the 1,024 places
+place-lt : (c : In-loop-r) → c.loop-r.r < 1024
+place-lt c = let m = readings-many c.requires.0 in omega (arith, c.reading_count-count.ensures)
+
 pub offset_bounds-sets-r : goal.offset_bounds-sets-r
-offset_bounds-sets-r c =
-    let place-lt : c.loop-r.r < 1024 =
-        let m = readings-many c.requires.0 in
-    omega (arith, c.reading_count-count.ensures) in
-    let l = place-lt in omega arith
+offset_bounds-sets-r c = omega (arith, place-lt (goal.at.offset_bounds-sets-r c).In-loop-r)
+
+pub bounds-table-r : goal.bounds-table-r
+bounds-table-r c = omega (arith, place-lt (goal.at.bounds-table-r c).In-loop-r)
 
 pub bounds-sets-r : goal.bounds-sets-r
 bounds-sets-r c =
@@ -25,14 +29,11 @@ bounds-sets-r c =
 
 pub loop-r-preserved : goal.loop-r-preserved
 loop-r-preserved c =
-    let place-lt : c.loop-r.r < 1024 =
-        let m = readings-many c.requires.0 in
-    omega (arith, c.reading_count-count.ensures) in
     let ss = c.args.sets.now in
     let l = c.loop-r in (
       omega arith,
       length-set l.table l.r c.lowest_vector.result ∙ l.invariant.1,
-      rw c.lowest_vector.ensures (table-next ss l.table l.r (omega (arith, place-lt, l.invariant.1)) l.invariant.2),
+      rw c.lowest_vector.ensures (table-next ss l.table l.r (omega (arith, place-lt (goal.at.loop-r-preserved c).In-loop-r, l.invariant.1)) l.invariant.2),
     )
 
 pub returns : goal.returns
