@@ -12,7 +12,6 @@ unfoldable pub use Rattle.records.specs.Service.{check_of, struct_slots, no_gate
 use Rattle.records.specs.declared.gate.Gate.{Gate as GateStruct}
 use Rattle.records.specs.declared.field.Field.{Field}
 use Rattle.records.specs.declared.field.Field.TheVariants.{Body, Missing}
-use Rattle.records.specs.declared.field.Check.{Check}
 use Rattle.records.specs.declared.field.Check.TheVariants.{Passed, Failed}
 use Rattle.records.specs.declared.field.Walk.{Walk}
 use Rattle.records.specs.declared.gates.GateSpans.{GateSpans}
@@ -26,7 +25,6 @@ use Rattle.records.specs.declared.sheet.Support.{Support}
 use Rattle.records.specs.declared.sheet.SheetReply.{SheetReply}
 use Rattle.records.specs.declared.sheet.SheetSpans.{SheetSpans}
 use Rattle.records.specs.declared.sheet.SheetShape.{SheetShape}
-use Rattle.records.specs.declared.sheet.SheetShape.TheVariants as SheetShape
 use Rattle.records.specs.declared.sheet.Found.{Found}
 use Rattle.records.specs.declared.sheet.Found.TheVariants.{At, Nowhere}
 use Rattle.records.specs.declared.sheet.Costs.{Costs}

@@ -10,7 +10,6 @@ use borrow.Author.Tests.{eqb-true, eqb-false, ne_eqb, lt-leb, le-leb}
 use lib.Dec.{leb, eqb}
 use lib.ListN.{length, get_or, set, take, length-map, length-replicate}
 use Rattle.records.specs.Bytes.{tabulate, flat, placed}
-use Rattle.records.specs.Gate.{Gate}
 use Rattle.records.specs.Netlist.{Netlist}
 use Rattle.records.specs.Job.{job_of}
 use Rattle.records.specs.Refusal.{first_failing}

@@ -24,7 +24,6 @@ use Rattle.records.specs.declared.sheet.Costs.{Costs}
 use Rattle.records.specs.declared.sheet.Costs.TheVariants.{Sum, Unfit}
 use Rattle.records.proofs.Laws.Bytes.{and_left, and_right, and-false-right, length-tabulate, get_d_tabulate}
 use Rattle.records.proofs.Laws.Job.{tabulate-get_or}
-use Rattle.records.proofs.Laws.Shape.{length-nets_of}
 use Rattle.records.proofs.Laws.Refusal.{ascending_from, ascending-from}
 
 -- what is left of a list from i on starts with its i-th element

@@ -5,8 +5,7 @@ use lib.Dec.{leb, ltb, eqb}
 use lib.ListN.{get_or, drop}
 use mathlib.Core.Bool.{◌&&◌}
 use mathlib.Core.Path.{◌≡◌, ◌∙◌, sym}
-use native.Mathlib.Omega.{arith}
-use Prim.Native.Nat.{◌+◌, ◌-◌}
+use Prim.Native.Nat.{◌+◌}
 use Rattle.records.specs.Job.{candidates_of}
 use Rattle.records.specs.Inner.{check_of, unmarked_ascending}
 use Rattle.records.proofs.Laws.Refusal.{unmarked_from, unmarked-from, unmarked-drop, unmarked-past}

@@ -1,15 +1,11 @@
 -- `records::candidate::check_candidates` meets its contract. The loop's invariant: the candidates from i on pass from
 -- least on exactly when all pass. Assumes nothing.
-use borrow.Author.Tests.{le-leb, lt-leb, lt-ltb, le-ltb, eq-eqb, ne_eqb}
-use lib.Dec.{leb, ltb, eqb}
-use lib.ListN.{get_or, drop}
-use mathlib.Core.Bool.{◌&&◌}
-use mathlib.Core.Path.{◌≡◌, ◌∙◌, sym}
-use native.Mathlib.Omega.{arith}
-use Prim.Native.Nat.{◌+◌, ◌-◌}
+use lib.ListN.{drop}
+use mathlib.Core.Path.{◌≡◌}
+use Prim.Native.Nat.{◌-◌}
 use Rattle.records.specs.Job.{candidates_of}
-use Rattle.records.specs.Inner.{check_of, unmarked_ascending}
-use Rattle.records.proofs.Laws.Refusal.{unmarked_from, unmarked-from, unmarked-drop, unmarked-past}
+use Rattle.records.specs.Inner.{unmarked_ascending}
+use Rattle.records.proofs.Laws.Refusal.{unmarked_from}
 use Rattle.records.proofs.candidate.check_candidates.Given as goal
 
 abbrev pub invariant-loop-i : goal.invariant-loop-i

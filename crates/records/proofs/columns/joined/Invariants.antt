@@ -1,14 +1,11 @@
 -- `records::columns::joined` meets its contract: after i turns the first i gates of the columns stand at the start.
 -- Assumes nothing.
 use Prim.Native.Nat.{ℕ, ◌+◌, ◌*◌, ◌-◌, ◌≤◌}
-use mathlib.Core.Path.{◌≡◌, refl}
 use mathlib.Core.List.{List}
-use native.Mathlib.Omega.{arith}
 use lib.ListN.{get_or}
-use Rattle.records.specs.Inner.{no_gate, no_gates, structs_from}
+use Rattle.records.specs.Inner.{no_gates}
 use Rattle.records.specs.declared.gate.Gate.{Gate}
-use Rattle.records.proofs.Laws.Job.{Filled, filled_none, filled_next}
-use Rattle.records.proofs.Laws.Columns.{length-no_gates}
+use Rattle.records.proofs.Laws.Job.{Filled}
 use Rattle.records.proofs.columns.joined.Given as goal
 
 -- gate i of columns

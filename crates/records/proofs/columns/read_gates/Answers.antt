@@ -1,5 +1,4 @@
 -- `records::columns::read_gates` meets its contract: it lends read places of its own for the gates.
-use Rattle.std.proofs.Common.{◌≡◌, refl}
 use Rattle.records.specs.Inner.{no_gate, no_gates}
 use Rattle.records.proofs.columns.read_gates.Goals as goal
 

@@ -1,12 +1,12 @@
 -- `records::columns::split` meets its contract: after i turns the parts of the first i gates stand at the columns' starts.
 -- Assumes nothing.
-use Prim.Native.Nat.{◌*◌, ◌-◌, ◌≤◌}
+use Prim.Native.Nat.{◌*◌}
 use mathlib.Core.Path.{◌≡◌, refl}
 use native.Mathlib.Omega.{arith}
 use lib.ListN.{get_or, length-set}
 use Rattle.records.specs.Inner.{no_gate, struct_slots}
 use Rattle.records.specs.declared.gate.Gate.{Gate}
-use Rattle.records.proofs.Laws.Job.{Filled, filled_none, filled_next, Put, put-none, put_next}
+use Rattle.records.proofs.Laws.Job.{filled_none, filled_next, put-none, put_next}
 use Rattle.records.proofs.Laws.ReadColumns.{length-struct_slots}
 use Rattle.records.proofs.Laws.Columns.{slots-placed, column-split, slots-split}
 use Rattle.records.proofs.columns.split.Goals as goal

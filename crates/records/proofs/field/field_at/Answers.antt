@@ -1,6 +1,5 @@
 -- `records::field::field_at` meets its contract: each test that fails says that no whole field with the tag stands
 -- at the position. Assumes nothing.
-use borrow.Author.Rules.{rules}
 use native.Mathlib.Omega.{arith}
 use Rattle.records.specs.Inner.{field_at}
 use Rattle.records.proofs.Laws.Field.{body_length-drop, fits-short, fits-other-tag, fits-long, fits_whole}

@@ -1,5 +1,4 @@
 -- `records::field::noted` meets its contract: the cases of the code are those of the definition. Assumes nothing.
-use borrow.Author.Rules.{rules}
 use native.Mathlib.Omega.{arith}
 use mathlib.Core.Path.{ap}
 use native.Mathlib.Numerals.{add-one}

@@ -1,13 +1,12 @@
 -- `records::field::walked` meets its contract: each turn notes one field more, and what the contract says of the walk is a law of
 -- `walk_after`.
-use Rattle.std.proofs.Common.{◌≡◌, ℕ, ◌+◌, ◌<◌, suc, subst, refl, sym, ◌∙◌, ap}
+use Rattle.std.proofs.Common.{◌≡◌, ℕ, suc, subst, refl, sym, ◌∙◌, ap}
 use native.Mathlib.Omega.{arith}
 use mathlib.Core.List.{List}
 use denote.Ref.{Bor}
-use Rattle.records.specs.Inner.{noted, walk_from, walk_after, field_at, ended, Notable}
+use Rattle.records.specs.Inner.{noted, walk_from, walk_after, field_at, Notable}
 use Rattle.records.specs.declared.field.Walk.{Walk}
-use Rattle.records.specs.declared.field.Field.{Field}
-use Rattle.records.proofs.Laws.Walk.{walking, notable, walks, noted-count}
+use Rattle.records.proofs.Laws.Walk.{notable, walks, noted-count}
 use Rattle.records.proofs.field.walked.Goals as goal
 
 pub loop-walk-init : goal.loop-walk-init

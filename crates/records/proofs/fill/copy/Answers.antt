@@ -1,12 +1,11 @@
 -- `records::fill::copy` meets its contract: after i turns the first i elements of src stand at buf's start.
 -- Assumes nothing.
-use Prim.Native.Nat.{◌≤◌, ◌-◌}
 use mathlib.Core.Path.{◌≡◌, refl, ◌∙◌, ap}
 use native.Mathlib.Omega.{arith}
 use lib.ListN.{length, get_or}
 use lib.Seq.{take-length}
 use Rattle.records.specs.Bytes.{placed}
-use Rattle.records.proofs.Laws.Job.{Filled, filled_none, filled_next, tabulate-get_or}
+use Rattle.records.proofs.Laws.Job.{filled_none, filled_next, tabulate-get_or}
 use Rattle.records.proofs.fill.copy.Goals as goal
 
 pub loop-i-init : goal.loop-i-init

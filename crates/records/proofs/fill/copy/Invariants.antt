@@ -1,12 +1,8 @@
 -- `records::fill::copy` meets its contract: after i turns the first i elements of src stand at buf's start.
 -- Assumes nothing.
 use Prim.Native.Nat.{◌≤◌, ◌-◌}
-use mathlib.Core.Path.{◌≡◌, refl, ◌∙◌, ap}
-use native.Mathlib.Omega.{arith}
 use lib.ListN.{length, get_or}
-use lib.Seq.{take-length}
-use Rattle.records.specs.Bytes.{placed}
-use Rattle.records.proofs.Laws.Job.{Filled, filled_none, filled_next, tabulate-get_or}
+use Rattle.records.proofs.Laws.Job.{Filled}
 use Rattle.records.proofs.fill.copy.Given as goal
 
 abbrev pub invariant-loop-i : goal.invariant-loop-i

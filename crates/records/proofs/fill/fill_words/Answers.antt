@@ -1,12 +1,12 @@
 -- `records::fill::fill_words` meets its contract: after i turns the first i numbers of the column stand at the places'
 -- start, and at is where the number of record i stands. Assumes nothing.
-use Prim.Native.Nat.{◌+◌, ◌≤◌, ◌-◌, ◌*◌, ◌%◌}
+use Prim.Native.Nat.{◌+◌, ◌*◌, ◌%◌}
 use mathlib.Core.Path.{◌≡◌, ◌∙◌, ap}
 use native.Mathlib.Omega.{arith}
 use native.Mathlib.Nat.{mul-zero}
 use Rattle.records.specs.Bytes.{word}
 use Rattle.records.specs.Inner.{word_column}
-use Rattle.records.proofs.Laws.Job.{next-record, record-within, Filled, filled_none, filled_next}
+use Rattle.records.proofs.Laws.Job.{next-record, record-within, filled_none, filled_next}
 use Rattle.records.proofs.fill.fill_words.Goals as goal
 
 pub loop-i-init : goal.loop-i-init

@@ -1,7 +1,5 @@
 -- `records::gate::gate_good` meets its contract. The loop's invariant: the slots from i on are good exactly when all are.
 -- Assumes nothing.
-use borrow.Author.Rules.{rules}
-use borrow.Author.Tests.{not-true, not-false}
 use lib.ListN.{length, drop}
 use mathlib.Core.Bool.{◌&&◌}
 use mathlib.Core.Path.{◌≡◌, sym, ◌∙◌, ap}

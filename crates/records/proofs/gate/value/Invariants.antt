@@ -1,13 +1,10 @@
 -- `records::gate::value` meets its contract. The loop's invariant: r is the plain kind's value on the operands from i on; at
 -- the end an odd kind inverts it. Assumes nothing.
 use lib.ListN.{length, drop}
-use mathlib.Core.List.{[]}
-use mathlib.Core.Logic.{⊎_elim}
-use mathlib.Core.Path.{◌≡◌, sym, ◌∙◌, ap}
-use native.Mathlib.Omega.{arith}
-use Prim.Native.Nat.{ℕ, suc, ◌-◌, ◌%◌, ◌≤◌, ◌<◌}
-use Rattle.records.specs.Gate.{gate_value, conj, inverted}
-use Rattle.records.proofs.Laws.Gate.{lowest, length-lowest, gate_value-high, gate_value-nil, fold-none, fold-back, odd-inverts}
+use mathlib.Core.Path.{◌≡◌}
+use Prim.Native.Nat.{◌≤◌, ◌<◌}
+use Rattle.records.specs.Gate.{gate_value}
+use Rattle.records.proofs.Laws.Gate.{lowest}
 use Rattle.records.proofs.gate.value.Given as goal
 
 abbrev pub invariant-loop-i : goal.invariant-loop-i

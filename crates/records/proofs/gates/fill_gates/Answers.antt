@@ -1,7 +1,7 @@
 -- `records::gates::fill_gates` meets its contract: each turn fills the next place.
-use Rattle.std.proofs.Common.{sym, ◌∙◌, ap}
+use Rattle.std.proofs.Common.{sym}
 use native.Mathlib.Omega.{arith}
-use Rattle.records.proofs.Laws.Gates.{structs-none, structs-next, length-structs}
+use Rattle.records.proofs.Laws.Gates.{structs-none, structs-next}
 use Rattle.records.proofs.gates.fill_gates.Goals as goal
 
 pub loop-i-init : goal.loop-i-init

@@ -2,7 +2,6 @@
 use Prim.Native.Nat.{ℕ, ◌+◌, ◌%◌}
 use mathlib.Core.Path.{◌≡◌}
 use native.Mathlib.Nat.{mod-eq_of_lt}
-use native.Mathlib.Omega.{arith}
 use Rattle.records.specs.Bytes.{word}
 use Rattle.records.specs.Inner.{struct_at}
 use Rattle.records.proofs.Laws.Sheet.{word_lt}

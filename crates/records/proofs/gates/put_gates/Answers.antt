@@ -1,9 +1,6 @@
 -- `records::gates::put_gates` meets its contract: each turn puts the next gate's bytes.
-use Rattle.std.proofs.Common.{sym, ◌∙◌, ap}
+use Rattle.std.proofs.Common.{sym, ◌∙◌}
 use native.Mathlib.Omega.{arith}
-use Rattle.records.specs.Bytes.{placed}
-use Rattle.records.specs.Job.{gate_bytes}
-use Rattle.records.specs.Service.{gate_from}
 use Rattle.records.specs.Inner.{no_gate}
 use Rattle.records.proofs.Laws.Gates.{bytes-none, bytes_next}
 use Rattle.records.proofs.gates.put_gates.Goals as goal

@@ -13,7 +13,6 @@ use Rattle.records.specs.Refusal.{gates_good}
 use Rattle.records.specs.Inner.{check_of, unmarked_ascending}
 use Rattle.records.proofs.Laws.Bytes.{and_left}
 use Rattle.records.proofs.Laws.Shape.{Parts, parts, netlists-checks, laid-old, candidates-check}
-use borrow.Author.Rules.{rules}
 use Rattle.records.proofs.job.check_all_candidates.Goals as goal
 
 pub overflow_sub-b : goal.overflow_sub-b

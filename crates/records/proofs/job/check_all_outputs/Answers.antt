@@ -15,7 +15,6 @@ use Rattle.records.specs.declared.job.Counts.{Counts}
 use Rattle.records.proofs.Laws.Counts.{passed, failed-of, passes, fails}
 use Rattle.records.proofs.Laws.Reading.{nets-in, part_room}
 use Rattle.records.proofs.Laws.Shape.{Parts, parts, laid-counts, outputs-checks}
-use borrow.Author.Rules.{rules}
 use Rattle.records.proofs.job.check_all_outputs.Goals as goal
 
 pub check_outputs-first-requires : goal.check_outputs-first-requires

@@ -10,7 +10,6 @@ use Rattle.records.specs.Inner.{check_of}
 use Rattle.records.proofs.Laws.Bytes.{and-false-left}
 use Rattle.records.proofs.Laws.Counts.{failed-of, passes, fails}
 use Rattle.records.proofs.Laws.Shape.{Parts, parts, netlists-checks}
-use borrow.Author.Rules.{rules}
 use Rattle.records.proofs.job.check_netlists.Goals as goal
 
 pub overflow_sub-b : goal.overflow_sub-b

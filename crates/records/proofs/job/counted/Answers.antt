@@ -1,5 +1,4 @@
 -- `records::job::counted` meets its contract: the test is the definition's. Assumes nothing.
-use native.Mathlib.Omega.{arith}
 use Rattle.records.specs.Inner.{counted_from, lengths_good}
 use Rattle.records.proofs.job.counted.Goals as goal
 

@@ -1,5 +1,4 @@
 -- `records::loading::check_number` meets its contract: the test is the definition's. Assumes nothing.
-use lib.Dec.{eqb}
 use borrow.Author.Tests.{eq-eqb, ne_eqb}
 use Rattle.records.proofs.Laws.Counts.{passed, failed-of}
 use Rattle.records.proofs.loading.check_number.Goals as goal

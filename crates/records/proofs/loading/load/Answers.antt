@@ -1,5 +1,4 @@
 -- `records::loading::load` meets its contract: its arrays are the empty places, and read_gates fills them. Assumes nothing.
-use mathlib.Core.Path.{refl}
 use Rattle.records.specs.Service.{side_places, places, empty_places}
 use Rattle.records.proofs.Laws.Loading.{load-ends}
 use Rattle.records.proofs.loading.load.Goals as goal

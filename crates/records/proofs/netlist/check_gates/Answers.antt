@@ -1,13 +1,9 @@
 -- `records::netlist::check_gates` meets its contract. The loop's invariant: the gates from i on are good exactly when
 -- all are. Assumes nothing.
-use borrow.Author.Tests.{not-true, not-false}
-use lib.ListN.{drop}
-use mathlib.Core.Bool.{Bool, ◌&&◌}
-use mathlib.Core.List.{List}
+use mathlib.Core.Bool.{◌&&◌}
 use mathlib.Core.Path.{◌≡◌, ◌∙◌, sym}
 use native.Mathlib.Nat.{add-zero}
-use native.Mathlib.Omega.{arith}
-use Prim.Native.Nat.{ℕ, ◌+◌, ◌-◌}
+use Prim.Native.Nat.{◌+◌}
 use Rattle.records.specs.Job.{gate_at, gates_of}
 use Rattle.records.specs.Refusal.{gates_good}
 use Rattle.records.specs.Service.{gate_from}

@@ -1,12 +1,9 @@
 -- `records::netlist::check_outputs` meets its contract. The loop's invariant: the nets from i on pass the test exactly
 -- when all do. Assumes nothing.
-use Prim.Native.Nat.{ℕ, ◌+◌, ◌*◌, ◌-◌}
-use mathlib.Core.Path.{◌≡◌, refl, ◌∙◌, sym}
-use native.Mathlib.Omega.{arith}
+use Prim.Native.Nat.{◌+◌, ◌*◌}
+use mathlib.Core.Path.{◌≡◌, ◌∙◌, sym}
 use borrow.Author.Tests.{lt-ltb, le-ltb}
-use mathlib.Core.List.{List}
-use mathlib.Core.Bool.{Bool, ◌&&◌}
-use lib.ListN.{drop}
+use mathlib.Core.Bool.{◌&&◌}
 use lib.Dec.{ltb}
 use Rattle.records.specs.Bytes.{all, word}
 use Rattle.records.specs.Inner.{check_of, word_column}

@@ -1,16 +1,13 @@
 -- `records::netlist::check_outputs` meets its contract. The loop's invariant: the nets from i on pass the test exactly
 -- when all do. Assumes nothing.
-use Prim.Native.Nat.{ℕ, ◌+◌, ◌*◌, ◌-◌}
-use mathlib.Core.Path.{◌≡◌, refl, ◌∙◌, sym}
-use native.Mathlib.Omega.{arith}
-use borrow.Author.Tests.{lt-ltb, le-ltb}
+use Prim.Native.Nat.{ℕ, ◌-◌}
+use mathlib.Core.Path.{◌≡◌}
 use mathlib.Core.List.{List}
-use mathlib.Core.Bool.{Bool, ◌&&◌}
+use mathlib.Core.Bool.{Bool}
 use lib.ListN.{drop}
 use lib.Dec.{ltb}
-use Rattle.records.specs.Bytes.{all, word}
-use Rattle.records.specs.Inner.{check_of, word_column}
-use Rattle.records.proofs.Laws.Bytes.{all_drop, drop-tabulate-past}
+use Rattle.records.specs.Bytes.{all}
+use Rattle.records.specs.Inner.{word_column}
 use Rattle.records.proofs.netlist.check_outputs.Given as goal
 
 -- the nets from i on pass the test

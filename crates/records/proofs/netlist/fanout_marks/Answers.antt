@@ -1,11 +1,11 @@
 -- `records::netlist::fanout_marks` meets its contract. The loop's invariant: the marks so far, extended by the gates
 -- from i on, are the fanout, and those gates are good, so that gate i's operands have their marks. Assumes nothing.
-use lib.ListN.{length, take, drop, length-set}
+use lib.ListN.{length, drop, length-set}
 use mathlib.Core.Bool.{true}
 use mathlib.Core.Path.{◌≡◌, ◌∙◌, sym}
 use native.Mathlib.Nat.{add-zero}
 use native.Mathlib.Omega.{arith}
-use Prim.Native.Nat.{◌+◌, ◌-◌, ◌/◌, ◌≤◌}
+use Prim.Native.Nat.{◌+◌, ◌/◌}
 use Rattle.records.specs.Netlist.{extended, mark_of, fanout}
 use Rattle.records.specs.Job.{gate_at, gates_of}
 use Rattle.records.specs.Refusal.{gate_good, gates_good}

@@ -1,12 +1,10 @@
 -- `records::netlist::gate_mark` meets its contract. The loop's invariant: r is the greatest mark of the operands from i on.
 -- Assumes nothing.
-use lib.ListN.{length, get_or, take, drop}
-use mathlib.Core.List.{map}
+use lib.ListN.{length}
 use mathlib.Core.Path.{◌≡◌, sym, ◌∙◌, ap}
 use native.Mathlib.Omega.{arith}
-use Prim.Native.Nat.{◌-◌, ◌≤◌, ◌<◌}
-use Rattle.records.specs.Gate.{gate_of, operands, disj}
-use Rattle.records.specs.Netlist.{net_at, mark_of}
+use Rattle.records.specs.Gate.{gate_of, operands}
+use Rattle.records.specs.Netlist.{mark_of}
 use Rattle.records.specs.Service.{gate_from}
 use Rattle.records.specs.Inner.{struct_slots}
 use Rattle.records.proofs.Laws.Netlist.{disj-none, disj-back}

@@ -1,7 +1,5 @@
 -- `records::reading::read` meets its contract: what its calls ask and what they leave are laws of `read_reply` and `read_places`.
-use Rattle.std.proofs.Common.{◌≡◌, refl}
-use Rattle.records.specs.Service.{Places, side_places, places}
-use Rattle.records.specs.declared.gate.Gate.{Gate}
+use Rattle.records.specs.Service.{side_places, places}
 use Rattle.records.proofs.Laws.Reading.{spans_fit, rest-fits, read-ends}
 use Rattle.records.proofs.reading.read.Goals as goal
 

@@ -1,17 +1,13 @@
 -- `records::sheet::check_entries` meets its contract. The loop's invariant: testing the bytes left from position i on
 -- gives what testing all gives. Assumes nothing.
-use Prim.Native.Nat.{ℕ, ◌-◌, ◌≤◌, ◌<◌}
+use Prim.Native.Nat.{◌-◌, ◌≤◌, ◌<◌}
 use mathlib.Core.Path.{◌≡◌}
-use mathlib.Core.Bool.{Bool}
-use mathlib.Core.List.{List}
 use native.Mathlib.Omega.{arith}
 use borrow.Author.Tests.{lt-ltb, le-ltb}
-use lib.Dec.{ltb}
-use lib.ListN.{get_or, take, drop}
-use Rattle.records.specs.Bytes.{all}
+use lib.ListN.{get_or}
 use Rattle.records.specs.Inner.{check_of}
 use Rattle.records.proofs.Laws.Sheet.{all-next, all_end}
-use Rattle.records.proofs.sheet.check_entries.Invariants.{below, part}
+use Rattle.records.proofs.sheet.check_entries.Invariants.{below}
 use Rattle.records.proofs.sheet.check_entries.Goals as goal
 
 pub loop-i-init : goal.loop-i-init

@@ -1,16 +1,12 @@
 -- `records::sheet::check_entries` meets its contract. The loop's invariant: testing the bytes left from position i on
 -- gives what testing all gives. Assumes nothing.
-use Prim.Native.Nat.{ℕ, ◌-◌, ◌≤◌, ◌<◌}
+use Prim.Native.Nat.{ℕ, ◌-◌, ◌≤◌}
 use mathlib.Core.Path.{◌≡◌}
 use mathlib.Core.Bool.{Bool}
 use mathlib.Core.List.{List}
-use native.Mathlib.Omega.{arith}
-use borrow.Author.Tests.{lt-ltb, le-ltb}
 use lib.Dec.{ltb}
-use lib.ListN.{get_or, take, drop}
+use lib.ListN.{take, drop}
 use Rattle.records.specs.Bytes.{all}
-use Rattle.records.specs.Inner.{check_of}
-use Rattle.records.proofs.Laws.Sheet.{all-next, all_end}
 use Rattle.records.proofs.sheet.check_entries.Given as goal
 
 abbrev pub below : ℕ → ℕ → Bool

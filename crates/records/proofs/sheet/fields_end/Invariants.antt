@@ -1,10 +1,8 @@
 -- `records::sheet::fields_end` meets its contract. The loop's invariant: at is where the fields before the i-th end. Assumes nothing.
 use Prim.Native.Nat.{◌-◌, ◌≤◌}
-use mathlib.Core.Path.{◌≡◌, sym}
-use native.Mathlib.Omega.{arith}
-use native.Mathlib.Numerals.{add-one}
+use mathlib.Core.Path.{◌≡◌}
 use lib.ListN.{length}
-use Rattle.records.proofs.Laws.Field.{position_of, position_of-zero, position_of-next, position_past, start_of-position}
+use Rattle.records.proofs.Laws.Field.{position_of}
 use Rattle.records.proofs.sheet.fields_end.Given as goal
 
 abbrev pub invariant-loop-i : goal.invariant-loop-i

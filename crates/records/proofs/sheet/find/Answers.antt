@@ -1,10 +1,8 @@
 -- `records::sheet::find` meets its contract. The loop's invariant: finding the net among what is left of the first
 -- count nets, from place i on, gives what finding it among all gives. Assumes nothing.
-use Prim.Native.Nat.{◌-◌, ◌≤◌}
-use mathlib.Core.Path.{◌≡◌, refl, sym, ◌∙◌}
+use mathlib.Core.Path.{refl, sym, ◌∙◌}
 use native.Mathlib.Omega.{arith}
-use lib.ListN.{take, drop}
-use Rattle.records.specs.Inner.{found_from, found_in}
+use Rattle.records.specs.Inner.{found_in}
 use Rattle.records.proofs.Laws.Sheet.{found_here, found-next, found-end}
 use Rattle.records.proofs.sheet.find.Goals as goal
 

@@ -1,11 +1,6 @@
 -- `records::sheet::power` meets its contract. The loop's invariant: `p` is two to the power `i`. Assumes nothing.
-use Prim.Native.Nat.{◌-◌, ◌^◌, ◌≤◌, ◌<◌}
+use Prim.Native.Nat.{◌-◌, ◌^◌, ◌≤◌}
 use mathlib.Core.Path.{◌≡◌}
-use native.Mathlib.Nat.{pow-succ'}
-use native.Mathlib.Numerals.{add-one}
-use native.Mathlib.Omega.{arith}
-use borrow.Author.Rules.{rules}
-use lib.Pow.{pow-lt}
 use Rattle.records.proofs.sheet.power.Given as goal
 
 abbrev pub invariant-loop-i : goal.invariant-loop-i

@@ -1,7 +1,6 @@
 -- `records::sheet::quad_at` meets its contract: both two-byte numbers are below 65536. Assumes nothing.
 use Prim.Native.Nat.{◌+◌}
 use native.Mathlib.Nat.{add-zero, mod-eq_of_lt}
-use native.Mathlib.Omega.{arith}
 use Rattle.records.specs.Sheet.{quad}
 use Rattle.records.proofs.Laws.Field.{word-drop}
 use Rattle.records.proofs.Laws.Sheet.{word_lt}

@@ -1,7 +1,6 @@
 -- `records::sheet::sheet_shaped` meets its contract: the walk and the lengths say whether the sheet is whole.
 -- Assumes nothing.
 use mathlib.Core.Path.{◌∙◌}
-use native.Mathlib.Omega.{arith}
 use Rattle.records.proofs.Laws.SheetShape.{broken-of-walk, walk-spans}
 use Rattle.records.proofs.sheet.sheet_shaped.Goals as goal
 

@@ -1,5 +1,4 @@
 -- `records::sheet::spanned` meets its contract: past the first test, the second is the rest of the definition's. Assumes nothing.
-use native.Mathlib.Omega.{arith}
 use borrow.Author.Tests.{le-leb, lt-leb}
 use Rattle.records.specs.Inner.{sheet_lengths, spanned_from}
 use Rattle.records.proofs.sheet.spanned.Goals as goal

@@ -1,13 +1,13 @@
 -- `records::sheet::support_cost` meets its contract. The loop's invariant: the nets left from place i on, above `least`
 -- and after `sum`, cost what the whole support costs. Assumes nothing.
-use Prim.Native.Nat.{ℕ, ◌+◌, ◌-◌, ◌*◌, ◌≤◌, ◌<◌}
+use Prim.Native.Nat.{ℕ, ◌+◌, ◌*◌, ◌<◌}
 use mathlib.Core.Path.{◌≡◌, sym, ◌∙◌}
 use native.Mathlib.Omega.{arith}
 use mathlib.Core.List.{List}
 use lib.ListN.{length, get_or}
 use Rattle.records.specs.Service.{candidates_from}
-use Rattle.records.specs.Inner.{word_column, support_of}
-use Rattle.records.proofs.Laws.Sheet.{word_lt, column-at, length-column, Stands, found_at, support_left, support-start, support-end, support-low, support-odd, support-next}
+use Rattle.records.specs.Inner.{word_column}
+use Rattle.records.proofs.Laws.Sheet.{word_lt, column-at, length-column, Stands, found_at, support-start, support-end, support-low, support-odd, support-next}
 use Rattle.records.proofs.sheet.support_cost.Goals as goal
 
 pub loop-i-init : goal.loop-i-init

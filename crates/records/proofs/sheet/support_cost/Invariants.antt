@@ -1,13 +1,10 @@
 -- `records::sheet::support_cost` meets its contract. The loop's invariant: the nets left from place i on, above `least`
 -- and after `sum`, cost what the whole support costs. Assumes nothing.
-use Prim.Native.Nat.{ℕ, ◌+◌, ◌-◌, ◌*◌, ◌≤◌, ◌<◌}
-use mathlib.Core.Path.{◌≡◌, sym, ◌∙◌}
-use native.Mathlib.Omega.{arith}
-use mathlib.Core.List.{List}
-use lib.ListN.{length, get_or}
+use Prim.Native.Nat.{◌-◌, ◌*◌, ◌≤◌}
+use mathlib.Core.Path.{◌≡◌}
 use Rattle.records.specs.Service.{candidates_from}
 use Rattle.records.specs.Inner.{word_column, support_of}
-use Rattle.records.proofs.Laws.Sheet.{word_lt, column-at, length-column, Stands, found_at, support_left, support-start, support-end, support-low, support-odd, support-next}
+use Rattle.records.proofs.Laws.Sheet.{support_left}
 use Rattle.records.proofs.sheet.support_cost.Given as goal
 
 abbrev pub invariant-loop-i : goal.invariant-loop-i

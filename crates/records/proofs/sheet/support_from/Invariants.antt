@@ -1,12 +1,9 @@
 -- `records::sheet::support_from` meets its contract. The loop's invariant: the places hold the first i nets, and zeros
 -- after them. Assumes nothing.
-use Prim.Native.Nat.{ℕ, ◌+◌, ◌-◌, ◌*◌, ◌%◌, ◌≤◌}
-use mathlib.Core.Path.{◌≡◌, refl, sym, ◌∙◌, ap}
-use native.Mathlib.Nat.{mod-eq_of_lt}
-use native.Mathlib.Omega.{arith}
-use lib.ListN.{length, get_or}
+use Prim.Native.Nat.{◌-◌, ◌≤◌}
+use mathlib.Core.Path.{◌≡◌}
 use Rattle.records.specs.Inner.{word_column}
-use Rattle.records.proofs.Laws.Sheet.{word_lt, column-at, length-column, ten, ten-next, ten-all}
+use Rattle.records.proofs.Laws.Sheet.{ten}
 use Rattle.records.proofs.sheet.support_from.Given as goal
 
 abbrev pub invariant-loop-i : goal.invariant-loop-i
