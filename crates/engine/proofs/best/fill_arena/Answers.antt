@@ -34,13 +34,3 @@ returns c =
     let l = c.loop-r in
     let n = c.reading_count-count.ensures in
     (l.invariant.1, λ k h. fill-at l.invariant.2 k (omega arith))
-
-pub bounds-sets-r : goal.bounds-sets-r
-bounds-sets-r c =
-    let m = readings-many c.requires.0 in
-    omega (arith, c.reading_count-count.ensures)
-
-pub bounds-arena-r : goal.bounds-arena-r
-bounds-arena-r c =
-    let m = readings-many c.requires.0 in
-    omega (arith, c.reading_count-count.ensures)

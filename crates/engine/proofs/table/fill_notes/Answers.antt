@@ -46,13 +46,3 @@ returns c =
           (notes-sets j is c.args.sets.now h g l.notes (rw e (omega (arith, l.invariant.1.long)))
           (λ r i. fill-at l.invariant.1 r (omega (arith, rw e at i))));
     }
-
-pub bounds-sets-r : goal.bounds-sets-r
-bounds-sets-r c =
-    let m = readings-many c.requires in
-    omega (arith, c.reading_count-count.ensures)
-
-pub bounds-notes-r : goal.bounds-notes-r
-bounds-notes-r c =
-    let m = readings-many c.requires in
-    omega (arith, c.reading_count-count.ensures)

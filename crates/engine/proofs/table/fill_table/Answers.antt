@@ -48,8 +48,3 @@ returns c =
           rw (← e)
           (table-sets j is c.args.sets.now h l.table (rw e (omega arith)) (λ r i. l.invariant.2 r (omega (arith, rw e at i))));
     }
-
-pub bounds-table-r : goal.bounds-table-r
-bounds-table-r c =
-    let m = readings-many c.requires.0 in
-    omega (arith, c.reading_count-count.ensures)
