@@ -39,14 +39,12 @@ pick_support-requires c = c.requires.few
 
 pub returns : goal.returns
 returns c =
-    let long : length c.args.priced.weights ≡ 10 =
-        search rules in
-    let ni = omega arith in
-    let nw = long in
+    let ni : length c.args.nets ≡ 10 = omega arith in
+    let nw : length c.args.priced.weights ≡ 10 = search rules in
     let p = c.pick_support.ensures in
     let n = c.args.priced.count in
     let same = c.fill_arena.ensures.1 in
-    let still = same_more {c = 2 ^ n} c.args.sets.now (omega arith) same c.best_from-best.ensures.len_bound.1 in record {
+    let still = same_more {m = 2 ^ n} c.args.sets.now (omega arith) same c.best_from-best.ensures.len_bound.1 in record {
       held_support = (picked-held n c.args.nets c.requires.few p.0, p.1, c.sets_of-found.ensures.0);
       chosen_of = λ j q.
           let all = all-pick c.requires ni nw q c.reading_count.ensures c.sum_weights.ensures in
