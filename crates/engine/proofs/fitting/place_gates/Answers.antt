@@ -21,18 +21,16 @@ pub place_trees-grown-requires : goal.place_trees-grown-requires
 place_trees-grown-requires c =
     let p = c.requires in
     let h = p.0 in
-    let l = length-replicate {A = ℕ} 400 0 in (
-      (h.few, h.long, h.entries, support-nets h),
-      (
-        (
-          h.held.targets,
-          omega (arith, h.held.inputs, h.held.targets),
-          c.place_marked-free.ensures.numbered.long ∙ c.number_inputs-numbers.ensures.long,
-          free-nets h p.1 c.number_inputs-numbers.ensures l c.place_marked-free.ensures,
-        ),
-        trees-room h p.1 c.number_inputs-numbers.ensures l c.place_marked-free.ensures,
-      ),
-    )
+    let l = length-replicate {A = ℕ} 400 0 in record {
+      len_bound = (h.few, h.long, h.entries, support-nets h);
+      targets_bound = (
+        h.held.targets,
+        omega (arith, h.held.inputs, h.held.targets),
+        c.place_marked-free.ensures.numbered.long ∙ c.number_inputs-numbers.ensures.long,
+        free-nets h p.1 c.number_inputs-numbers.ensures l c.place_marked-free.ensures,
+      );
+      gate_room = trees-room h p.1 c.number_inputs-numbers.ensures l c.place_marked-free.ensures;
+    }
 
 pub place_marked-requires : goal.place_marked-requires
 place_marked-requires c =

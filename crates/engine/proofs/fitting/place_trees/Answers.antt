@@ -10,16 +10,13 @@ move_nets-requires c =
 
 pub put_trees-count-requires : goal.put_trees-count-requires
 put_trees-count-requires c =
-    let a = c.args in (
-      (
-        c.requires.len_bound.0,
-        c.requires.len_bound.2,
-        c.requires.targets_bound.0.0,
-        moved-nets a.support.len a.new.numbers a.support.nets _ c.requires.len_bound.1 c.move_nets.ensures c.requires.len_bound.3
-            c.requires.targets_bound.0.3,
-      ),
-      ((c.requires.targets_bound.0.1, c.requires.targets_bound.0.2), c.requires.targets_bound.1),
-    )
+    let a = c.args in
+    let l = c.requires.len_bound in
+    let t = c.requires.targets_bound in record {
+      k_bound = (l.0, l.2, t.0, moved-nets a.support.len a.new.numbers a.support.nets _ l.1 c.move_nets.ensures l.3 t.3);
+      targets_bound = (t.1, t.2);
+      gate_room = c.requires.gate_room;
+    }
 
 pub returns : goal.returns
 returns c =
