@@ -1,12 +1,12 @@
 -- Laws of the sheets' bytes: put one after the other, how many they are, and that a patch's are those of its definition. Assumes nothing.
 use Prim.Native.Nat.{ℕ, ◌+◌, ◌*◌, ◌/◌, ◌%◌, ◌^◌, ◌≤◌, ◌<◌}
 use mathlib.Core.Path.{◌≡◌, refl, sym, ◌∙◌, ap}
-use mathlib.Core.List.{List, [], ◌∷◌, ◌++◌, map, append-nil}
+use mathlib.Core.List.{List, [], ◌∷◌, ◌++◌, append-nil}
 use mathlib.Core.Bool.{true}
 use native.Mathlib.Nat.{zero-add, one-mul, mod-eq_of_lt}
 use native.Mathlib.Numerals.{add-one}
 use native.Mathlib.Omega.{arith}
-use lib.ListN.{length, get_or, take, set, length-append, length-map}
+use lib.ListN.{length, get_or, take, set, length-append}
 use lib.Pow.{pow-lt, pow_mono}
 use lib.Seq.{length-take-le, take-append_seam, drop-append_seam}
 use Rattle.records.specs.Bytes.{flat, byte_pair, placed, field, whole, nth}
@@ -22,10 +22,6 @@ use Rattle.engine.specs.Verdict.{four_bytes, patch_sheet, longest_choose}
 use Rattle.engine.specs.Inner.Sheet.{BytesPut, patch_bytes}
 
 -- ---- numbers as bytes
-
--- how many places a support has, as the parameter that holds them tells it
-pub ten : (ns : List ℕ) → length (map (λ v. v) ns) ≡ 10 → length ns ≡ 10
-ten ns e = sym (length-map ns (λ v. v)) ∙ e
 
 -- the code's power of two
 pub shl-pow : (n : ℕ) → n ≤ 10 → 1 * 2 ^ n % 2 ^ 64 ≡ 2 ^ n

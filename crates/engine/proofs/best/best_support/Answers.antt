@@ -39,10 +39,8 @@ pick_support-requires c = c.requires.few
 
 pub returns : goal.returns
 returns c =
-    let long : length c.args.priced.weights ≡ 10 =
-        search rules in
     let ni : length c.args.nets ≡ 10 = omega arith in
-    let nw = long in
+    let nw : length c.args.priced.weights ≡ 10 = search rules in
     let p = c.pick_support.ensures in
     let n = c.args.priced.count in
     let same = c.fill_arena.ensures.1 in

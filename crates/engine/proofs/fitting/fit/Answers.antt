@@ -1,7 +1,6 @@
 -- `engine::fitting::fit` meets its contract: the job's parts are loaded, and the sheet fitted to them. Assumes nothing.
 use borrow.Author.Rules.{rules}
 use Rattle.records.specs.Job.{job_of}
-use Rattle.records.specs.Parts.{PartsOf}
 use Rattle.engine.proofs.Laws.FitSheet.{fit_gives, fit-short, fit_refused, fit-accepted}
 use Rattle.engine.proofs.Laws.Loaded.{accepted-parts}
 use Rattle.engine.proofs.fitting.fit.Goals as goal
@@ -23,27 +22,22 @@ returns-in_default c =
 
 pub old_side-old-requires : goal.old_side-old-requires
 old_side-old-requires c =
-    let parts : PartsOf (job_of c.args.job.now) c.load-parts.result =
-        accepted-parts c.args.job.now c.load-parts.ensures c.in-Passed.is in
-    record { job = job_of c.args.job.now; parts = parts }
+    record { job = job_of c.args.job.now; parts = accepted-parts c.args.job.now c.load-parts.ensures c.in-Passed.is }
 
 pub fit_sheet-requires : goal.fit_sheet-requires
 fit_sheet-requires c =
-    let parts : PartsOf (job_of c.args.job.now) c.load-parts.result =
-        accepted-parts c.args.job.now c.load-parts.ensures c.in-Passed.is in
-    let q = parts in (
+    let q = accepted-parts c.args.job.now c.load-parts.ensures c.in-Passed.is in (
       record { job = job_of c.args.job.now; parts = q; old = c.old_side-old.ensures (job_of c.args.job.now) q },
       c.if-reply-lt-LONGEST_FIT.false,
     )
 
 pub returns : goal.returns
 returns c =
-    let parts : PartsOf (job_of c.args.job.now) c.load-parts.result =
-        accepted-parts c.args.job.now c.load-parts.ensures c.in-Passed.is in
     let a = c.args in
     let j = job_of a.job.now in
+    let q = accepted-parts a.job.now c.load-parts.ensures c.in-Passed.is in
     let whole = fit_gives a.reply.now a.job.now a.sheet.now
     (fit-accepted a.reply.now a.job.now a.sheet.now c.if-reply-lt-LONGEST_FIT.false c.load-parts.ensures
     c.in-Passed.is
-    (c.fit_sheet.ensures j parts (c.old_side-old.ensures j parts))) in
+    (c.fit_sheet.ensures j q (c.old_side-old.ensures j q))) in
     record { reply = whole.0; lent = whole.1 }

@@ -36,8 +36,7 @@ place_gates-new-requires c =
 
 pub move_nets-requires : goal.move_nets-requires
 move_nets-requires c =
-    let held : c.args.count ≤ length c.args.outputs =
-        omega (arith, c.requires.count_bound.0) in
+    let held : c.args.count ≤ length c.args.outputs = omega (arith, c.requires.count_bound.0) in
     let h = c.requires.fittable.0.held in (
       held,
       c.requires.count_bound.0,
@@ -46,17 +45,14 @@ move_nets-requires c =
 
 pub put_netlist-len-requires : goal.put_netlist-len-requires
 put_netlist-len-requires c =
-    let fitting : patched_count c.args.old c.args.support c.args.table.now ≤ 400 =
-        omega (arith, c.if-old-size-gt-GATES.false, c.trees_size-size.ensures) in
+    let fitting : patched_count c.args.old c.args.support c.args.table.now ≤ 400 = omega (arith, c.trees_size-size.ensures) in
     let h = c.requires.fittable.0 in
     (c.requires.fittable.1, omega (arith, h.held.inputs), gates-few h fitting c.place_gates-new.ensures, c.requires.count_bound.0)
 
 pub returns : goal.returns
 returns c =
-    let fitting : patched_count c.args.old c.args.support c.args.table.now ≤ 400 =
-        omega (arith, c.if-old-size-gt-GATES.false, c.trees_size-size.ensures) in
-    let held : c.args.count ≤ length c.args.outputs =
-        omega (arith, c.requires.count_bound.0) in
+    let fitting : patched_count c.args.old c.args.support c.args.table.now ≤ 400 = omega (arith, c.trees_size-size.ensures) in
+    let held : c.args.count ≤ length c.args.outputs = omega (arith, c.requires.count_bound.0) in
     let a = c.args in
     patch-accepted c.requires.fittable.0 fitting c.place_gates-new.ensures a.outputs _ a.reply.now a.count _ held
     c.requires.count_bound.1

@@ -7,6 +7,7 @@ use Rattle.engine.proofs.Laws.FitSheet.{outputs-count, outputs-most, outputs-old
 use Rattle.engine.proofs.Laws.FitSheet.{sheet-refused, sheet-fittable, sheet-accepted}
 use Rattle.engine.proofs.Laws.PartsSheet.{parts-sheet, parts-few}
 use Rattle.engine.proofs.fitting.fit_sheet.Goals as goal
+use Rattle.engine.proofs.fitting.fit_sheet.Goals.{After-reading_count}
 
 pub slice_bounds-read_sheet-end : goal.slice_bounds-read_sheet-end
 slice_bounds-read_sheet-end c = sym c.requires.0.parts.nets-long
@@ -23,25 +24,20 @@ pub reading_count-requires : goal.reading_count-requires
 reading_count-requires c =
     parts-few c.requires.0.parts c.args.sheet.now c.read_sheet-answer.ensures c.if-answer-ne0.false
 
-pub overflow_add-end : goal.overflow_add-end
-overflow_add-end c =
-    let ended : c.read_sheet-answer.result.table + c.reading_count.result ≤ length c.args.sheet.now =
-        omega (
+-- where the table ends
+ended : (c : After-reading_count) → c.read_sheet-answer.result.table + c.reading_count.result ≤ length c.args.sheet.now
+ended c =
+    omega (
       arith,
       c.reading_count.ensures,
       (parts-sheet c.requires.0.parts c.args.sheet.now c.read_sheet-answer.ensures c.if-answer-ne0.false).end,
-    ) in
-    omega (arith, ended)
+    )
+
+pub overflow_add-end : goal.overflow_add-end
+overflow_add-end c = omega (arith, ended (goal.at.overflow_add-end c).After-reading_count)
 
 pub slice_bounds-fit_patch-end : goal.slice_bounds-fit_patch-end
-slice_bounds-fit_patch-end c =
-    let ended : c.read_sheet-answer.result.table + c.reading_count.result ≤ length c.args.sheet.now =
-        omega (
-      arith,
-      c.reading_count.ensures,
-      (parts-sheet c.requires.0.parts c.args.sheet.now c.read_sheet-answer.ensures c.if-answer-ne0.false).end,
-    ) in
-    omega (arith, ended)
+slice_bounds-fit_patch-end c = omega (arith, ended (goal.at.slice_bounds-fit_patch-end c).After-reading_count)
 
 pub fit_patch-requires : goal.fit_patch-requires
 fit_patch-requires c =

@@ -21,8 +21,7 @@ pub place_trees-grown-requires : goal.place_trees-grown-requires
 place_trees-grown-requires c =
     let p = c.requires in
     let h = p.0 in
-    let l = length-replicate {A = ℕ} 400 0 in
-    record {
+    let l = length-replicate {A = ℕ} 400 0 in record {
       len_bound = (h.few, h.long, h.entries, support-nets h);
       targets_bound = (
         h.held.targets,

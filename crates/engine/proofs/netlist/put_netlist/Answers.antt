@@ -22,8 +22,8 @@ put_outputs-requires c =
 pub returns : goal.returns
 returns c =
     let a = c.args in
-    netlist-put a.inputs a.gates a.count a.nets a.outputs (omega (arith, c.requires.2))
-    (omega (arith, c.requires.3))
+    netlist-put a.inputs a.gates a.count a.nets a.outputs (omega arith)
+    (omega arith)
     (omega (arith, c.requires.0, c.requires.2, c.requires.3))
     c.put_inputs-a.ensures
     c.put_gate_list-b.ensures

@@ -7,7 +7,7 @@ use borrow.Author.Rules.{rules}
 use lib.ListN.{length, get_or, replicate}
 use Rattle.records.specs.Bytes.{byte_pair}
 use Rattle.records.proofs.Laws.Job.{Put, put-none, put_next, length-byte_pair}
-use Rattle.engine.proofs.Laws.Sheet.{ten, pair-placed, pairs-take}
+use Rattle.engine.proofs.Laws.Sheet.{pair-placed, pairs-take}
 use Rattle.engine.proofs.sheet.net_bytes.Goals as goal
 
 pub loop-i-init : goal.loop-i-init
@@ -29,5 +29,4 @@ returns c =
     let l = c.loop-i in
     let a = c.args.support in
     let e : l.i ≡ a.len = omega arith in
-    let n : length a.nets ≡ 10 = omega arith in
     pairs-take (replicate 20 0) a.nets a.len (omega arith) (omega arith) (rw e at l.invariant.1)

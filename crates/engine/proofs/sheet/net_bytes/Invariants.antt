@@ -7,7 +7,6 @@ use borrow.Author.Rules.{rules}
 use lib.ListN.{length, get_or, replicate}
 use Rattle.records.specs.Bytes.{byte_pair}
 use Rattle.records.proofs.Laws.Job.{Put, put-none, put_next, length-byte_pair}
-use Rattle.engine.proofs.Laws.Sheet.{ten, pair-placed, pairs-take}
 use Rattle.engine.proofs.sheet.net_bytes.Given as goal
 
 abbrev pub invariant-loop-i : goal.invariant-loop-i

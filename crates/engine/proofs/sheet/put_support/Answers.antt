@@ -5,7 +5,7 @@ use native.Mathlib.Omega.{arith}
 use borrow.Author.Rules.{rules}
 use lib.ListN.{length, take}
 use lib.Seq.{length-take-le}
-use Rattle.engine.proofs.Laws.Sheet.{ten, field-bytes, length-nets}
+use Rattle.engine.proofs.Laws.Sheet.{field-bytes, length-nets}
 use Rattle.engine.proofs.sheet.put_support.Goals as goal
 
 pub slice_bounds-put_field-end : goal.slice_bounds-put_field-end
@@ -15,7 +15,6 @@ pub returns : goal.returns
 returns c =
     let a = c.args in
     let f = c.net_bytes-bytes in
-    let m : length a.support.nets ≡ 10 = omega arith in
     let n = length-nets a.support.nets a.support.len (omega arith) in
     field-bytes a.reply.now 0 16 (take (2 * a.support.len) f.result) f.ensures (omega arith) (omega arith)
     c.put_field.ensures

@@ -5,6 +5,7 @@ use native.Mathlib.Omega.{arith}
 use lib.ListN.{length}
 use Rattle.engine.proofs.Laws.Tree.{Growing, growing-none, growing-room, growing-net, growing-next, growing-all}
 use Rattle.engine.proofs.tree.put_trees.Goals as goal
+use Rattle.engine.proofs.tree.put_trees.Goals.{After-put_tree-next}
 
 pub loop-t-init : goal.loop-t-init
 loop-t-init c = growing-none _ _ _ _ _ _ _ _
@@ -16,23 +17,18 @@ put_tree-next-requires c =
       gate_room = growing-room c.loop-t.invariant c.loop-t-test.true c.requires.gate_room;
     }
 
+-- the tree's net is one of 1,024
+net : (c : After-put_tree-next) → (0 < c.put_tree-next.result) × (c.args.base + c.put_tree-next.result ≤ 1024)
+net c = growing-net c.loop-t.invariant c.loop-t-test.true c.requires.gate_room c.put_tree-next.ensures
+
 pub overflow_add-numbers : goal.overflow_add-numbers
-overflow_add-numbers c =
-    let net : (0 < c.put_tree-next.result) × (c.args.base + c.put_tree-next.result ≤ 1024) =
-        growing-net c.loop-t.invariant c.loop-t-test.true c.requires.gate_room c.put_tree-next.ensures in
-    let n = net in omega arith
+overflow_add-numbers c = let n = net (goal.at.overflow_add-numbers c).After-put_tree-next in omega arith
 
 pub overflow_sub-numbers : goal.overflow_sub-numbers
-overflow_sub-numbers c =
-    let net : (0 < c.put_tree-next.result) × (c.args.base + c.put_tree-next.result ≤ 1024) =
-        growing-net c.loop-t.invariant c.loop-t-test.true c.requires.gate_room c.put_tree-next.ensures in
-    let n = net in omega arith
+overflow_sub-numbers c = let n = net (goal.at.overflow_sub-numbers c).After-put_tree-next in omega arith
 
 pub overflow_cast-numbers : goal.overflow_cast-numbers
-overflow_cast-numbers c =
-    let net : (0 < c.put_tree-next.result) × (c.args.base + c.put_tree-next.result ≤ 1024) =
-        growing-net c.loop-t.invariant c.loop-t-test.true c.requires.gate_room c.put_tree-next.ensures in
-    let n = net in omega arith
+overflow_cast-numbers c = let n = net (goal.at.overflow_cast-numbers c).After-put_tree-next in omega arith
 
 pub loop-t-preserved : goal.loop-t-preserved
 loop-t-preserved c =
