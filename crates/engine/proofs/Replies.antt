@@ -31,7 +31,6 @@ use Rattle.engine.specs.Claims.{NumberGiven, JudgeAccepts, ChooseAccepts, JudgeR
 use Rattle.engine.specs.declared.judging.JudgeReply.{JudgeReply}
 use Rattle.engine.specs.declared.choosing.ChooseReply.{ChooseReply}
 use Rattle.engine.specs.declared.comparing.Comparison.{Comparison}
-use Rattle.engine.specs.declared.comparing.Comparison.TheVariants as Comparison
 use Rattle.engine.specs.declared.comparing.CompareReply.{CompareReply}
 use Rattle.engine.proofs.Laws.Reply.{number_short, number-long, number-accepts, judge_given, choose_given}
 use Rattle.engine.proofs.Laws.Notes.{note-in}

@@ -25,13 +25,10 @@ use Rattle.engine.specs.Support.{sound, candidate_nets, cost, chosen}
 use Rattle.engine.specs.Verdict.{blind_reading, judge_sheet, choose_sheet, judge_number, choose_number}
 use Rattle.engine.specs.Compare.{difference, pair_tests}
 use Rattle.engine.specs.declared.judging.Judgement.{Judgement}
-use Rattle.engine.specs.declared.judging.Judgement.TheVariants as Judgement
 use Rattle.engine.specs.declared.judging.JudgeReply.{JudgeReply}
 use Rattle.engine.specs.declared.choosing.Choice.{Choice}
-use Rattle.engine.specs.declared.choosing.Choice.TheVariants as Choice
 use Rattle.engine.specs.declared.choosing.ChooseReply.{ChooseReply}
 use Rattle.engine.specs.declared.comparing.Comparison.{Comparison}
-use Rattle.engine.specs.declared.comparing.Comparison.TheVariants as Comparison
 use Rattle.engine.specs.Fit.{fitted_bytes, fits, longest_fit}
 use Rattle.engine.specs.declared.comparing.CompareReply.{CompareReply}
 use Rattle.engine.specs.declared.fitting.FitReply.{FitReply}

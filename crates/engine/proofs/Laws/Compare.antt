@@ -37,7 +37,6 @@ use Rattle.engine.specs.Inner.Plan.{PlanHeld}
 use Rattle.engine.specs.Inner.Search.{BlockRead, DrivenRow}
 use Rattle.engine.specs.Inner.Comparing.{differing, PlanReads, TableCopied, declined_comparison, sheet_comparison}
 use Rattle.engine.specs.declared.comparing.Comparison.{Comparison}
-use Rattle.engine.specs.declared.comparing.Comparison.TheVariants as Comparison
 use Rattle.engine.specs.declared.plan.Plan.{Plan}
 use Rattle.engine.proofs.Laws.Choice.{true-or-false, Least}
 use Rattle.engine.proofs.Laws.Fill.{fill-at}

@@ -21,7 +21,7 @@ use Rattle.records.specs.Refusal.{gates_good, netlists_good, old_nets}
 use Rattle.records.specs.declared.sheet.Support.{Support}
 use Rattle.records.proofs.Laws.Bytes.{and_both, length-up_from, length-placed}
 use Rattle.engine.specs.Choice.{keep}
-use Rattle.engine.specs.Fit.{led, gate_indices, rank, Trees, trees, new_free_net, new_nets, moved, moved_gates, fitted}
+use Rattle.engine.specs.Fit.{led, gate_indices, rank, Trees, trees, new_free_net, new_nets, moved_gates, fitted}
 use Rattle.engine.specs.Inner.Packed.{packed_from}
 use Rattle.engine.specs.Inner.Tree.{Nets, GateRoom, GatesPut, trees_size}
 use Rattle.engine.specs.Inner.Renumber.{old_gates, old_base, with_mark, InputsNumbered, Numbered, moved_from, MarkedPlaced, indices_with}

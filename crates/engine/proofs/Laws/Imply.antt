@@ -20,7 +20,7 @@ use Rattle.records.specs.Netlist.{net_at, value_of, values}
 use Rattle.records.specs.Job.{Job}
 use Rattle.records.specs.Refusal.{gate_good, gates_good, candidate_good}
 use Rattle.records.proofs.Laws.Bytes.{and_both, all_cons}
-use Rattle.engine.specs.Eval.{bit, number_of}
+use Rattle.engine.specs.Eval.{number_of}
 use Rattle.engine.specs.Support.{reading}
 use Rattle.engine.specs.Inner.Cover.{InCube, CoverHeld, CubeAdded, CoverOf}
 use Rattle.engine.specs.Inner.Given.{GivenCover}

@@ -19,7 +19,6 @@ use Rattle.records.specs.Job.{Job}
 use Rattle.records.proofs.Laws.Bytes.{tabulate-ext, tabulate-take}
 use Rattle.engine.specs.Choice.{keep, found, or_zero}
 use Rattle.engine.specs.Eval.{bit, all_inputs, all_vectors}
-use Rattle.engine.specs.Rectify.{rectifies}
 use Rattle.engine.specs.Support.{reading, giving, shared, sharing, note_of, notes_of}
 use Rattle.engine.specs.Claims.{SomeGives, RectifyAll, NoteIn}
 use Rattle.engine.specs.Inner.List.{max_vectors, lowest}

@@ -35,10 +35,8 @@ use Rattle.engine.specs.Inner.Judging.{JudgedJob}
 use Rattle.engine.specs.Inner.Choosing.{ChosenJob}
 use Rattle.engine.specs.declared.list.Vectors.{Vectors}
 use Rattle.engine.specs.declared.judging.Judgement.{Judgement}
-use Rattle.engine.specs.declared.judging.Judgement.TheVariants as Judgement
 use Rattle.engine.specs.declared.judging.JudgeReply.{JudgeReply}
 use Rattle.engine.specs.declared.choosing.Choice.{Choice}
-use Rattle.engine.specs.declared.choosing.Choice.TheVariants as Choice
 use Rattle.engine.specs.declared.choosing.ChooseReply.{ChooseReply}
 use Rattle.engine.proofs.Laws.Loop.{stuck-iff}
 use Rattle.engine.proofs.Laws.Best.{chosen-sound}

@@ -28,7 +28,6 @@ use Rattle.engine.specs.Inner.Tree.{GateRoom, GatesPut, TablePart, column_part, 
 use Rattle.engine.specs.declared.tree.Join.{Join}
 use Rattle.engine.specs.declared.tree.Join.TheVariants.{Both}
 use Rattle.engine.specs.declared.tree.TreeStart.{TreeStart}
-use Rattle.engine.specs.declared.tree.TreeStart.TheVariants as TreeStart
 use Rattle.engine.proofs.Laws.Choice.{not-both, true-or-false, same_true, same-iff-equal}
 use Rattle.engine.proofs.Laws.Eval.{bit-lt}
 use Rattle.engine.proofs.Laws.EvalWords.{map-take}

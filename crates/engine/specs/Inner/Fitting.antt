@@ -7,7 +7,7 @@
 --   FitGives ..                 what fit replies with a number, and the buffer
 --   patch_number, sheet_fit_number     the number for a patch; for a sheet
 --   OldOf j o, FitReady ..      the old side of a job; its parts too
-use Rattle.std.specs.Prelude.{ℕ, ◌+◌, ◌^◌, ◌/◌, ◌≤◌, ◌<◌, ◌≡◌, true, cond, eqb, length, get_or, take}
+use Rattle.std.specs.Prelude.{ℕ, ◌+◌, ◌^◌, ◌≤◌, ◌<◌, ◌≡◌, true, cond, eqb, length, get_or, take}
 use mathlib.Core.List.{List, [], ◌∷◌, ◌++◌, map, Memᴰ as Mem}
 use Rattle.records.specs.Bytes.{all, placed}
 use Rattle.records.specs.Gate.{Gate}

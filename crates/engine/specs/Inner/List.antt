@@ -7,12 +7,12 @@
 --   start_list                    what the walk starts from
 --   listed_of v, Held v           the vector list that a struct holds; its places hold vectors
 --   Appended, Stepped            what the code gives for one vector more, and for one input
-use Rattle.std.specs.Prelude.{ℕ, zero, suc, ◌+◌, ◌-◌, ◌≤◌, ◌<◌, ◌≡◌, [], ◌∷◌, ◌++◌, true, false, cond, eqb, ltb, length, get_or, take, set}
+use Rattle.std.specs.Prelude.{ℕ, zero, suc, ◌≤◌, ◌<◌, ◌≡◌, [], ◌∷◌, ◌++◌, true, false, cond, eqb, ltb, length, get_or, take}
 use Rattle.std.proofs.Math.Option.{Option, none, some}
 use Rattle.records.specs.Bytes.{up_from}
 use Rattle.engine.specs.Choice.{any, first}
 use Rattle.engine.specs.Eval.{bit}
-use Rattle.engine.specs.Rectify.{rectifies, Listed}
+use Rattle.engine.specs.Rectify.{Listed}
 use Rattle.engine.specs.declared.list.Vectors.{Vectors}
 
 -- ---- sets of vectors

@@ -1,11 +1,10 @@
 -- The bytes of a netlist without targets (src/netlist.rt). No public contract cites this file. Assumes nothing.
 --
 --   netlist_bytes n gs os        fields 1 (n and 0), 2 and 3 of a netlist with n inputs, the gates gs and the outputs os
-use Rattle.std.specs.Prelude.{ℕ, ◌+◌, ◌/◌, List, [], ◌∷◌, ◌++◌}
+use Rattle.std.specs.Prelude.{ℕ, List, [], ◌∷◌, ◌++◌}
 use Rattle.records.specs.Bytes.{flat, byte_pair, field}
 use Rattle.records.specs.Gate.{Gate}
 use Rattle.records.specs.Job.{gate_bytes}
-use Rattle.engine.specs.Inner.Packed.{fields}
 
 -- ---- bytes
 

@@ -10,8 +10,8 @@
 --   Known x y                  x and y are the same known value
 use Rattle.std.specs.Prelude.{ℕ, ◌+◌, ◌*◌, ◌-◌, ◌^◌, ◌≤◌, ◌<◌, min, ◌≡◌, List, map, cond, ltb, get_or, take}
 use Rattle.records.specs.Gate.{Gate, slot_count, operands}
-use Rattle.records.specs.Netlist.{net_at, values}
-use Rattle.engine.specs.Eval.{bit, bits}
+use Rattle.records.specs.Netlist.{net_at}
+use Rattle.engine.specs.Eval.{bit}
 use Rattle.engine.specs.Ternary.{unknown, ternary_value, Completes}
 use Rattle.engine.specs.Inner.Packed.{kind_of, operands_of}
 

@@ -10,7 +10,7 @@
 --   with_mark o b                the indices of the old gates with mark b
 --   MarkedPlaced ..             those gates have their numbers, and stand behind the gates of the new side n, which gives r
 use Rattle.std.specs.Prelude.{ℕ, ◌+◌, ◌/◌, ◌≤◌, ◌<◌, ◌≡◌, List, map, true, eqb, length, get_or, take}
-use Rattle.records.specs.Bytes.{up_from, all}
+use Rattle.records.specs.Bytes.{up_from}
 use Rattle.records.specs.Gate.{Gate, slot_count, gate_of}
 use Rattle.records.specs.Netlist.{net_at, fanout}
 use Rattle.records.specs.Refusal.{gates_good}
@@ -20,7 +20,6 @@ use Rattle.engine.specs.Inner.Packed.{fields, kind_of, count_of}
 use Rattle.engine.specs.Inner.Tree.{Nets, GatesPut}
 use Rattle.engine.specs.declared.renumber.OldSide.{OldSide}
 use Rattle.engine.specs.declared.renumber.NewSide.{NewSide}
-use Rattle.engine.specs.Inner.Best.{before}
 
 unfoldable pub gate_in : ℕ → Gate
 gate_in c = record { kind = kind_of c; count = count_of c; slots = fields slot_count (c / 131072) }

@@ -20,7 +20,6 @@ use Rattle.engine.specs.Fit.{Trees, trees_from}
 use Rattle.engine.specs.Inner.Packed.{packed_from}
 use Rattle.engine.specs.declared.tree.Join.{Join}
 use Rattle.engine.specs.declared.tree.TreeStart.{TreeStart}
-use Rattle.engine.specs.declared.tree.TreeStart.TheVariants as TreeStart
 
 abbrev pub column_part : List ℕ → ℕ → ℕ → ℕ → List ℕ
 column_part tb at k t = column (take (2 ^ k) (drop at tb)) t

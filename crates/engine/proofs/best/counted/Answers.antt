@@ -2,7 +2,6 @@
 -- nets without the others. Assumes nothing.
 use mathlib.Core.Path.{refl, sym}
 use native.Mathlib.Omega.{arith}
-use borrow.Author.Rules.{rules}
 use Rattle.engine.proofs.Laws.Arena.{same-sets}
 use Rattle.engine.proofs.Laws.Pick.{counted-before, counted-now}
 use Rattle.engine.proofs.Laws.Rule.{readings-many}
@@ -10,9 +9,9 @@ use Rattle.engine.proofs.best.counted.Goals as goal
 
 pub returns-then-pick-gt0 : goal.returns-then-pick-gt0
 returns-then-pick-gt0 c = record {
-      set_value = (refl, refl);
-      counted_of = λ j w h. counted-before j h c.if-pick-gt0.true;
-    }
+  set_value = (refl, refl);
+  counted_of = λ j w h. counted-before j h c.if-pick-gt0.true;
+}
 
 pub sets_of-sets-requires : goal.sets_of-sets-requires
 sets_of-sets-requires c = (c.requires.0.few, c.fill_arena.ensures.0)

@@ -1,9 +1,7 @@
 -- `engine::best::fill_arena` meets its contract. The invariant: the first r sets are copied. Assumes nothing.
-use Prim.Native.Nat.{◌-◌, ◌≤◌, ◌<◌}
-use mathlib.Core.Path.{◌≡◌, refl, ◌∙◌}
+use Prim.Native.Nat.{◌<◌}
+use mathlib.Core.Path.{refl, ◌∙◌}
 use native.Mathlib.Omega.{arith}
-use lib.ListN.{length, get_or}
-use Rattle.engine.specs.Inner.Kernel.{Filled}
 use Rattle.engine.proofs.Laws.Fill.{fill_none, fill-next, fill-at}
 use Rattle.engine.proofs.Laws.Rule.{readings-many}
 use Rattle.engine.proofs.best.fill_arena.Goals as goal

@@ -1,11 +1,8 @@
 -- `engine::best::fill_arena` meets its contract. The invariant: the first r sets are copied. Assumes nothing.
-use Prim.Native.Nat.{◌-◌, ◌≤◌, ◌<◌}
-use mathlib.Core.Path.{◌≡◌, refl, ◌∙◌}
-use native.Mathlib.Omega.{arith}
+use Prim.Native.Nat.{◌-◌, ◌≤◌}
+use mathlib.Core.Path.{◌≡◌}
 use lib.ListN.{length, get_or}
 use Rattle.engine.specs.Inner.Kernel.{Filled}
-use Rattle.engine.proofs.Laws.Fill.{fill_none, fill-next, fill-at}
-use Rattle.engine.proofs.Laws.Rule.{readings-many}
 use Rattle.engine.proofs.best.fill_arena.Given as goal
 
 abbrev pub invariant-loop-r : goal.invariant-loop-r

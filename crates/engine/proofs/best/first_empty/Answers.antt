@@ -1,9 +1,6 @@
 -- `engine::best::first_empty` meets its contract. The invariant: every set before r has a vector. Assumes nothing.
-use Prim.Native.Nat.{ℕ, ◌-◌, ◌≤◌, ◌<◌}
 use borrow.Author.Count.{below_more}
 use native.Mathlib.Omega.{arith}
-use lib.ListN.{get_or}
-use Rattle.engine.specs.Inner.Best.{NotEmpty}
 use Rattle.engine.proofs.Laws.Sets.{holds-some}
 use Rattle.engine.proofs.best.first_empty.Goals as goal
 

@@ -1,10 +1,7 @@
 -- `engine::best::first_empty` meets its contract. The invariant: every set before r has a vector. Assumes nothing.
 use Prim.Native.Nat.{ℕ, ◌-◌, ◌≤◌, ◌<◌}
-use borrow.Author.Count.{below_more}
-use native.Mathlib.Omega.{arith}
 use lib.ListN.{get_or}
 use Rattle.engine.specs.Inner.Best.{NotEmpty}
-use Rattle.engine.proofs.Laws.Sets.{holds-some}
 use Rattle.engine.proofs.best.first_empty.Given as goal
 
 abbrev pub invariant-loop-r : goal.invariant-loop-r

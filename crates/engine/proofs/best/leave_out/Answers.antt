@@ -7,8 +7,7 @@ use borrow.Author.Count.{below_more}
 use lib.Bits.{bit_and}
 use lib.ListN.{get_or, drop}
 use lib.Pow.{pow_mono}
-use Rattle.engine.specs.Inner.Kernel.{Filled}
-use Rattle.engine.specs.Inner.Best.{NotEmpty, spread, joined_at}
+use Rattle.engine.specs.Inner.Best.{spread, joined_at}
 use Rattle.engine.proofs.Laws.Arena.{kept-filled, joined-read, left-filled, left-empty}
 use Rattle.engine.proofs.Laws.Fill.{fill_none, fill-next}
 use Rattle.engine.proofs.Laws.Sets.{spread-word, holds-some}

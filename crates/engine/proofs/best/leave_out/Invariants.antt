@@ -1,17 +1,9 @@
 -- `engine::best::leave_out` meets its contract. The invariant: the readings before q have their sets behind those of all nets, none of them
 -- empty. Assumes nothing.
-use Prim.Native.Nat.{ℕ, ◌+◌, ◌-◌, ◌*◌, ◌/◌, ◌%◌, ◌^◌, ◌≤◌, ◌<◌}
-use mathlib.Core.Path.{◌≡◌, refl, sym, ◌∙◌, ap}
-use native.Mathlib.Omega.{arith}
-use borrow.Author.Count.{below_more}
-use lib.Bits.{bit_and}
-use lib.ListN.{get_or, drop}
-use lib.Pow.{pow_mono}
+use Prim.Native.Nat.{ℕ, ◌-◌, ◌≤◌, ◌<◌}
+use lib.ListN.{drop}
 use Rattle.engine.specs.Inner.Kernel.{Filled}
-use Rattle.engine.specs.Inner.Best.{NotEmpty, spread, joined_at}
-use Rattle.engine.proofs.Laws.Arena.{kept-filled, joined-read, left-filled, left-empty}
-use Rattle.engine.proofs.Laws.Fill.{fill_none, fill-next}
-use Rattle.engine.proofs.Laws.Sets.{spread-word, holds-some}
+use Rattle.engine.specs.Inner.Best.{NotEmpty, joined_at}
 use Rattle.engine.proofs.best.leave_out.Given as goal
 
 abbrev pub invariant-loop-q : goal.invariant-loop-q

@@ -1,9 +1,7 @@
 -- `engine::best::low_first` meets its contract. The invariant: what is left of the sets from place i on decides. Assumes nothing.
-use Prim.Native.Nat.{◌-◌, ◌≤◌}
-use mathlib.Core.Path.{◌≡◌, sym, ◌∙◌}
+use mathlib.Core.Path.{sym, ◌∙◌}
 use native.Mathlib.Omega.{arith}
-use Rattle.engine.specs.Inner.Best.{low_first}
-use Rattle.engine.proofs.Laws.Picked.{low_from, low_from-all, low_from-end, low_from-same, low_from-other}
+use Rattle.engine.proofs.Laws.Picked.{low_from-all, low_from-end, low_from-same, low_from-other}
 use Rattle.engine.proofs.best.low_first.Goals as goal
 
 pub loop-i-init : goal.loop-i-init

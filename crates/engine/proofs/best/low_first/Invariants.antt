@@ -1,9 +1,8 @@
 -- `engine::best::low_first` meets its contract. The invariant: what is left of the sets from place i on decides. Assumes nothing.
 use Prim.Native.Nat.{◌-◌, ◌≤◌}
-use mathlib.Core.Path.{◌≡◌, sym, ◌∙◌}
-use native.Mathlib.Omega.{arith}
+use mathlib.Core.Path.{◌≡◌}
 use Rattle.engine.specs.Inner.Best.{low_first}
-use Rattle.engine.proofs.Laws.Picked.{low_from, low_from-all, low_from-end, low_from-same, low_from-other}
+use Rattle.engine.proofs.Laws.Picked.{low_from}
 use Rattle.engine.proofs.best.low_first.Given as goal
 
 abbrev pub invariant-loop-i : goal.invariant-loop-i

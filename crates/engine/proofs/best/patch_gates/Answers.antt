@@ -1,6 +1,5 @@
 -- `engine::best::patch_gates` meets its contract: the table that is filled is the support's, and its trees are counted. Assumes nothing.
 use native.Mathlib.Omega.{arith}
-use borrow.Author.Rules.{rules}
 use Rattle.engine.specs.Support.{patch_gates}
 use Rattle.engine.proofs.Laws.Rule.{readings-many}
 use Rattle.engine.proofs.Laws.Tree.{length-patch}

@@ -1,10 +1,8 @@
 -- `engine::best::sets_at` meets its contract. The invariant: the first r sets are copied. Assumes nothing.
-use Prim.Native.Nat.{◌+◌, ◌-◌, ◌≤◌, ◌<◌}
-use mathlib.Core.Path.{◌≡◌, refl, sym, ◌∙◌}
+use Prim.Native.Nat.{◌+◌, ◌<◌}
+use mathlib.Core.Path.{refl, sym, ◌∙◌}
 use native.Mathlib.Omega.{arith}
-use lib.ListN.{length, get_or}
 use lib.Seq.{get_or-drop}
-use Rattle.engine.specs.Inner.Kernel.{Filled}
 use Rattle.engine.proofs.Laws.Fill.{fill_none, fill-next, fill-at}
 use Rattle.engine.proofs.Laws.Rule.{readings-many}
 use Rattle.engine.proofs.best.sets_at.Goals as goal
@@ -15,7 +13,7 @@ loop-r-init c = (omega arith, refl, fill_none _ _ _)
 pub loop-r-preserved : goal.loop-r-preserved
 loop-r-preserved c =
     let place-lt : let r = c.loop-r.r in (r < 1024) × (c.args.at + r < 2048) =
-        let p = c.requires in
+    let p = c.requires in
     let m = readings-many p.0 in
     let n = c.reading_count-count.ensures in
     (omega arith, omega (arith, p.1.room)) in

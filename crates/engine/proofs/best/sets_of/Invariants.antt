@@ -1,14 +1,9 @@
 -- `engine::best::sets_of` meets its contract. The invariant: from place at on stand the sets of the candidates before place i and of the set's
 -- from there on. Assumes nothing.
-use Prim.Native.Nat.{suc, ◌-◌, ◌≤◌}
-use mathlib.Core.Path.{◌≡◌}
-use mathlib.Core.Logic.{⊎_elim}
-use native.Mathlib.Omega.{arith}
+use Prim.Native.Nat.{◌≤◌}
 use lib.ListN.{drop}
 use Rattle.engine.specs.Inner.Best.{ArenaRoom}
-use Rattle.engine.proofs.Laws.Arena.{room-start, room-kept, room-behind}
-use Rattle.engine.proofs.Laws.Picked.{in-or-out}
-use Rattle.engine.proofs.Laws.Pick.{SetsTo, sets-all, sets-none, sets-kept, sets-out}
+use Rattle.engine.proofs.Laws.Pick.{SetsTo}
 use Rattle.engine.proofs.best.sets_of.Given as goal
 
 abbrev pub invariant-loop-i : goal.invariant-loop-i

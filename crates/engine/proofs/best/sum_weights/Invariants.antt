@@ -1,13 +1,8 @@
 -- `engine::best::sum_weights` meets its contract. The invariant: the sum is that of the weights before place i. Assumes nothing.
-use Prim.Native.Nat.{◌*◌, ◌-◌, ◌≤◌, ◌<◌}
-use mathlib.Core.Path.{◌≡◌, refl}
-use native.Mathlib.Omega.{arith}
-use borrow.Author.Rules.{elem_Fits}
-use mir.Syntax.{w16}
-use mir.Val.{Fits}
-use lib.ListN.{length, get_or, take}
+use Prim.Native.Nat.{◌*◌, ◌-◌, ◌≤◌}
+use mathlib.Core.Path.{◌≡◌}
+use lib.ListN.{take}
 use Rattle.engine.specs.Inner.Best.{total}
-use Rattle.engine.proofs.Laws.Picked.{total-take}
 use Rattle.engine.proofs.best.sum_weights.Given as goal
 
 abbrev pub invariant-loop-i : goal.invariant-loop-i

@@ -1,6 +1,5 @@
 -- `engine::choosing::choose` meets its contract: the job is loaded, and the choice made. Assumes nothing.
 use mathlib.Core.Path.{◌∙◌}
-use borrow.Author.Rules.{rules}
 use Rattle.records.specs.Job.{job_of}
 use Rattle.engine.proofs.Laws.Reply.{choose-short, choose-refused, choose-accepted}
 use Rattle.engine.proofs.Laws.Loaded.{refused-number, refused-job, accepted-job, accepted-parts, some-parts, nets-small}

@@ -2,7 +2,6 @@
 -- reading's set is empty, and else the chosen support has a patch. Assumes nothing.
 use Prim.Native.Nat.{◌^◌}
 use native.Mathlib.Omega.{arith}
-use borrow.Author.Rules.{rules}
 use Rattle.records.specs.Job.{Job}
 use Rattle.records.specs.Parts.{PartsOf}
 use Rattle.engine.specs.Support.{chosen}
@@ -31,7 +30,7 @@ rule_blind-requires c =
 pub returns-then-reading-count : goal.returns-then-reading-count
 returns-then-reading-count c =
     let met : (j : Job) → PartsOf j c.args.job → SetsTo j (2 ^ j.inputs) c.reading_sets-met.result.skipped c.reading_sets-met.result.sets =
-        λ j p. c.reading_sets-met.ensures j (c.merged_miter-miter.ensures.merged_of j p) (parts-nets p) in
+    λ j p. c.reading_sets-met.ensures j (c.merged_miter-miter.ensures.merged_of j p) (parts-nets p) in
     λ j p.
     let b = rule-blind p (met j p) c.reading_count-count.ensures c.first_empty-reading.ensures c.if-reading-count.true in
     c.rule_blind.ensures j b.0 b.1
@@ -51,7 +50,7 @@ rule_patch-requires c =
 pub returns : goal.returns
 returns c =
     let met : (j : Job) → PartsOf j c.args.job → SetsTo j (2 ^ j.inputs) c.reading_sets-met.result.skipped c.reading_sets-met.result.sets =
-        λ j p. c.reading_sets-met.ensures j (c.merged_miter-miter.ensures.merged_of j p) (parts-nets p) in
+    λ j p. c.reading_sets-met.ensures j (c.merged_miter-miter.ensures.merged_of j p) (parts-nets p) in
     λ j p.
     let m = c.merged_miter-miter.ensures.merged_of j p in
     let q = rule-sound p (met j p) c.reading_count-count.ensures c.first_empty-reading.ensures m.targets c.if-reading-count.false in

@@ -1,6 +1,5 @@
 -- `engine::choosing::rule_patch` meets its contract: the chosen support, its table, its cost and its notes. Assumes nothing.
 use native.Mathlib.Omega.{arith}
-use borrow.Author.Rules.{rules}
 use Rattle.engine.proofs.Laws.Rule.{readings-many, patch-choice, table-of-chosen, notes-of-chosen, cost-of-chosen}
 use Rattle.engine.proofs.choosing.rule_patch.Goals as goal
 

@@ -28,7 +28,7 @@ loop-r-preserved c =
     let d = c.if-not-in_either.cover in
     let so : CoverHeld d × CoverTo ss c.loop-r.r x.never d × (InCover x.never c.loop-r.r ⊎ InCover d c.loop-r.r) =
     elim c.if-not-in_either.branch [
-      then-not-in_either+else-cover-eq-CUBES w ↦
+      | then-not-in_either+else-cover-eq-CUBES w ↦
           let a = w.with_cube-cover.ensures in
           rw w.cover-is (a.held, cover-more ss c.loop-r.invariant.2 a, inr (a.added c.loop-r.r (λ k h. refl)))
       | else-not-in_either w ↦ rw w.cover-is (c.loop-r.invariant.0, c.loop-r.invariant.2, c.in_either.ensures w.if-not-in_either.false)

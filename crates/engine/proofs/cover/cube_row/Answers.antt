@@ -16,7 +16,7 @@ unfolding bit
 loop-k-preserved c =
     let l = c.loop-k in
     elim c.if-care-k-eq1.branch [
-      then-care-k-eq1 w ↦
+      | then-care-k-eq1 w ↦
           rw w.r-is (
             omega arith,
             w.keep_value.ensures.0,

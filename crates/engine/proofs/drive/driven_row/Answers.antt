@@ -2,7 +2,6 @@
 -- the outputs compared. Assumes nothing.
 use mathlib.Core.Path.{◌∙◌}
 use native.Mathlib.Omega.{arith}
-use borrow.Author.Rules.{rules}
 use Rattle.engine.proofs.Laws.Searching.{row-driven}
 use Rattle.engine.proofs.drive.driven_row.Goals as goal
 

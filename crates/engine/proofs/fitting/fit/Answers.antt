@@ -1,5 +1,4 @@
 -- `engine::fitting::fit` meets its contract: the job's parts are loaded, and the sheet fitted to them. Assumes nothing.
-use borrow.Author.Rules.{rules}
 use Rattle.records.specs.Job.{job_of}
 use Rattle.engine.proofs.Laws.FitSheet.{fit_gives, fit-short, fit_refused, fit-accepted}
 use Rattle.engine.proofs.Laws.Loaded.{accepted-parts}

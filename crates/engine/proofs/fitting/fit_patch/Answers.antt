@@ -1,8 +1,6 @@
 -- `engine::fitting::fit_patch` meets its contract: number 9 by the trees' gate count, before any byte is written. Assumes nothing.
 use Prim.Native.Nat.{◌≤◌}
-use mathlib.Core.Path.{refl}
 use native.Mathlib.Omega.{arith}
-use borrow.Author.Rules.{rules}
 use lib.ListN.{length, take}
 use Rattle.engine.specs.Inner.Fitting.{patched_count}
 use Rattle.engine.proofs.Laws.FitSheet.{gates-few, patch-refused, patch-accepted}

@@ -1,5 +1,4 @@
 -- `engine::fitting::old_side` meets its contract. Assumes nothing.
-use mathlib.Core.Path.{sym}
 use native.Mathlib.Omega.{arith}
 use Rattle.engine.proofs.Laws.OldSide.{gates-count, gates-most, old_of}
 use Rattle.engine.proofs.fitting.old_side.Goals as goal

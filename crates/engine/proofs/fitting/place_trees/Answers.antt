@@ -1,6 +1,4 @@
 -- `engine::fitting::place_trees` meets its contract. Assumes nothing.
-use borrow.Author.Rules.{rules}
-use mathlib.Core.Path.{refl}
 use Rattle.engine.proofs.Laws.FitCode.{moved-nets, trees-placed}
 use Rattle.engine.proofs.fitting.place_trees.Goals as goal
 

@@ -1,7 +1,5 @@
 -- `engine::given::see_block` meets its contract: where the cover is not met, the sets stay; else the block's readings, and the sets after them.
 -- Assumes nothing.
-use borrow.Author.Rules.{rules}
-use borrow.Author.Tests.{not-true}
 use Rattle.engine.proofs.Laws.Given.{block-seen, block-passed}
 use Rattle.engine.proofs.Laws.Searching.{block-small, block-rows}
 use Rattle.engine.proofs.given.see_block.Goals as goal

@@ -1,18 +1,12 @@
 -- `engine::given::see_inputs` meets its contract. The invariant: the sets after the blocks passed, all readings seen before the first that is
 -- not, a cover of those that are not, and cubes that none gives. Assumes nothing.
-use Prim.Native.Nat.{ℕ, ◌-◌, ◌*◌}
-use mathlib.Core.Path.{◌≡◌, refl, sym, subst}
-use mathlib.Core.Logic.{inl, inr, ⊎_elim}
-use mathlib.Core.List.{List}
+use Prim.Native.Nat.{ℕ}
+use mathlib.Core.Path.{refl}
+use mathlib.Core.Logic.{inl, inr}
 use native.Mathlib.Omega.{arith}
-use lib.ListN.{length, length-replicate}
+use lib.ListN.{length-replicate}
 use Rattle.engine.specs.Eval.{bit}
-use Rattle.engine.specs.Inner.Given.{GivenCover}
-use Rattle.engine.specs.Inner.Imply.{NoneGives}
-use Rattle.engine.specs.declared.given.Covering.{Covering}
-use Rattle.engine.specs.declared.plan.Plan.{Plan}
-use Rattle.engine.proofs.Laws.Given.{Seeing, seeing-none, seeing-range, seeing-next, seeing-pass, seeing-all, given-kept}
-use Rattle.engine.proofs.Laws.Imply.{no-cubes-given}
+use Rattle.engine.proofs.Laws.Given.{seeing-none, seeing-range, seeing-next, seeing-pass, seeing-all, given-kept}
 use Rattle.engine.proofs.Laws.Rule.{readings-many}
 use Rattle.engine.proofs.given.see_inputs.Invariants.{Covered}
 use Rattle.engine.proofs.given.see_inputs.Goals as goal
@@ -36,7 +30,7 @@ loop-b-init c =
 covered : (c : Joined-is_due) → Covered c.args.plan c.args.gates.now c.loop-b.sets c.if-is_due.covering
 covered c =
     elim c.if-is_due.branch [
-      then-is_due w ↦ rw w.covering-is w.renewed-covering.ensures
+      | then-is_due w ↦ rw w.covering-is w.renewed-covering.ensures
       | else-is_due w ↦ rw w.covering-is c.loop-b.invariant.2
     ]
 
@@ -57,7 +51,7 @@ loop-b-preserved c =
     let o = covered (goal.at.loop-b-preserved c).Joined-is_due in
     let i = c.loop-b.invariant in
     elim c.if-skipped-b-eq1.branch [
-      then-skipped-b-eq1 w ↦
+      | then-skipped-b-eq1 w ↦
           let e = w.see_block.ensures in
           let s = seeing-next i.1 (omega arith) w.block_inputs.ensures w.if-skipped-b-eq1.true e.block_seen w.next_unseen-next-then-skipped-b-eq1.ensures in
           rw (w.words-is, w.sets-is, w.next-is) (e.words_len_2, s, (given-kept o.0 c.requires.0.reads i.1.long e.block_seen, o.1))

@@ -1,19 +1,14 @@
 -- `engine::given::see_inputs` meets its contract. The invariant: the sets after the blocks passed, all readings seen before the first that is
 -- not, a cover of those that are not, and cubes that none gives. Assumes nothing.
 use Prim.Native.Nat.{ℕ, ◌-◌, ◌*◌}
-use mathlib.Core.Path.{◌≡◌, refl, sym, subst}
-use mathlib.Core.Logic.{inl, inr, ⊎_elim}
+use mathlib.Core.Path.{◌≡◌}
 use mathlib.Core.List.{List}
-use native.Mathlib.Omega.{arith}
-use lib.ListN.{length, length-replicate}
-use Rattle.engine.specs.Eval.{bit}
+use lib.ListN.{length}
 use Rattle.engine.specs.Inner.Given.{GivenCover}
 use Rattle.engine.specs.Inner.Imply.{NoneGives}
 use Rattle.engine.specs.declared.given.Covering.{Covering}
 use Rattle.engine.specs.declared.plan.Plan.{Plan}
-use Rattle.engine.proofs.Laws.Given.{Seeing, seeing-none, seeing-range, seeing-next, seeing-pass, seeing-all, given-kept}
-use Rattle.engine.proofs.Laws.Imply.{no-cubes-given}
-use Rattle.engine.proofs.Laws.Rule.{readings-many}
+use Rattle.engine.proofs.Laws.Given.{Seeing}
 use Rattle.engine.proofs.given.see_inputs.Given as goal
 
 abbrev pub Covered : Plan → List ℕ → List ℕ → Covering → Type 0

@@ -1,10 +1,7 @@
 -- `engine::given::see_skipped` meets its contract: where ranges were skipped and a reading is unseen, their inputs are looked at. Assumes nothing.
-use mathlib.Core.Path.{refl}
 use native.Mathlib.Omega.{arith}
-use borrow.Author.Rules.{rules}
-use Rattle.engine.proofs.Laws.Given.{none-skipped, all_seen}
+use Rattle.engine.proofs.Laws.Given.{none-skipped}
 use Rattle.engine.proofs.Laws.Rule.{readings-many}
-use Rattle.engine.proofs.Laws.Search.{first-few}
 use Rattle.engine.proofs.given.see_skipped.Goals as goal
 
 pub returns-then-skipped-eq0-clause-unseen : goal.returns-then-skipped-eq0-clause-unseen

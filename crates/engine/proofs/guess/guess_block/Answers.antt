@@ -1,6 +1,5 @@
 -- `engine::guess::guess_block` meets its contract: the inputs before the first of which a row says 0 are rectified. Assumes nothing.
 use mathlib.Core.Path.{◌∙◌}
-use borrow.Author.Rules.{rules}
 use borrow.Author.Tests.{leb-true}
 use lib.Dec.{lit≤}
 use Rattle.engine.proofs.Laws.Guess.{vectors_at, guessed-first, guessed-either}

@@ -1,9 +1,8 @@
 -- `engine::guess::listed_set` meets its contract. The invariant: each vector of the set is one of the first i. Assumes nothing.
-use Prim.Native.Nat.{◌-◌, ◌≤◌}
 use mathlib.Core.Path.{◌≡◌}
 use native.Mathlib.Omega.{arith}
 use lib.ListN.{length, take}
-use Rattle.engine.proofs.Laws.Guess.{SetOf, set-none, set_next}
+use Rattle.engine.proofs.Laws.Guess.{set-none, set_next}
 use Rattle.engine.proofs.guess.listed_set.Goals as goal
 
 pub loop-i-init : goal.loop-i-init

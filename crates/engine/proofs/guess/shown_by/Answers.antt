@@ -2,7 +2,6 @@
 use Prim.Native.Nat.{ℕ}
 use mathlib.Core.Path.{◌≡◌}
 use native.Mathlib.Omega.{arith}
-use borrow.Author.Rules.{rules}
 use Rattle.engine.specs.declared.guess.Shown.TheVariants as Shown
 use Rattle.engine.proofs.guess.shown_by.Goals as goal
 
@@ -27,9 +26,9 @@ returns-then-try_listed c =
 
 pub returns-then-few_listed : goal.returns-then-few_listed
 returns-then-few_listed c = record {
-      free_kept = c.try_listed.ensures.free_kept;
-      block_shown = not-shown;
-    }
+  free_kept = c.try_listed.ensures.free_kept;
+  block_shown = not-shown;
+}
 
 pub returns-then-trust-eq0 : goal.returns-then-trust-eq0
 returns-then-trust-eq0 c =
@@ -49,6 +48,6 @@ returns-then-guess_block c =
 
 pub returns : goal.returns
 returns c = record {
-      free_kept = c.guess_block.ensures.free_kept;
-      block_shown = not-shown;
-    }
+  free_kept = c.guess_block.ensures.free_kept;
+  block_shown = not-shown;
+}

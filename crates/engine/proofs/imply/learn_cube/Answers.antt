@@ -17,7 +17,7 @@ unfolding bit
 loop-k-preserved c =
     let l = c.loop-k in
     elim c.if-care-k-eq1.branch [
-      then-care-k-eq1+else-not-learn w ↦
+      | then-care-k-eq1+else-not-learn w ↦
           let e = w.learn.ensures in
           rw w.known-is (e.0, learns-then l.invariant.1 (λ vs k a. a l.k (omega arith) w.if-care-k-eq1.true) e.1 w.if-not-learn.false)
       | else-care-k-eq1 w ↦ rw w.known-is l.invariant

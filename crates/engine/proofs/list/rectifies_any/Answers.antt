@@ -1,5 +1,5 @@
 -- `engine::list::rectifies_any` meets its contract. The invariant: what is left from place i on decides. Assumes nothing.
-use Prim.Native.Nat.{ℕ, ◌+◌, ◌-◌, ◌≤◌}
+use Prim.Native.Nat.{ℕ, ◌+◌, ◌≤◌}
 use mathlib.Core.Path.{◌≡◌, refl, sym, ◌∙◌, ap}
 use native.Mathlib.Omega.{arith}
 use mathlib.Core.Bool.{◌||◌}
@@ -22,7 +22,7 @@ overflow_shr-set c = omega (arith, c.requires.1 c.loop-i.i)
 pub returns-then-set-v-eq1 : goal.returns-then-set-v-eq1
 returns-then-set-v-eq1 c =
     let turn : let a = c.args in let i = c.loop-i.i in any (in_set a.set) (take a.len a.list) ≡ (in_set a.set (get_or a.list i 0) || any (in_set a.set) (drop (i + 1) (take a.len a.list))) =
-        let a = c.args in
+    let a = c.args in
     let l = c.loop-i in
     let n : length a.list ≡ 16 = omega arith in
     sym l.invariant.1
@@ -34,7 +34,7 @@ returns-then-set-v-eq1 c =
 pub loop-i-preserved : goal.loop-i-preserved
 loop-i-preserved c =
     let turn : let a = c.args in let i = c.loop-i.i in any (in_set a.set) (take a.len a.list) ≡ (in_set a.set (get_or a.list i 0) || any (in_set a.set) (drop (i + 1) (take a.len a.list))) =
-        let a = c.args in
+    let a = c.args in
     let l = c.loop-i in
     let n : length a.list ≡ 16 = omega arith in
     sym l.invariant.1

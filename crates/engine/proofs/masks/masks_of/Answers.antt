@@ -1,12 +1,11 @@
 -- `engine::masks::masks_of` meets its contract. The invariant: the words are those at the vector of the step before, and the rows of
 -- the steps so far are done. Assumes nothing.
-use Prim.Native.Nat.{ℕ, ◌-◌, ◌/◌, ◌^◌, ◌≤◌, ◌<◌}
+use Prim.Native.Nat.{ℕ, ◌/◌, ◌^◌, ◌≤◌, ◌<◌}
 use mathlib.Core.Path.{◌≡◌, refl, ◌∙◌, subst}
 use native.Mathlib.Nat.{one-mul}
 use native.Mathlib.Omega.{arith}
 use lib.Pow.{pow_pos, shl_exact}
 use lib.Dec.{lit<}
-use lib.ListN.{length}
 use Rattle.engine.specs.Inner.Masks.{turns}
 use Rattle.engine.specs.Inner.Kernel.{row_value, NetSet}
 use Rattle.engine.specs.Inner.Search.{TargetTurned}

@@ -1,9 +1,8 @@
 -- `engine::masks::shortest_list` meets its contract. The invariant: the best so far is 0 or a target. Assumes nothing.
-use Prim.Native.Nat.{◌+◌, ◌-◌, ◌<◌}
+use Prim.Native.Nat.{◌+◌}
 use mathlib.Core.Path.{refl}
-use mathlib.Core.Logic.{inl, inr, ⊎_elim}
+use mathlib.Core.Logic.{inl, inr}
 use native.Mathlib.Omega.{arith}
-use Rattle.engine.specs.Inner.Masks.{Among}
 use Rattle.engine.proofs.masks.shortest_list.Goals as goal
 use Rattle.engine.proofs.masks.shortest_list.Goals.{else-ends-t, then-ends-t}
 

@@ -1,6 +1,5 @@
 -- `engine::masks::turned_at` meets its contract: the constant is the list of the definition. Assumes nothing.
 use native.Mathlib.Omega.{arith}
-use borrow.Author.Rules.{rules}
 use Rattle.engine.proofs.Laws.Gray.{flips-lt, turns-first, turns-other, turns_same}
 use Rattle.engine.proofs.masks.turned_at.Goals as goal
 

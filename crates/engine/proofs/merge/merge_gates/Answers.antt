@@ -24,7 +24,7 @@ loop-i-preserved c =
     let moving = merging-moved l.invariant c.requires.0 h c.moved_code-c.ensures in
     let same = get_or-set_same l.gates l.i c.moved_code-c.result 0 (omega (arith, l.invariant.long)) in
     elim c.if-k-gt0.branch [
-      then-k-gt0 d ↦
+      | then-k-gt0 d ↦
           rw (d.stands-is, d.heads-is, d.next-is)
           (merging-stands moving c.requires.0 h (k - 1) (omega (arith, found))
           (c.find-k.ensures.1 d.if-k-gt0.true ∙ ap gate_in (sym same))

@@ -18,7 +18,7 @@ loop-i-preserved c =
       omega arith,
       elim c.if-a-b.branch [ then-a-b w ↦ omega arith | else-a-b w ↦ omega arith ],
       elim c.if-a-b.branch [
-          then-a-b w ↦ rw (w.olds-is, w.news-is, w.count-is) (pairs-more l.invariant.2 h k (omega arith))
-          | else-a-b w ↦ rw (w.olds-is, w.news-is, w.count-is) (pairs-left l.invariant.2 h k w.if-a-b.false)
+        | then-a-b w ↦ rw (w.olds-is, w.news-is, w.count-is) (pairs-more l.invariant.2 h k (omega arith))
+        | else-a-b w ↦ rw (w.olds-is, w.news-is, w.count-is) (pairs-left l.invariant.2 h k w.if-a-b.false)
       ],
     )

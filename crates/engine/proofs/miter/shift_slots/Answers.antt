@@ -18,6 +18,6 @@ loop-i-preserved c =
     let h = c.requires.1 in
     let w = c.loop-i.invariant in
     elim c.if-i-count.branch [
-      then-i-count k ↦ shifting-used _ _ _ _ h w (omega arith) k.if-i-count.true (k.r-is ∙ k.shift_net.ensures)
+      | then-i-count k ↦ shifting-used _ _ _ _ h w (omega arith) k.if-i-count.true (k.r-is ∙ k.shift_net.ensures)
       | else-i-count k ↦ shifting-unused _ _ _ _ h w k.if-i-count.false k.r-is
     ]

@@ -3,9 +3,8 @@ use Prim.Native.Nat.{ℕ, ◌*◌, ◌%◌, ◌^◌, ◌≤◌}
 use mathlib.Core.Path.{◌≡◌, ◌∙◌, ap, subst}
 use native.Mathlib.Nat.{one-mul}
 use native.Mathlib.Omega.{arith}
-use borrow.Author.Rules.{rules}
 use lib.Dec.{lit<}
-use lib.Pow.{pow_mono, shl_exact}
+use lib.Pow.{shl_exact}
 use Rattle.engine.specs.Inner.Note.{ListNoted}
 use Rattle.engine.proofs.Laws.Narrow.{list-of-masks}
 use Rattle.engine.proofs.narrow.list_of_words.Goals as goal

@@ -21,13 +21,13 @@ loop-step-init c =
 pub vector_at-v-requires : goal.vector_at-v-requires
 vector_at-v-requires c =
     let step-few : c.loop-step.step < 16 =
-        omega (arith, c.loop-step.invariant.3, vectors-many c.requires.0.targets) in
+    omega (arith, c.loop-step.invariant.3, vectors-many c.requires.0.targets) in
     (lit< tt, step-few)
 
 pub put_row-requires : goal.put_row-requires
 put_row-requires c =
     let step-few : c.loop-step.step < 16 =
-        omega (arith, c.loop-step.invariant.3, vectors-many c.requires.0.targets) in
+    omega (arith, c.loop-step.invariant.3, vectors-many c.requires.0.targets) in
     let v = c.vector_at-v in
     let l = c.loop-step in
     (omega (arith, v.ensures, ordered-lt 0 (lit< tt) l.step step-few), l.invariant.1)
@@ -35,7 +35,7 @@ put_row-requires c =
 pub loop-step-preserved : goal.loop-step-preserved
 loop-step-preserved c =
     let step-few : c.loop-step.step < 16 =
-        omega (arith, c.loop-step.invariant.3, vectors-many c.requires.0.targets) in
+    omega (arith, c.loop-step.invariant.3, vectors-many c.requires.0.targets) in
     let e = c.eval_vector in
     let m = c.args.miter in
     let v = c.vector_at-v in (

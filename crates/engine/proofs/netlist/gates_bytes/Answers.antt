@@ -1,11 +1,11 @@
 -- `engine::netlist::gates_bytes` meets its contract: after i turns the first i gates stand at the start, ten bytes each. Assumes
 -- nothing.
-use Prim.Native.Nat.{ℕ, ◌*◌, ◌-◌, ◌≤◌}
+use Prim.Native.Nat.{ℕ, ◌*◌}
 use mathlib.Core.Path.{◌≡◌, ◌∙◌}
 use native.Mathlib.Omega.{arith}
 use lib.ListN.{length, get_or, replicate, length-replicate}
 use Rattle.records.specs.Job.{gate_bytes}
-use Rattle.records.proofs.Laws.Job.{Put, put-none, put_next}
+use Rattle.records.proofs.Laws.Job.{put-none, put_next}
 use Rattle.engine.proofs.Laws.Fitting.{gate_at, length-gate_in, gates-start}
 use Rattle.engine.proofs.netlist.gates_bytes.Goals as goal
 

@@ -1,12 +1,10 @@
 -- `engine::netlist::gates_bytes` meets its contract: after i turns the first i gates stand at the start, ten bytes each. Assumes
 -- nothing.
-use Prim.Native.Nat.{ℕ, ◌*◌, ◌-◌, ◌≤◌}
-use mathlib.Core.Path.{◌≡◌, ◌∙◌}
-use native.Mathlib.Omega.{arith}
-use lib.ListN.{length, get_or, replicate, length-replicate}
+use Prim.Native.Nat.{◌-◌, ◌≤◌}
+use lib.ListN.{replicate}
 use Rattle.records.specs.Job.{gate_bytes}
-use Rattle.records.proofs.Laws.Job.{Put, put-none, put_next}
-use Rattle.engine.proofs.Laws.Fitting.{gate_at, length-gate_in, gates-start}
+use Rattle.records.proofs.Laws.Job.{Put}
+use Rattle.engine.proofs.Laws.Fitting.{gate_at}
 use Rattle.engine.proofs.netlist.gates_bytes.Given as goal
 
 abbrev pub invariant-loop-i : goal.invariant-loop-i

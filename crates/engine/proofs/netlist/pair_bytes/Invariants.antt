@@ -1,12 +1,9 @@
 -- `engine::netlist::pair_bytes` meets its contract: after i turns the first i nets stand at the start, two bytes each. Assumes
 -- nothing.
-use Prim.Native.Nat.{ℕ, ◌*◌, ◌-◌, ◌≤◌}
-use mathlib.Core.Path.{◌≡◌}
-use native.Mathlib.Omega.{arith}
-use lib.ListN.{length, get_or, replicate, length-replicate}
+use Prim.Native.Nat.{◌-◌, ◌≤◌}
+use lib.ListN.{get_or, replicate}
 use Rattle.records.specs.Bytes.{byte_pair}
-use Rattle.records.proofs.Laws.Job.{Put, put-none, put_next, length-byte_pair}
-use Rattle.engine.proofs.Laws.Sheet.{pair-placed, pairs-take}
+use Rattle.records.proofs.Laws.Job.{Put}
 use Rattle.engine.proofs.netlist.pair_bytes.Given as goal
 
 abbrev pub invariant-loop-i : goal.invariant-loop-i

@@ -1,8 +1,7 @@
 -- `engine::netlist::put_code` meets its contract. The invariant: with the slots that are left in the number rest put behind the first i
 -- pairs of bytes, all are put. Assumes nothing.
 use Prim.Native.Nat.{◌-◌}
-use native.Mathlib.Omega.{arith}
-use Rattle.engine.proofs.Laws.Fitting.{Putting, putting-none, putting-next, putting-all}
+use Rattle.engine.proofs.Laws.Fitting.{Putting}
 use Rattle.engine.proofs.netlist.put_code.Given as goal
 
 abbrev pub invariant-loop-i : goal.invariant-loop-i

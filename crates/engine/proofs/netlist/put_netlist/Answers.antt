@@ -1,5 +1,4 @@
 -- `engine::netlist::put_netlist` meets its contract: three fields, one behind the other. Assumes nothing.
-use mathlib.Core.Path.{◌∙◌}
 use native.Mathlib.Omega.{arith}
 use Rattle.engine.proofs.Laws.Fitting.{inputs_end, gates-end, netlist-put}
 use Rattle.engine.proofs.netlist.put_netlist.Goals as goal

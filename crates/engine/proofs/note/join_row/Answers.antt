@@ -1,9 +1,9 @@
 -- `engine::note::join_row` meets its contract. The invariant: the words below w are joined. Assumes nothing.
-use Prim.Native.Nat.{ℕ, ◌+◌, ◌-◌, ◌*◌, ◌≤◌, ◌<◌}
+use Prim.Native.Nat.{ℕ, ◌+◌, ◌*◌}
 use mathlib.Core.Path.{◌≡◌, refl, ◌∙◌}
 use native.Mathlib.Omega.{arith}
 use lib.Bits.{bit_or}
-use lib.ListN.{length, get_or, length-set}
+use lib.ListN.{get_or, length-set}
 use Rattle.engine.proofs.Laws.Turn.{stored_more}
 use Rattle.engine.proofs.note.join_row.Goals as goal
 

@@ -1,6 +1,6 @@
 -- `engine::note::list_block` meets its contract. The invariant: the list is the one after the inputs before y, of which those from
 -- count on are none of the block's. Assumes nothing.
-use Prim.Native.Nat.{◌+◌, ◌-◌, min}
+use Prim.Native.Nat.{◌+◌, min}
 use mathlib.Core.Path.{◌≡◌}
 use native.Mathlib.Omega.{arith}
 use Rattle.engine.specs.Inner.Note.{ListNoted}
@@ -22,7 +22,7 @@ list_step-list-requires c = (c.loop-y.invariant.held, c.gather_rows-set.ensures.
 pub returns-then-list : goal.returns-then-list
 returns-then-list c =
     let stepped : (let a = c.args in ListNoted a.masks a.first (c.loop-y.y + 1) a.list c.list_step-list.result) =
-        let a = c.args in
+    let a = c.args in
     let l = c.loop-y in
     let e : min l.y a.count ≡ l.y = omega arith in
     list-next a.masks a.first a.list l.y l.list c.gather_rows-set.result c.list_step-list.result (rw e at l.invariant)
@@ -40,7 +40,7 @@ loop-y-smaller c = omega (arith, c.next_uncovered-y-in-loop-y.ensures.past)
 pub loop-y-preserved : goal.loop-y-preserved
 loop-y-preserved c =
     let stepped : (let a = c.args in ListNoted a.masks a.first (c.loop-y.y + 1) a.list c.list_step-list.result) =
-        let a = c.args in
+    let a = c.args in
     let l = c.loop-y in
     let e : min l.y a.count ≡ l.y = omega arith in
     list-next a.masks a.first a.list l.y l.list c.gather_rows-set.result c.list_step-list.result (rw e at l.invariant)

@@ -1,5 +1,4 @@
 -- `engine::note::meet_four` meets its contract. Assumes nothing.
-use borrow.Author.Rules.{rules}
 use Rattle.engine.proofs.note.meet_four.Goals as goal
 
 pub returns : goal.returns

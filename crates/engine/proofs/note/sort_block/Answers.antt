@@ -1,8 +1,6 @@
 -- `engine::note::sort_block` meets its contract. The invariant: the sets keep their number. Assumes nothing.
-use Prim.Native.Nat.{◌-◌, ◌≤◌}
-use mathlib.Core.Path.{◌≡◌, refl, ◌∙◌}
+use mathlib.Core.Path.{◌∙◌}
 use native.Mathlib.Omega.{arith}
-use lib.ListN.{length}
 use Rattle.engine.proofs.note.sort_block.Goals as goal
 
 pub transpose-requires : goal.transpose-requires

@@ -26,19 +26,19 @@ loop-i-preserved c =
     let leaves = wanted-false live ms a.led (get_or gates l.i 0) in (
       omega arith,
       elim c.if-live-net-ne0.branch [
-          then-live-net-ne0+then-marks-net+then-end-lt-LISTED k ↦
-              rw (k.out-is, k.end-is)
-              (picking-put live ms a.led gates a.out.now a.at l.out l.end l.i l.invariant.1 n (wants k.if-live-net-ne0.true k.if-marks-net.true)
-              k.if-end-lt-LISTED.true)
-          | then-live-net-ne0+then-marks-net+else-end-lt-LISTED k ↦
-              rw (k.out-is, k.end-is)
-              (picking_full live ms a.led gates a.out.now a.at l.out l.end l.i l.invariant.1 n (wants k.if-live-net-ne0.true k.if-marks-net.true)
-              k.if-end-lt-LISTED.false)
-          | then-live-net-ne0+else-marks-net k ↦
-              rw (k.out-is, k.end-is)
-              (picking-left live ms a.led gates a.out.now a.at l.out l.end l.i l.invariant.1 n (leaves (inr k.if-marks-net.false)))
-          | else-live-net-ne0 k ↦
-              rw (k.out-is, k.end-is)
-              (picking-left live ms a.led gates a.out.now a.at l.out l.end l.i l.invariant.1 n (leaves (inl k.if-live-net-ne0.false)))
+        | then-live-net-ne0+then-marks-net+then-end-lt-LISTED k ↦
+            rw (k.out-is, k.end-is)
+            (picking-put live ms a.led gates a.out.now a.at l.out l.end l.i l.invariant.1 n (wants k.if-live-net-ne0.true k.if-marks-net.true)
+            k.if-end-lt-LISTED.true)
+        | then-live-net-ne0+then-marks-net+else-end-lt-LISTED k ↦
+            rw (k.out-is, k.end-is)
+            (picking_full live ms a.led gates a.out.now a.at l.out l.end l.i l.invariant.1 n (wants k.if-live-net-ne0.true k.if-marks-net.true)
+            k.if-end-lt-LISTED.false)
+        | then-live-net-ne0+else-marks-net k ↦
+            rw (k.out-is, k.end-is)
+            (picking-left live ms a.led gates a.out.now a.at l.out l.end l.i l.invariant.1 n (leaves (inr k.if-marks-net.false)))
+        | else-live-net-ne0 k ↦
+            rw (k.out-is, k.end-is)
+            (picking-left live ms a.led gates a.out.now a.at l.out l.end l.i l.invariant.1 n (leaves (inl k.if-live-net-ne0.false)))
       ],
     )

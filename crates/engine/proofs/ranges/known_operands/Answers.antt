@@ -19,7 +19,7 @@ loop-i-preserved c =
     let z = x.c / 131072 in
     let next : (length c.if-i-count.r ≡ 4) × ReadTo f n z c.if-i-count.r (t.rest / 1024) (t.i + 1) =
     elim c.if-i-count.branch [
-      then-i-count w ↦
+      | then-i-count w ↦
           rw w.r-is (
             length-set t.r t.i (f (t.rest % 1024)) ∙ t.invariant.1,
             read-used f n z t.r t.rest t.i t.invariant.2 w.if-i-count.true (omega arith) t.invariant.1,

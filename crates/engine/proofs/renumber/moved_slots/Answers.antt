@@ -13,7 +13,7 @@ loop-i-preserved c =
     let a = c.args in
     moving-next a.numbers.now a.c c.loop-i.invariant c.requires (omega arith)
     (elim c.if-i-count.branch [
-      then-i-count k ↦ slot-used _ _ _ _ k.if-i-count.true k.r-is
+      | then-i-count k ↦ slot-used _ _ _ _ k.if-i-count.true k.r-is
       | else-i-count k ↦ slot-unused _ _ _ _ k.if-i-count.false k.r-is
     ])
 

@@ -55,7 +55,7 @@ loop-i-preserved c =
     let l = c.loop-i in
     let a = c.args in
     elim c.if-marks-net.branch [
-      then-marks-net k ↦
+      | then-marks-net k ↦
           rw (k.numbers-is, k.gates-is, k.count-is)
           (placing-next a.old a.mark a.new l.invariant c.requires.old_held.0 c.loop-i-test.true k.if-marks-net.true c.requires.old_held.1 c.requires.gate_room
           k.moved_code.ensures)

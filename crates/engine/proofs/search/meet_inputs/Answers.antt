@@ -1,7 +1,6 @@
 -- `engine::search::meet_inputs` meets its contract: the block's readings; where the table does, the sets stay, and else they are those after
 -- its masks. Assumes nothing.
 use mathlib.Core.Path.{◌≡◌, refl, ◌∙◌, ap}
-use borrow.Author.Rules.{rules}
 use lib.ListN.{length}
 use Rattle.engine.proofs.Laws.Choice.{not-both}
 use Rattle.engine.proofs.Laws.Search.{block-met, block-kept}
@@ -30,13 +29,13 @@ returns-then-keep_block c =
 pub vector_block-requires : goal.vector_block-requires
 vector_block-requires c =
     let words_long : length c.if-tried.words ≡ 16384 =
-        elim c.if-tried.branch [ then-tried+else-keep_block w ↦ ap length w.words-is ∙ w.keep_block.ensures.free_kept.1 | else-tried w ↦ ap length w.words-is ∙ c.read_block-readings.ensures.long ] in
+    elim c.if-tried.branch [ then-tried+else-keep_block w ↦ ap length w.words-is ∙ w.keep_block.ensures.free_kept.1 | else-tried w ↦ ap length w.words-is ∙ c.read_block-readings.ensures.long ] in
     (c.requires.plan_held.0, words_long)
 
 pub masks_of-masks-requires : goal.masks_of-masks-requires
 masks_of-masks-requires c =
     let words_long : length c.if-tried.words ≡ 16384 =
-        elim c.if-tried.branch [ then-tried+else-keep_block w ↦ ap length w.words-is ∙ w.keep_block.ensures.free_kept.1 | else-tried w ↦ ap length w.words-is ∙ c.read_block-readings.ensures.long ] in
+    elim c.if-tried.branch [ then-tried+else-keep_block w ↦ ap length w.words-is ∙ w.keep_block.ensures.free_kept.1 | else-tried w ↦ ap length w.words-is ∙ c.read_block-readings.ensures.long ] in
     (c.requires.plan_held.0, c.vector_block.ensures.long ∙ words_long)
 
 pub returns : goal.returns

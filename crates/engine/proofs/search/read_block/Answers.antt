@@ -1,5 +1,4 @@
 -- `engine::search::read_block` meets its contract: the block's words, and the rows of the nets read. Assumes nothing.
-use borrow.Author.Rules.{rules}
 use Rattle.engine.proofs.Laws.Searching.{block-rows}
 use Rattle.engine.proofs.search.read_block.Goals as goal
 

@@ -1,12 +1,9 @@
 -- `engine::sheet::net_bytes` meets its contract: after i turns the first i nets stand at the start, two bytes each. Assumes
 -- nothing.
-use Prim.Native.Nat.{◌*◌, ◌-◌, ◌≤◌}
-use mathlib.Core.Path.{◌≡◌}
-use native.Mathlib.Omega.{arith}
-use borrow.Author.Rules.{rules}
-use lib.ListN.{length, get_or, replicate}
+use Prim.Native.Nat.{◌-◌, ◌≤◌}
+use lib.ListN.{get_or}
 use Rattle.records.specs.Bytes.{byte_pair}
-use Rattle.records.proofs.Laws.Job.{Put, put-none, put_next, length-byte_pair}
+use Rattle.records.proofs.Laws.Job.{Put}
 use Rattle.engine.proofs.sheet.net_bytes.Given as goal
 
 abbrev pub invariant-loop-i : goal.invariant-loop-i

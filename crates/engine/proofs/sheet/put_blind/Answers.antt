@@ -1,6 +1,5 @@
 -- `engine::sheet::put_blind` meets its contract. Assumes nothing.
 use native.Mathlib.Omega.{arith}
-use borrow.Author.Rules.{rules}
 use Rattle.records.proofs.Laws.Job.{length-byte_pair}
 use Rattle.engine.proofs.Laws.Sheet.{field-bytes}
 use Rattle.engine.proofs.sheet.put_blind.Goals as goal

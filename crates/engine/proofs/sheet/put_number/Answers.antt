@@ -1,6 +1,5 @@
 -- `engine::sheet::put_number` meets its contract. Assumes nothing.
 use native.Mathlib.Omega.{arith}
-use borrow.Author.Rules.{rules}
 use Rattle.engine.proofs.Laws.Sheet.{field-bytes, length-four_bytes}
 use Rattle.engine.proofs.sheet.put_number.Goals as goal
 

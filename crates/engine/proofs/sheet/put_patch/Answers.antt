@@ -1,9 +1,8 @@
 -- `engine::sheet::put_patch` meets its contract: four fields, one behind the other. Assumes nothing.
-use Prim.Native.Nat.{◌+◌, ◌*◌, ◌^◌, ◌≤◌}
+use Prim.Native.Nat.{◌+◌, ◌*◌, ◌^◌}
 use mathlib.Core.Path.{◌≡◌}
 use native.Mathlib.Omega.{arith}
-use borrow.Author.Rules.{rules}
-use lib.ListN.{length, take}
+use lib.ListN.{take}
 use lib.Seq.{length-take-le}
 use Rattle.engine.proofs.Laws.Sheet.{pow-table, support-end, list-end, number-end, patch-put}
 use Rattle.engine.proofs.sheet.put_patch.Goals as goal

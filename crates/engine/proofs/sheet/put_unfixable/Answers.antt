@@ -1,6 +1,5 @@
 -- `engine::sheet::put_unfixable` meets its contract: two fields, one behind the other. Assumes nothing.
 use native.Mathlib.Omega.{arith}
-use borrow.Author.Rules.{rules}
 use lib.ListN.{take}
 use lib.Seq.{length-take-le}
 use Rattle.records.proofs.Laws.Job.{length-field}

@@ -1,7 +1,6 @@
 -- `engine::sheet::put_vectors` meets its contract. Assumes nothing.
 use mathlib.Core.Path.{refl, sym}
 use native.Mathlib.Omega.{arith}
-use borrow.Author.Rules.{rules}
 use lib.Seq.{length-take-le}
 use lib.ListN.{take}
 use Rattle.engine.proofs.Laws.Sheet.{field-bytes}

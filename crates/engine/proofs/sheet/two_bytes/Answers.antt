@@ -1,6 +1,5 @@
 -- `engine::sheet::two_bytes` meets its contract. Assumes nothing.
 use mathlib.Core.Path.{refl}
-use borrow.Author.Rules.{rules}
 use Rattle.records.specs.Bytes.{byte_pair}
 use Rattle.engine.proofs.sheet.two_bytes.Goals as goal
 

@@ -1,7 +1,6 @@
 -- `engine::sole::keep_block` meets its contract: the table's vectors at the block's readings, and where they rectify. Assumes nothing.
 use Prim.Native.Nat.{ℕ, max}
 use mathlib.Core.Path.{refl, sym, ◌∙◌, ap}
-use borrow.Author.Rules.{rules}
 use borrow.Author.Tests.{leb-true}
 use native.Mathlib.Omega.{arith}
 use lib.Dec.{lit≤}

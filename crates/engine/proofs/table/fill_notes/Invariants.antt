@@ -1,13 +1,8 @@
 -- `engine::table::fill_notes` meets its contract. The invariant: the readings before r have their notes. Assumes nothing.
-use Prim.Native.Nat.{◌-◌, ◌≤◌, ◌<◌}
-use borrow.Author.Rules.{rules}
-use native.Mathlib.Omega.{arith}
+use Prim.Native.Nat.{◌-◌, ◌≤◌}
 use lib.ListN.{get_or}
 use Rattle.engine.specs.Inner.Kernel.{Filled}
 use Rattle.engine.specs.Inner.Table.{note_from}
-use Rattle.engine.proofs.Laws.Fill.{fill_none, fill-next, fill-at}
-use Rattle.engine.proofs.Laws.Notes.{notes-sets}
-use Rattle.engine.proofs.Laws.Rule.{readings-many}
 use Rattle.engine.proofs.table.fill_notes.Given as goal
 
 abbrev pub invariant-loop-r : goal.invariant-loop-r

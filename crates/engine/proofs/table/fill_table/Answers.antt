@@ -1,12 +1,11 @@
 -- `engine::table::fill_table` meets its contract. The invariant: the readings before r have their vectors in the table.
 -- Assumes nothing.
-use Prim.Native.Nat.{◌-◌, ◌≤◌, ◌<◌}
-use mathlib.Core.Path.{◌≡◌, refl, ◌∙◌}
-use borrow.Author.Rules.{rules}
+use Prim.Native.Nat.{◌<◌}
+use mathlib.Core.Path.{refl, ◌∙◌}
 use native.Mathlib.Omega.{arith}
-use lib.ListN.{length, length-set}
+use lib.ListN.{length-set}
 use Rattle.engine.proofs.Laws.Rule.{readings-many}
-use Rattle.engine.proofs.Laws.Sets.{TableTo, table-next, table-sets}
+use Rattle.engine.proofs.Laws.Sets.{table-next, table-sets}
 use Rattle.engine.proofs.table.fill_table.Goals as goal
 use Rattle.engine.proofs.table.fill_table.Goals.{In-loop-r}
 

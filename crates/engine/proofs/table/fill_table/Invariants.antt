@@ -1,12 +1,9 @@
 -- `engine::table::fill_table` meets its contract. The invariant: the readings before r have their vectors in the table.
 -- Assumes nothing.
-use Prim.Native.Nat.{◌-◌, ◌≤◌, ◌<◌}
-use mathlib.Core.Path.{◌≡◌, refl, ◌∙◌}
-use borrow.Author.Rules.{rules}
-use native.Mathlib.Omega.{arith}
-use lib.ListN.{length, length-set}
-use Rattle.engine.proofs.Laws.Rule.{readings-many}
-use Rattle.engine.proofs.Laws.Sets.{TableTo, table-next, table-sets}
+use Prim.Native.Nat.{◌-◌, ◌≤◌}
+use mathlib.Core.Path.{◌≡◌}
+use lib.ListN.{length}
+use Rattle.engine.proofs.Laws.Sets.{TableTo}
 use Rattle.engine.proofs.table.fill_table.Given as goal
 
 abbrev pub invariant-loop-r : goal.invariant-loop-r

@@ -31,7 +31,7 @@ loop-i-init c =
     let k = x.kind in
     let none : c.if-plain-eq4.r ≡ gate_value (plain_of k) [] =
     elim c.if-plain-eq4.branch [
-      then-plain-eq4 w ↦ rw (w.if-plain-eq4.true, w.r-is)
+      | then-plain-eq4 w ↦ rw (w.if-plain-eq4.true, w.r-is)
       | else-plain-eq4 w ↦ w.r-is ∙ sym (gate_value-nil (plain_of k) (even k) w.if-plain-eq4.false)
     ] in
     let m = length-knowns x.count x.operands in

@@ -1,7 +1,6 @@
 -- `engine::tree::add_gate` meets its contract. Assumes nothing.
-use native.Mathlib.Omega.{arith}
 use Rattle.records.specs.Gate.{gate_of}
-use Rattle.engine.proofs.Laws.Tree.{pair-below, gates-put-one}
+use Rattle.engine.proofs.Laws.Tree.{gates-put-one}
 use Rattle.engine.proofs.tree.add_gate.Goals as goal
 
 pub returns : goal.returns

@@ -1,16 +1,10 @@
 -- `engine::tree::column_is` meets its contract. The invariant: the entries from place i on decide. Assumes nothing.
-use Prim.Native.Nat.{◌+◌, ◌-◌, ◌≤◌}
-use mathlib.Core.Path.{◌≡◌, refl, sym, ◌∙◌}
-use mathlib.Core.Bool.{◌&&◌}
-use native.Mathlib.Omega.{arith}
-use borrow.Author.Rules.{rules}
-use borrow.Author.Tests.{eq-eqb, ne_eqb}
+use Prim.Native.Nat.{◌-◌, ◌≤◌}
+use mathlib.Core.Path.{◌≡◌}
 use lib.Dec.{eqb}
-use lib.ListN.{get_or, take, drop}
+use lib.ListN.{take, drop}
 use Rattle.records.specs.Bytes.{all}
-use Rattle.engine.specs.Eval.{bit}
 use Rattle.engine.specs.Tree.{column}
-use Rattle.engine.proofs.Laws.Tree.{test-stops, test-goes, all-turn, all_end}
 use Rattle.engine.proofs.tree.column_is.Given as goal
 
 abbrev pub invariant-loop-i : goal.invariant-loop-i

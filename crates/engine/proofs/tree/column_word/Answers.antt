@@ -1,8 +1,7 @@
 -- `engine::tree::column_word` meets its contract. The invariant: w has the entries from place i on. Assumes nothing.
-use Prim.Native.Nat.{◌+◌, ◌-◌, ◌*◌, ◌^◌, ◌≤◌, ◌<◌}
+use Prim.Native.Nat.{◌+◌, ◌-◌, ◌*◌, ◌^◌, ◌<◌}
 use mathlib.Core.Path.{◌≡◌, sym}
 use native.Mathlib.Omega.{arith}
-use borrow.Author.Rules.{rules}
 use lib.ListN.{get_or, drop}
 use Rattle.engine.specs.Eval.{bit, number_of}
 use Rattle.engine.specs.Inner.Tree.{column_part}

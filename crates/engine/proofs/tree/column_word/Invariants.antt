@@ -1,12 +1,9 @@
 -- `engine::tree::column_word` meets its contract. The invariant: w has the entries from place i on. Assumes nothing.
-use Prim.Native.Nat.{◌+◌, ◌-◌, ◌*◌, ◌^◌, ◌≤◌, ◌<◌}
-use mathlib.Core.Path.{◌≡◌, sym}
-use native.Mathlib.Omega.{arith}
-use borrow.Author.Rules.{rules}
-use lib.ListN.{get_or, drop}
-use Rattle.engine.specs.Eval.{bit, number_of}
+use Prim.Native.Nat.{◌^◌, ◌≤◌}
+use mathlib.Core.Path.{◌≡◌}
+use lib.ListN.{drop}
+use Rattle.engine.specs.Eval.{number_of}
 use Rattle.engine.specs.Inner.Tree.{column_part}
-use Rattle.engine.proofs.Laws.TreeWord.{word_fits, column-turn, column-end, column-rest}
 use Rattle.engine.proofs.tree.column_word.Given as goal
 
 abbrev pub invariant-loop-i : goal.invariant-loop-i

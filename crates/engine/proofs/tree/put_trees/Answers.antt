@@ -1,9 +1,9 @@
 -- `engine::tree::put_trees` meets its contract. The invariant: the gates so far and the trees left are the whole.
 -- Assumes nothing.
-use Prim.Native.Nat.{◌+◌, ◌-◌, ◌≤◌, ◌<◌}
+use Prim.Native.Nat.{◌+◌, ◌≤◌, ◌<◌}
 use native.Mathlib.Omega.{arith}
 use lib.ListN.{length}
-use Rattle.engine.proofs.Laws.Tree.{Growing, growing-none, growing-room, growing-net, growing-next, growing-all}
+use Rattle.engine.proofs.Laws.Tree.{growing-none, growing-room, growing-net, growing-next, growing-all}
 use Rattle.engine.proofs.tree.put_trees.Goals as goal
 use Rattle.engine.proofs.tree.put_trees.Goals.{After-put_tree-next}
 

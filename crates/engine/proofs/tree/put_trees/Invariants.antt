@@ -1,9 +1,7 @@
 -- `engine::tree::put_trees` meets its contract. The invariant: the gates so far and the trees left are the whole.
 -- Assumes nothing.
-use Prim.Native.Nat.{◌+◌, ◌-◌, ◌≤◌, ◌<◌}
-use native.Mathlib.Omega.{arith}
-use lib.ListN.{length}
-use Rattle.engine.proofs.Laws.Tree.{Growing, growing-none, growing-room, growing-net, growing-next, growing-all}
+use Prim.Native.Nat.{◌-◌}
+use Rattle.engine.proofs.Laws.Tree.{Growing}
 use Rattle.engine.proofs.tree.put_trees.Given as goal
 
 abbrev pub invariant-loop-t : goal.invariant-loop-t

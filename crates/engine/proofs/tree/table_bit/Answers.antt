@@ -1,5 +1,4 @@
 -- `engine::tree::table_bit` meets its contract. Assumes nothing.
-use borrow.Author.Rules.{rules}
 use Rattle.engine.specs.Eval.{bit}
 use mathlib.Core.Path.{refl}
 use Rattle.engine.proofs.tree.table_bit.Goals as goal

@@ -1,12 +1,8 @@
 -- `engine::tree::trees_size` meets its contract. The invariant: the sum and the sizes of the trees left are the whole.
 -- Assumes nothing.
-use Prim.Native.Nat.{ℕ, ◌+◌, ◌-◌, ◌≤◌}
-use mathlib.Core.Path.{◌≡◌, ◌∙◌, ap}
-use native.Mathlib.Nat.{zero-add}
-use native.Mathlib.Omega.{arith}
-use borrow.Author.Rules.{rules}
+use Prim.Native.Nat.{◌+◌, ◌-◌, ◌≤◌}
+use mathlib.Core.Path.{◌≡◌}
 use Rattle.engine.specs.Inner.Tree.{trees_size}
-use Rattle.engine.proofs.Laws.Tree.{trees_size-le, trees_size-turn}
 use Rattle.engine.proofs.tree.trees_size.Given as goal
 
 abbrev pub invariant-loop-t : goal.invariant-loop-t

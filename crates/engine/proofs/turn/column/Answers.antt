@@ -1,8 +1,8 @@
 -- `engine::turn::column` meets its contract. The invariant: the words below i are there. Assumes nothing.
-use Prim.Native.Nat.{ℕ, ◌+◌, ◌-◌, ◌*◌, ◌≤◌, ◌<◌}
+use Prim.Native.Nat.{ℕ, ◌+◌, ◌*◌}
 use mathlib.Core.Path.{◌≡◌, refl, ◌∙◌}
 use native.Mathlib.Omega.{arith}
-use lib.ListN.{length, get_or, length-set}
+use lib.ListN.{get_or, length-set}
 use Rattle.engine.proofs.Laws.Turn.{stored_more}
 use Rattle.engine.proofs.turn.column.Goals as goal
 

@@ -1,9 +1,6 @@
 -- `engine::word::first_zero` meets its contract. The invariant: of the scenarios of the words passed the row says 1. Assumes
 -- nothing.
-use Prim.Native.Nat.{ℕ, ◌*◌, ◌-◌, ◌≤◌, ◌<◌}
-use mathlib.Core.Path.{◌≡◌}
 use native.Mathlib.Omega.{arith}
-use Rattle.engine.specs.Inner.Kernel.{row_value}
 use Rattle.engine.proofs.Laws.Leaves.{ones-more, zero-found}
 use Rattle.engine.proofs.word.first_zero.Goals as goal
 

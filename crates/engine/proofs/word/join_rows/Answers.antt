@@ -1,9 +1,9 @@
 -- `engine::word::join_rows` meets its contract. The invariant: the first w words are joined. Assumes nothing.
-use Prim.Native.Nat.{ℕ, ◌*◌, ◌-◌, ◌%◌, ◌≤◌, ◌<◌, max}
-use mathlib.Core.Path.{◌≡◌, refl, ◌∙◌}
+use Prim.Native.Nat.{◌%◌, max}
+use mathlib.Core.Path.{refl, ◌∙◌}
 use native.Mathlib.Omega.{arith}
 use lib.Bits.{bit_or}
-use lib.ListN.{length, get_or, length-set}
+use lib.ListN.{get_or, length-set}
 use Rattle.engine.specs.Inner.Kernel.{row_value}
 use Rattle.engine.proofs.Laws.Leaves.{row_next}
 use Rattle.engine.proofs.Laws.Word.{bit-or}

@@ -1,5 +1,4 @@
 -- `engine::word::lowest_bit` meets its contract. The invariant: the bits of the places passed are 0. Assumes nothing.
-use Prim.Native.Nat.{ℕ, ◌-◌, ◌≤◌, ◌<◌}
 use mathlib.Core.Path.{◌≡◌, ◌∙◌, ap}
 use native.Mathlib.Omega.{arith}
 use borrow.Author.Count.{below_more}
