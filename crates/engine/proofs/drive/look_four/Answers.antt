@@ -1,6 +1,5 @@
 -- `engine::drive::look_four` meets its contract. Assumes nothing.
 use Rattle.engine.proofs.Laws.TableRows.{looked-four}
-use borrow.Author.Rules.{rules}
 use Rattle.engine.proofs.drive.look_four.Goals as goal
 
 pub returns : goal.returns

@@ -1,9 +1,6 @@
 -- `engine::drive::set_targets` meets its contract. The invariant: the first i targets have their rows. Assumes nothing.
 use Prim.Native.Nat.{◌+◌, ◌-◌, ◌≤◌}
-use mathlib.Core.Path.{◌≡◌, refl}
-use native.Mathlib.Omega.{arith}
 use Rattle.engine.specs.Inner.Kernel.{value_in, NetsSet}
-use Rattle.engine.proofs.Laws.Leaves.{net-alike, nets-none, nets-next}
 use Rattle.engine.proofs.drive.set_targets.Given as goal
 
 abbrev pub invariant-loop-i : goal.invariant-loop-i

@@ -1,11 +1,8 @@
 -- `engine::drive::table_rows` meets its contract. The invariant: the entries are found for the words below i. Assumes nothing.
 use Prim.Native.Nat.{ℕ, ◌-◌, ◌≤◌, ◌<◌}
-use mathlib.Core.Path.{◌≡◌, ◌∙◌}
-use native.Mathlib.Omega.{arith}
-use lib.ListN.{length, get_or, length-set, length-replicate}
+use mathlib.Core.Path.{◌≡◌}
+use lib.ListN.{length, get_or}
 use Rattle.engine.specs.Inner.Turn.{Looked}
-use Rattle.engine.proofs.Laws.Turn.{stored_more}
-use Rattle.engine.proofs.Laws.TableRows.{looked-rows}
 use Rattle.engine.proofs.drive.table_rows.Given as goal
 
 abbrev pub invariant-loop-i : goal.invariant-loop-i

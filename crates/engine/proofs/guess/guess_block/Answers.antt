@@ -1,6 +1,5 @@
 -- `engine::guess::guess_block` meets its contract: the inputs before the first of which a row says 0 are rectified. Assumes nothing.
 use mathlib.Core.Path.{◌∙◌}
-use borrow.Author.Rules.{rules}
 use borrow.Author.Tests.{leb-true}
 use lib.Dec.{lit≤}
 use Rattle.engine.proofs.Laws.Guess.{vectors_at, guessed-first, guessed-either}
@@ -17,12 +16,6 @@ returns-then-count-first_zero c =
           guessed-first c.args.readings c.args.table.now v.result v.ensures.1 e c.first_zero.ensures
           c.if-count-first_zero.true;
     }
-
-pub driven_row-two-requires : goal.driven_row-two-requires
-driven_row-two-requires c =
-    let v = c.table_rows-vectors.result in
-    let e = c.driven_row-one.ensures (vectors_at v 0) (rows_four v 0 _ (lit≤ tt) c.requires.0.targets) in
-    (c.requires.0, lit≤ tt, e.long ∙ c.requires.2)
 
 pub returns : goal.returns
 returns c =

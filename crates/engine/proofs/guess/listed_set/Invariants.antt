@@ -1,9 +1,7 @@
 -- `engine::guess::listed_set` meets its contract. The invariant: each vector of the set is one of the first i. Assumes nothing.
 use Prim.Native.Nat.{◌-◌, ◌≤◌}
-use mathlib.Core.Path.{◌≡◌}
-use native.Mathlib.Omega.{arith}
-use lib.ListN.{length, take}
-use Rattle.engine.proofs.Laws.Guess.{SetOf, set-none, set_next}
+use lib.ListN.{take}
+use Rattle.engine.proofs.Laws.Guess.{SetOf}
 use Rattle.engine.proofs.guess.listed_set.Given as goal
 
 abbrev pub invariant-loop-i : goal.invariant-loop-i

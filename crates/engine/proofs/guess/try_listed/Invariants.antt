@@ -1,13 +1,10 @@
 -- `engine::guess::try_listed` meets its contract. The invariant: the row says 1 only of inputs that a listed vector rectifies. Assumes
 -- nothing.
 use Prim.Native.Nat.{◌-◌}
-use mathlib.Core.Path.{◌≡◌, ◌∙◌}
-use mathlib.Core.Bool.{false≢true}
-use native.Mathlib.Omega.{arith}
-use lib.ListN.{length, get_or, take}
-use Rattle.engine.specs.Inner.List.{listed_of}
+use mathlib.Core.Path.{◌≡◌}
+use lib.ListN.{length, take}
 use Rattle.engine.specs.Inner.Search.{FreeKept}
-use Rattle.engine.proofs.Laws.Guess.{any_at, RowShown, shown-none, shown-next, vector-free}
+use Rattle.engine.proofs.Laws.Guess.{RowShown}
 use Rattle.engine.proofs.guess.try_listed.Given as goal
 
 abbrev pub invariant-loop-i : goal.invariant-loop-i

@@ -1,22 +1,18 @@
 -- `engine::kernel::gate_words` meets its contract. The invariant: the words so far, with the operands left, give the whole. Assumes nothing.
-use Prim.Native.Nat.{ℕ, ◌%◌, ◌<◌}
-use mathlib.Core.Path.{◌≡◌, refl, sym, ◌∙◌}
+use Prim.Native.Nat.{◌%◌}
+use mathlib.Core.Path.{refl, sym, ◌∙◌}
 use mathlib.Core.List.{map}
 use native.Mathlib.Omega.{arith}
-use lib.ListN.{length}
-use Rattle.engine.specs.Inner.Packed.{fields, operation, operands_of, folded}
-use Rattle.engine.specs.Inner.Kernel.{row_value, value_in}
+use Rattle.engine.specs.Inner.Packed.{operation, operands_of}
+use Rattle.engine.specs.Inner.Kernel.{value_in}
 use Rattle.engine.proofs.Laws.Word.{bit-zero}
-use Rattle.engine.proofs.Laws.Kernel.{row-replicate, left, left-all, words-next, left-none}
+use Rattle.engine.proofs.Laws.Kernel.{row-replicate, left-all, words-next, left-none}
 use Rattle.engine.proofs.kernel.gate_words.Goals as goal
 
 pub loop-i-init : goal.loop-i-init
 loop-i-init c =
     let x = c.args.c in
     (refl, λ y h. rw (row-replicate 0 y h, bit-zero (y % 64)) (left-all (operation x) (map (value_in c.args.words.now y) (operands_of x))))
-
-pub join-requires : goal.join-requires
-join-requires c = (omega arith, omega arith)
 
 pub loop-i-preserved : goal.loop-i-preserved
 loop-i-preserved c =

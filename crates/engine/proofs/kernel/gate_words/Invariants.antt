@@ -1,13 +1,11 @@
 -- `engine::kernel::gate_words` meets its contract. The invariant: the words so far, with the operands left, give the whole. Assumes nothing.
-use Prim.Native.Nat.{ℕ, ◌%◌, ◌<◌}
-use mathlib.Core.Path.{◌≡◌, refl, sym, ◌∙◌}
+use Prim.Native.Nat.{ℕ, ◌<◌}
+use mathlib.Core.Path.{◌≡◌}
 use mathlib.Core.List.{map}
-use native.Mathlib.Omega.{arith}
 use lib.ListN.{length}
 use Rattle.engine.specs.Inner.Packed.{fields, operation, operands_of, folded}
 use Rattle.engine.specs.Inner.Kernel.{row_value, value_in}
-use Rattle.engine.proofs.Laws.Word.{bit-zero}
-use Rattle.engine.proofs.Laws.Kernel.{row-replicate, left, left-all, words-next, left-none}
+use Rattle.engine.proofs.Laws.Kernel.{left}
 use Rattle.engine.proofs.kernel.gate_words.Given as goal
 
 abbrev pub invariant-loop-i : goal.invariant-loop-i

@@ -1,11 +1,7 @@
 -- `engine::kernel::join` meets its contract. The invariant: the first w words are joined, the others as at entry. Assumes nothing.
 use Prim.Native.Nat.{◌+◌, ◌-◌, ◌≤◌}
-use mathlib.Core.Path.{◌≡◌}
-use mathlib.Core.Logic.{inr}
-use native.Mathlib.Omega.{arith}
 use lib.ListN.{get_or}
 use Rattle.engine.specs.Inner.Kernel.{applied, Filled}
-use Rattle.engine.proofs.Laws.Fill.{fill_none, fill-next}
 use Rattle.engine.proofs.kernel.join.Given as goal
 
 abbrev pub invariant-loop-w : goal.invariant-loop-w

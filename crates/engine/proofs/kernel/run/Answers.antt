@@ -1,21 +1,12 @@
 -- `engine::kernel::run` meets its contract. The invariant: in each scenario the values so far, with the gates left, give the whole.
 -- Assumes nothing.
-use Prim.Native.Nat.{ℕ, ◌-◌, ◌≤◌, ◌<◌}
-use mathlib.Core.Path.{◌≡◌, refl, sym, ◌∙◌}
+use Prim.Native.Nat.{◌≤◌}
+use mathlib.Core.Path.{refl, sym, ◌∙◌}
 use native.Mathlib.Omega.{arith}
-use lib.ListN.{length, get_or}
-use lib.Seq.{slice}
-use Rattle.engine.specs.Inner.Packed.{code_value, evaluated}
-use Rattle.engine.specs.Inner.Kernel.{column}
+use lib.ListN.{get_or}
 use Rattle.engine.proofs.Laws.Kernel.{run-next, evaluated-none}
 use Rattle.engine.proofs.Laws.Word.{bit-lowest}
 use Rattle.engine.proofs.kernel.run.Goals as goal
-
-pub loop-i-init : goal.loop-i-init
-loop-i-init c = (refl, λ y h. refl)
-
-pub store-requires : goal.store-requires
-store-requires c = (omega arith, omega arith)
 
 pub loop-i-preserved : goal.loop-i-preserved
 loop-i-preserved c =

@@ -1,14 +1,11 @@
 -- `engine::kernel::run` meets its contract. The invariant: in each scenario the values so far, with the gates left, give the whole.
 -- Assumes nothing.
-use Prim.Native.Nat.{ℕ, ◌-◌, ◌≤◌, ◌<◌}
-use mathlib.Core.Path.{◌≡◌, refl, sym, ◌∙◌}
-use native.Mathlib.Omega.{arith}
-use lib.ListN.{length, get_or}
+use Prim.Native.Nat.{ℕ, ◌-◌, ◌<◌}
+use mathlib.Core.Path.{◌≡◌}
+use lib.ListN.{length}
 use lib.Seq.{slice}
 use Rattle.engine.specs.Inner.Packed.{code_value, evaluated}
 use Rattle.engine.specs.Inner.Kernel.{column}
-use Rattle.engine.proofs.Laws.Kernel.{run-next, evaluated-none}
-use Rattle.engine.proofs.Laws.Word.{bit-lowest}
 use Rattle.engine.proofs.kernel.run.Given as goal
 
 abbrev pub invariant-loop-i : goal.invariant-loop-i

@@ -1,11 +1,8 @@
 -- `engine::kernel::store` meets its contract. The invariant: the first w words are stored. Assumes nothing.
 use Prim.Native.Nat.{◌-◌, ◌≤◌}
-use mathlib.Core.Path.{◌≡◌, refl}
-use native.Mathlib.Omega.{arith}
 use lib.Bits.{bit_xor}
 use lib.ListN.{get_or}
 use Rattle.engine.specs.Inner.Kernel.{Filled}
-use Rattle.engine.proofs.Laws.Fill.{fill_none, fill-next}
 use Rattle.engine.proofs.kernel.store.Given as goal
 
 abbrev pub invariant-loop-w : goal.invariant-loop-w

@@ -1,15 +1,11 @@
 -- `engine::leaves::equal_row` meets its contract. The invariant: the row says where the first k outputs are equal. Assumes nothing.
 use Prim.Native.Nat.{ℕ, ◌-◌, ◌≤◌, ◌<◌}
-use mathlib.Core.Path.{◌≡◌, refl, ◌∙◌}
+use mathlib.Core.Path.{◌≡◌}
 use mathlib.Core.List.{map}
 use mathlib.Core.Bool.{cond}
-use native.Mathlib.Omega.{arith}
 use lib.ListN.{length, take}
 use Rattle.engine.specs.Choice.{same}
 use Rattle.engine.specs.Inner.Kernel.{row_value, value_in}
-use Rattle.engine.proofs.Laws.Kernel.{row-replicate}
-use Rattle.engine.proofs.Laws.Leaves.{equal_next}
-use Rattle.engine.proofs.Laws.Word.{bit-ones}
 use Rattle.engine.proofs.leaves.equal_row.Given as goal
 
 abbrev pub invariant-loop-k : goal.invariant-loop-k

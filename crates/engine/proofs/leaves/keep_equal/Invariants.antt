@@ -1,14 +1,9 @@
 -- `engine::leaves::keep_equal` meets its contract. The invariant: the first w words are kept where the nets are equal, the others
 -- as at entry. Assumes nothing.
 use Prim.Native.Nat.{◌+◌, ◌*◌, ◌-◌, ◌^◌, ◌≤◌}
-use mathlib.Core.Path.{◌≡◌}
-use mathlib.Core.Logic.{inr}
-use native.Mathlib.Omega.{arith}
 use lib.Bits.{bit_and, bit_xor}
 use lib.ListN.{get_or}
 use Rattle.engine.specs.Inner.Kernel.{Filled}
-use Rattle.engine.proofs.Laws.Fill.{fill_none, fill-next}
-use Rattle.engine.proofs.Laws.Leaves.{row_kept}
 use Rattle.engine.proofs.leaves.keep_equal.Given as goal
 
 abbrev pub invariant-loop-w : goal.invariant-loop-w

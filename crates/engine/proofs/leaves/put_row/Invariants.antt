@@ -1,11 +1,7 @@
 -- `engine::leaves::put_row` meets its contract. The invariant: the first w words are stored. Assumes nothing.
 use Prim.Native.Nat.{◌*◌, ◌-◌, ◌≤◌}
-use mathlib.Core.Path.{◌≡◌, refl}
-use native.Mathlib.Omega.{arith}
 use lib.ListN.{get_or}
 use Rattle.engine.specs.Inner.Kernel.{Filled}
-use Rattle.engine.proofs.Laws.Fill.{fill_none, fill-next}
-use Rattle.engine.proofs.Laws.Leaves.{row-stored}
 use Rattle.engine.proofs.leaves.put_row.Given as goal
 
 abbrev pub invariant-loop-w : goal.invariant-loop-w

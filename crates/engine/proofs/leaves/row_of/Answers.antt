@@ -8,9 +8,6 @@ use Rattle.engine.specs.Inner.Kernel.{row_value, value_in}
 use Rattle.engine.proofs.Laws.Leaves.{row_next}
 use Rattle.engine.proofs.leaves.row_of.Goals as goal
 
-pub loop-w-init : goal.loop-w-init
-loop-w-init c = (omega arith, refl, λ y h. let z : ⊥ = omega arith in absurd z)
-
 pub loop-w-preserved : goal.loop-w-preserved
 unfolding value_in
 loop-w-preserved c =
@@ -22,6 +19,3 @@ loop-w-preserved c =
       row_next (λ y. value_in a.words.now y a.i) l.r l.w v (omega arith) l.invariant.2
           (λ y q. ap (λ (w : ℕ). bit (y % 64) (get_or a.words.now (16 * a.i + w) 0)) (sym q)),
     )
-
-pub returns : goal.returns
-returns c = (c.loop-w.invariant.1, λ y h. c.loop-w.invariant.2 y (omega arith))

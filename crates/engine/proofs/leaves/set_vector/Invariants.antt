@@ -1,11 +1,7 @@
 -- `engine::leaves::set_vector` meets its contract. The invariant: the first i targets have their bits. Assumes nothing.
 use Prim.Native.Nat.{◌-◌, ◌≤◌}
-use mathlib.Core.Path.{◌≡◌, refl, sym}
-use native.Mathlib.Omega.{arith}
 use Rattle.engine.specs.Eval.{bit}
 use Rattle.engine.specs.Inner.Kernel.{NetsSet}
-use Rattle.engine.proofs.Laws.Leaves.{net-alike, nets-none, nets-next}
-use Rattle.engine.proofs.Laws.Shift.{bit_shifted}
 use Rattle.engine.proofs.leaves.set_vector.Given as goal
 
 abbrev pub invariant-loop-i : goal.invariant-loop-i

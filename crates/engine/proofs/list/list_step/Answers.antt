@@ -13,9 +13,6 @@ returns-then-v c =
     let a = c.args in
     step-stuck a.v a.set a.input c.requires.0 c.if-v.true
 
-pub rectifies_any-requires : goal.rectifies_any-requires
-rectifies_any-requires c = let h = c.requires.0 in (h.long, h.below)
-
 pub returns-then-rectifies_any : goal.returns-then-rectifies_any
 returns-then-rectifies_any c =
     let a = c.args in

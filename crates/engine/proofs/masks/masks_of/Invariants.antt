@@ -1,17 +1,9 @@
 -- `engine::masks::masks_of` meets its contract. The invariant: the words are those at the vector of the step before, and the rows of
 -- the steps so far are done. Assumes nothing.
-use Prim.Native.Nat.{ℕ, ◌-◌, ◌/◌, ◌^◌, ◌≤◌, ◌<◌}
-use mathlib.Core.Path.{◌≡◌, refl, ◌∙◌, subst}
-use native.Mathlib.Nat.{one-mul}
-use native.Mathlib.Omega.{arith}
-use lib.Pow.{pow_pos, shl_exact}
-use lib.Dec.{lit<}
+use Prim.Native.Nat.{◌-◌, ◌^◌, ◌≤◌, ◌<◌}
+use mathlib.Core.Path.{◌≡◌}
 use lib.ListN.{length}
-use Rattle.engine.specs.Inner.Masks.{turns}
-use Rattle.engine.specs.Inner.Kernel.{row_value, NetSet}
-use Rattle.engine.specs.Inner.Search.{TargetTurned}
-use Rattle.engine.proofs.Laws.Gray.{ordered-lt, turns-lt}
-use Rattle.engine.proofs.Laws.Searching.{MasksDone, masks-first, masks-turned, masks-all, vectors-many}
+use Rattle.engine.proofs.Laws.Searching.{MasksDone}
 use Rattle.engine.proofs.masks.masks_of.Given as goal
 
 abbrev pub invariant-loop-step : goal.invariant-loop-step

@@ -1,8 +1,5 @@
 -- `engine::masks::shortest_list` meets its contract. The invariant: the best so far is 0 or a target. Assumes nothing.
-use Prim.Native.Nat.{◌+◌, ◌-◌, ◌<◌}
-use mathlib.Core.Path.{refl}
-use mathlib.Core.Logic.{inl, inr, ⊎_elim}
-use native.Mathlib.Omega.{arith}
+use Prim.Native.Nat.{◌-◌, ◌<◌}
 use Rattle.engine.specs.Inner.Masks.{Among}
 use Rattle.engine.proofs.masks.shortest_list.Given as goal
 

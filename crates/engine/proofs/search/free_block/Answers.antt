@@ -5,11 +5,6 @@ use borrow.Author.Rules.{rules}
 use Rattle.engine.proofs.Laws.Searching.{block-loaded}
 use Rattle.engine.proofs.search.free_block.Goals as goal
 
-pub run-requires : goal.run-requires
-run-requires c =
-    let h = c.requires.0 in
-    (omega (arith, h.within 0, h.long), c.load_inputs.ensures.long ∙ c.requires.2)
-
 pub returns : goal.returns
 returns c =
     block-loaded c.args.plan c.args.gates.now c.args.b c.requires.2 c.load_inputs.ensures c.run.ensures

@@ -12,18 +12,6 @@ use Rattle.engine.proofs.Laws.Choice.{not-both}
 use Rattle.engine.proofs.Laws.Sole.{sole-kept}
 use Rattle.engine.proofs.sole.keep_block.Goals as goal
 
-pub returns-then-not-zero_row : goal.returns-then-not-zero_row
-returns-then-not-zero_row c =
-    record {
-      free_kept = (λ j is q b f. f, c.requires.2);
-      block_kept = λ e. absurd (not-both e refl);
-    }
-
-pub driven_row-row-requires : goal.driven_row-row-requires
-driven_row-row-requires c =
-    let p = c.requires in
-    (p.0, lit≤ tt, p.2)
-
 pub returns : goal.returns
 returns c =
     let row = c.driven_row-row in

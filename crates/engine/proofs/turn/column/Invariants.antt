@@ -1,9 +1,7 @@
 -- `engine::turn::column` meets its contract. The invariant: the words below i are there. Assumes nothing.
 use Prim.Native.Nat.{ℕ, ◌+◌, ◌-◌, ◌*◌, ◌≤◌, ◌<◌}
-use mathlib.Core.Path.{◌≡◌, refl, ◌∙◌}
-use native.Mathlib.Omega.{arith}
-use lib.ListN.{length, get_or, length-set}
-use Rattle.engine.proofs.Laws.Turn.{stored_more}
+use mathlib.Core.Path.{◌≡◌}
+use lib.ListN.{length, get_or}
 use Rattle.engine.proofs.turn.column.Given as goal
 
 abbrev pub invariant-loop-i : goal.invariant-loop-i

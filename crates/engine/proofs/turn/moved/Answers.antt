@@ -1,5 +1,4 @@
 -- `engine::turn::moved` meets its contract. Assumes nothing.
-use borrow.Author.Rules.{rules}
 use Rattle.engine.proofs.Laws.Turn.{moved-is}
 use Rattle.engine.proofs.turn.moved.Goals as goal
 

@@ -1,9 +1,6 @@
 -- `engine::turn::put_column` meets its contract. The invariant: the words below i are put. Assumes nothing.
 use Prim.Native.Nat.{◌-◌, ◌≤◌}
-use mathlib.Core.Path.{◌≡◌}
-use native.Mathlib.Omega.{arith}
 use Rattle.engine.specs.Inner.Turn.{Placed}
-use Rattle.engine.proofs.Laws.Turn.{placed-none, placed-next}
 use Rattle.engine.proofs.turn.put_column.Given as goal
 
 abbrev pub invariant-loop-i : goal.invariant-loop-i

@@ -1,10 +1,8 @@
 -- `engine::turn::stage` meets its contract. The invariant: the rows below i are swapped. Assumes nothing.
 use Prim.Native.Nat.{ℕ, ◌-◌, ◌≤◌, ◌<◌}
-use native.Mathlib.Omega.{arith}
-use mathlib.Core.Path.{◌≡◌, refl, ◌∙◌}
-use lib.ListN.{length, get_or, length-set}
+use mathlib.Core.Path.{◌≡◌}
+use lib.ListN.{length, get_or}
 use Rattle.engine.specs.Inner.Turn.{SwappedRow}
-use Rattle.engine.proofs.Laws.Turn.{stored_more}
 use Rattle.engine.proofs.turn.stage.Given as goal
 
 abbrev pub invariant-loop-i : goal.invariant-loop-i

@@ -1,7 +1,6 @@
 -- `engine::turn::transpose` meets its contract. The invariant: the columns below w are turned. Assumes nothing.
 use Prim.Native.Nat.{◌-◌, ◌≤◌}
-use native.Mathlib.Omega.{arith}
-use Rattle.engine.proofs.Laws.Turn.{TurnedTo, turned_none, turned-next}
+use Rattle.engine.proofs.Laws.Turn.{TurnedTo}
 use Rattle.engine.proofs.turn.transpose.Given as goal
 
 abbrev pub invariant-loop-w : goal.invariant-loop-w

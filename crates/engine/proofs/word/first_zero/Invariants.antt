@@ -2,9 +2,7 @@
 -- nothing.
 use Prim.Native.Nat.{ℕ, ◌*◌, ◌-◌, ◌≤◌, ◌<◌}
 use mathlib.Core.Path.{◌≡◌}
-use native.Mathlib.Omega.{arith}
 use Rattle.engine.specs.Inner.Kernel.{row_value}
-use Rattle.engine.proofs.Laws.Leaves.{ones-more, zero-found}
 use Rattle.engine.proofs.word.first_zero.Given as goal
 
 abbrev pub invariant-loop-w : goal.invariant-loop-w

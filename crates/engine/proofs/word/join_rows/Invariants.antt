@@ -1,12 +1,8 @@
 -- `engine::word::join_rows` meets its contract. The invariant: the first w words are joined. Assumes nothing.
-use Prim.Native.Nat.{ℕ, ◌*◌, ◌-◌, ◌%◌, ◌≤◌, ◌<◌, max}
-use mathlib.Core.Path.{◌≡◌, refl, ◌∙◌}
-use native.Mathlib.Omega.{arith}
-use lib.Bits.{bit_or}
-use lib.ListN.{length, get_or, length-set}
+use Prim.Native.Nat.{ℕ, ◌*◌, ◌-◌, ◌≤◌, ◌<◌, max}
+use mathlib.Core.Path.{◌≡◌}
+use lib.ListN.{length}
 use Rattle.engine.specs.Inner.Kernel.{row_value}
-use Rattle.engine.proofs.Laws.Leaves.{row_next}
-use Rattle.engine.proofs.Laws.Word.{bit-or}
 use Rattle.engine.proofs.word.join_rows.Given as goal
 
 abbrev pub invariant-loop-w : goal.invariant-loop-w

@@ -1,10 +1,7 @@
 -- `engine::word::lowest_bit` meets its contract. The invariant: the bits of the places passed are 0. Assumes nothing.
 use Prim.Native.Nat.{ℕ, ◌-◌, ◌≤◌, ◌<◌}
-use mathlib.Core.Path.{◌≡◌, ◌∙◌, ap}
-use native.Mathlib.Omega.{arith}
-use borrow.Author.Count.{below_more}
+use mathlib.Core.Path.{◌≡◌}
 use Rattle.engine.specs.Eval.{bit}
-use Rattle.engine.proofs.Laws.Word.{bit-zero}
 use Rattle.engine.proofs.word.lowest_bit.Given as goal
 
 abbrev pub invariant-loop-i : goal.invariant-loop-i

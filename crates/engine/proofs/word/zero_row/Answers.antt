@@ -7,16 +7,7 @@ use Rattle.engine.specs.Inner.Kernel.{row_value}
 use Rattle.engine.proofs.Laws.Leaves.{zeros-more}
 use Rattle.engine.proofs.word.zero_row.Goals as goal
 
-pub loop-w-init : goal.loop-w-init
-loop-w-init c = (omega arith, λ y h. let f : ⊥ = omega arith in absurd f)
-
-pub returns-then-row-w-ne0 : goal.returns-then-row-w-ne0
-returns-then-row-w-ne0 c e = absurd (false≢true e)
-
 pub loop-w-preserved : goal.loop-w-preserved
 loop-w-preserved c =
     let l = c.loop-w in
     (omega arith, zeros-more c.args.row l.w l.invariant.1 c.if-row-w-ne0.false)
-
-pub returns : goal.returns
-returns c e y h = c.loop-w.invariant.1 y (omega arith)
