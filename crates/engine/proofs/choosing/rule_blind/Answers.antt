@@ -1,5 +1,4 @@
 -- `engine::choosing::rule_blind` meets its contract. Assumes nothing.
-use borrow.Author.Rules.{rules}
 use Rattle.engine.proofs.Laws.Rule.{blind-choice}
 use Rattle.engine.proofs.choosing.rule_blind.Goals as goal
 

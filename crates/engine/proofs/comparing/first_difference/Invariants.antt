@@ -1,14 +1,9 @@
 -- `engine::comparing::first_difference` meets its contract. The invariant: at no input of the blocks passed do the driven outputs
 -- differ. Assumes nothing.
 use Prim.Native.Nat.{◌-◌, ◌*◌}
-use mathlib.Core.Path.{◌≡◌, refl, ◌∙◌}
-use native.Mathlib.Omega.{arith}
-use lib.Dec.{lit≤}
+use mathlib.Core.Path.{◌≡◌}
 use lib.ListN.{length}
-use Rattle.engine.specs.Inner.Note.{gathered}
-use Rattle.engine.specs.Inner.Search.{DrivenRow}
-use Rattle.engine.proofs.Laws.Compare.{RowCompared, row-compared, Scanning, scanning-none, scanning-next, scanned-differs, scanned-equal}
-use Rattle.engine.proofs.Laws.Rows.{rows_whole}
+use Rattle.engine.proofs.Laws.Compare.{Scanning}
 use Rattle.engine.proofs.comparing.first_difference.Given as goal
 
 abbrev pub invariant-loop-b : goal.invariant-loop-b

@@ -1,11 +1,7 @@
 -- `engine::comparing::table_of` meets its contract. The invariant: the first k entries are copied. Assumes nothing.
-use Prim.Native.Nat.{◌+◌, ◌-◌, ◌≤◌}
-use mathlib.Core.Path.{◌≡◌, refl}
+use mathlib.Core.Path.{◌≡◌}
 use native.Mathlib.Omega.{arith}
-use lib.ListN.{get_or, replicate}
-use Rattle.engine.specs.Inner.Kernel.{Filled}
 use Rattle.engine.proofs.Laws.Compare.{table-copied}
-use Rattle.engine.proofs.Laws.Fill.{fill_none, fill-next}
 use Rattle.engine.proofs.comparing.table_of.Goals as goal
 
 pub returns : goal.returns

@@ -1,7 +1,5 @@
 -- `engine::guess::list_inputs` meets its contract: listed vectors or the tables do, or all vectors are evaluated. Assumes nothing.
 use Prim.Native.Nat.{ℕ, ◌^◌, ◌≤◌}
-use mathlib.Core.Path.{◌≡◌, sym, ◌∙◌, subst}
-use mathlib.Core.List.{List}
 use native.Mathlib.Omega.{arith}
 use borrow.Author.Tests.{lt-ltb}
 use lib.Pow.{pow_mono}

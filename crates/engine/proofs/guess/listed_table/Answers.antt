@@ -1,9 +1,9 @@
 -- `engine::guess::listed_table` meets its contract. The invariant: each entry holds two vectors, 0 or in the set of the listed ones.
 -- Assumes nothing.
-use Prim.Native.Nat.{◌-◌, ◌/◌, ◌^◌, ◌≤◌, ◌<◌}
+use Prim.Native.Nat.{◌/◌, ◌^◌}
 use native.Mathlib.Omega.{arith}
 use lib.ListN.{get_or}
-use Rattle.engine.proofs.Laws.Guess.{TableIn, table_none, table-next, table-listed}
+use Rattle.engine.proofs.Laws.Guess.{table_none, table-next, table-listed}
 use Rattle.engine.proofs.Laws.VectorSets.{lowest-lt}
 use Rattle.engine.proofs.guess.listed_table.Goals as goal
 

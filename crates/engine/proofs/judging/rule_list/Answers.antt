@@ -1,6 +1,4 @@
 -- `engine::judging::rule_list` meets its contract: where the list is stuck, at an unfixable input. Assumes nothing.
-use native.Mathlib.Omega.{arith}
-use borrow.Author.Rules.{rules}
 use Rattle.engine.proofs.Laws.Rule.{unfixable-judged, fixable-judged}
 use Rattle.engine.proofs.judging.rule_list.Goals as goal
 

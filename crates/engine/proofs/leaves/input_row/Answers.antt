@@ -1,10 +1,9 @@
 -- `engine::leaves::input_row` meets its contract. The invariant: the first w words are those of the input. Assumes nothing.
-use Prim.Native.Nat.{ℕ, ◌+◌, ◌*◌, ◌-◌, ◌%◌, ◌≤◌, ◌<◌}
-use mathlib.Core.Path.{◌≡◌, refl, ◌∙◌, ap}
+use Prim.Native.Nat.{◌+◌, ◌*◌, ◌%◌}
+use mathlib.Core.Path.{◌∙◌, ap}
 use native.Mathlib.Omega.{arith}
-use lib.ListN.{length, length-set}
+use lib.ListN.{length-set}
 use Rattle.engine.specs.Eval.{bit}
-use Rattle.engine.specs.Inner.Kernel.{row_value}
 use Rattle.engine.proofs.Laws.Leaves.{row_next, input-place}
 use Rattle.engine.proofs.leaves.input_row.Goals as goal
 

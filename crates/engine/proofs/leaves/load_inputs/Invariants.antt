@@ -1,10 +1,7 @@
 -- `engine::leaves::load_inputs` meets its contract. The invariant: the first i inputs have their values. Assumes nothing.
 use Prim.Native.Nat.{◌+◌, ◌*◌, ◌-◌, ◌≤◌}
-use mathlib.Core.Path.{◌≡◌}
-use native.Mathlib.Omega.{arith}
 use Rattle.engine.specs.Eval.{bit}
 use Rattle.engine.specs.Inner.Kernel.{NetsSet}
-use Rattle.engine.proofs.Laws.Leaves.{net-alike, nets-none, nets-next}
 use Rattle.engine.proofs.leaves.load_inputs.Given as goal
 
 abbrev pub invariant-loop-i : goal.invariant-loop-i

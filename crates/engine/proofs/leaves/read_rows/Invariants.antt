@@ -1,11 +1,8 @@
 -- `engine::leaves::read_rows` meets its contract. The invariant: the first k rows are those of their nets, the others 0.
 -- Assumes nothing.
 use Prim.Native.Nat.{◌-◌, ◌≤◌}
-use mathlib.Core.Path.{◌≡◌}
-use native.Mathlib.Omega.{arith}
 use lib.ListN.{get_or, replicate}
 use Rattle.engine.specs.Inner.Kernel.{value_in, NetsSet}
-use Rattle.engine.proofs.Laws.Leaves.{net-alike, nets-none, nets-next, gathered-nets}
 use Rattle.engine.proofs.leaves.read_rows.Given as goal
 
 abbrev pub invariant-loop-k : goal.invariant-loop-k

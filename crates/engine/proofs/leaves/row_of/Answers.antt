@@ -1,10 +1,10 @@
 -- `engine::leaves::row_of` meets its contract. The invariant: the first w words are those of the net. Assumes nothing.
-use Prim.Native.Nat.{ℕ, ◌+◌, ◌*◌, ◌-◌, ◌%◌, ◌≤◌, ◌<◌}
-use mathlib.Core.Path.{◌≡◌, refl, sym, ◌∙◌, ap}
+use Prim.Native.Nat.{ℕ, ◌+◌, ◌*◌, ◌%◌}
+use mathlib.Core.Path.{sym, ◌∙◌, ap}
 use native.Mathlib.Omega.{arith}
-use lib.ListN.{length, get_or, length-set}
+use lib.ListN.{get_or, length-set}
 use Rattle.engine.specs.Eval.{bit}
-use Rattle.engine.specs.Inner.Kernel.{row_value, value_in}
+use Rattle.engine.specs.Inner.Kernel.{value_in}
 use Rattle.engine.proofs.Laws.Leaves.{row_next}
 use Rattle.engine.proofs.leaves.row_of.Goals as goal
 

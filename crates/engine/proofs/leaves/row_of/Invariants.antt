@@ -1,11 +1,8 @@
 -- `engine::leaves::row_of` meets its contract. The invariant: the first w words are those of the net. Assumes nothing.
-use Prim.Native.Nat.{ℕ, ◌+◌, ◌*◌, ◌-◌, ◌%◌, ◌≤◌, ◌<◌}
-use mathlib.Core.Path.{◌≡◌, refl, sym, ◌∙◌, ap}
-use native.Mathlib.Omega.{arith}
-use lib.ListN.{length, get_or, length-set}
-use Rattle.engine.specs.Eval.{bit}
+use Prim.Native.Nat.{ℕ, ◌*◌, ◌-◌, ◌≤◌, ◌<◌}
+use mathlib.Core.Path.{◌≡◌}
+use lib.ListN.{length}
 use Rattle.engine.specs.Inner.Kernel.{row_value, value_in}
-use Rattle.engine.proofs.Laws.Leaves.{row_next}
 use Rattle.engine.proofs.leaves.row_of.Given as goal
 
 abbrev pub invariant-loop-w : goal.invariant-loop-w

@@ -1,6 +1,6 @@
 -- `engine::list::lowest_of` meets its contract. The invariant: the smallest vector from v on is the smallest of all.
 -- Assumes nothing.
-use Prim.Native.Nat.{ℕ, ◌-◌, ◌≤◌}
+use Prim.Native.Nat.{ℕ, ◌-◌}
 use mathlib.Core.Path.{◌≡◌, refl, sym, ◌∙◌, ap}
 use native.Mathlib.Omega.{arith}
 use Rattle.records.specs.Bytes.{up_from}

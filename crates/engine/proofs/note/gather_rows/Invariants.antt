@@ -1,8 +1,7 @@
 -- `engine::note::gather_rows` meets its contract. The invariant: the rows from i on are gathered. Assumes nothing.
-use Prim.Native.Nat.{◌+◌, ◌-◌, ◌≤◌, ◌<◌}
-use mathlib.Core.Path.{◌≡◌, sym, ◌∙◌, ap}
-use native.Mathlib.Omega.{arith}
-use Rattle.engine.proofs.Laws.Note.{rows_from, rows_from-all, rows_from-none, rows_from-lt, rows_from-turn}
+use Prim.Native.Nat.{◌≤◌}
+use mathlib.Core.Path.{◌≡◌}
+use Rattle.engine.proofs.Laws.Note.{rows_from}
 use Rattle.engine.proofs.note.gather_rows.Given as goal
 
 abbrev pub invariant-loop-i : goal.invariant-loop-i

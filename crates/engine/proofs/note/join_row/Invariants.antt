@@ -1,10 +1,8 @@
 -- `engine::note::join_row` meets its contract. The invariant: the words below w are joined. Assumes nothing.
 use Prim.Native.Nat.{ℕ, ◌+◌, ◌-◌, ◌*◌, ◌≤◌, ◌<◌}
-use mathlib.Core.Path.{◌≡◌, refl, ◌∙◌}
-use native.Mathlib.Omega.{arith}
+use mathlib.Core.Path.{◌≡◌}
 use lib.Bits.{bit_or}
-use lib.ListN.{length, get_or, length-set}
-use Rattle.engine.proofs.Laws.Turn.{stored_more}
+use lib.ListN.{length, get_or}
 use Rattle.engine.proofs.note.join_row.Given as goal
 
 abbrev pub invariant-loop-w : goal.invariant-loop-w

@@ -1,6 +1,6 @@
 -- `engine::note::list_block` meets its contract. The invariant: the list is the one after the inputs before y, of which those from
 -- count on are none of the block's. Assumes nothing.
-use Prim.Native.Nat.{◌+◌, ◌-◌, min}
+use Prim.Native.Nat.{◌+◌, min}
 use mathlib.Core.Path.{◌≡◌}
 use native.Mathlib.Omega.{arith}
 use Rattle.engine.specs.Inner.Note.{ListNoted}

@@ -1,10 +1,7 @@
 -- `engine::note::list_block` meets its contract. The invariant: the list is the one after the inputs before y, of which those from
 -- count on are none of the block's. Assumes nothing.
-use Prim.Native.Nat.{◌+◌, ◌-◌, min}
-use mathlib.Core.Path.{◌≡◌}
-use native.Mathlib.Omega.{arith}
+use Prim.Native.Nat.{◌-◌, min}
 use Rattle.engine.specs.Inner.Note.{ListNoted}
-use Rattle.engine.proofs.Laws.Note.{list-none, list-next, list-covered, list-stuck}
 use Rattle.engine.proofs.note.list_block.Given as goal
 
 abbrev pub invariant-loop-y : goal.invariant-loop-y

@@ -1,10 +1,8 @@
 -- `engine::note::listed_row` meets its contract. The invariant: where the words say 1, one of the first i vectors is in
 -- the set. Assumes nothing.
-use Prim.Native.Nat.{◌-◌, ◌≤◌}
 use mathlib.Core.Path.{◌≡◌}
 use native.Mathlib.Omega.{arith}
 use lib.ListN.{length, take}
-use Rattle.engine.specs.Inner.Note.{Joined}
 use Rattle.engine.proofs.Laws.Note.{joined-none, joined-next}
 use Rattle.engine.proofs.note.listed_row.Goals as goal
 

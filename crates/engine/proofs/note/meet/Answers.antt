@@ -3,7 +3,6 @@ use Prim.Native.Nat.{◌%◌}
 use mathlib.Core.Path.{refl}
 use Rattle.engine.specs.Inner.Note.{narrowed}
 use Rattle.engine.proofs.Laws.Note.{kept}
-use borrow.Author.Rules.{rules}
 use Rattle.engine.proofs.note.meet.Goals as goal
 
 pub returns-then-now-was : goal.returns-then-now-was

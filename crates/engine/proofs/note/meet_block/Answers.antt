@@ -1,8 +1,7 @@
 -- `engine::note::meet_block` meets its contract. The invariant: the sets after the columns below w. Assumes nothing.
-use Prim.Native.Nat.{◌-◌, ◌≤◌}
 use mathlib.Core.Path.{◌≡◌}
 use native.Mathlib.Omega.{arith}
-use Rattle.engine.proofs.Laws.Rows.{ColumnsMet, columns-none, columns-next}
+use Rattle.engine.proofs.Laws.Rows.{columns-none, columns-next}
 use Rattle.engine.proofs.note.meet_block.Goals as goal
 
 pub loop-w-init : goal.loop-w-init

@@ -1,8 +1,6 @@
 -- `engine::note::meet_block` meets its contract. The invariant: the sets after the columns below w. Assumes nothing.
 use Prim.Native.Nat.{◌-◌, ◌≤◌}
-use mathlib.Core.Path.{◌≡◌}
-use native.Mathlib.Omega.{arith}
-use Rattle.engine.proofs.Laws.Rows.{ColumnsMet, columns-none, columns-next}
+use Rattle.engine.proofs.Laws.Rows.{ColumnsMet}
 use Rattle.engine.proofs.note.meet_block.Given as goal
 
 abbrev pub invariant-loop-w : goal.invariant-loop-w

@@ -1,5 +1,5 @@
 -- `engine::note::meet_column` meets its contract. The invariant: the sets after the words of the rows below i. Assumes nothing.
-use Prim.Native.Nat.{◌*◌, ◌-◌, ◌≤◌}
+use Prim.Native.Nat.{◌*◌}
 use mathlib.Core.Path.{◌≡◌, ◌∙◌, ap}
 use native.Mathlib.Omega.{arith}
 use Rattle.engine.proofs.Laws.Rows.{quarters, quarters-none, quarters-next, quarters-all}

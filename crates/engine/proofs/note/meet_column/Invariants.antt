@@ -1,8 +1,7 @@
 -- `engine::note::meet_column` meets its contract. The invariant: the sets after the words of the rows below i. Assumes nothing.
 use Prim.Native.Nat.{◌*◌, ◌-◌, ◌≤◌}
-use mathlib.Core.Path.{◌≡◌, ◌∙◌, ap}
-use native.Mathlib.Omega.{arith}
-use Rattle.engine.proofs.Laws.Rows.{quarters, quarters-none, quarters-next, quarters-all}
+use mathlib.Core.Path.{◌≡◌}
+use Rattle.engine.proofs.Laws.Rows.{quarters}
 use Rattle.engine.proofs.note.meet_column.Given as goal
 
 abbrev pub invariant-loop-i : goal.invariant-loop-i

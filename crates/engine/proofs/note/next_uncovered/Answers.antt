@@ -1,6 +1,6 @@
 -- `engine::note::next_uncovered` meets its contract: of the scenarios before the first 0 the row says 1. Assumes nothing.
 use native.Mathlib.Omega.{arith}
-use Rattle.engine.proofs.Laws.Note.{covered_none, covered_next}
+use Rattle.engine.proofs.Laws.Note.{covered_next}
 use Rattle.engine.proofs.note.next_uncovered.Goals as goal
 
 pub returns : goal.returns

@@ -1,7 +1,6 @@
 -- `engine::note::sort_column` meets its contract. The invariant: the sets keep their number. Assumes nothing.
 use Prim.Native.Nat.{◌-◌, ◌≤◌}
-use mathlib.Core.Path.{◌≡◌, refl, ◌∙◌}
-use native.Mathlib.Omega.{arith}
+use mathlib.Core.Path.{◌≡◌}
 use lib.ListN.{length}
 use Rattle.engine.proofs.note.sort_column.Given as goal
 

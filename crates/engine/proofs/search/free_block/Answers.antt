@@ -1,7 +1,4 @@
 -- `engine::search::free_block` meets its contract: the inputs are loaded, and the gates that no target leads to run. Assumes nothing.
-use mathlib.Core.Path.{◌∙◌}
-use native.Mathlib.Omega.{arith}
-use borrow.Author.Rules.{rules}
 use Rattle.engine.proofs.Laws.Searching.{block-loaded}
 use Rattle.engine.proofs.search.free_block.Goals as goal
 

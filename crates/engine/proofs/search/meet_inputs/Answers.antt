@@ -1,8 +1,6 @@
 -- `engine::search::meet_inputs` meets its contract: the block's readings; where the table does, the sets stay, and else they are those after
 -- its masks. Assumes nothing.
-use mathlib.Core.Path.{◌≡◌, refl, ◌∙◌, ap}
-use borrow.Author.Rules.{rules}
-use lib.ListN.{length}
+use mathlib.Core.Path.{refl}
 use Rattle.engine.proofs.Laws.Choice.{not-both}
 use Rattle.engine.proofs.Laws.Search.{block-met, block-kept}
 use Rattle.engine.proofs.Laws.Searching.{block-small}

@@ -1,14 +1,11 @@
 -- `engine::sole::keep_block` meets its contract: the table's vectors at the block's readings, and where they rectify. Assumes nothing.
 use Prim.Native.Nat.{ℕ, max}
-use mathlib.Core.Path.{refl, sym, ◌∙◌, ap}
-use borrow.Author.Rules.{rules}
+use mathlib.Core.Path.{sym, ◌∙◌, ap}
 use borrow.Author.Tests.{leb-true}
 use native.Mathlib.Omega.{arith}
-use lib.Dec.{lit≤}
 use Rattle.engine.specs.Inner.Kernel.{row_value}
 use Rattle.engine.specs.Inner.Note.{gathered}
 use Rattle.engine.proofs.Laws.Rows.{rows_whole}
-use Rattle.engine.proofs.Laws.Choice.{not-both}
 use Rattle.engine.proofs.Laws.Sole.{sole-kept}
 use Rattle.engine.proofs.sole.keep_block.Goals as goal
 

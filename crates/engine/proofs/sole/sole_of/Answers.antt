@@ -1,7 +1,6 @@
 -- `engine::sole::sole_of` meets its contract, by the four cases of a set. Assumes nothing.
 use mathlib.Core.Path.{sym, ◌∙◌}
 use native.Mathlib.Omega.{arith}
-use borrow.Author.Rules.{rules}
 use Rattle.engine.proofs.Laws.Sole.{lone-power, power-lone, sole-above, sole_none, sole-one, sole-more}
 use Rattle.engine.proofs.Laws.VectorSets.{lowest-lt}
 use Rattle.engine.proofs.sole.sole_of.Goals as goal

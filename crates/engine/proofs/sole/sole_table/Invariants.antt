@@ -1,10 +1,8 @@
 -- `engine::sole::sole_table` meets its contract. The invariant: the readings before r have their entries. Assumes nothing.
 use Prim.Native.Nat.{◌-◌, ◌≤◌}
-use native.Mathlib.Omega.{arith}
 use lib.ListN.{get_or}
 use Rattle.engine.specs.Inner.Kernel.{Filled}
 use Rattle.engine.specs.Inner.Search.{sole_of}
-use Rattle.engine.proofs.Laws.Fill.{fill_none, fill-next, fill-at}
 use Rattle.engine.proofs.sole.sole_table.Given as goal
 
 abbrev pub invariant-loop-r : goal.invariant-loop-r

@@ -1,6 +1,5 @@
 -- `engine::trust::first_trust` meets its contract: of 2 ^ 20 inputs one in 16,384 is 64. Assumes nothing.
 use Prim.Native.Nat.{◌^◌, ◌≤◌}
-use borrow.Author.Rules.{rules}
 use native.Mathlib.Omega.{arith}
 use lib.Pow.{pow_mono}
 use Rattle.engine.proofs.trust.first_trust.Goals as goal

@@ -1,10 +1,9 @@
 -- `engine::block::input_word` meets its contract: a low input has its pattern in every block, and a high one is the same in
 -- the whole block. Assumes nothing.
 use mathlib.Core.Path.{◌≡◌, refl, ◌∙◌}
-use borrow.Author.Rules.{rules}
 use native.Mathlib.Omega.{arith}
 use lib.Dec.{lit<}
-use Prim.Native.Nat.{ℕ, ◌+◌, ◌*◌, ◌<◌}
+use Prim.Native.Nat.{ℕ, ◌+◌, ◌*◌}
 use Rattle.records.specs.Bytes.{up_from, all}
 use Rattle.engine.specs.Eval.{bit}
 use Rattle.engine.proofs.Laws.Block.{pattern, block-pattern, high_bit}

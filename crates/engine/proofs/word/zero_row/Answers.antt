@@ -1,9 +1,5 @@
 -- `engine::word::zero_row` meets its contract. The invariant: of the scenarios of the words passed the row says 0. Assumes nothing.
-use Prim.Native.Nat.{ℕ, ◌*◌, ◌-◌, ◌≤◌, ◌<◌}
-use mathlib.Core.Path.{◌≡◌}
-use mathlib.Core.Bool.{false≢true}
 use native.Mathlib.Omega.{arith}
-use Rattle.engine.specs.Inner.Kernel.{row_value}
 use Rattle.engine.proofs.Laws.Leaves.{zeros-more}
 use Rattle.engine.proofs.word.zero_row.Goals as goal
 
