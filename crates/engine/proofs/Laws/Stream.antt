@@ -64,10 +64,6 @@ any-from p xs i h = rw (add-one i) (ap (any p) (drop-cons xs i 0 h))
 
 -- ---- the places of the vector list
 
--- how many places an array has, as owning a struct that holds it tells
-pub places : (xs : List ℕ) (n : ℕ) → length (map (λ (v : ℕ). v) xs) ≡ n → length xs ≡ n
-places xs n e = sym (length-map xs (λ v. v)) ∙ e
-
 -- the list with x stored behind it
 abbrev pub with_vector : Vectors → ℕ → Vectors
 with_vector v x =

@@ -2,7 +2,6 @@
 -- differ. Assumes nothing.
 use mathlib.Core.Path.{refl, ◌∙◌}
 use native.Mathlib.Omega.{arith}
-use lib.Dec.{lit≤}
 use Rattle.engine.specs.Inner.Note.{gathered}
 use Rattle.engine.proofs.Laws.Compare.{row-compared, scanning-none, scanning-next, scanned-differs, scanned-equal}
 use Rattle.engine.proofs.Laws.Rows.{rows_whole}
@@ -10,14 +9,6 @@ use Rattle.engine.proofs.comparing.first_difference.Goals as goal
 
 pub loop-b-init : goal.loop-b-init
 loop-b-init c = (refl, scanning-none _ _ _ (omega arith))
-
-pub read_block-readings-requires : goal.read_block-readings-requires
-read_block-readings-requires c =
-    (c.requires, omega arith, c.loop-b.invariant.0)
-
-pub driven_row-row-requires : goal.driven_row-row-requires
-driven_row-row-requires c =
-    (c.requires, lit≤ tt, c.read_block-readings.ensures.long)
 
 pub returns-then-y-count : goal.returns-then-y-count
 returns-then-y-count c =

@@ -17,12 +17,6 @@ returns-then-count-first_zero c =
           c.if-count-first_zero.true;
     }
 
-pub driven_row-two-requires : goal.driven_row-two-requires
-driven_row-two-requires c =
-    let v = c.table_rows-vectors.result in
-    let e = c.driven_row-one.ensures (vectors_at v 0) (rows_four v 0 _ (lit≤ tt) c.requires.0.targets) in
-    (c.requires.0, lit≤ tt, e.long ∙ c.requires.2)
-
 pub returns : goal.returns
 returns c =
     let v = c.table_rows-vectors in

@@ -13,23 +13,12 @@ use Rattle.engine.proofs.guess.list_inputs.Goals.{else-b-gt0, then-b-gt0+in-Not}
 few : {n : ℕ} → n ≤ 20 → 2 ^ n ≤ 1048576
 few h = pow_mono {j = 20} h
 
-pub overflow_mul-b : goal.overflow_mul-b
-overflow_mul-b c = omega (arith, few c.requires.plan_held.0.inputs)
-
-pub overflow_sub-plan : goal.overflow_sub-plan
-overflow_sub-plan c = omega (arith, few c.requires.plan_held.0.inputs)
-
 pub read_block-readings-requires : goal.read_block-readings-requires
 read_block-readings-requires c =
     let p = c.requires in
     (p.plan_held.0, omega (arith, few p.plan_held.0.inputs), p.of_listed.2)
 
 -- ---- where listed vectors or the tables are tried
-
-pub shown_by-by-requires : goal.shown_by-by-requires
-shown_by-by-requires c =
-    let r = c.read_block-readings.ensures in
-    (c.requires.plan_held.0, r.many, c.requires.plan_held.2, r.long)
 
 pub returns-in-Listed : goal.returns-in-Listed
 returns-in-Listed c =
@@ -62,21 +51,6 @@ returns-in-Tables c =
 
 -- ---- where all vectors are evaluated
 
-pub vector_block-requires : goal.vector_block-requires
-vector_block-requires c = (c.requires.plan_held.0, omega arith)
-
-pub masks_of-masks-requires : goal.masks_of-masks-requires
-masks_of-masks-requires c = (c.requires.plan_held.0, omega arith)
-
-pub sort_block-requires : goal.sort_block-requires
-sort_block-requires c = (c.masks_of-masks.ensures.block_masks.long, c.read_block-readings.ensures.many, omega arith)
-
-pub overflow_mul-b-2 : goal.overflow_mul-b-2
-overflow_mul-b-2 c = omega (arith, few c.requires.plan_held.0.inputs)
-
-pub list_block-requires : goal.list_block-requires
-list_block-requires c = (omega arith, omega (arith, few c.requires.plan_held.0.inputs), c.requires.plan_held.2)
-
 pub returns : goal.returns
 returns c =
     let a = c.args in
@@ -84,8 +58,8 @@ returns c =
     -- the words have the same values on the nets that no target leads to as those read
     let kept : FreeKept a.plan a.gates.now r.new.words c.if-b-gt0.words =
     elim c.if-b-gt0.branch [
-      | then-b-gt0+in-Not w ↦ rw w.words-is w.shown_by-by.ensures.free_kept.0
-      | else-b-gt0 w ↦ rw w.words-is (λ j is q b f. f)
+      then-b-gt0+in-Not w ↦ rw w.words-is w.shown_by-by.ensures.free_kept.0
+    | else-b-gt0 w ↦ rw w.words-is (λ j is q b f. f)
     ] in
     record {
       block_listed = (

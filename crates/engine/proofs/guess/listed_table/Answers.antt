@@ -7,9 +7,6 @@ use Rattle.engine.proofs.Laws.Guess.{table_none, table-next, table-listed}
 use Rattle.engine.proofs.Laws.VectorSets.{lowest-lt}
 use Rattle.engine.proofs.guess.listed_table.Goals as goal
 
-pub listed_set-listed-requires : goal.listed_set-listed-requires
-listed_set-listed-requires c = let h = c.requires in (h.long, h.below)
-
 pub loop-r-init : goal.loop-r-init
 loop-r-init c = (omega arith, table_none c.listed_set-listed.result)
 

@@ -1,7 +1,6 @@
 -- `engine::guess::try_listed` meets its contract. The invariant: the row says 1 only of inputs that a listed vector rectifies. Assumes
 -- nothing.
 use mathlib.Core.Path.{◌∙◌}
-use mathlib.Core.Bool.{false≢true}
 use native.Mathlib.Omega.{arith}
 use lib.ListN.{get_or, take}
 use Rattle.engine.specs.Inner.List.{listed_of}
@@ -11,23 +10,6 @@ use Rattle.engine.proofs.guess.try_listed.Goals as goal
 pub loop-i-init : goal.loop-i-init
 loop-i-init c =
     (c.requires.2, λ j is q b f. f, shown-none c.args.plan c.args.gates.now c.args.words.now _)
-
-pub bounds-vectors-i : goal.bounds-vectors-i
-bounds-vectors-i c = omega (arith, c.requires.1.long)
-
-pub overflow_cast-vectors : goal.overflow_cast-vectors
-overflow_cast-vectors c = omega (arith, c.requires.1.below c.loop-i.i)
-
-pub vector_block-requires : goal.vector_block-requires
-vector_block-requires c = (c.requires.0, c.loop-i.invariant.0)
-
-pub equal_row-requires : goal.equal_row-requires
-equal_row-requires c =
-    let h = c.requires.0 in
-    record {
-      count_bound = (h.outs, h.outputs, h.goldens);
-      by_index = (h.outputs-below, h.goldens-below);
-    }
 
 pub returns-then-count-first_zero : goal.returns-then-count-first_zero
 unfolding listed_of
@@ -65,11 +47,3 @@ loop-i-preserved c =
     c.equal_row.ensures.1
     c.join_rows-next.ensures in
     (w.long ∙ l.invariant.0, vector-free l.invariant.1 w, shown)
-
-pub returns : goal.returns
-returns c =
-    let l = c.loop-i in
-    record {
-      free_kept = (l.invariant.1, l.invariant.0);
-      block_shown = λ t. absurd (false≢true t);
-    }

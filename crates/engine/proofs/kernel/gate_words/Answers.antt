@@ -14,9 +14,6 @@ loop-i-init c =
     let x = c.args.c in
     (refl, λ y h. rw (row-replicate 0 y h, bit-zero (y % 64)) (left-all (operation x) (map (value_in c.args.words.now y) (operands_of x))))
 
-pub join-requires : goal.join-requires
-join-requires c = (omega arith, omega arith)
-
 pub loop-i-preserved : goal.loop-i-preserved
 loop-i-preserved c =
     let a = c.args in

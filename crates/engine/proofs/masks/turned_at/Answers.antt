@@ -1,10 +1,6 @@
 -- `engine::masks::turned_at` meets its contract: the constant is the list of the definition. Assumes nothing.
-use native.Mathlib.Omega.{arith}
-use Rattle.engine.proofs.Laws.Gray.{flips-lt, turns-first, turns-other, turns_same}
+use Rattle.engine.proofs.Laws.Gray.{turns-first, turns-other, turns_same}
 use Rattle.engine.proofs.masks.turned_at.Goals as goal
-
-pub overflow_cast-t : goal.overflow_cast-t
-overflow_cast-t c = omega (arith, flips-lt c.args.step c.requires)
 
 pub returns-then-t-eq0 : goal.returns-then-t-eq0
 returns-then-t-eq0 c = turns-first c.args.u c.args.step c.if-t-eq0.true

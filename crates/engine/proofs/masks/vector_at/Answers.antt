@@ -10,12 +10,6 @@ use Rattle.engine.proofs.masks.vector_at.Goals as goal
 shifted : {u : ℕ} → u < 4 → 1 * 2 ^ u % 18446744073709551616 ≡ 2 ^ u
 shifted {u} h = let q : 2 ^ u ≤ 8 = pow_mono {j = 3} (omega arith) in omega arith
 
-small : {u : ℕ} → u < 4 → 2 ^ u ≤ 8
-small h = pow_mono {j = 3} (omega arith)
-
-pub overflow_add-result : goal.overflow_add-result
-overflow_add-result c = omega (arith, shifted c.requires.0, small c.requires.0)
-
 pub returns-then-v-u : goal.returns-then-v-u
 returns-then-v-u c = ordered-plain c.args.u c.args.step c.if-v-u.true
 

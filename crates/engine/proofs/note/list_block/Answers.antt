@@ -7,22 +7,16 @@ use Rattle.engine.specs.Inner.Note.{ListNoted}
 use Rattle.engine.proofs.Laws.Note.{list-none, list-next, list-covered, list-stuck}
 use Rattle.engine.proofs.note.list_block.Goals as goal
 
-pub next_uncovered-y-requires : goal.next_uncovered-y-requires
-next_uncovered-y-requires c = c.requires.2
-
 pub loop-y-init : goal.loop-y-init
 loop-y-init c =
     let a = c.args in
     list-covered a.masks a.first a.list 0 _ _ a.list (list-none a.masks a.first a.list c.requires.2)
     c.next_uncovered-y.ensures (omega arith) (omega arith)
 
-pub list_step-list-requires : goal.list_step-list-requires
-list_step-list-requires c = (c.loop-y.invariant.held, c.gather_rows-set.ensures.1)
-
 pub returns-then-list : goal.returns-then-list
 returns-then-list c =
     let stepped : (let a = c.args in ListNoted a.masks a.first (c.loop-y.y + 1) a.list c.list_step-list.result) =
-    let a = c.args in
+        let a = c.args in
     let l = c.loop-y in
     let e : min l.y a.count ≡ l.y = omega arith in
     list-next a.masks a.first a.list l.y l.list c.gather_rows-set.result c.list_step-list.result (rw e at l.invariant)
@@ -31,16 +25,10 @@ returns-then-list c =
     let a = c.args in
     list-stuck a.masks a.first a.list _ a.count c.list_step-list.result stepped c.if-list.true (omega arith)
 
-pub next_uncovered-y-requires-in-loop-y : goal.next_uncovered-y-requires-in-loop-y
-next_uncovered-y-requires-in-loop-y c = c.list_step-list.ensures.held
-
-pub loop-y-smaller : goal.loop-y-smaller
-loop-y-smaller c = omega (arith, c.next_uncovered-y-in-loop-y.ensures.past)
-
 pub loop-y-preserved : goal.loop-y-preserved
 loop-y-preserved c =
     let stepped : (let a = c.args in ListNoted a.masks a.first (c.loop-y.y + 1) a.list c.list_step-list.result) =
-    let a = c.args in
+        let a = c.args in
     let l = c.loop-y in
     let e : min l.y a.count ≡ l.y = omega arith in
     list-next a.masks a.first a.list l.y l.list c.gather_rows-set.result c.list_step-list.result (rw e at l.invariant)
@@ -50,9 +38,3 @@ loop-y-preserved c =
     let p = c.next_uncovered-y-in-loop-y.ensures.past in
     list-covered a.masks a.first a.list _ _ _ c.list_step-list.result stepped c.next_uncovered-y-in-loop-y.ensures (omega arith)
     (omega arith)
-
-pub returns : goal.returns
-returns c =
-    let a = c.args in
-    let e : min c.loop-y.y a.count ≡ a.count = omega arith in
-    rw e at c.loop-y.invariant

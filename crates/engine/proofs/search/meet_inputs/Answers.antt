@@ -1,7 +1,6 @@
 -- `engine::search::meet_inputs` meets its contract: the block's readings; where the table does, the sets stay, and else they are those after
 -- its masks. Assumes nothing.
-use mathlib.Core.Path.{◌≡◌, refl, ◌∙◌, ap}
-use lib.ListN.{length}
+use mathlib.Core.Path.{refl}
 use Rattle.engine.proofs.Laws.Choice.{not-both}
 use Rattle.engine.proofs.Laws.Search.{block-met, block-kept}
 use Rattle.engine.proofs.Laws.Searching.{block-small}
@@ -25,18 +24,6 @@ returns-then-keep_block c =
       );
       tried_value = λ h. (c.if-tried.true, refl);
     }
-
-pub vector_block-requires : goal.vector_block-requires
-vector_block-requires c =
-    let words_long : length c.if-tried.words ≡ 16384 =
-    elim c.if-tried.branch [ then-tried+else-keep_block w ↦ ap length w.words-is ∙ w.keep_block.ensures.free_kept.1 | else-tried w ↦ ap length w.words-is ∙ c.read_block-readings.ensures.long ] in
-    (c.requires.plan_held.0, words_long)
-
-pub masks_of-masks-requires : goal.masks_of-masks-requires
-masks_of-masks-requires c =
-    let words_long : length c.if-tried.words ≡ 16384 =
-    elim c.if-tried.branch [ then-tried+else-keep_block w ↦ ap length w.words-is ∙ w.keep_block.ensures.free_kept.1 | else-tried w ↦ ap length w.words-is ∙ c.read_block-readings.ensures.long ] in
-    (c.requires.plan_held.0, c.vector_block.ensures.long ∙ words_long)
 
 pub returns : goal.returns
 returns c =

@@ -1,27 +1,13 @@
 -- `engine::sole::keep_block` meets its contract: the table's vectors at the block's readings, and where they rectify. Assumes nothing.
 use Prim.Native.Nat.{ℕ, max}
-use mathlib.Core.Path.{refl, sym, ◌∙◌, ap}
+use mathlib.Core.Path.{sym, ◌∙◌, ap}
 use borrow.Author.Tests.{leb-true}
 use native.Mathlib.Omega.{arith}
-use lib.Dec.{lit≤}
 use Rattle.engine.specs.Inner.Kernel.{row_value}
 use Rattle.engine.specs.Inner.Note.{gathered}
 use Rattle.engine.proofs.Laws.Rows.{rows_whole}
-use Rattle.engine.proofs.Laws.Choice.{not-both}
 use Rattle.engine.proofs.Laws.Sole.{sole-kept}
 use Rattle.engine.proofs.sole.keep_block.Goals as goal
-
-pub returns-then-not-zero_row : goal.returns-then-not-zero_row
-returns-then-not-zero_row c =
-    record {
-      free_kept = (λ j is q b f. f, c.requires.2);
-      block_kept = λ e. absurd (not-both e refl);
-    }
-
-pub driven_row-row-requires : goal.driven_row-row-requires
-driven_row-row-requires c =
-    let p = c.requires in
-    (p.0, lit≤ tt, p.2)
 
 pub returns : goal.returns
 returns c =

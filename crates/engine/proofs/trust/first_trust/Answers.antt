@@ -4,8 +4,5 @@ use native.Mathlib.Omega.{arith}
 use lib.Pow.{pow_mono}
 use Rattle.engine.proofs.trust.first_trust.Goals as goal
 
-pub returns-then-inputs-least : goal.returns-then-inputs-least
-returns-then-inputs-least c = omega arith
-
 pub returns : goal.returns
 returns c = let m : 2 ^ c.args.inputs ≤ 1048576 = pow_mono {j = 20} c.requires in omega arith

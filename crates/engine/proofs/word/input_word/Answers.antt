@@ -3,7 +3,7 @@
 use mathlib.Core.Path.{◌≡◌, refl, ◌∙◌}
 use native.Mathlib.Omega.{arith}
 use lib.Dec.{lit<}
-use Prim.Native.Nat.{ℕ, ◌+◌, ◌*◌, ◌<◌}
+use Prim.Native.Nat.{ℕ, ◌+◌, ◌*◌}
 use Rattle.records.specs.Bytes.{up_from, all}
 use Rattle.engine.specs.Eval.{bit}
 use Rattle.engine.proofs.Laws.Block.{pattern, block-pattern, high_bit}
@@ -12,10 +12,6 @@ use Rattle.engine.proofs.word.input_word.Goals as goal
 -- an input that is k has the word of input k
 at-input : (b j : ℕ) {i k v : ℕ} → i ≡ k → v ≡ bit k (64 * b + j) → v ≡ bit i (64 * b + j)
 at-input b j e p = rw e p
-
--- below 6 and none of 0 to 4
-last : (i : ℕ) → i < 6 → (i ≡ 0 → ⊥) → (i ≡ 1 → ⊥) → (i ≡ 2 → ⊥) → (i ≡ 3 → ⊥) → (i ≡ 4 → ⊥) → i ≡ 5
-last i l r₀ r₁ r₂ r₃ r₄ = omega arith
 
 pub returns-then-i-ge6 : goal.returns-then-i-ge6
 returns-then-i-ge6 c j h =
@@ -56,5 +52,5 @@ pub returns-in_default : goal.returns-in_default
 unfolding pattern bit up_from all
 returns-in_default c j h =
     let b = c.args.b in
-    let r = c.in_default.in_default-own.rest in
-    at-input b j (last _ c.if-i-ge6.false r.0.0.0.0.1 r.0.0.0.1 r.0.0.1 r.0.1 r.1) (block-pattern 5 0xffff_ffff_0000_0000 b j (lit< tt) h refl)
+    let e : c.args.i ≡ 5 = omega arith in
+    at-input b j e (block-pattern 5 0xffff_ffff_0000_0000 b j (lit< tt) h refl)

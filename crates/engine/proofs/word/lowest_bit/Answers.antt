@@ -14,9 +14,6 @@ returns-then-word-eq0 c =
       set = λ h. let f : ⊥ = omega arith in absurd f;
     }
 
-pub loop-i-init : goal.loop-i-init
-loop-i-init c = (omega arith, λ k h. let f : ⊥ = omega arith in absurd f)
-
 pub returns-then-word-i-eq1 : goal.returns-then-word-i-eq1
 unfolding bit
 returns-then-word-i-eq1 c =
@@ -29,12 +26,3 @@ loop-i-preserved c =
     let l = c.loop-i in
     let w = c.args.word in
     (omega arith, below_more (λ k. bit k w ≡ 0) l.i l.invariant.1 (omega arith))
-
-pub returns : goal.returns
-returns c =
-    let l = c.loop-i in
-    record {
-      most = omega arith;
-      clear = λ i h. l.invariant.1 i (omega arith);
-      set = λ h. let f : ⊥ = omega arith in absurd f;
-    }

