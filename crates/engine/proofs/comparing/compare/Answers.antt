@@ -1,6 +1,5 @@
 -- `engine::comparing::compare` meets its contract: the job is loaded, and the sheet compared with it. Assumes nothing.
 use mathlib.Core.Path.{◌∙◌}
-use borrow.Author.Rules.{rules}
 use Rattle.records.specs.Job.{job_of}
 use Rattle.engine.proofs.Laws.Compare.{declined-job, accepted-job, compared-job}
 use Rattle.engine.proofs.comparing.compare.Goals as goal

@@ -58,8 +58,8 @@ returns c =
     -- the words have the same values on the nets that no target leads to as those read
     let kept : FreeKept a.plan a.gates.now r.new.words c.if-b-gt0.words =
     elim c.if-b-gt0.branch [
-      then-b-gt0+in-Not w ↦ rw w.words-is w.shown_by-by.ensures.free_kept.0
-    | else-b-gt0 w ↦ rw w.words-is (λ j is q b f. f)
+      | then-b-gt0+in-Not w ↦ rw w.words-is w.shown_by-by.ensures.free_kept.0
+      | else-b-gt0 w ↦ rw w.words-is (λ j is q b f. f)
     ] in
     record {
       block_listed = (

@@ -1,15 +1,10 @@
 -- `engine::guess::list_of_inputs` meets its contract. The invariant: the list after the inputs passed, and a table of its vectors
 -- while the tables are trusted. Assumes nothing.
-use Prim.Native.Nat.{ℕ, ◌+◌, ◌-◌, ◌*◌, ◌^◌, min, ◌≤◌, ◌<◌}
-use mathlib.Core.Path.{◌≡◌, sym, subst}
-use mathlib.Core.List.{List}
+use Prim.Native.Nat.{ℕ}
 use native.Mathlib.Omega.{arith}
-use lib.ListN.{length, length-replicate}
-use Rattle.engine.specs.Inner.Guess.{OfListed}
-use Rattle.engine.specs.Inner.List.{Held}
-use Rattle.engine.specs.declared.list.Vectors.{Vectors}
+use lib.ListN.{length-replicate}
 use Rattle.engine.proofs.Laws.Guess.{ListsTo, zeros-listed, lists-start, lists-skip, lists-stuck, lists-all}
-use Rattle.engine.proofs.Laws.Search.{WalkTo, block-range, walk_start, walk_here, walk_block, walk-skip, walk_end}
+use Rattle.engine.proofs.Laws.Search.{block-range, walk_start, walk_here, walk_block, walk-skip, walk_end}
 use Rattle.engine.proofs.guess.list_of_inputs.Goals as goal
 use Rattle.engine.proofs.guess.list_of_inputs.Goals.{else-next, then-next}
 
@@ -21,8 +16,7 @@ first_tries-tries-requires c = c.requires
 
 pub loop-b-init : goal.loop-b-init
 loop-b-init c =
-    let f = c.first_list-list in
-    (
+    let f = c.first_list-list in (
       length-replicate {A = ℕ} 16384 0,
       length-replicate {A = ℕ} 1024 4294967295,
       record { held = c.first_list-list.ensures.0; few = c.first_trust-trust.ensures; table = λ l. zeros-listed f.result },
@@ -68,8 +62,8 @@ loop-b-preserved-then-skip-eq0 c =
         few = e.block_listed.1;
         table = λ h.
             elim c.if-next.branch [
-              then-next u ↦ rw u.table-is u.listed_table-table.ensures
-            | else-next u ↦ rw u.table-is (e.block_listed.2 u.if-next.false h)
+              | then-next u ↦ rw u.table-is u.listed_table-table.ensures
+              | else-next u ↦ rw u.table-is (e.block_listed.2 u.if-next.false h)
             ];
       },
       walk_block i (omega arith) (omega (arith, i.inputs)) (ListsTo _ _ v)

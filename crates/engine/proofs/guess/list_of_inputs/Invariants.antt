@@ -1,16 +1,14 @@
 -- `engine::guess::list_of_inputs` meets its contract. The invariant: the list after the inputs passed, and a table of its vectors
 -- while the tables are trusted. Assumes nothing.
-use Prim.Native.Nat.{ℕ, ◌+◌, ◌-◌, ◌*◌, ◌^◌, min, ◌≤◌, ◌<◌}
-use mathlib.Core.Path.{◌≡◌, sym, subst}
-use mathlib.Core.Logic.{⊎_elim}
+use Prim.Native.Nat.{ℕ, ◌-◌, ◌*◌, ◌≤◌, ◌<◌}
+use mathlib.Core.Path.{◌≡◌}
 use mathlib.Core.List.{List}
-use native.Mathlib.Omega.{arith}
-use lib.ListN.{length, length-replicate}
+use lib.ListN.{length}
 use Rattle.engine.specs.Inner.Guess.{OfListed}
 use Rattle.engine.specs.Inner.List.{Held}
 use Rattle.engine.specs.declared.list.Vectors.{Vectors}
-use Rattle.engine.proofs.Laws.Guess.{ListsTo, zeros-listed, lists-start, lists-skip, lists-stuck, lists-all}
-use Rattle.engine.proofs.Laws.Search.{WalkTo, block-range, walk_start, walk_here, walk_block, walk-skip, walk_end}
+use Rattle.engine.proofs.Laws.Guess.{ListsTo}
+use Rattle.engine.proofs.Laws.Search.{WalkTo}
 use Rattle.engine.proofs.guess.list_of_inputs.Given as goal
 
 -- the list, the table and the trust between two blocks

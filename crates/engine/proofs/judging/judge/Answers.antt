@@ -1,6 +1,5 @@
 -- `engine::judging::judge` meets its contract: the job is loaded, and judged. Assumes nothing.
 use mathlib.Core.Path.{◌∙◌}
-use borrow.Author.Rules.{rules}
 use Rattle.records.specs.Job.{job_of}
 use Rattle.engine.proofs.Laws.Reply.{judge-short, judge-refused, judge-accepted}
 use Rattle.engine.proofs.Laws.Loaded.{refused-number, refused-job, accepted-job, accepted-parts, some-parts, nets-small}

@@ -1,6 +1,5 @@
 -- `engine::judging::vector_list` meets its contract, by words or by blocks. Assumes nothing.
 use mathlib.Core.Path.{refl}
-use borrow.Author.Rules.{rules}
 use Rattle.engine.specs.Support.{candidate_nets}
 use Rattle.engine.proofs.Laws.Miter.{candidates-good}
 use Rattle.engine.proofs.judging.vector_list.Goals as goal

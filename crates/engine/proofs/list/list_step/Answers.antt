@@ -21,7 +21,7 @@ returns-then-rectifies_any c =
 pub returns-then-set-eq0 : goal.returns-then-set-eq0
 returns-then-set-eq0 c =
     let unrectified : let a = c.args in any (in_set a.set) (take a.v.len a.v.list) ≡ false =
-        sym c.rectifies_any.ensures ∙ c.if-rectifies_any.false in
+    sym c.rectifies_any.ensures ∙ c.if-rectifies_any.false in
     let a = c.args in
     step-none a.v a.set a.input c.requires.0 c.if-v.false
     unrectified
@@ -30,7 +30,7 @@ returns-then-set-eq0 c =
 pub returns-then-v-ge-VECTORS : goal.returns-then-v-ge-VECTORS
 returns-then-v-ge-VECTORS c =
     let unrectified : let a = c.args in any (in_set a.set) (take a.v.len a.v.list) ≡ false =
-        sym c.rectifies_any.ensures ∙ c.if-rectifies_any.false in
+    sym c.rectifies_any.ensures ∙ c.if-rectifies_any.false in
     let a = c.args in
     step-full a.v a.set a.input c.requires.0 c.if-v.false unrectified c.requires.1
     c.if-set-eq0.false
@@ -44,7 +44,7 @@ append-requires c =
 pub returns : goal.returns
 returns c =
     let unrectified : let a = c.args in any (in_set a.set) (take a.v.len a.v.list) ≡ false =
-        sym c.rectifies_any.ensures ∙ c.if-rectifies_any.false in
+    sym c.rectifies_any.ensures ∙ c.if-rectifies_any.false in
     let a = c.args in
     step-append a.v a.set a.input c.requires.0 c.if-v.false unrectified c.requires.1
     c.if-set-eq0.false

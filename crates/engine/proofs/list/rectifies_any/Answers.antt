@@ -13,7 +13,7 @@ use Rattle.engine.proofs.list.rectifies_any.Goals as goal
 pub returns-then-set-v-eq1 : goal.returns-then-set-v-eq1
 returns-then-set-v-eq1 c =
     let turn : let a = c.args in let i = c.loop-i.i in any (in_set a.set) (take a.len a.list) ≡ (in_set a.set (get_or a.list i 0) || any (in_set a.set) (drop (i + 1) (take a.len a.list))) =
-        let a = c.args in
+    let a = c.args in
     let l = c.loop-i in
     let n : length a.list ≡ 16 = omega arith in
     sym l.invariant.1
@@ -25,7 +25,7 @@ returns-then-set-v-eq1 c =
 pub loop-i-preserved : goal.loop-i-preserved
 loop-i-preserved c =
     let turn : let a = c.args in let i = c.loop-i.i in any (in_set a.set) (take a.len a.list) ≡ (in_set a.set (get_or a.list i 0) || any (in_set a.set) (drop (i + 1) (take a.len a.list))) =
-        let a = c.args in
+    let a = c.args in
     let l = c.loop-i in
     let n : length a.list ≡ 16 = omega arith in
     sym l.invariant.1

@@ -11,14 +11,14 @@ loop-i-init c = (omega arith, sym (rows_from-none c.args.masks.now c.args.y))
 pub overflow_mul-r : goal.overflow_mul-r
 overflow_mul-r c =
     let short : c.loop-i.r < 65536 =
-        let a = c.args in
+    let a = c.args in
     omega (arith, rows_from-lt a.masks.now a.y c.loop-i.i) in
     let s = short in omega arith
 
 pub overflow_add-r-in-loop-i : goal.overflow_add-r-in-loop-i
 overflow_add-r-in-loop-i c =
     let short : c.loop-i.r < 65536 =
-        let a = c.args in
+    let a = c.args in
     omega (arith, rows_from-lt a.masks.now a.y c.loop-i.i) in
     let s = short in omega arith
 
@@ -34,7 +34,7 @@ loop-i-preserved c =
 pub returns : goal.returns
 returns c =
     let short : c.loop-i.r < 65536 =
-        let a = c.args in
+    let a = c.args in
     omega (arith, rows_from-lt a.masks.now a.y c.loop-i.i) in
     let a = c.args in
     let e : c.loop-i.i ≡ 0 = omega arith in

@@ -16,7 +16,7 @@ loop-y-init c =
 pub returns-then-list : goal.returns-then-list
 returns-then-list c =
     let stepped : (let a = c.args in ListNoted a.masks a.first (c.loop-y.y + 1) a.list c.list_step-list.result) =
-        let a = c.args in
+    let a = c.args in
     let l = c.loop-y in
     let e : min l.y a.count ≡ l.y = omega arith in
     list-next a.masks a.first a.list l.y l.list c.gather_rows-set.result c.list_step-list.result (rw e at l.invariant)
@@ -28,7 +28,7 @@ returns-then-list c =
 pub loop-y-preserved : goal.loop-y-preserved
 loop-y-preserved c =
     let stepped : (let a = c.args in ListNoted a.masks a.first (c.loop-y.y + 1) a.list c.list_step-list.result) =
-        let a = c.args in
+    let a = c.args in
     let l = c.loop-y in
     let e : min l.y a.count ≡ l.y = omega arith in
     list-next a.masks a.first a.list l.y l.list c.gather_rows-set.result c.list_step-list.result (rw e at l.invariant)

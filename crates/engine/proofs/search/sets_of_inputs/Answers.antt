@@ -1,22 +1,17 @@
 -- `engine::search::sets_of_inputs` meets its contract. The invariant: the sets after the blocks passed, and, where the table is tried
 -- next, that it is theirs. Assumes nothing.
-use Prim.Native.Nat.{ℕ, ◌+◌, ◌-◌, ◌*◌, ◌/◌, ◌%◌, ◌^◌, ◌≤◌}
+use Prim.Native.Nat.{ℕ, ◌+◌, ◌-◌, ◌*◌, ◌/◌, ◌%◌, ◌^◌}
 use mathlib.Core.Path.{◌≡◌, ◌∙◌, ap, subst}
 use mathlib.Core.Logic.{⊎_elim}
-use mathlib.Core.List.{List}
 use native.Mathlib.Omega.{arith}
 use borrow.Author.Tests.{eqb-true, eqb-false, not-false}
-use lib.ListN.{length, length-replicate}
+use lib.ListN.{length-replicate}
 use lib.Pow.{pow_mono}
-use Rattle.records.specs.Job.{Job}
-use Rattle.engine.specs.Support.{candidate_nets}
-use Rattle.engine.specs.Inner.Plan.{TurnsOf}
-use Rattle.engine.specs.Inner.Search.{SetsTo, SoleTable}
-use Rattle.engine.specs.declared.plan.Plan.{Plan}
+use Rattle.engine.specs.Inner.Search.{SetsTo}
 use Rattle.engine.proofs.Laws.Choice.{and_cases}
 use Rattle.engine.proofs.Laws.ReadingSets.{sets-start, sets-skip}
 use Rattle.engine.proofs.Laws.Sole.{sole-start}
-use Rattle.engine.proofs.Laws.Search.{WalkTo, walk_start, walk_here, walk-range, walk_block, walk-skip, walk_end}
+use Rattle.engine.proofs.Laws.Search.{walk_start, walk_here, walk-range, walk_block, walk-skip, walk_end}
 use Rattle.engine.proofs.search.sets_of_inputs.Invariants.{SetsAfter}
 use Rattle.engine.proofs.search.sets_of_inputs.Goals as goal
 use Rattle.engine.proofs.search.sets_of_inputs.Goals.{else-kept-pace, then-kept-pace}
@@ -31,16 +26,15 @@ pub first_tries-tries-requires : goal.first_tries-tries-requires
 first_tries-tries-requires c = c.requires
 
 pub loop-b-init : goal.loop-b-init
-loop-b-init c =
-    (
-      length-replicate {A = ℕ} 16384 0,
-      length-replicate 1024 (65536 + c.all_vectors.result),
-      c.first_pace-pace.ensures,
-      λ _. sole-start c.all_vectors.result,
-      walk_start (SetsAfter _ _ _ _) c.requires.inputs
-          (λ j q. sets-start j (omega (arith, c.requires.targets, q.planned.targets)) (c.all_vectors.ensures ∙ ap (λ (m : ℕ). 2 ^ 2 ^ m - 1) q.planned.targets)),
-      c.first_tries-tries.ensures,
-    )
+loop-b-init c = (
+  length-replicate {A = ℕ} 16384 0,
+  length-replicate 1024 (65536 + c.all_vectors.result),
+  c.first_pace-pace.ensures,
+  λ _. sole-start c.all_vectors.result,
+  walk_start (SetsAfter _ _ _ _) c.requires.inputs
+      (λ j q. sets-start j (omega (arith, c.requires.targets, q.planned.targets)) (c.all_vectors.ensures ∙ ap (λ (m : ℕ). 2 ^ 2 ^ m - 1) q.planned.targets)),
+  c.first_tries-tries.ensures,
+)
 
 pub settled_from-skip-requires : goal.settled_from-skip-requires
 settled_from-skip-requires c =
@@ -69,15 +63,15 @@ loop-b-preserved-then-skip-eq0 c =
       -- the table is made again; or the sets stay; or it is not tried next
       λ o.
           elim c.if-kept-pace.branch [
-            then-kept-pace w ↦ rw w.table-is w.sole_table-table.ensures
-          | else-kept-pace w ↦
-            rw w.table-is
-            (⊎_elim
-            (λ k.
-            let s = e.tried_value (not-false c.meet_inputs-kept.result k) in
-            rw s.1 (i.3 (eqb-true c.loop-b.pace.wait 0 s.0)))
-            (λ z. absurd (eqb-false c.next_pace-pace.result.wait 0 z o))
-            (and_cases _ _ w.if-kept-pace.false))
+            | then-kept-pace w ↦ rw w.table-is w.sole_table-table.ensures
+            | else-kept-pace w ↦
+                rw w.table-is
+                (⊎_elim
+                (λ k.
+                let s = e.tried_value (not-false c.meet_inputs-kept.result k) in
+                rw s.1 (i.3 (eqb-true c.loop-b.pace.wait 0 s.0)))
+                (λ z. absurd (eqb-false c.next_pace-pace.result.wait 0 z o))
+                (and_cases _ _ w.if-kept-pace.false))
           ],
       walk_block i.4 (omega arith) c.block_inputs-count.ensures (SetsAfter _ _ _ _)
           (λ j q. e.block_met.0.sets j c.loop-b.skipped q (walk_here i.4 (omega arith) j q)),

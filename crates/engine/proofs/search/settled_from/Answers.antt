@@ -1,6 +1,5 @@
 -- `engine::search::settled_from` meets its contract: the range that is tried has 32 blocks from b on. Assumes nothing.
 use native.Mathlib.Omega.{arith}
-use borrow.Author.Rules.{rules}
 use Rattle.engine.proofs.Laws.Searching.{settled-none, settled-blocks}
 use Rattle.engine.proofs.search.settled_from.Goals as goal
 

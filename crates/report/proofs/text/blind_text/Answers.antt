@@ -7,7 +7,6 @@ use Rattle.records.specs.Claims.{Below}
 use Rattle.report.specs.Text.{blind_word}
 use Rattle.report.proofs.Laws.Sheet.{blind-length, blind-value, blind-below}
 use Rattle.report.proofs.Laws.Text.{value_room, word-quad-lt}
-use borrow.Author.Rules.{rules}
 use Rattle.report.proofs.text.blind_text.Goals as goal
 
 pub slice_bounds-word_at-end : goal.slice_bounds-word_at-end

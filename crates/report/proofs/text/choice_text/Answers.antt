@@ -3,7 +3,6 @@
 use native.Mathlib.Omega.{arith}
 use Rattle.report.proofs.Laws.Sheet.{choice-some, choice-patch, choice-blind}
 use Rattle.report.proofs.Laws.Text.{choice-patched, choice-blinded}
-use borrow.Author.Rules.{rules}
 use Rattle.report.proofs.text.choice_text.Goals as goal
 
 pub bounds-sheet-0 : goal.bounds-sheet-0

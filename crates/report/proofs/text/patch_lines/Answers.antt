@@ -3,7 +3,6 @@
 use native.Mathlib.Omega.{arith}
 use Rattle.records.specs.Job.{nets_of}
 use Rattle.report.proofs.Laws.Text.{PatchLengths, length-patch_text, patch-texted}
-use borrow.Author.Rules.{rules}
 use Rattle.report.proofs.text.patch_lines.Goals as goal
 
 pub put_number_line-a-requires : goal.put_number_line-a-requires

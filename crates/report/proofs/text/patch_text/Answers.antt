@@ -8,7 +8,6 @@ use Rattle.records.specs.Sheet.{quad}
 use Rattle.records.specs.Claims.{Below}
 use Rattle.report.proofs.Laws.Sheet.{PatchSpans, patch-first, patch-length, patch-second, patch-spans}
 use Rattle.report.proofs.Laws.Text.{patch-same, patch-room}
-use borrow.Author.Rules.{rules}
 use Rattle.report.proofs.text.patch_text.Goals as goal
 
 pub field_end-table-requires : goal.field_end-table-requires

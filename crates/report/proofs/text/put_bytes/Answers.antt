@@ -1,11 +1,8 @@
 -- `report::text::put_bytes` meets its contract: after i turns the numbers of the first i bytes stand in the text.
 -- Assumes nothing.
-use Prim.Native.Nat.{◌-◌, ◌≤◌}
 use native.Mathlib.Omega.{arith}
-use borrow.Author.Rules.{rules}
-use lib.ListN.{length}
 use Rattle.report.specs.Text.{number, numbers}
-use Rattle.report.proofs.Laws.Line.{Printing, printing-none, printing-room, printing-next, printing-all}
+use Rattle.report.proofs.Laws.Line.{printing-none, printing-room, printing-next, printing-all}
 use Rattle.report.proofs.text.put_bytes.Goals as goal
 
 pub loop-i-init : goal.loop-i-init

@@ -1,7 +1,7 @@
 -- `report::text::put_bytes_line` meets its contract: a word, the numbers of the bytes and a line feed.
 -- Assumes nothing.
 use native.Mathlib.Omega.{arith}
-use Rattle.report.proofs.Laws.Line.{length-line, printed-length, printed-line}
+use Rattle.report.proofs.Laws.Line.{length-line, printed-line}
 use Rattle.report.proofs.text.put_bytes_line.Goals as goal
 
 pub put_word-a-requires : goal.put_word-a-requires

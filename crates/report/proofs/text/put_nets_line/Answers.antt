@@ -2,7 +2,7 @@
 -- Assumes nothing.
 use native.Mathlib.Omega.{arith}
 use Rattle.records.specs.Job.{nets_of}
-use Rattle.report.proofs.Laws.Line.{length-line, printed-length, printed-line}
+use Rattle.report.proofs.Laws.Line.{length-line, printed-line}
 use Rattle.report.proofs.text.put_nets_line.Goals as goal
 
 pub put_word-a-requires : goal.put_word-a-requires

@@ -2,8 +2,7 @@
 -- Assumes nothing.
 use native.Mathlib.Omega.{arith}
 use lib.ListN.{length-set}
-use Rattle.report.proofs.Laws.Line.{number-room, printed-length, printed-number}
-use borrow.Author.Rules.{rules}
+use Rattle.report.proofs.Laws.Line.{number-room, printed-number}
 use Rattle.report.proofs.text.put_number.Goals as goal
 
 pub bounds-text-at : goal.bounds-text-at

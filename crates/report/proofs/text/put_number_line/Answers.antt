@@ -4,7 +4,7 @@ use mathlib.Core.Path.{ap}
 use mathlib.Core.List.{[], ◌∷◌}
 use native.Mathlib.Omega.{arith}
 use lib.ListN.{length}
-use Rattle.report.proofs.Laws.Line.{numbers-one, length-line, printed-length, printed-line}
+use Rattle.report.proofs.Laws.Line.{numbers-one, length-line, printed-line}
 use Rattle.report.proofs.text.put_number_line.Goals as goal
 
 pub put_word-a-requires : goal.put_word-a-requires

@@ -1,12 +1,11 @@
 -- `report::text::put_word` meets its contract: after i turns the first i bytes stand in the text.
 -- Assumes nothing.
-use Prim.Native.Nat.{◌+◌, ◌-◌, ◌≤◌}
-use mathlib.Core.Path.{◌≡◌, refl, ◌∙◌}
+use Prim.Native.Nat.{◌+◌}
+use mathlib.Core.Path.{refl, ◌∙◌}
 use native.Mathlib.Nat.{add-zero}
 use native.Mathlib.Omega.{arith}
-use lib.ListN.{length, get_or, take, length-set}
+use lib.ListN.{get_or, length-set}
 use lib.Seq.{take_all}
-use Rattle.report.specs.Inner.{Printed}
 use Rattle.report.proofs.Laws.Line.{printed-none, printed-copy}
 use Rattle.report.proofs.text.put_word.Goals as goal
 

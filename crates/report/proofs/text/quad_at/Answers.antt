@@ -3,7 +3,6 @@
 use native.Mathlib.Omega.{arith}
 use Rattle.records.specs.Sheet.{quad}
 use Rattle.records.proofs.Laws.Sheet.{word_lt}
-use borrow.Author.Rules.{rules}
 use Rattle.report.proofs.text.quad_at.Goals as goal
 
 pub overflow_mul-result : goal.overflow_mul-result

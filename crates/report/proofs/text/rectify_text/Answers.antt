@@ -2,8 +2,7 @@
 -- Assumes nothing.
 use native.Mathlib.Omega.{arith}
 use borrow.Author.Rules.{rules}
-use Prim.Native.Nat.{◌≤◌}
-use mathlib.Core.Path.{◌≡◌, sym}
+use mathlib.Core.Path.{sym}
 use lib.Seq.{length-take-le}
 use Rattle.report.proofs.Laws.Printed.{printed-short, printed-long, printed-refused, judge-short, judge-unfixable, printed-unfixable, vectors-short, choose-short, choose-whole, printed-chosen}
 use Rattle.report.proofs.text.rectify_text.Goals as goal

@@ -4,7 +4,6 @@ use native.Mathlib.Omega.{arith}
 use Rattle.report.specs.Text.{refused_word}
 use Rattle.report.proofs.Laws.Line.{length-number-line}
 use Rattle.report.proofs.Laws.Text.{refused-texted}
-use borrow.Author.Rules.{rules}
 use Rattle.report.proofs.text.refused_text.Goals as goal
 
 pub put_number_line-requires : goal.put_number_line-requires

@@ -8,7 +8,6 @@ use Rattle.records.specs.Claims.{Below}
 use Rattle.report.specs.Text.{unfixable_word}
 use Rattle.report.proofs.Laws.Sheet.{unfixable-length, unfixable-input, unfixable-vectors, unfixable-below}
 use Rattle.report.proofs.Laws.Text.{value_room, quad-lt}
-use borrow.Author.Rules.{rules}
 use Rattle.report.proofs.text.unfixable_text.Goals as goal
 
 pub slice_bounds-quad_at-end : goal.slice_bounds-quad_at-end

@@ -2,7 +2,6 @@
 -- Assumes nothing.
 use native.Mathlib.Omega.{arith}
 use Rattle.report.proofs.Laws.Text.{length-value_text, value-texted}
-use borrow.Author.Rules.{rules}
 use Rattle.report.proofs.text.value_lines.Goals as goal
 
 pub put_number_line-a-requires : goal.put_number_line-a-requires

@@ -1,5 +1,4 @@
 -- `report::text::word_at` meets its contract: both bytes are below 256, so the number fits. Assumes nothing.
-use borrow.Author.Rules.{rules}
 use native.Mathlib.Omega.{arith}
 use Prim.Native.Nat.{◌+◌}
 use Rattle.records.specs.Bytes.{word}
