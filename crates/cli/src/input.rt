@@ -9,7 +9,7 @@ use std::rt::{Env, Runtime};
 use std::{fs, str};
 
 // How many bytes of a file stand at the start of the buffer, and whether the file was opened and each read of it went well.
-#[derive(Drop)]
+#[derive(Clone, Copy)]
 pub struct Filled {
     pub failed: bool,
     pub len: usize,

@@ -25,18 +25,18 @@ use super::sheet::{put_blind, put_patch};
 use super::table::{fill_notes, fill_table, reading_count};
 use records::{CANDIDATES, Check, JobParts, Support, load};
 
-#[derive(Drop)]
+#[derive(Clone, Copy)]
 pub struct PatchCost {
     pub cost: u32,
 }
 
-#[derive(Drop)]
+#[derive(Clone, Copy)]
 pub struct BlindReading {
     pub reading: u16,
 }
 
 // A patch or a blind reading; declined where the call is.
-#[derive(Drop)]
+#[derive(Clone, Copy)]
 pub enum Choice {
     Patch(PatchCost),
     Blind(BlindReading),
@@ -44,7 +44,7 @@ pub enum Choice {
 }
 
 // The number, how many bytes of the reply buffer the sheet takes, and the choice; on refusal the length is 0.
-#[derive(Drop)]
+#[derive(Clone, Copy)]
 pub struct ChooseReply {
     pub number: u8,
     pub len: usize,

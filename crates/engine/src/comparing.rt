@@ -18,20 +18,20 @@ use super::table::reading_count;
 use super::word::first_zero;
 use records::{Check, JobParts, load, read_sheet};
 
-#[derive(Drop)]
+#[derive(Clone, Copy)]
 pub struct DifferingInput {
     pub input: u32,
 }
 
 // Equal, or the smallest input at which the driven old outputs differ from the golden ones; declined where the call is.
-#[derive(Drop)]
+#[derive(Clone, Copy)]
 pub enum Comparison {
     Equal,
     Differs(DifferingInput),
     Declined,
 }
 
-#[derive(Drop)]
+#[derive(Clone, Copy)]
 pub struct CompareReply {
     pub number: u8,
     pub result: Comparison,

@@ -20,7 +20,7 @@ use super::tree::{put_trees, trees_size};
 use records::{CANDIDATES, Check, GATES, JobParts, OUTPUTS, Support, load, read_sheet};
 
 // The number, and how many bytes of the reply buffer the patched netlist takes; on refusal the length is 0.
-#[derive(Drop)]
+#[derive(Clone, Copy)]
 pub struct FitReply {
     pub number: u8,
     pub len: usize,

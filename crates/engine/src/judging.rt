@@ -23,13 +23,13 @@ use super::plan::plan_of;
 use super::sheet::{put_unfixable, put_vectors};
 use records::{CANDIDATES, Check, JobParts, load};
 
-#[derive(Drop)]
+#[derive(Clone, Copy)]
 pub struct UnfixableInput {
     pub input: u32,
 }
 
 // Every input is fixable, or the smallest that is not; declined where the call is.
-#[derive(Drop)]
+#[derive(Clone, Copy)]
 pub enum Judgement {
     Fixable,
     Unfixable(UnfixableInput),
@@ -37,7 +37,7 @@ pub enum Judgement {
 }
 
 // The number, how many bytes of the reply buffer the sheet takes, and the judgement; on refusal the length is 0.
-#[derive(Drop)]
+#[derive(Clone, Copy)]
 pub struct JudgeReply {
     pub number: u8,
     pub len: usize,

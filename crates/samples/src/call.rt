@@ -4,7 +4,7 @@ ghost use Rattle.io.specs.Counts.{IsPrefixLen};
 use super::number::{least, wide};
 
 // Whether there was a whole call, its service, and how many bytes it has, which stand at the start of the buffer.
-#[derive(Drop)]
+#[derive(Clone, Copy)]
 pub struct Call {
     pub whole: bool,
     pub service: u8,
