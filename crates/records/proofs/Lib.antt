@@ -1,3 +1,3 @@
--- The laws that belong to no one function, and the rules that walks by hand share.
+-- The laws that belong to no one function, and the theorems.
 pub mod Laws
 pub mod Theorems

@@ -1,6 +1,6 @@
 -- `engine::best::best_support` meets its contract: the search starts from all candidates, which are sound together. Assumes nothing.
 use Prim.Native.Nat.{◌-◌, ◌^◌}
-use mathlib.Core.Path.{◌≡◌, refl, sym, ◌∙◌}
+use mathlib.Core.Path.{◌≡◌, sym}
 use native.Mathlib.Omega.{arith}
 use lib.Pow.{pow_pos}
 use lib.ListN.{length}
@@ -8,18 +8,6 @@ use borrow.Author.Rules.{rules}
 use Rattle.engine.proofs.Laws.Arena.{same_more, room-start, same-sets, same-given, open-same}
 use Rattle.engine.proofs.Laws.Pick.{picked-held, nets-many, all-sets, all-priced, all-pick, all-open, best-chosen, chosen_of}
 use Rattle.engine.proofs.best.best_support.Goals as goal
-
-pub reading_count-requires : goal.reading_count-requires
-reading_count-requires c = c.requires.few
-
-pub overflow_sub-all : goal.overflow_sub-all
-overflow_sub-all c = omega (arith, c.reading_count.ensures, pow_pos c.args.priced.count)
-
-pub sum_weights-requires : goal.sum_weights-requires
-sum_weights-requires c = c.requires.few
-
-pub fill_arena-requires : goal.fill_arena-requires
-fill_arena-requires c = (c.requires.few, refl)
 
 pub best_from-best-requires : goal.best_from-best-requires
 best_from-best-requires c =
@@ -29,13 +17,6 @@ best_from-best-requires c =
       few,
       room-start few c.fill_arena.ensures.0,
     )
-
-pub sets_of-found-requires : goal.sets_of-found-requires
-sets_of-found-requires c =
-    (c.requires.few, c.best_from-best.ensures.len_bound.1.long ∙ c.fill_arena.ensures.0)
-
-pub pick_support-requires : goal.pick_support-requires
-pick_support-requires c = c.requires.few
 
 pub returns : goal.returns
 returns c =

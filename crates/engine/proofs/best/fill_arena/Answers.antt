@@ -2,13 +2,10 @@
 use Prim.Native.Nat.{◌<◌}
 use mathlib.Core.Path.{refl, ◌∙◌}
 use native.Mathlib.Omega.{arith}
-use Rattle.engine.proofs.Laws.Fill.{fill_none, fill-next, fill-at}
+use Rattle.engine.proofs.Laws.Fill.{fill-next}
 use Rattle.engine.proofs.Laws.Rule.{readings-many}
 use Rattle.engine.proofs.best.fill_arena.Goals as goal
 use Rattle.engine.proofs.best.fill_arena.Goals.{In-loop-r}
-
-pub loop-r-init : goal.loop-r-init
-loop-r-init c = (omega arith, c.requires.1, fill_none _ _ _)
 
 -- a reading stands among the 1,024 places
 place-lt : (c : In-loop-r) → c.loop-r.r < 1024
@@ -26,9 +23,3 @@ loop-r-preserved c =
     let p = place-lt (goal.at.loop-r-preserved c).In-loop-r in
     let n = fill-next _ _ _ _ _ l.invariant.2 l.r _ (omega arith) (omega (arith, l.invariant.1)) refl in
     (omega arith, n.long ∙ c.requires.1, n)
-
-pub returns : goal.returns
-returns c =
-    let l = c.loop-r in
-    let n = c.reading_count-count.ensures in
-    (l.invariant.1, λ k h. fill-at l.invariant.2 k (omega arith))

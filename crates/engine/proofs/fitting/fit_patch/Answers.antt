@@ -7,9 +7,6 @@ use Rattle.engine.proofs.Laws.FitSheet.{gates-few, patch-refused, patch-accepted
 use Rattle.engine.proofs.Laws.Tree.{trees_size-le}
 use Rattle.engine.proofs.fitting.fit_patch.Goals as goal
 
-pub trees_size-size-requires : goal.trees_size-size-requires
-trees_size-size-requires c = let h = c.requires.fittable.0 in (h.few, h.entries, h.held.targets)
-
 pub overflow_add-old : goal.overflow_add-old
 overflow_add-old c =
     let a = c.args in
@@ -27,19 +24,6 @@ returns-then-old-size-gt-GATES c =
     let a = c.args in
     patch-refused c.requires.fittable.0 (take a.count a.outputs) a.reply.now
     (omega (arith, c.if-old-size-gt-GATES.true, c.trees_size-size.ensures))
-
-pub place_gates-new-requires : goal.place_gates-new-requires
-place_gates-new-requires c =
-    (c.requires.fittable.0, omega (arith, c.if-old-size-gt-GATES.false, c.trees_size-size.ensures))
-
-pub move_nets-requires : goal.move_nets-requires
-move_nets-requires c =
-    let held : c.args.count ≤ length c.args.outputs = omega (arith, c.requires.count_bound.0) in
-    let h = c.requires.fittable.0.held in (
-      held,
-      c.requires.count_bound.0,
-      λ i l. omega (arith, c.requires.count_bound.1 i l, h.inputs, h.targets, h.count),
-    )
 
 pub put_netlist-len-requires : goal.put_netlist-len-requires
 put_netlist-len-requires c =

@@ -1,6 +1,5 @@
 -- `engine::fitting::fit_sheet` meets its contract. Assumes nothing.
 use Prim.Native.Nat.{◌+◌, ◌≤◌}
-use mathlib.Core.Path.{sym}
 use native.Mathlib.Omega.{arith}
 use lib.ListN.{length}
 use Rattle.engine.proofs.Laws.FitSheet.{outputs-count, outputs-most, outputs-old}
@@ -8,12 +7,6 @@ use Rattle.engine.proofs.Laws.FitSheet.{sheet-refused, sheet-fittable, sheet-acc
 use Rattle.engine.proofs.Laws.PartsSheet.{parts-sheet, parts-few}
 use Rattle.engine.proofs.fitting.fit_sheet.Goals as goal
 use Rattle.engine.proofs.fitting.fit_sheet.Goals.{After-reading_count}
-
-pub slice_bounds-read_sheet-end : goal.slice_bounds-read_sheet-end
-slice_bounds-read_sheet-end c = sym c.requires.0.parts.nets-long
-
-pub slice_bounds-read_sheet-end-2 : goal.slice_bounds-read_sheet-end-2
-slice_bounds-read_sheet-end-2 c = sym c.requires.0.parts.weights-long
 
 pub returns-then-answer-ne0 : goal.returns-then-answer-ne0
 returns-then-answer-ne0 c j q w =

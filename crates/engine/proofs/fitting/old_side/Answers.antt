@@ -3,9 +3,6 @@ use native.Mathlib.Omega.{arith}
 use Rattle.engine.proofs.Laws.OldSide.{gates-count, gates-most, old_of}
 use Rattle.engine.proofs.fitting.old_side.Goals as goal
 
-pub miter_of-miter-requires : goal.miter_of-miter-requires
-miter_of-miter-requires c = c.requires
-
 pub mark_from-marks-requires : goal.mark_from-marks-requires
 mark_from-marks-requires c =
     let r = c.miter_of-miter.ensures.miter_room in

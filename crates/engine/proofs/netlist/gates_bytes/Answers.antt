@@ -1,7 +1,7 @@
 -- `engine::netlist::gates_bytes` meets its contract: after i turns the first i gates stand at the start, ten bytes each. Assumes
 -- nothing.
 use Prim.Native.Nat.{ℕ, ◌*◌}
-use mathlib.Core.Path.{◌≡◌, ◌∙◌}
+use mathlib.Core.Path.{◌≡◌}
 use native.Mathlib.Omega.{arith}
 use lib.ListN.{length, get_or, replicate, length-replicate}
 use Rattle.records.specs.Job.{gate_bytes}
@@ -11,11 +11,6 @@ use Rattle.engine.proofs.netlist.gates_bytes.Goals as goal
 
 pub loop-i-init : goal.loop-i-init
 loop-i-init c = (omega arith, put-none gate_bytes (gate_at c.args.gates) (replicate 4000 0) 0)
-
-pub put_code-requires : goal.put_code-requires
-put_code-requires c =
-    let l = c.loop-i in
-    (omega arith, l.invariant.1.0 ∙ length-replicate {A = ℕ} 4000 0)
 
 pub loop-i-preserved : goal.loop-i-preserved
 loop-i-preserved c =

@@ -1,16 +1,8 @@
 -- `engine::netlist::put_gate_list` meets its contract. Assumes nothing.
-use mathlib.Core.Path.{sym}
 use native.Mathlib.Omega.{arith}
-use lib.Seq.{length-take-le}
 use Rattle.engine.proofs.Laws.Sheet.{field-bytes}
 use Rattle.engine.proofs.Laws.Fitting.{length-gate-bytes}
 use Rattle.engine.proofs.netlist.put_gate_list.Goals as goal
-
-pub gates_bytes-bytes-requires : goal.gates_bytes-bytes-requires
-gates_bytes-bytes-requires c = c.requires.0
-
-pub slice_bounds-put_field-end : goal.slice_bounds-put_field-end
-slice_bounds-put_field-end c = sym (length-take-le _ _ (omega arith))
 
 pub returns : goal.returns
 returns c =

@@ -3,9 +3,6 @@ use native.Mathlib.Omega.{arith}
 use Rattle.engine.proofs.Laws.Fitting.{inputs_end, gates-end, netlist-put}
 use Rattle.engine.proofs.netlist.put_netlist.Goals as goal
 
-pub put_inputs-a-requires : goal.put_inputs-a-requires
-put_inputs-a-requires c = let p = c.requires in (p.1, omega (arith, p.0))
-
 pub put_gate_list-b-requires : goal.put_gate_list-b-requires
 put_gate_list-b-requires c =
     let e = inputs_end c.args.inputs c.put_inputs-a.ensures in

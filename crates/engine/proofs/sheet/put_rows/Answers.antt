@@ -7,11 +7,6 @@ use lib.Seq.{length-take-le}
 use Rattle.engine.proofs.Laws.Sheet.{field-bytes, shl-pow, pow-table}
 use Rattle.engine.proofs.sheet.put_rows.Goals as goal
 
-pub slice_bounds-put_field-end : goal.slice_bounds-put_field-end
-slice_bounds-put_field-end c =
-    let a = c.args in
-    sym (length-take-le _ _ (rw (shl-pow a.len (omega arith)) (omega arith)))
-
 pub returns : goal.returns
 returns c =
     let a = c.args in

@@ -7,9 +7,6 @@ use lib.Seq.{length-take-le}
 use Rattle.engine.proofs.Laws.Sheet.{field-bytes, length-nets}
 use Rattle.engine.proofs.sheet.put_support.Goals as goal
 
-pub slice_bounds-put_field-end : goal.slice_bounds-put_field-end
-slice_bounds-put_field-end c = sym (length-take-le _ _ (omega arith))
-
 pub returns : goal.returns
 returns c =
     let a = c.args in

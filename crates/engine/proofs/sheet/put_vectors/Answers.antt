@@ -6,9 +6,6 @@ use lib.ListN.{take}
 use Rattle.engine.proofs.Laws.Sheet.{field-bytes}
 use Rattle.engine.proofs.sheet.put_vectors.Goals as goal
 
-pub slice_bounds-put_field-end : goal.slice_bounds-put_field-end
-slice_bounds-put_field-end c = sym (length-take-le _ _ (omega arith))
-
 pub returns : goal.returns
 returns c =
     let a = c.args in

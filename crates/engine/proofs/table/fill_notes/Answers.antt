@@ -1,21 +1,15 @@
 -- `engine::table::fill_notes` meets its contract. The invariant: the readings before r have their notes. Assumes nothing.
 use Prim.Native.Nat.{◌<◌}
 use native.Mathlib.Omega.{arith}
-use Rattle.engine.proofs.Laws.Fill.{fill_none, fill-next, fill-at}
+use Rattle.engine.proofs.Laws.Fill.{fill-next, fill-at}
 use Rattle.engine.proofs.Laws.Notes.{notes-sets}
 use Rattle.engine.proofs.Laws.Rule.{readings-many}
 use Rattle.engine.proofs.table.fill_notes.Goals as goal
 use Rattle.engine.proofs.table.fill_notes.Goals.{In-loop-r}
 
-pub loop-r-init : goal.loop-r-init
-loop-r-init c = (omega arith, fill_none _ 0 _)
-
 -- a reading stands among the 1,024 places
 place-lt : (c : In-loop-r) → c.loop-r.r < 1024
 place-lt c = let m = readings-many c.requires in omega (arith, c.reading_count-count.ensures)
-
-pub offset_bounds-sets-r : goal.offset_bounds-sets-r
-offset_bounds-sets-r c = omega (arith, place-lt (goal.at.offset_bounds-sets-r c).In-loop-r)
 
 pub bounds-sets-r : goal.bounds-sets-r
 bounds-sets-r c = omega (arith, place-lt (goal.at.bounds-sets-r c).In-loop-r)

@@ -1,7 +1,7 @@
 -- `engine::table::fill_table` meets its contract. The invariant: the readings before r have their vectors in the table.
 -- Assumes nothing.
 use Prim.Native.Nat.{◌<◌}
-use mathlib.Core.Path.{refl, ◌∙◌}
+use mathlib.Core.Path.{◌∙◌}
 use native.Mathlib.Omega.{arith}
 use lib.ListN.{length-set}
 use Rattle.engine.proofs.Laws.Rule.{readings-many}
@@ -9,22 +9,12 @@ use Rattle.engine.proofs.Laws.Sets.{table-next, table-sets}
 use Rattle.engine.proofs.table.fill_table.Goals as goal
 use Rattle.engine.proofs.table.fill_table.Goals.{In-loop-r}
 
-pub loop-r-init : goal.loop-r-init
-loop-r-init c = (omega arith, refl, λ r h. let f : ⊥ = omega arith in absurd f)
-
 -- a reading stands among the 1,024 places
 place-lt : (c : In-loop-r) → c.loop-r.r < 1024
 place-lt c = let m = readings-many c.requires.0 in omega (arith, c.reading_count-count.ensures)
 
-pub offset_bounds-sets-r : goal.offset_bounds-sets-r
-offset_bounds-sets-r c = omega (arith, place-lt (goal.at.offset_bounds-sets-r c).In-loop-r)
-
 pub bounds-table-r : goal.bounds-table-r
 bounds-table-r c = omega (arith, place-lt (goal.at.bounds-table-r c).In-loop-r)
-
-pub bounds-sets-r : goal.bounds-sets-r
-bounds-sets-r c =
-    omega (arith, c.reading_count-count.ensures, c.requires.1)
 
 pub loop-r-preserved : goal.loop-r-preserved
 loop-r-preserved c =

@@ -29,14 +29,6 @@ turn c =
 pub overflow_mul-w : goal.overflow_mul-w
 overflow_mul-w c = omega (arith, turn (goal.at.overflow_mul-w c).In-loop-i)
 
-pub overflow_add-at : goal.overflow_add-at
-overflow_add-at c = omega (arith, c.loop-i.invariant.0, c.requires.0.within)
-
-pub table_bit-requires : goal.table_bit-requires
-table_bit-requires c =
-    let p = c.requires.0 in
-    (omega (arith, c.loop-i.invariant.0, p.within), p.target)
-
 pub overflow_add-w : goal.overflow_add-w
 overflow_add-w c = omega (arith, turn (goal.at.overflow_add-w c).In-loop-i, c.table_bit.ensures)
 
@@ -45,9 +37,3 @@ loop-i-preserved c =
     let p = (turn (goal.at.loop-i-preserved c).In-loop-i).0 in
     let b = c.table_bit.ensures in
     (omega (arith, c.loop-i.invariant.0), omega arith)
-
-pub returns : goal.returns
-returns c =
-    let l = c.loop-i in
-    let e : l.i ≡ 0 = omega arith in
-    rw e at l.invariant.1

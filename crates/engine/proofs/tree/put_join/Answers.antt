@@ -114,6 +114,3 @@ unfolding join_gates not_of or_of
 returns-in-OrHigh c =
     gates-put-same (gates-put-append c.add_gate-next-in-OrHigh.ensures c.add_gate-in-OrHigh.ensures)
     (told c.requires c.in-OrHigh.is)
-
-pub returns-in-Both : goal.returns-in-Both
-returns-in-Both c = gates-put-same c.put_mux.ensures (told c.requires c.in-Both.is)

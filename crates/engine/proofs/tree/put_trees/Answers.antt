@@ -3,12 +3,9 @@
 use Prim.Native.Nat.{◌+◌, ◌≤◌, ◌<◌}
 use native.Mathlib.Omega.{arith}
 use lib.ListN.{length}
-use Rattle.engine.proofs.Laws.Tree.{growing-none, growing-room, growing-net, growing-next, growing-all}
+use Rattle.engine.proofs.Laws.Tree.{growing-room, growing-net, growing-next, growing-all}
 use Rattle.engine.proofs.tree.put_trees.Goals as goal
 use Rattle.engine.proofs.tree.put_trees.Goals.{After-put_tree-next}
-
-pub loop-t-init : goal.loop-t-init
-loop-t-init c = growing-none _ _ _ _ _ _ _ _
 
 pub put_tree-next-requires : goal.put_tree-next-requires
 put_tree-next-requires c =
@@ -33,7 +30,7 @@ overflow_cast-numbers c = let n = net (goal.at.overflow_cast-numbers c).After-pu
 pub loop-t-preserved : goal.loop-t-preserved
 loop-t-preserved c =
     let n : c.args.k ≤ length c.args.support = omega (arith, c.requires.k_bound.0) in
-    growing-next c.loop-t.invariant c.loop-t-test.true n (omega (arith, c.requires.targets_bound)) c.put_tree-next.ensures
+    growing-next c.loop-t.invariant c.loop-t-test.true n (omega (arith, c.requires.targets_bound.0)) c.put_tree-next.ensures
 
 pub returns : goal.returns
 returns c =

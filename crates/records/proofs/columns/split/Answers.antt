@@ -3,7 +3,7 @@
 use Prim.Native.Nat.{◌*◌}
 use mathlib.Core.Path.{◌≡◌, refl}
 use native.Mathlib.Omega.{arith}
-use lib.ListN.{get_or, length-set}
+use lib.ListN.{get_or}
 use Rattle.records.specs.Inner.{no_gate, struct_slots}
 use Rattle.records.specs.declared.gate.Gate.{Gate}
 use Rattle.records.proofs.Laws.Job.{filled_none, filled_next, put-none, put_next}
@@ -20,15 +20,6 @@ loop-i-init c =
       put-none struct_slots (λ k. get_or a.gates k no_gate) a.slots.now 0,
     )
 
-pub bounds-slots-at-in-loop-i : goal.bounds-slots-at-in-loop-i
-bounds-slots-at-in-loop-i c = simp length-set (omega arith)
-
-pub bounds-slots-at-in-loop-i-2 : goal.bounds-slots-at-in-loop-i-2
-bounds-slots-at-in-loop-i-2 c = simp length-set (omega arith)
-
-pub bounds-slots-at-in-loop-i-3 : goal.bounds-slots-at-in-loop-i-3
-bounds-slots-at-in-loop-i-3 c = simp length-set (omega arith)
-
 pub loop-i-preserved : goal.loop-i-preserved
 unfolding no_gate
 loop-i-preserved c =
@@ -40,15 +31,6 @@ loop-i-preserved c =
       put_next struct_slots (λ k. get_or a.gates k no_gate) a.slots.now 0 4 (λ i. length-struct_slots _) l.slots _ l.i (4 * l.i)
           (omega arith) (omega arith) (slots-placed l.slots (4 * l.i) (get_or a.gates l.i no_gate) (omega arith)) l.invariant.3,
     )
-
-pub shape_of-kinds : goal.shape_of-kinds
-shape_of-kinds c = c.loop-i.invariant.1.0
-
-pub shape_of-counts : goal.shape_of-counts
-shape_of-counts c = c.loop-i.invariant.2.0
-
-pub shape_of-slots : goal.shape_of-slots
-shape_of-slots c = c.loop-i.invariant.3.0
 
 pub returns : goal.returns
 returns c =

@@ -17,9 +17,6 @@ loop-i-preserved c =
     let a = c.args in
     (omega arith, filled_next a.buf.now (λ k. get_or a.src.now k 0) l.buf l.i _ (omega arith) refl l.invariant.1)
 
-pub shape_of-buf : goal.shape_of-buf
-shape_of-buf c = c.loop-i.invariant.1.0
-
 pub returns : goal.returns
 returns c =
     let l = c.loop-i in

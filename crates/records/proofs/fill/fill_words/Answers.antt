@@ -6,7 +6,7 @@ use native.Mathlib.Omega.{arith}
 use native.Mathlib.Nat.{mul-zero}
 use Rattle.records.specs.Bytes.{word}
 use Rattle.records.specs.Inner.{word_column}
-use Rattle.records.proofs.Laws.Job.{next-record, record-within, filled_none, filled_next}
+use Rattle.records.proofs.Laws.Job.{next-record, filled_none, filled_next}
 use Rattle.records.proofs.fill.fill_words.Goals as goal
 
 pub loop-i-init : goal.loop-i-init
@@ -16,18 +16,6 @@ loop-i-init c =
       omega (arith, mul-zero a.size),
       filled_none a.places.now (λ k. word a.s.now (a.size * k + a.offset)),
     )
-
-pub word_at-requires : goal.word_at-requires
-word_at-requires c =
-    let l = c.loop-i in
-    let a = c.args in
-    omega (arith, record-within a.size l.i a.count c.loop-i-test.true)
-
-pub overflow_add-at : goal.overflow_add-at
-overflow_add-at c =
-    let l = c.loop-i in
-    let a = c.args in
-    omega (arith, record-within a.size l.i a.count c.loop-i-test.true)
 
 pub loop-i-preserved : goal.loop-i-preserved
 unfolding word
@@ -43,9 +31,6 @@ loop-i-preserved c =
       omega (arith, next-record a.size l.i),
       filled_next a.places.now (λ k. word s (a.size * k + a.offset)) l.places l.i _ (omega arith) e l.invariant.2,
     )
-
-pub shape_of-places : goal.shape_of-places
-shape_of-places c = c.loop-i.invariant.2.0
 
 pub returns : goal.returns
 unfolding word_column

@@ -19,12 +19,6 @@ returns-then-not-permits c =
     let p = c.permits in
     sym (gate_good-refused x.net (gate_from x.gate) (sym p.ensures ∙ c.if-not-permits.true))
 
-pub loop-i-init : goal.loop-i-init
-loop-i-init c =
-    let x = c.args in
-    let e : x.gate.count - 0 ≡ x.gate.count = omega arith in
-    rw e
-
 pub returns-then-not-slot_good : goal.returns-then-not-slot_good
 unfolding gate_from gate_of struct_slots
 returns-then-not-slot_good c =

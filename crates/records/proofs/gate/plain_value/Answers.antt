@@ -8,18 +8,6 @@ use Rattle.records.specs.Gate.{gate_value}
 use Rattle.records.proofs.Laws.Gate.{Gives, and-bits, or-bits, xor-bits, gate_value-other}
 use Rattle.records.proofs.gate.plain_value.Goals as goal
 
-pub overflow_mul-result : goal.overflow_mul-result
-overflow_mul-result c =
-    let h = and-bits c.args.x c.args.y (omega arith) (omega arith) in record { fits = omega arith }
-
-pub overflow_mul-result-in-6 : goal.overflow_mul-result-in-6
-overflow_mul-result-in-6 c =
-    let h = and-bits c.args.x c.args.y (omega arith) (omega arith) in record { fits = omega arith }
-
-pub overflow_add-result-in-6 : goal.overflow_add-result-in-6
-overflow_add-result-in-6 c =
-    let h = and-bits c.args.x c.args.y (omega arith) (omega arith) in record { fits = omega arith }
-
 -- a kind that is n has the value of kind n
 at-kind : (x y : ℕ) {k n v : ℕ} → k ≡ n → Gives n x y v → Gives k x y v
 at-kind x y e p = rw e p

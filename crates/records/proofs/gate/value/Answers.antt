@@ -38,11 +38,6 @@ loop-i-init c =
     let k = x.kind in
     (omega arith, b, fold-none (plain_of k) (even k) x.count x.operands c.if-count-lt4.i c.if-plain-eq4.r n none)
 
-pub bounds-operands-i : goal.bounds-operands-i
-bounds-operands-i c =
-    let n : length c.args.operands ≡ 4 = omega arith in
-    omega (arith, length-lowest c.args.count c.args.operands)
-
 pub loop-i-preserved : goal.loop-i-preserved
 loop-i-preserved c =
     let x = c.args in
@@ -61,10 +56,3 @@ returns-then-kind-eq1 c =
     ap inverted (rw z at c.loop-i.invariant.2)
     ∙ sym (odd-inverts (plain_of x.kind) vs (even x.kind) (omega arith))
     ∙ ap (λ (n : ℕ). gate_value n vs) (sym k)
-
-pub returns-else-kind-eq1 : goal.returns-else-kind-eq1
-returns-else-kind-eq1 c =
-    let x = c.args in
-    let z : c.loop-i.i ≡ 0 = omega arith in
-    let k : plain_of x.kind ≡ x.kind = omega arith in
-    (rw z at c.loop-i.invariant.2) ∙ ap (λ (n : ℕ). gate_value n (lowest x.count x.operands)) k

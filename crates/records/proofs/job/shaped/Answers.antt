@@ -23,9 +23,6 @@ bounds-job-4 c =
     walk-room c.args.job.now c.walked-w.result c.walked-w.ensures c.in-Passed.is in
     omega (arith, room)
 
-pub counted-requires : goal.counted-requires
-counted-requires c = c.walked-w.ensures.sizes.1
-
 pub returns : goal.returns
 returns c =
     c.counted.ensures

@@ -2,7 +2,6 @@
 -- all are. Assumes nothing.
 use mathlib.Core.Bool.{◌&&◌}
 use mathlib.Core.Path.{◌≡◌, ◌∙◌, sym}
-use native.Mathlib.Nat.{add-zero}
 use Prim.Native.Nat.{◌+◌}
 use Rattle.records.specs.Job.{gate_at, gates_of}
 use Rattle.records.specs.Refusal.{gates_good}
@@ -11,9 +10,6 @@ use Rattle.records.specs.Inner.{check_of, struct_at}
 use Rattle.records.proofs.Laws.Netlist.{gates_good-drop, drop-gates-past}
 use Rattle.records.proofs.netlist.check_gates.Invariants.{good}
 use Rattle.records.proofs.netlist.check_gates.Goals as goal
-
-pub loop-i-init : goal.loop-i-init
-loop-i-init c = rw add-zero
 
 pub returns-then-not-gate_good : goal.returns-then-not-gate_good
 unfolding check_of gate_at gate_from struct_at

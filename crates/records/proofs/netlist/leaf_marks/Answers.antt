@@ -1,7 +1,7 @@
 -- `records::netlist::leaf_marks` meets its contract. The loop's invariant: the marks of the inputs and of the first i
 -- targets are as they should be. Assumes nothing.
 use lib.ListN.{length-set}
-use mathlib.Core.Path.{◌≡◌, refl, ◌∙◌}
+use mathlib.Core.Path.{refl, ◌∙◌}
 use native.Mathlib.Omega.{arith}
 use Rattle.records.proofs.Laws.Netlist.{leaf_marks-none, leaf_marks-more}
 use Rattle.records.proofs.netlist.leaf_marks.Goals as goal
@@ -14,9 +14,3 @@ loop-i-preserved c =
     let l = c.loop-i in
     let more = leaf_marks-more c.args.inputs l.i l.marks (omega arith) l.invariant.2 in
     (omega arith, length-set l.marks _ _ ∙ l.invariant.1, more)
-
-pub returns : goal.returns
-returns c =
-    let l = c.loop-i in
-    let e : c.args.targets ≡ l.i = omega arith in
-    (l.invariant.1, rw e l.invariant.2)

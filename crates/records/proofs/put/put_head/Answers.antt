@@ -4,16 +4,9 @@ use mathlib.Core.Path.{◌≡◌, refl}
 use mathlib.Core.List.{[], ◌∷◌}
 use native.Mathlib.Omega.{arith}
 use native.Mathlib.Numerals.{add-one}
-use lib.ListN.{length-set}
 use Rattle.records.specs.Bytes.{byte_pair}
 use Rattle.records.proofs.Laws.Job.{sets-placed, high_byte}
 use Rattle.records.proofs.put.put_head.Goals as goal
-
-pub bounds-buf-at-2 : goal.bounds-buf-at-2
-bounds-buf-at-2 c = simp length-set (omega arith)
-
-pub bounds-buf-at-3 : goal.bounds-buf-at-3
-bounds-buf-at-3 c = simp length-set (omega arith)
 
 pub returns : goal.returns
 unfolding byte_pair

@@ -8,12 +8,6 @@ use Rattle.records.proofs.reading.fill_rest.Goals as goal
 pub returns-then-reply-ne0 : goal.returns-then-reply-ne0
 returns-then-reply-ne0 c = rest-left _ _ _ _ _ _ c.if-reply-ne0.true
 
-pub starts_of-at-requires : goal.starts_of-at-requires
-starts_of-at-requires c =
-    let laid : Laid c.args.job.now c.args.reply.counts =
-    c.requires.laid c.if-reply-ne0.false in
-    laid.within
-
 pub fill_words-requires : goal.fill_words-requires
 fill_words-requires c =
     let laid : Laid c.args.job.now c.args.reply.counts =
@@ -54,18 +48,6 @@ fill_words-requires-4 c =
     let at : Parts c.args.job.now c.starts_of-at.result =
     parts _ _ laid c.starts_of-at.result c.starts_of-at.ensures in
     weights-fit _ _ c.requires c.if-reply-ne0.false _ (at)
-
-pub shape_of-old_outputs : goal.shape_of-old_outputs
-shape_of-old_outputs c = c.fill_words.auto.places
-
-pub shape_of-golden_outputs : goal.shape_of-golden_outputs
-shape_of-golden_outputs c = c.fill_words-2.auto.places
-
-pub shape_of-nets : goal.shape_of-nets
-shape_of-nets c = c.fill_words-3.auto.places
-
-pub shape_of-weights : goal.shape_of-weights
-shape_of-weights c = c.fill_words-4.auto.places
 
 pub returns : goal.returns
 returns c =

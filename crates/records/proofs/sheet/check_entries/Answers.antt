@@ -1,7 +1,6 @@
 -- `records::sheet::check_entries` meets its contract. The loop's invariant: testing the bytes left from position i on
 -- gives what testing all gives. Assumes nothing.
-use Prim.Native.Nat.{◌-◌, ◌≤◌, ◌<◌}
-use mathlib.Core.Path.{◌≡◌}
+use Prim.Native.Nat.{◌≤◌, ◌<◌}
 use native.Mathlib.Omega.{arith}
 use borrow.Author.Tests.{lt-ltb, le-ltb}
 use lib.ListN.{get_or}
@@ -9,12 +8,6 @@ use Rattle.records.specs.Inner.{check_of}
 use Rattle.records.proofs.Laws.Sheet.{all-next, all_end}
 use Rattle.records.proofs.sheet.check_entries.Invariants.{below}
 use Rattle.records.proofs.sheet.check_entries.Goals as goal
-
-pub loop-i-init : goal.loop-i-init
-loop-i-init c =
-    let a = c.args in
-    let z : a.from - a.from ≡ 0 = omega arith in
-    (omega arith, omega arith, rw z)
 
 pub returns-then-limit-wide : goal.returns-then-limit-wide
 unfolding check_of

@@ -38,15 +38,6 @@ returns-then-len-count c =
     let a = c.args in
     rw (notes-bad a.s.now a.at a.count c.requires c.if-at-s.false _ _ body c.if-len-count.true)
 
-pub check_entries-requires : goal.check_entries-requires
-check_entries-requires c =
-    let body : let a = c.args in field_at a.s.now a.at 22 ≡ Body c.in-Body.start c.in-Body.len =
-    sym c.field_at-found.ensures ∙ c.in-Body.is in
-    let within : c.in-Body.start + c.in-Body.len ≤ length c.args.s.now =
-    let a = c.args in
-    notes-within a.s.now a.at a.count c.requires c.if-at-s.false _ _ (body) in
-    (omega (arith, within), omega arith)
-
 pub returns : goal.returns
 returns c =
     let body : let a = c.args in field_at a.s.now a.at 22 ≡ Body c.in-Body.start c.in-Body.len =

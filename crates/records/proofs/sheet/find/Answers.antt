@@ -10,9 +10,6 @@ pub loop-i-init : goal.loop-i-init
 unfolding found_in
 loop-i-init c = (omega arith, refl)
 
-pub overflow_cast-x : goal.overflow_cast-x
-overflow_cast-x c = omega (arith, c.shared_slice_known-1.given c.loop-i.i)
-
 pub returns-then-x-net : goal.returns-then-x-net
 returns-then-x-net c =
     let a = c.args in

@@ -7,7 +7,6 @@ use mathlib.Core.List.{List}
 use native.Mathlib.Omega.{arith}
 use lib.Dec.{ltb}
 use lib.ListN.{length, take, drop}
-use lib.Seq.{length-take-le}
 use Rattle.records.specs.Bytes.{all, nth}
 use Rattle.records.specs.Job.{Candidate, nets_of}
 use Rattle.records.specs.Sheet.{quad, patch_of, sheet_whole, patch_good}
@@ -30,14 +29,6 @@ returns-in_default c =
     c.refused.ensures
     ∙ reply-room a.targets a.candidates a.nets.now a.weights.now a.sheet.now
     (fails _ (sym c.check_sheet_room-first.ensures ∙ c.in_default.is))
-
-pub slice_bounds-sheet_shaped-end : goal.slice_bounds-sheet_shaped-end
-slice_bounds-sheet_shaped-end c =
-    let sheet : List ℕ =
-    c.args.sheet.now in
-    let end : ℕ =
-    c.fields_end-end.result in
-    sym (length-take-le end sheet c.fields_end-end.ensures.0)
 
 pub returns-in_default-found : goal.returns-in_default-found
 returns-in_default-found c =
@@ -86,18 +77,6 @@ overflow_sub-at-2 c =
     shape-whole sheet (λ i. (byte i).fits) end c.fields_end-end.ensures.0
     c.in-Whole.at (sym c.sheet_shaped-found.ensures ∙ c.in-Whole.is) in
     omega (arith, spans)
-
-pub check_notes-notes-requires : goal.check_notes-notes-requires
-check_notes-notes-requires c =
-    let sheet : List ℕ =
-    c.args.sheet.now in
-    let end : ℕ =
-    c.fields_end-end.result in
-    let spans : Spans sheet end c.in-Whole.at =
-    let byte = c.shared_slice_known-3-1.given in
-    shape-whole sheet (λ i. (byte i).fits) end c.fields_end-end.ensures.0
-    c.in-Whole.at (sym c.sheet_shaped-found.ensures ∙ c.in-Whole.is) in
-    spans.within
 
 pub returns-in_default-notes : goal.returns-in_default-notes
 returns-in_default-notes c =

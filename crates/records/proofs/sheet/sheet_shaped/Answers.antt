@@ -9,11 +9,6 @@ returns-in_default c =
     let a = c.args in
     broken-of-walk a.sheet.now c.walked-w.result c.walked-w.ensures c.in_default.is
 
-pub spanned-requires : goal.spanned-requires
-spanned-requires c =
-    let l = c.walked-w.ensures.sizes in
-    (l.0, l.1)
-
 pub returns : goal.returns
 returns c =
     let a = c.args in

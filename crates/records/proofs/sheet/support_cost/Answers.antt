@@ -64,22 +64,6 @@ bounds-weights-k c =
     (sym c.find-place.ensures ∙ c.in-At.is) in
     omega (arith, stands.below)
 
-pub overflow_cast-sum : goal.overflow_cast-sum
-overflow_cast-sum c =
-    let at : ℕ =
-    c.in-At.k in
-    let light : get_or c.args.weights.now at 0 < 65536 =
-    (c.shared_slice_known-in-loop-i-1.given at).fits in
-    omega (arith, light)
-
-pub overflow_add-sum : goal.overflow_add-sum
-overflow_add-sum c =
-    let at : ℕ =
-    c.in-At.k in
-    let light : get_or c.args.weights.now at 0 < 65536 =
-    (c.shared_slice_known-in-loop-i-1.given at).fits in
-    omega (arith, light)
-
 pub overflow_add-least : goal.overflow_add-least
 overflow_add-least c =
     let byte = c.shared_slice_known-1.given in

@@ -51,14 +51,6 @@ slice_bounds-quad_at-end c =
     c.field_end-cost.ensures in
     let p = spans in omega arith
 
-pub slice_bounds-patch_lines-end : goal.slice_bounds-patch_lines-end
-slice_bounds-patch_lines-end c =
-    let spans : PatchSpans c.args.sheet.now c.field_end-table.result c.field_end-cost.result =
-    patch-spans c.args.sheet.now c.requires.0 c.field_end-table.result c.field_end-table.ensures
-    c.field_end-cost.result
-    c.field_end-cost.ensures in
-    let p = spans in omega arith
-
 pub slice_bounds-patch_lines-end-2 : goal.slice_bounds-patch_lines-end-2
 slice_bounds-patch_lines-end-2 c =
     let spans : PatchSpans c.args.sheet.now c.field_end-table.result c.field_end-cost.result =

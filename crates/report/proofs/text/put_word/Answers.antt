@@ -5,7 +5,6 @@ use mathlib.Core.Path.{refl, ◌∙◌}
 use native.Mathlib.Nat.{add-zero}
 use native.Mathlib.Omega.{arith}
 use lib.ListN.{get_or, length-set}
-use lib.Seq.{take_all}
 use Rattle.report.proofs.Laws.Line.{printed-none, printed-copy}
 use Rattle.report.proofs.text.put_word.Goals as goal
 
@@ -20,9 +19,3 @@ loop-i-preserved c =
       length-set l.text (a.at + l.i) (get_or a.word.now l.i 0) ∙ l.invariant.1,
       printed-copy a.text.now a.at a.word.now c.requires l.i (omega arith) l.invariant.2,
     )
-
-pub returns : goal.returns
-returns c =
-    let l = c.loop-i in
-    let w = c.args.word.now in
-    rw (take_all l.i w (omega arith)) at l.invariant.2
