@@ -34,8 +34,8 @@ joined-kept : (t : ℕ) (c : Joined-leave_out t) → let a = c.args in Kept (a.a
 joined-kept t c =
     let k = c.leave_out.ensures.1 in
     elim c.if-leave_out.branch [
-      then-leave_out w ↦ rw w.arena-is (kept_more (omega (arith, w.reading_count.ensures)) k w.best_from-found.ensures.len_bound.1)
-    | else-leave_out w ↦ rw w.arena-is k
+      | then-leave_out w ↦ rw w.arena-is (kept_more (omega (arith, w.reading_count.ensures)) k w.best_from-found.ensures.len_bound.1)
+      | else-leave_out w ↦ rw w.arena-is k
     ]
 
 pub best_from-requires : goal.best_from-requires
@@ -53,7 +53,7 @@ returns-clause-best_from t c =
     rw e at
     (best-joined j {p = a.from} w g (rw e h) c.leave_out.ensures.0
     (elim c.if-leave_out.branch [
-      then-leave_out v ↦ inl (v.if-leave_out.true, λ o. rw v.found-is (v.best_from-found.ensures.best_from j w g (rw v.reading_count.ensures o)))
-    | else-leave_out v ↦ inr (v.if-leave_out.false, v.found-is)
+      | then-leave_out v ↦ inl (v.if-leave_out.true, λ o. rw v.found-is (v.best_from-found.ensures.best_from j w g (rw v.reading_count.ensures o)))
+      | else-leave_out v ↦ inr (v.if-leave_out.false, v.found-is)
     ])
     (λ v o. c.best_from.ensures.best_from j w v (open_kept _ a.at (joined-kept t d) o)))

@@ -11,20 +11,20 @@ use Rattle.engine.proofs.best.better_of.Goals as goal
 
 pub returns-then-from-best : goal.returns-then-from-best
 returns-then-from-best c = record {
-      len_bound = c.requires.1.few;
-      best_from = λ j w g h. best-cheaper j w g h c.if-from-best.true;
-    }
+  len_bound = c.requires.1.few;
+  best_from = λ j w g h. best-cheaper j w g h c.if-from-best.true;
+}
 
 pub returns-then-from-best-2 : goal.returns-then-from-best-2
 returns-then-from-best-2 c = record {
-      len_bound = c.requires.2;
-      best_from = λ j w g h. best-itself j w _ g c.if-from-best-2.true;
-    }
+  len_bound = c.requires.2;
+  best_from = λ j w g h. best-itself j w _ g c.if-from-best-2.true;
+}
 
 pub returns-then-precedes : goal.returns-then-precedes
 returns-then-precedes c =
     let fresh : (j : Job) → let a = c.args in PricedOf j a.priced a.all.now → OpenOf j 0 a.from (drop a.at a.arena.now) → CountedOf j (record { set = a.from.set; cost = a.from.cost; len = a.from.len; gates = c.patch_gates.result }) =
-        λ j w h. let p = closed-pick j w h in
+    λ j w h. let p = closed-pick j w h in
     let a = c.args in
     let xs = a.arena.now in
     let l = same-take (length xs - a.at) (2 ^ a.from.len) (drop a.at xs) (omega (arith, c.requires.3.room, c.requires.3.long)) in
@@ -37,7 +37,7 @@ returns-then-precedes c =
 pub returns : goal.returns
 returns c =
     let fresh : (j : Job) → let a = c.args in PricedOf j a.priced a.all.now → OpenOf j 0 a.from (drop a.at a.arena.now) → CountedOf j (record { set = a.from.set; cost = a.from.cost; len = a.from.len; gates = c.patch_gates.result }) =
-        λ j w h. let p = closed-pick j w h in
+    λ j w h. let p = closed-pick j w h in
     let a = c.args in
     let xs = a.arena.now in
     let l = same-take (length xs - a.at) (2 ^ a.from.len) (drop a.at xs) (omega (arith, c.requires.3.room, c.requires.3.long)) in

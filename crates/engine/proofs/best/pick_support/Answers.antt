@@ -52,8 +52,8 @@ loop-i-preserved c =
     let k : l.i < 10 = omega arith in (
       omega arith,
       elim c.if-set-i-eq1.branch [
-        then-set-i-eq1 w ↦ turn_in a.nets a.set l.i l.picks l.len _ _ h k l.invariant.1 w.if-set-i-eq1.true w.picks-is w.len-is
-      | else-set-i-eq1 w ↦ turn-out a.nets a.set l.i l.picks l.len _ _ h k l.invariant.1 w.if-set-i-eq1.false w.picks-is w.len-is
+        | then-set-i-eq1 w ↦ turn_in a.nets a.set l.i l.picks l.len _ _ h k l.invariant.1 w.if-set-i-eq1.true w.picks-is w.len-is
+        | else-set-i-eq1 w ↦ turn-out a.nets a.set l.i l.picks l.len _ _ h k l.invariant.1 w.if-set-i-eq1.false w.picks-is w.len-is
       ],
     )
 

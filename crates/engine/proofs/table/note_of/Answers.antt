@@ -22,7 +22,7 @@ pub returns-then-set-lowest_of : goal.returns-then-set-lowest_of
 unfolding note_from bit
 returns-then-set-lowest_of c =
     let power : 1 * 2 ^ c.lowest_of.result % 18446744073709551616 ≡ 2 ^ or_zero (lowest c.args.set) =
-        let v = c.lowest_of.result in
+    let v = c.lowest_of.result in
     let q : 2 ^ v ≤ 65536 = pow_mono {j = 16} (omega (arith, c.lowest_of.ensures, lowest-lt c.args.set)) in
     let e : 1 * 2 ^ v % 18446744073709551616 ≡ 2 ^ v = omega arith in
     e ∙ ap (λ (k : ℕ). 2 ^ k) c.lowest_of.ensures in
@@ -36,7 +36,7 @@ pub returns : goal.returns
 unfolding note_from bit
 returns c =
     let power : 1 * 2 ^ c.lowest_of.result % 18446744073709551616 ≡ 2 ^ or_zero (lowest c.args.set) =
-        let v = c.lowest_of.result in
+    let v = c.lowest_of.result in
     let q : 2 ^ v ≤ 65536 = pow_mono {j = 16} (omega (arith, c.lowest_of.ensures, lowest-lt c.args.set)) in
     let e : 1 * 2 ^ v % 18446744073709551616 ≡ 2 ^ v = omega arith in
     e ∙ ap (λ (k : ℕ). 2 ^ k) c.lowest_of.ensures in

@@ -16,8 +16,8 @@ low-put : (t : ℕ) (c : Joined-builds_low t) → let a = c.args in
 low-put t c =
     let b = c.builds_low.ensures in
     elim c.if-builds_low.branch [
-      then-builds_low w ↦ rw (w.low-is, w.gates-is) (half-put (sym b ∙ w.if-builds_low.true) w.put_tree-low.ensures)
-    | else-builds_low w ↦ rw (w.low-is, w.gates-is) (half-none _ (sym b ∙ w.if-builds_low.false))
+      | then-builds_low w ↦ rw (w.low-is, w.gates-is) (half-put (sym b ∙ w.if-builds_low.true) w.put_tree-low.ensures)
+      | else-builds_low w ↦ rw (w.low-is, w.gates-is) (half-none _ (sym b ∙ w.if-builds_low.false))
     ]
 
 high-put : (t : ℕ) (c : Joined-builds_high t) → let a = c.args in
@@ -28,8 +28,8 @@ high-put : (t : ℕ) (c : Joined-builds_high t) → let a = c.args in
 high-put t c =
     let b = c.builds_high.ensures in
     elim c.if-builds_high.branch [
-      then-builds_high w ↦ rw (w.high-is, w.gates-is) (half-put (sym b ∙ w.if-builds_high.true) w.put_tree-high.ensures)
-    | else-builds_high w ↦ rw (w.high-is, w.gates-is) (half-none _ (sym b ∙ w.if-builds_high.false))
+      | then-builds_high w ↦ rw (w.high-is, w.gates-is) (half-put (sym b ∙ w.if-builds_high.true) w.put_tree-high.ensures)
+      | else-builds_high w ↦ rw (w.high-is, w.gates-is) (half-none _ (sym b ∙ w.if-builds_high.false))
     ]
 
 pub add_gate-requires : goal.add_gate-requires

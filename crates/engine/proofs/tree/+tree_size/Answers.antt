@@ -34,8 +34,8 @@ low-size : (t : ℕ) (c : Joined-builds_low t) → let a = c.args in
 low-size t c =
     half-came (builds_low c.in-Split.join) _ c.builds_low.ensures
     (elim c.if-builds_low.branch [
-      then-builds_low w ↦ inl (w.if-builds_low.true, w.low-is ∙ w.tree_size-low.ensures)
-    | else-builds_low w ↦ inr (w.if-builds_low.false, w.low-is)
+      | then-builds_low w ↦ inl (w.if-builds_low.true, w.low-is ∙ w.tree_size-low.ensures)
+      | else-builds_low w ↦ inr (w.if-builds_low.false, w.low-is)
     ])
 
 high-size : (t : ℕ) (c : Joined-builds_high t) → let a = c.args in
@@ -44,8 +44,8 @@ high-size : (t : ℕ) (c : Joined-builds_high t) → let a = c.args in
 high-size t c =
     half-came (builds_high c.in-Split.join) _ c.builds_high.ensures
     (elim c.if-builds_high.branch [
-      then-builds_high w ↦ inl (w.if-builds_high.true, w.high-is ∙ w.tree_size-high.ensures)
-    | else-builds_high w ↦ inr (w.if-builds_high.false, w.high-is)
+      | then-builds_high w ↦ inl (w.if-builds_high.true, w.high-is ∙ w.tree_size-high.ensures)
+      | else-builds_high w ↦ inr (w.if-builds_high.false, w.high-is)
     ])
 
 -- .. which is not many

@@ -57,8 +57,8 @@ low-size t c h =
     let k = c.args.k - 1 in
     half-came (builds_low c.word_join-join.result) _ c.builds_low.ensures
     (elim c.if-builds_low.branch [
-      then-builds_low w ↦ inl (w.if-builds_low.true, w.below-is ∙ w.word_size-below.ensures ∙ ap (λ (x : ℕ). tree_size k (bits (2 ^ k) x)) h.low)
-    | else-builds_low w ↦ inr (w.if-builds_low.false, w.below-is)
+      | then-builds_low w ↦ inl (w.if-builds_low.true, w.below-is ∙ w.word_size-below.ensures ∙ ap (λ (x : ℕ). tree_size k (bits (2 ^ k) x)) h.low)
+      | else-builds_low w ↦ inr (w.if-builds_low.false, w.below-is)
     ])
 
 high-size : (t : ℕ) (c : Joined-builds_high t) → let k = c.args.k - 1 in
@@ -68,8 +68,8 @@ high-size t c h =
     let k = c.args.k - 1 in
     half-came (builds_high c.word_join-join.result) _ c.builds_high.ensures
     (elim c.if-builds_high.branch [
-      then-builds_high w ↦ inl (w.if-builds_high.true, w.above-is ∙ w.word_size-above.ensures ∙ ap (λ (x : ℕ). tree_size k (bits (2 ^ k) x)) h.high)
-    | else-builds_high w ↦ inr (w.if-builds_high.false, w.above-is)
+      | then-builds_high w ↦ inl (w.if-builds_high.true, w.above-is ∙ w.word_size-above.ensures ∙ ap (λ (x : ℕ). tree_size k (bits (2 ^ k) x)) h.high)
+      | else-builds_high w ↦ inr (w.if-builds_high.false, w.above-is)
     ])
 
 -- .. which is not many

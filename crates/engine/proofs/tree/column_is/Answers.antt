@@ -18,7 +18,7 @@ loop-i-init c = (omega arith, refl)
 pub returns-then-table_bit-x : goal.returns-then-table_bit-x
 returns-then-table_bit-x c =
     let turn : let a = c.args in let i = c.loop-i.i in let col = column (take a.count (drop a.at a.table.now)) a.t in all (eqb a.x) (drop i col) ≡ (eqb a.x (bit a.t (get_or a.table.now (a.at + i) 0)) && all (eqb a.x) (drop (i + 1) col)) =
-        let a = c.args in
+    let a = c.args in
     all-turn a.table.now a.at a.count a.t c.requires.0 a.x _ c.loop-i-test.true in
     let l = c.loop-i in
     let e = c.table_bit.ensures in
@@ -27,7 +27,7 @@ returns-then-table_bit-x c =
 pub loop-i-preserved : goal.loop-i-preserved
 loop-i-preserved c =
     let turn : let a = c.args in let i = c.loop-i.i in let col = column (take a.count (drop a.at a.table.now)) a.t in all (eqb a.x) (drop i col) ≡ (eqb a.x (bit a.t (get_or a.table.now (a.at + i) 0)) && all (eqb a.x) (drop (i + 1) col)) =
-        let a = c.args in
+    let a = c.args in
     all-turn a.table.now a.at a.count a.t c.requires.0 a.x _ c.loop-i-test.true in
     let l = c.loop-i in
     let e = c.table_bit.ensures in

@@ -18,7 +18,7 @@ loop-i-init c = (omega arith, refl)
 pub returns-then-table_bit : goal.returns-then-table_bit
 returns-then-table_bit c =
     let turn : let a = c.args in let i = c.loop-i.i in let low = column (take a.half (drop a.at a.table.now)) a.t in let high = column (take a.half (drop (a.at + a.half) a.table.now)) a.t in same (drop i low) (drop i high) ≡ (eqb (bit a.t (get_or a.table.now (a.at + i) 0)) (bit a.t (get_or a.table.now (a.at + a.half + i) 0)) && same (drop (i + 1) low) (drop (i + 1) high)) =
-        let a = c.args in
+    let a = c.args in
     let p = c.requires.0 in
     same_turn a.table.now a.at (a.at + a.half) a.half a.t (omega arith) p _ c.loop-i-test.true in
     let l = c.loop-i in
@@ -28,7 +28,7 @@ returns-then-table_bit c =
 pub loop-i-preserved : goal.loop-i-preserved
 loop-i-preserved c =
     let turn : let a = c.args in let i = c.loop-i.i in let low = column (take a.half (drop a.at a.table.now)) a.t in let high = column (take a.half (drop (a.at + a.half) a.table.now)) a.t in same (drop i low) (drop i high) ≡ (eqb (bit a.t (get_or a.table.now (a.at + i) 0)) (bit a.t (get_or a.table.now (a.at + a.half + i) 0)) && same (drop (i + 1) low) (drop (i + 1) high)) =
-        let a = c.args in
+    let a = c.args in
     let p = c.requires.0 in
     same_turn a.table.now a.at (a.at + a.half) a.half a.t (omega arith) p _ c.loop-i-test.true in
     let l = c.loop-i in (

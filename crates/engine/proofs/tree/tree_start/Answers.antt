@@ -22,7 +22,7 @@ returns-then-column_is c =
 pub returns-then-column_is-2 : goal.returns-then-column_is-2
 returns-then-column_is-2 c =
     let some : let a = c.args in all (eqb 0) (column_part a.table.now a.at a.k a.t) ≡ false =
-        let a = c.args in
+    let a = c.args in
     column-tested a.table.now a.at a.t 0 c.reading_count-size.ensures c.column_is.ensures c.if-column_is.false in
     let a = c.args in
     sym
@@ -34,17 +34,17 @@ returns-then-column_is-2 c =
 pub returns-then-halves_equal : goal.returns-then-halves_equal
 returns-then-halves_equal c =
     let some : let a = c.args in all (eqb 0) (column_part a.table.now a.at a.k a.t) ≡ false =
-        let a = c.args in
+    let a = c.args in
     column-tested a.table.now a.at a.t 0 c.reading_count-size.ensures c.column_is.ensures c.if-column_is.false in
     let low_half : List ℕ =
-        let a = c.args in
+    let a = c.args in
     column (take (c.reading_count-size.result / 2) (drop a.at a.table.now)) a.t in
     let high_half : List ℕ =
-        let a = c.args in
+    let a = c.args in
     let half = c.reading_count-size.result / 2 in
     column (take half (drop (a.at + half) a.table.now)) a.t in
     let halved : let a = c.args in tree_start a.k (column_part a.table.now a.at a.k a.t) ≡ cond c.halves_equal.result TreeStart.Equal (TreeStart.Split (join_of low_half high_half)) =
-        let a = c.args in
+    let a = c.args in
     start-halves a.table.now a.at a.k a.t _ c.requires.within
     (ap (λ (n : ℕ). n / 2) c.reading_count-size.ensures)
     some
@@ -55,17 +55,17 @@ returns-then-halves_equal c =
 pub returns : goal.returns
 returns c =
     let some : let a = c.args in all (eqb 0) (column_part a.table.now a.at a.k a.t) ≡ false =
-        let a = c.args in
+    let a = c.args in
     column-tested a.table.now a.at a.t 0 c.reading_count-size.ensures c.column_is.ensures c.if-column_is.false in
     let low_half : List ℕ =
-        let a = c.args in
+    let a = c.args in
     column (take (c.reading_count-size.result / 2) (drop a.at a.table.now)) a.t in
     let high_half : List ℕ =
-        let a = c.args in
+    let a = c.args in
     let half = c.reading_count-size.result / 2 in
     column (take half (drop (a.at + half) a.table.now)) a.t in
     let halved : let a = c.args in tree_start a.k (column_part a.table.now a.at a.k a.t) ≡ cond c.halves_equal.result TreeStart.Equal (TreeStart.Split (join_of low_half high_half)) =
-        let a = c.args in
+    let a = c.args in
     start-halves a.table.now a.at a.k a.t _ c.requires.within
     (ap (λ (n : ℕ). n / 2) c.reading_count-size.ensures)
     some

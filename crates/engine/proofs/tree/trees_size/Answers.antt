@@ -22,7 +22,7 @@ tree_size-sum-requires c =
 pub overflow_add-sum : goal.overflow_add-sum
 overflow_add-sum c =
     let small : let l = c.loop-t in let a = c.args in (l.sum + c.tree_size-sum.result + trees_size (a.targets - (l.t + 1)) (l.t + 1) a.k a.table.now ≡ trees_size a.targets 0 a.k a.table.now) × (trees_size a.targets 0 a.k a.table.now ≤ 20480) =
-        let l = c.loop-t in
+    let l = c.loop-t in
     let a = c.args in
     let n = trees_size-turn a.targets l.t a.k a.table.now c.loop-t-test.true in
     let r = c.tree_size-sum.ensures in
@@ -32,7 +32,7 @@ overflow_add-sum c =
 pub loop-t-preserved : goal.loop-t-preserved
 loop-t-preserved c =
     let small : let l = c.loop-t in let a = c.args in (l.sum + c.tree_size-sum.result + trees_size (a.targets - (l.t + 1)) (l.t + 1) a.k a.table.now ≡ trees_size a.targets 0 a.k a.table.now) × (trees_size a.targets 0 a.k a.table.now ≤ 20480) =
-        let l = c.loop-t in
+    let l = c.loop-t in
     let a = c.args in
     let n = trees_size-turn a.targets l.t a.k a.table.now c.loop-t-test.true in
     let r = c.tree_size-sum.ensures in
