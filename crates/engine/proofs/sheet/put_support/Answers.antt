@@ -1,9 +1,7 @@
 -- `engine::sheet::put_support` meets its contract. Assumes nothing.
 use Prim.Native.Nat.{◌*◌}
-use mathlib.Core.Path.{sym}
 use native.Mathlib.Omega.{arith}
 use lib.ListN.{take}
-use lib.Seq.{length-take-le}
 use Rattle.engine.proofs.Laws.Sheet.{field-bytes, length-nets}
 use Rattle.engine.proofs.sheet.put_support.Goals as goal
 
