@@ -1,12 +1,12 @@
 -- The twelve numbered cases (document 01, "Jobs on file", in card 6's ten-byte gates), as one table about the definitions. Assumes nothing.
 --
---   job_a               job A's bytes, with ten-byte gates (card 6 of document 02)
---   judged_a, sheet_a    its sheets from judge, 5 bytes, and from choose, 28 (cards 1 and 7)
---   job_with ..         a job's bytes: n, m, and the bytes of its fields 2 to 6
+--   job_a              job A's bytes, with ten-byte gates (card 6 of document 02)
+--   judged_a, sheet_a  its sheets from judge, 5 bytes, and from choose, 28 (cards 1 and 7)
+--   job_with ..        a job's bytes: n, m, and the bytes of its fields 2 to 6
 --   judged, chose k s  what judge and choose give on job bytes s and a reply buffer of k bytes: the number, then the sheet if it is 0
---   fitted_size s p     how many gates the job s fitted with the sheet p has, then its output nets
+--   fitted_size s p    how many gates the job s fitted with the sheet p has, then its output nets
 --   Case, cases        what is given, and what must be
---   cases_hold          each case gives what it must
+--   cases_hold         each case gives what it must
 use Rattle.std.specs.Prelude.{ℕ, List, [], ◌∷◌, ◌++◌, Bool, true, false, eqb, length, replicate}
 use Rattle.records.specs.Bytes.{all, field}
 use Rattle.records.specs.Job.{job_of}

@@ -1,10 +1,10 @@
 -- Choosing from lists. Assumes nothing.
 --
---   any p xs           p holds of some element of xs
---   keep p xs          the elements of xs of which p holds, in their order
---   first p xs         the first element of xs of which p holds
+--   any p xs            p holds of some element of xs
+--   keep p xs           the elements of xs of which p holds, in their order
+--   first p xs          the first element of xs of which p holds
 --   found o, or_zero o  whether there is one; the one, or 0
---   same xs ys         the lists of numbers xs and ys are equal
+--   same xs ys          the lists of numbers xs and ys are equal
 use Rattle.std.specs.Prelude.{ℕ, List, [], ◌∷◌, Bool, true, false, cond, ◌&&◌, ◌||◌, eqb}
 use Rattle.std.proofs.Math.Option.{Option, none, some}
 

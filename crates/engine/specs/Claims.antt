@@ -39,7 +39,7 @@
 --   LongestFit, LongestFitMet               no result has more than 4,075 bytes, and one has as many
 --   FittedIn, FittedGiven                   what the netlist in the buffer is
 --   ChosenEqual, ChosenFits, ChosenFitted                   choose, then compare or fit
---   list_in, WithoutWaste, NoWaste           judge's list: no vector twice, at most 2 ^ m, each after the first needed (card 8)
+--   list_in, WithoutWaste, NoWaste          judge's list: no vector twice, at most 2 ^ m, each after the first needed (card 8)
 --   Rearranges, in_order, reordered, AnyOrder                both output lists in one new order: the same replies and bytes (card 8)
 use Rattle.std.specs.Prelude.{ℕ, suc, ◌+◌, ◌%◌, ◌^◌, ◌≤◌, ◌<◌, ◌≡◌, ◌↔◌, ◌⊎◌, true, false, cond, leb, ltb, eqb, length, get_or, take, drop}
 use mathlib.Core.List.{List, [], ◌∷◌, ◌++◌, Memᴰ, map}

@@ -2,7 +2,7 @@
 --
 --   difference j is t      the smallest input at which the old outputs driven by the table t over the nets is differ from the
 --                          golden ones, if there is one
---   pair_tests s p          the tests of a job's bytes s and a sheet's bytes p, numbers 2 to 8
+--   pair_tests s p         the tests of a job's bytes s and a sheet's bytes p, numbers 2 to 8
 use Rattle.std.specs.Prelude.{ℕ, List, ◌++◌, not}
 use Rattle.std.proofs.Math.Option.{Option}
 use Rattle.records.specs.Job.{Job, job_of}

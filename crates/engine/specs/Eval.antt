@@ -2,12 +2,12 @@
 --
 --   bit i x              bit i of the number x
 --   bits k x             the k lowest bits of x, bit 0 first: the values of inputs or targets
---   number_of bs          the number with the bits bs, bit 0 first
---   all_inputs j          the inputs of job j, as numbers, ascending
---   all_vectors j         the settings of its targets (vectors), as numbers, ascending
---   old_values j x v      the value of each old net at input x with the targets set to vector v
---   old_outputs j x v     the old outputs there
---   golden_outputs j x    the golden outputs at input x
+--   number_of bs         the number with the bits bs, bit 0 first
+--   all_inputs j         the inputs of job j, as numbers, ascending
+--   all_vectors j        the settings of its targets (vectors), as numbers, ascending
+--   old_values j x v     the value of each old net at input x with the targets set to vector v
+--   old_outputs j x v    the old outputs there
+--   golden_outputs j x   the golden outputs at input x
 use Rattle.std.specs.Prelude.{ℕ, ◌+◌, ◌*◌, ◌/◌, ◌%◌, ◌^◌, List, [], ◌∷◌, ◌++◌, map}
 use Rattle.records.specs.Bytes.{up_from, tabulate}
 use Rattle.records.specs.Netlist.{net_at, values}

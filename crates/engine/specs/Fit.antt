@@ -1,20 +1,20 @@
 -- Fit (document 01, "Fitting and comparing"; card 6 of document 02). Assumes nothing.
 --
 --   led j                  1 for each old net that is a target or led to by one, else 0
---   gate_indices j b        the indices of the old gates with mark b, ascending
+--   gate_indices j b       the indices of the old gates with mark b, ascending
 --   rank xs i              how many elements of xs are below i
 --   Trees, trees           the gates of all targets' trees and the net of each; those of a job
 --   new_free_gate j i, new_gate j is t i     the new net of old gate i: where no target leads to it, and in general
---   new_free_net j i         the new number of an old net that no target leads to
---   trees_from next ..      the trees of the targets k, k + 1, .., one after the other, the first gate driving net next, and the
+--   new_free_net j i       the new number of an old net that no target leads to
+--   trees_from next ..     the trees of the targets k, k + 1, .., one after the other, the first gate driving net next, and the
 --                          net of each
---   new_nets j is t         the new number of each old net
+--   new_nets j is t        the new number of each old net
 --   moved ns g, moved_gates gate g with its used operands at their new numbers ns; several old gates so
 --   fitted j is t          the patched netlist: the old gates that no target leads to, a tree for each target, the remaining old
 --                          gates, each group in its old order
---   fitted_bytes j is t     its fields 1 (n and 0), 2 and 3
+--   fitted_bytes j is t    its fields 1 (n and 0), 2 and 3
 --   fits j is t            the patched netlist has at most 400 gates, else number 9
---   longest_fit             the longest result has 4,075 bytes
+--   longest_fit            the longest result has 4,075 bytes
 use Rattle.std.specs.Prelude.{ℕ, zero, suc, ◌+◌, ◌-◌, List, [], ◌∷◌, ◌++◌, map, Bool, cond, length, get_or, leb, ltb, eqb}
 use Rattle.records.specs.Bytes.{up_from, tabulate, flat, byte_pair, field}
 use Rattle.records.specs.Gate.{Gate, gate_of, operands, unused}

@@ -6,7 +6,7 @@
 --   unrectified j vs x       no vector of the list vs rectifies x
 --   Listed                what the loop gives: the vector list, and the input at which it stopped for want of a vector
 --   rounds j k vs         k rounds of the loop from the list vs
---   vector_loop j          the loop, from the single vector 0. Each round appends a vector that is not listed yet, so as many
+--   vector_loop j         the loop, from the single vector 0. Each round appends a vector that is not listed yet, so as many
 --                         rounds as there are vectors are enough
 use Rattle.std.specs.Prelude.{ℕ, zero, suc, ◌^◌, List, [], ◌∷◌, ◌++◌, Bool, not}
 use Rattle.std.proofs.Math.Option.{Option, none, some}

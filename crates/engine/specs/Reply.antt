@@ -1,18 +1,18 @@
 -- What judge, choose, compare and fit reply, and what the lent buffer holds afterwards (document 01, "Verdicts", "Fitting and
 -- comparing" and "Numbers given when a call is declined"; card 7 of document 02). Assumes nothing.
 --
---   judgement_of j          whether every input of job j is fixable, or the smallest that is not, as judge replies it
---   judgement_fields v      the paper's tag and value of each case: 19 alone, as the sheet has no other field, or 20 and the input; none
+--   judgement_of j         whether every input of job j is fixable, or the smallest that is not, as judge replies it
+--   judgement_fields v     the paper's tag and value of each case: 19 alone, as the sheet has no other field, or 20 and the input; none
 --                          where the call is declined
---   declined_judge n        what judge replies when it declines with number n
---   judge_reply d s         what judge replies to job bytes s and a reply buffer d
---   choice_of j             the cost of the patch on job j, or its blind reading, as choose replies it
---   choice_fields v         18 and the cost, or 21 and the reading
+--   declined_judge n       what judge replies when it declines with number n
+--   judge_reply d s        what judge replies to job bytes s and a reply buffer d
+--   choice_of j            the cost of the patch on job j, or its blind reading, as choose replies it
+--   choice_fields v        18 and the cost, or 21 and the reading
 --   declined_choose, choose_reply     .. for choose
---   comparison_of o         the result of a comparison, by the smallest differing input if there is one
---   compare_number s p      the number for job bytes s and sheet bytes p
---   compare_reply s p       what compare replies
---   fit_tests d s p         the tests of a reply buffer d, a job's bytes s and a sheet's bytes p, numbers 1 to 9
+--   comparison_of o        the result of a comparison, by the smallest differing input if there is one
+--   compare_number s p     the number for job bytes s and sheet bytes p
+--   compare_reply s p      what compare replies
+--   fit_tests d s p        the tests of a reply buffer d, a job's bytes s and a sheet's bytes p, numbers 1 to 9
 --   fit_number, fit_reply, fitted_buffer d s p     the number, what fit replies, and the reply buffer afterwards
 use Rattle.std.specs.Prelude.{ℕ, List, [], ◌∷◌, ◌++◌, true, false, cond, length, leb, eqb}
 use Rattle.std.proofs.Math.Option.{Option, none, some}

@@ -3,25 +3,25 @@
 --   reading j is x        the reading that input x gives of the nets is: their values in the old circuit, the first in bit 0.
 --                         No target leads to them, so the vector has no say; it is 0 here
 --   giving j is r         the inputs that give reading r
---   driven_by j is t x     the vector that the table t over the nets is gives at input x: its entry at the reading of x
+--   driven_by j is t x    the vector that the table t over the nets is gives at input x: its entry at the reading of x
 --   equals_golden j is t         the old circuit driven by t has the golden outputs on every input
 --   Carries j is          the nets carry a table (01): some table over them, with entries below 2 ^ m, makes the driven old
 --                         outputs equal the golden ones on every input
 --   shared j is r         the smallest vector that rectifies every input giving reading r, if there is one
 --   sound j is            that vector exists at every reading (where no input gives the reading, it is 0)
---   table_of j is          the table of those vectors, from reading 0 up
+--   table_of j is         the table of those vectors, from reading 0 up
 --   sharing j is r        all vectors that rectify every input giving reading r
---   note_of j is r         the note beside row r of the table of a sound support: 0 where no input gives the reading, 1 where exactly one
+--   note_of j is r        the note beside row r of the table of a sound support: 0 where no input gives the reading, 1 where exactly one
 --                         vector rectifies every input giving it, 2 where several do
---   notes_of j is          the notes, from reading 0 up
---   candidate_nets j       the nets of all candidates
+--   notes_of j is         the notes, from reading 0 up
+--   candidate_nets j      the nets of all candidates
 --   subsets is            all sets of nets of the list is, each ascending as is
 --   cost j is             the sum of the weights of the nets is
---   patch_gates j is       how many gates the trees of all targets have over the table of the nets is: those that fit puts in
+--   patch_gates j is      how many gates the trees of all targets have over the table of the nets is: those that fit puts in
 --   earlier is ks         is comes before ks at the first place where the lists differ
 --   better j is ks        the support is is chosen before ks: lower cost, then fewer patch gates, then fewer nets, then the smaller
 --                         net number at the first place where the lists differ
---   best_of j is kss       of is and the lists kss, the one that is chosen before the others
+--   best_of j is kss      of is and the lists kss, the one that is chosen before the others
 --   chosen j              the chosen support: the best sound one. It starts from all candidates together, which are sound
 --                         where any set of them is
 use Rattle.std.specs.Prelude.{ℕ, ◌^◌, ◌<◌, ◌≡◌, List, [], ◌∷◌, ◌++◌, map, Bool, true, false, cond, ◌&&◌, ◌||◌, length, get_or, ltb, eqb}

@@ -2,10 +2,10 @@
 --
 --   unknown                2 stands for not yet known
 --   agreed vs              the value that all of vs have, or unknown
---   completions_of xs       the lists that xs may turn out to be, each element taken on its own
---   ternary_value k xs      kind k on the operands xs, however many they are: known exactly when every completion of the operands, each
+--   completions_of xs      the lists that xs may turn out to be, each element taken on its own
+--   ternary_value k xs     kind k on the operands xs, however many they are: known exactly when every completion of the operands, each
 --                          taken on its own, gives the same value
---   ternary_table k         the three by three table of kind k on two operands
+--   ternary_table k        the three by three table of kind k on two operands
 --   entry t x y            the entry of the table t at the operands x and y, where any number above 1 stands for not yet known
 --   Completes a x          a is a value that x may turn out to have: 0 or 1, and x itself where x is known
 --   CompletesAll vs xs     the list vs is one that xs may turn out to be

@@ -1,15 +1,15 @@
 -- Multiplexer trees (document 01, "Fitting and comparing": a tree over a column of bits; card 2 of document 02: no gates for constant
 -- halves). Assumes nothing.
 --
---   column t k           the bits of target k in the table t, from reading 0 up
+--   column t k            the bits of target k in the table t, from reading 0 up
 --   constant b, buf_of a, not_of a, and_of a b, or_of a b     the gates of a tree, with 0, 1 and 2 operands: kinds b (0 or 1), 2, 3, 4 and 6
 --   join_of low high      how the halves of a column, which differ, are joined: named after the gate that chooses and the half that has
---                        a tree of its own, where one has; both have where neither is all 0 or all 1
+--                         a tree of its own, where one has; both have where neither is all 0 or all 1
 --   builds_low j, builds_high j     whether the low, the high half has a tree
 --   join_gates j s low n  the gates behind the halves' trees, the first of them driving net n: s is the support net, n - 1 the net of the tree
---                        just before, and low that of the low half where both have one
---   tree k next is col   the gates of the tree over the column col and the first k nets of is, the first gate driving net next.
---                        The last gate drives the tree's net
+--                         just before, and low that of the low half where both have one
+--   tree k next is col    the gates of the tree over the column col and the first k nets of is, the first gate driving net next.
+--                         The last gate drives the tree's net
 --   tree_size k col       how many gates that tree has
 use Rattle.std.specs.Prelude.{ℕ, zero, suc, ◌+◌, ◌-◌, ◌^◌, List, [], ◌∷◌, ◌++◌, map, Bool, true, false, cond, length, get_or, take, drop, eqb}
 use Rattle.records.specs.Bytes.{all}

@@ -1,17 +1,17 @@
 -- Verdicts, and the sheets of judge and choose (document 01, "Verdicts"; cards 1 and 7 of document 02). Assumes nothing.
 --
 --   Ruling               a patch, an unfixable input or a blind reading (01: verdict)
---   blind_reading j       the smallest reading of all candidates whose inputs share no vector, 0 if there is none
+--   blind_reading j      the smallest reading of all candidates whose inputs share no vector, 0 if there is none
 --   ruling j             the verdict on job j, which `rectify` prints: unfixable comes first, blind where every input is fixable and
 --                        all candidates together are not a sound support
---   four_bytes x          x as four bytes, the high byte first
---   judge_sheet j         the bytes of judge's sheet: the unfixable input, if there is one, and the vector list
---   patch_sheet j is      the bytes of a patch over the nets is: support, table, cost and notes
---   choose_sheet j        the bytes of choose's sheet: the patch over the chosen support, or the blind reading where all candidates
+--   four_bytes x         x as four bytes, the high byte first
+--   judge_sheet j        the bytes of judge's sheet: the unfixable input, if there is one, and the vector list
+--   patch_sheet j is     the bytes of a patch over the nets is: support, table, cost and notes
+--   choose_sheet j       the bytes of choose's sheet: the patch over the chosen support, or the blind reading where all candidates
 --                        together are not sound, whether or not every input is fixable
 --   longest_judge, longest_choose     the longest sheets have 26 and 2,084 bytes
---   reply_number k d s    the number for job bytes s and a reply buffer d that has to hold k bytes
---   reply_bytes k f d s   the reply buffer afterwards, where f is the sheet of a job
+--   reply_number k d s   the number for job bytes s and a reply buffer d that has to hold k bytes
+--   reply_bytes k f d s  the reply buffer afterwards, where f is the sheet of a job
 --   judge_number, judged_bytes, choose_number, chosen_bytes d s     .. for judge and for choose
 use Rattle.std.specs.Prelude.{ℕ, ◌/◌, ◌%◌, ◌^◌, List, [], ◌∷◌, ◌++◌, true, false, cond, not, length, leb, eqb}
 use Rattle.std.proofs.Math.Option.{none, some}

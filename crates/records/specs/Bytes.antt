@@ -1,15 +1,15 @@
 -- Lists of numbers, two-byte numbers and fields (document 01, "Bytes"). Assumes nothing.
 --
---   up_from a n        a, a + 1, .. a + n - 1
+--   up_from a n       a, a + 1, .. a + n - 1
 --   tabulate n f      f 0, f 1, .. f (n - 1)
 --   all p xs          p holds of each element of xs
 --   flat f xs         the lists f x for the elements x of xs, one after the other
---   byte_pair x        x as two bytes, the high byte first
+--   byte_pair x       x as two bytes, the high byte first
 --   word s at         the two-byte number at position at of s
 --   placed d at xs    d with xs in the place of as many elements from position at on
---   head_size          how many bytes a field's tag and length take
+--   head_size         how many bytes a field's tag and length take
 --   field t xs        a field: tag t, the length of xs in two bytes, xs
---   body_length s      the length that the field at the front of s gives
+--   body_length s     the length that the field at the front of s gives
 --   body s, rest s    that field's bytes; what stands after it
 --   fits t s          a whole field with tag t stands at the front of s
 --   whole ts s        s is a field for each tag of ts, in that order, and nothing after

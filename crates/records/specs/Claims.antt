@@ -8,13 +8,13 @@
 --   ReadAccepts, WriteAccepts, SheetAccepts     what passes the tests is accepted, and nothing else
 --   ReadRefuses, WriteRefuses, SheetRefuses     a refusal gives length 0 (read: counts of 0) and alters nothing lent
 --   NumberGiven       every reply has its call's number
---   side_behind, behind c p        what stands in the places p behind the counts c
+--   side_behind, behind c p       what stands in the places p behind the counts c
 --   ReadKeeps, WriteKeeps         places and bytes behind a reply's counts or length are as they were
 --   SideAlike, Alike p q          the places p and q have the same lengths, whatever they hold
---   side_up_to, up_to c p            the places p as far as the counts c say
+--   side_up_to, up_to c p         the places p as far as the counts c say
 --   ReadIndependent, WriteIndependent, SheetIndependent     what lent places held before, or hold behind the counts, plays no part
 --   assignments k                 all lists of k values of 0 and 1, counting up, the last value fastest
---   permitted_counts k             the counts of operands that kind k permits
+--   permitted_counts k            the counts of operands that kind k permits
 --   TruthTable                    the values of all kinds on 0 and 1, with every count of operands
 --   OperandsFold, OddInverts      .. however many they are: the plain kinds go from operand to operand, the others invert the whole
 --   PlacesGiven                   the places of an accepted job hold it

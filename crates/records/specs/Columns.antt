@@ -3,11 +3,11 @@
 --
 --   SideColumns, Columns       the lent columns of a netlist, of a job
 --   side_columns, columns       the same from their lists
---   side_columns_roomy, columns_roomy p            number 1 for read_columns: places for the longest job
---   side_columns_filled, columns_filled p j        the columns p with the parts of j at their starts
---   columns_number, columns_reply, columns_after   what read_columns replies, and the columns afterwards
---   side_columns_held, columns_held c p            number 3 for write_columns: no count of c exceeds its places
---   gates_from, columns_netlist, columns_job c p   the job whose parts stand at the starts of the columns p, as many as the counts c say
+--   side_columns_roomy, columns_roomy p           number 1 for read_columns: places for the longest job
+--   side_columns_filled, columns_filled p j       the columns p with the parts of j at their starts
+--   columns_number, columns_reply, columns_after  what read_columns replies, and the columns afterwards
+--   side_columns_held, columns_held c p           number 3 for write_columns: no count of c exceeds its places
+--   gates_from, columns_netlist, columns_job c p  the job whose parts stand at the starts of the columns p, as many as the counts c say
 --   columns_write_number, columns_write_reply, columns_written               what write_columns replies, and the reply buffer afterwards
 use Rattle.std.specs.Prelude.{ℕ, ◌+◌, ◌*◌, List, ◌∷◌, map, Bool, cond, ◌&&◌, length, get_or, take, leb, eqb}
 use Rattle.records.specs.Bytes.{tabulate, flat, placed}

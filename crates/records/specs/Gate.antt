@@ -1,15 +1,15 @@
 -- Gates and their values (document 01, "Nets and gates"; card 6 of document 02; IEEE 1364 for its primitives on 0 and 1). Assumes nothing.
 --
 --   Gate              a kind, how many operands it has, and its operand slots, used or not
---   slot_count         how many operand slots a gate has
+--   slot_count        how many operand slots a gate has
 --   gate_of k n a b c d     the gate of kind k with n operands, and a, b, c, d in its slots
---   kind_count         how many kinds there are, numbered from 0: constant zero, constant one, buf, not, and, nand, or, nor, xor, xnor
+--   kind_count        how many kinds there are, numbered from 0: constant zero, constant one, buf, not, and, nand, or, nor, xor, xnor
 --   least_count k, most_count k     the fewest and the most operands that kind k may have
 --   permits k n       there is a kind k, and it may have n operands
 --   operands g        the used operands of g, first to last
 --   unused g          what stands in the other slots
 --   conj, disj, parity, inverted     and, or, xor of any number of values; not
---   gate_value k vs    the value of kind k on the operand values vs, each 0 or 1, however many they are; 0 where there is no such kind
+--   gate_value k vs   the value of kind k on the operand values vs, each 0 or 1, however many they are; 0 where there is no such kind
 use Rattle.std.specs.Prelude.{ℕ, ◌+◌, ◌-◌, ◌%◌, min, max, List, [], ◌∷◌, Bool, ◌&&◌, leb, ltb, get_or, take, drop}
 
 pub record Gate : Type 0 where

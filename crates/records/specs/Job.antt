@@ -7,11 +7,11 @@
 --   gate_at s i, candidate_at s i     gate i, candidate i of the bytes s
 --   gates_of s, nets_of s, candidates_of s     the gates, nets and candidates that the bytes s hold
 --   netlist_of gs os  the netlist whose gates have the bytes gs and whose outputs have the bytes os
---   job_tags           the six fields' tags, in order
---   job_whole s        s is the six fields and nothing after, each of a length that its records allow
---   job_of s           the job that the bytes s hold
+--   job_tags          the six fields' tags, in order
+--   job_whole s       s is the six fields and nothing after, each of a length that its records allow
+--   job_of s          the job that the bytes s hold
 --   gate_bytes g, candidate_bytes c     the bytes of a gate, of a candidate
---   job_bytes j        the bytes of the job j
+--   job_bytes j       the bytes of the job j
 use Rattle.std.specs.Prelude.{ℕ, ◌+◌, ◌*◌, ◌/◌, ◌%◌, List, [], ◌∷◌, ◌++◌, Bool, ◌&&◌, length, get_or, eqb}
 use Rattle.records.specs.Bytes.{tabulate, flat, byte_pair, word, field, whole, nth}
 use Rattle.records.specs.Gate.{Gate, gate_of}

@@ -2,18 +2,18 @@
 -- document 02). Assumes nothing.
 --
 --   max_inputs .. max_candidates, longest_job     the ranges' ends, and the length of the longest accepted job
---   Test, first_failing ts    a number and whether its test passes; the number of the first test of ts that fails, 0 if all pass
+--   Test, first_failing ts     a number and whether its test passes; the number of the first test of ts that fails, 0 if all pass
 --   old_nets j, golden_nets j  how many nets each netlist has
 --   side_counts_good, counts_good   number 3: every count is within its range
---   gate_good net g           gate g may drive net: a kind that exists and permits the count, used operands below net, unused slots 0
---   gates_good net gs         the same for each gate of gs, which drive net, net + 1, ..
---   netlists_good             number 4: both netlists' gates are good
---   outputs_good              number 5: output nets exist, and the two output counts are equal
---   ascending xs             each element is above the one before
+--   gate_good net g            gate g may drive net: a kind that exists and permits the count, used operands below net, unused slots 0
+--   gates_good net gs          the same for each gate of gs, which drive net, net + 1, ..
+--   netlists_good              number 4: both netlists' gates are good
+--   outputs_good               number 5: output nets exist, and the two output counts are equal
+--   ascending xs               each element is above the one before
 --   candidate_good, candidates_good   number 6: candidates ascend, exist, and are neither targets nor led to by one
---   part_tests j              the tests of the parts j, numbers 3 to 6
---   job_tests s               the tests of the bytes s: number 2, then those of the job they hold
---   job_refusal s             the number of the first that fails, or 0
+--   part_tests j               the tests of the parts j, numbers 3 to 6
+--   job_tests s                the tests of the bytes s: number 2, then those of the job they hold
+--   job_refusal s              the number of the first that fails, or 0
 use Rattle.std.specs.Prelude.{ℕ, suc, ◌+◌, List, [], ◌∷◌, map, Bool, true, cond, ◌&&◌, length, leb, ltb, eqb}
 use Rattle.records.specs.Bytes.{all}
 use Rattle.records.specs.Gate.{Gate, permits, operands, unused}

@@ -2,25 +2,25 @@
 -- declined"; docs/DECISIONS.md). Assumes nothing.
 --
 --   GateStruct            the struct Gate of src/gate.rt: kind, operand count, four operand slots
---   slot_of i g            what stands in operand slot i of a gate
---   struct_slots g         the operand slots of a gate struct
+--   slot_of i g           what stands in operand slot i of a gate
+--   struct_slots g        the operand slots of a gate struct
 --   gate_from g, struct_of g                 the gate that a gate struct holds, and back
---   no_gate, no_gates       the gate struct of zeros, and a netlist's places of it
---   check_of b             a check's answer for a test
+--   no_gate, no_gates     the gate struct of zeros, and a netlist's places of it
+--   check_of b            a check's answer for a test
 --   SidePlaces, Places    the lent places of a netlist, of a job
---   side_places, places    the same from the lists of their places
+--   side_places, places   the same from the lists of their places
 --   side_counts_of l, counts_of j, no_counts   the counts of a netlist, of a job, and of a refused one
---   side_roomy, roomy p    number 1 for read: places for the longest job
+--   side_roomy, roomy p   number 1 for read: places for the longest job
 --   filled_side, filled p j                 the places p with the parts of j at their starts
 --   read_number, read_reply, read_places      what read replies, and the places afterwards
---   empty_places           places for the longest job that hold zeros
+--   empty_places          places for the longest job that hold zeros
 --   loaded s              what load gives: the reply of read into empty places, and what they hold afterwards
---   side_held, held c p    number 3 for write: no count of c exceeds its places
+--   side_held, held c p   number 3 for write: no count of c exceeds its places
 --   gates_in, netlist_from, candidates_from, job_from c p     the job whose parts stand at the starts of the places p, as many as the counts c say
 --   write_number, write_reply, written_bytes  what write replies, and the reply buffer afterwards
---   sheet_roomy            number 3 for read_sheet: target and candidate counts within their ranges and places
+--   sheet_roomy           number 3 for read_sheet: target and candidate counts within their ranges and places
 --   sheet_number, sheet_reply                what read_sheet replies
---   field_fits d at xs     a field of the bytes xs fits into the buffer d from position at on, and its length into two bytes
+--   field_fits d at xs    a field of the bytes xs fits into the buffer d from position at on, and its length into two bytes
 use Rattle.std.specs.Prelude.{ℕ, ◌+◌, ◌-◌, List, [], ◌∷◌, ◌++◌, map, Bool, cond, ◌&&◌, length, get_or, take, replicate, leb, ltb, eqb}
 use Rattle.records.specs.Bytes.{tabulate, placed, head_size, nth}
 use Rattle.records.specs.Gate.{Gate, gate_of}

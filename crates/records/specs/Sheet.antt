@@ -3,16 +3,16 @@
 --
 --   Patch                 what a patch sheet says: support nets, table, cost, and the notes, none where it has no such field
 --   quad s                the four-byte number at the front of s
---   sheet_tags             the three fields' tags, in order
---   notes_tag              the tag of the notes, which may stand behind them
---   patch_of s             the patch that the bytes s hold
---   notes_whole s          the fourth field of s has a byte for each entry of the table, and none above 2
---   sheet_whole s          number 7: three fields, or these and the notes, and nothing after, of lengths that fit each other
---   weight_of cs i         the weight of net i, the first candidate of cs with that net
---   is_candidate cs i      net i is one of the candidates cs
---   cost_of cs is          the sum of the weights of the nets is
---   patch_good m cs p      number 8: the support ascends and is of candidates, the entries are below 2 ^ m, the cost is the sum
---   sheet_tests m cs s     the tests of the bytes s, numbers 7 and 8
+--   sheet_tags            the three fields' tags, in order
+--   notes_tag             the tag of the notes, which may stand behind them
+--   patch_of s            the patch that the bytes s hold
+--   notes_whole s         the fourth field of s has a byte for each entry of the table, and none above 2
+--   sheet_whole s         number 7: three fields, or these and the notes, and nothing after, of lengths that fit each other
+--   weight_of cs i        the weight of net i, the first candidate of cs with that net
+--   is_candidate cs i     net i is one of the candidates cs
+--   cost_of cs is         the sum of the weights of the nets is
+--   patch_good m cs p     number 8: the support ascends and is of candidates, the entries are below 2 ^ m, the cost is the sum
+--   sheet_tests m cs s    the tests of the bytes s, numbers 7 and 8
 use Rattle.std.specs.Prelude.{ℕ, ◌+◌, ◌*◌, ◌/◌, ◌%◌, ◌^◌, List, [], ◌∷◌, ◌++◌, Bool, false, cond, ◌&&◌, ◌||◌, length, ltb, eqb}
 use Rattle.records.specs.Bytes.{all, word, whole, nth}
 use Rattle.records.specs.Job.{Candidate, nets_of}

@@ -3,8 +3,8 @@
 --   PatchSheet s           s is the fields of a patch's sheet from choose, of lengths in their ranges
 --   BlindSheet s           the same for a blind reading, UnfixableSheet s for an unfixable input's sheet from judge
 --   ChoiceSheet s          s is a sheet from choose
---   patch_sheet_text s vs    the lines of the patch sheet s, with the vector list vs
---   choice_text s vs        .. of a sheet from choose, by its first tag
+--   patch_sheet_text s vs  the lines of the patch sheet s, with the vector list vs
+--   choice_text s vs       .. of a sheet from choose, by its first tag
 --   Printed d at xs r d'   d' is d with xs placed from position at on, and r is the position behind
 --   Texted d xs r d'       the same at the start of d, which has room for it
 use Rattle.std.specs.Prelude.{ℕ, ◌+◌, ◌≤◌, ◌≡◌, List, [], ◌∷◌, ◌++◌, true, cond, eqb, length, get_or}

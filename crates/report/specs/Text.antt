@@ -5,15 +5,15 @@
 --   number x, numbers xs   a space and the digits of x; the same for each number of xs
 --   line w xs              the word w, the numbers xs and a line feed
 --   patch_text c is es vs ns     the five lines of a patch: cost, support nets, table, vector list, notes
---   value_text w x vs       the two lines of an unfixable input or a blind reading x
---   ruling_text j v         the lines of the verdict v on job j
---   refused_text n          the line of a refusal with number n
---   input_limit             more bytes than these are refused with 2
---   rectify_text s          what is printed for the job bytes s
---   longest_text            no sheet of a verdict and no refusal has a longer text
+--   value_text w x vs      the two lines of an unfixable input or a blind reading x
+--   ruling_text j v        the lines of the verdict v on job j
+--   refused_text n         the line of a refusal with number n
+--   input_limit            more bytes than these are refused with 2
+--   rectify_text s         what is printed for the job bytes s
+--   longest_text           no sheet of a verdict and no refusal has a longer text
 --   printed_length, printed_bytes d s     the length of the text and the lent buffer d afterwards
---   text_a                  the lines that document 01 and card 1 give for job A
---   job_noted               a job whose patch has notes of every kind
+--   text_a                 the lines that document 01 and card 1 give for job A
+--   job_noted              a job whose patch has notes of every kind
 --   text_cases, text_cases_hold    texts, job A's first, and that each is what it must be
 use Rattle.std.specs.Prelude.{ℕ, zero, suc, ◌+◌, ◌/◌, ◌%◌, List, [], ◌∷◌, ◌++◌, Bool, true, false, cond, length, replicate, ltb, eqb}
 use Rattle.records.specs.Bytes.{all, flat, placed}

@@ -1,6 +1,6 @@
 -- The numbers of the calls on file. Assumes nothing.
 --
---   word_at s k             the two-byte number at position k of s; 0 where s ends before it
+--   word_at s k            the two-byte number at position k of s; 0 where s ends before it
 --   patterned w k          the pattern's number at place k of list w
 --   mixed h x              the hash h with one more value
 --   hashed h xs            the hash h with the values of a list

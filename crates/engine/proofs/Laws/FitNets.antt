@@ -4,7 +4,7 @@
 --   Ascends a xs         each element of xs is above the one before, and none is below a
 --   old_gate j k, old_net j k    the old gate k, and the old net that it drives
 --   NetCase n m count i  the old net i is an input, a target or a gate's
---   led_start j is t      the new net of the first old gate that a target leads to
+--   led_start j is t     the new net of the first old gate that a target leads to
 --   Numbered .. b start  the new net of each old gate with mark b is start and its rank among them
 use Prim.Native.Nat.{ℕ, zero, suc, ◌+◌, ◌-◌, ◌≤◌, ◌<◌}
 use mathlib.Core.Path.{◌≡◌, refl, sym, ◌∙◌, ap, subst}

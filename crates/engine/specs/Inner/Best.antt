@@ -10,7 +10,7 @@
 --                          2 ^ 15 inputs that were skipped, bit i of k for range i
 --   FirstEmpty ss n r      r is the least place below n whose set is empty, or n
 --   spread i q             the reading q with a bit 0 put in at place i: of one net more, at place i, whose value is 0
---   joined_at ss i q        the vectors in the sets of both readings that are q without net i
+--   joined_at ss i q       the vectors in the sets of both readings that are q without net i
 --   SameTo n xs ys         ys is the same as xs at the first n places
 --   Kept n xs ys           .. and as long
 --   ArenaRoom at n xs      the arena xs has room for the sets of n nets from place at on, and behind them for those that leave out one net after
@@ -19,10 +19,10 @@
 --                          none is
 --   PickedNets is s r      the support r has the nets of is whose places are in s
 --   total xs               the sum of xs
---   low_first n a b         of the sets a and b of n candidates, a has the lowest in which they differ
+--   low_first n a b        of the sets a and b of n candidates, a has the lowest in which they differ
 --   before p q             pick p is chosen before pick q: lower cost, then fewer gates, then fewer nets, then the smaller net
---   open_at is i s          the nets is up to place i, and of those from there on the ones that are in the set s
---   candidate_weights j     the weights of all candidates
+--   open_at is i s         the nets is up to place i, and of those from there on the ones that are in the set s
+--   candidate_weights j    the weights of all candidates
 --   OpenPick i p           pick p has room for i candidates more
 --   PricedRoom p           bounds of the struct p
 --   PricedOf j p ss        the struct p has the priced nets of job j, which ascend, and ss are the sets of all of them

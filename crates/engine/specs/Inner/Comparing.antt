@@ -1,8 +1,8 @@
 -- What compare's private functions require and give (src/comparing.rt). No public contract cites this file. Assumes nothing.
 --
---   differing j is t x   the old outputs driven by the table t over the nets is are not the golden ones at input x
---   PlanReads j is ..    a plan of the job j where the nets is are read, which no target leads to
---   TableCopied ..       count bytes from start on in 1,024 places, 0 behind them
+--   differing j is t x    the old outputs driven by the table t over the nets is are not the golden ones at input x
+--   PlanReads j is ..     a plan of the job j where the nets is are read, which no target leads to
+--   TableCopied ..        count bytes from start on in 1,024 places, 0 behind them
 --   sheet_comparison j p  what compare replies to a good job j and a sheet's bytes p
 use Rattle.std.specs.Prelude.{ℕ, ◌≡◌, List, Bool, true, cond, not, eqb, length, get_or, take, drop}
 use Rattle.records.specs.Bytes.{all}

@@ -8,7 +8,7 @@
 --   CubeAdded c .. d         d has one cube more than c, and the readings of c and of that cube alone
 --   CoverTo ss n e c         the unseen ones of the first n readings are in the cover e or in c
 --   CoverOf ss k e c         .. of the readings of k nets
---   reading_in words is y     the reading of the nets is in scenario y of a block
+--   reading_in words is y    the reading of the nets is in scenario y of a block
 --   GivesNone ..             .. is in no scenario in the cover
 use Rattle.std.specs.Prelude.{ℕ, ◌+◌, ◌^◌, ◌≤◌, ◌<◌, ◌≡◌, ◌⊎◌, List, map, length, get_or}
 use Rattle.engine.specs.Eval.{bit, number_of}

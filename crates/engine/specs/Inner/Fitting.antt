@@ -1,8 +1,8 @@
 -- What fit's private functions require and give (src/fitting.rt). No public contract cites this file. Assumes nothing.
 --
 --   numbered_trees, TreesPlaced ..     a tree for each target behind the gates of the new side a, which gives b
---   old_job, side_job o os        the part of a job that fit reads, that of the old side o and the outputs os
---   Fittable, patched_count ..   an old side and a patch; how many gates the patched netlist has
+--   old_job, side_job o os      the part of a job that fit reads, that of the old side o and the outputs os
+--   Fittable, patched_count ..  an old side and a patch; how many gates the patched netlist has
 --   GatesPlaced j is t r        the new side r is the patched netlist
 --   FitGives ..                 what fit replies with a number, and the buffer
 --   patch_number, sheet_fit_number     the number for a patch; for a sheet

@@ -3,10 +3,10 @@
 --
 --   applied op a b         the operation on words
 --   Filled f at n b a      list a is list b with f 0 .. f (n - 1) in the n places from at on
---   value_in words y i      the value of net i in scenario y: bit y % 64 of word y / 64 of the net
+--   value_in words y i     the value of net i in scenario y: bit y % 64 of word y / 64 of the net
 --   column words y         those of all 1,024 nets
 --   Ran cs before after    in every scenario the values after are those that the gates cs give
---   row_value r y           bit y % 64 of word y / 64 of the 16 words r: what a row says of scenario y
+--   row_value r y          bit y % 64 of word y / 64 of the 16 words r: what a row says of scenario y
 --   LowestBit w k r        r is the lowest place below k whose bit in w is 1; k where there is none
 --   FirstZero row r        r is the first scenario of which the row says 0; 1,024 where there is none
 use Rattle.std.specs.Prelude.{ℕ, ◌+◌, ◌*◌, ◌/◌, ◌%◌, ◌≤◌, ◌<◌, ◌≡◌, List, ◌⊎◌, cond, eqb, length, get_or}

@@ -2,10 +2,10 @@
 -- No public contract cites this file. Assumes nothing.
 --
 --   lowest s                     the smallest vector of the set s
---   list_step l s x               the vector list after input x, which the vectors s rectify
---   listed_from f l x k           .. after the k inputs from x on, where f says what rectifies each
---   start_list                    what the walk starts from
---   listed_of v, Held v           the vector list that a struct holds; its places hold vectors
+--   list_step l s x              the vector list after input x, which the vectors s rectify
+--   listed_from f l x k          .. after the k inputs from x on, where f says what rectifies each
+--   start_list                   what the walk starts from
+--   listed_of v, Held v          the vector list that a struct holds; its places hold vectors
 --   Appended, Stepped            what the code gives for one vector more, and for one input
 use Rattle.std.specs.Prelude.{ℕ, zero, suc, ◌≤◌, ◌<◌, ◌≡◌, [], ◌∷◌, ◌++◌, true, false, cond, eqb, ltb, length, get_or, take}
 use Rattle.std.proofs.Math.Option.{Option, none, some}

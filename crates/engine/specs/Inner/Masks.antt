@@ -7,7 +7,7 @@
 --   rank u v         the step at which vector v comes, below 16
 --   turns u s        the target that step s sets anew, from step 1 on
 --   Among m u        target u is one of m, or 0
---   mask_at ..        what the row of vector v says of input x once the steps below s are done
+--   mask_at ..       what the row of vector v says of input x once the steps below s are done
 use Rattle.std.specs.Prelude.{ℕ, ◌+◌, ◌/◌, ◌^◌, ◌<◌, ◌≡◌, ◌⊎◌, [], ◌∷◌, map, cond, ◌&&◌, eqb, ltb, get_or}
 use Rattle.std.specs.Int.Bits.{bit_xor}
 use Rattle.records.specs.Job.{Job}

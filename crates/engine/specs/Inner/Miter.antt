@@ -1,14 +1,14 @@
 -- One netlist of both circuits (the field's miter): inputs, targets, old gates, golden gates (src/miter.rt). No public contract cites
 -- this file. Assumes nothing.
 --
---   shifted_net n s i     golden net i in the miter: an input keeps its number, a gate's net stands s further on
+--   shifted_net n s i    golden net i in the miter: an input keeps its number, a gate's net stands s further on
 --   shifted n s g        golden gate g there: its used operands shifted
---   shift_of j            by how much
+--   shift_of j           by how much
 --   miter_gates j, miter_goldens j     the gates of both netlists, old first; the golden outputs' nets
---   miter_nets j          how many nets
---   miter_values j x v    the value of each net at input x and vector v
+--   miter_nets j         how many nets
+--   miter_values j x v   the value of each net at input x and vector v
 --   codes j              the gates packed
---   on_operands F vs g    F of gate g's kind and of what vs has at its operands
+--   on_operands F vs g   F of gate g's kind and of what vs has at its operands
 --   SameGates d gs hs    the gates hs may stand for the gates gs, over d leaves: whatever depends on a gate's kind and on what its operands
 --                        have comes out the same at every net
 --   GateFits g s         gate g, its used operands shifted by s, fits into one number

@@ -1,8 +1,8 @@
 -- The values of a net at all inputs in one word, where there are at most six (src/narrow.rt). No public contract cites this file.
 -- Assumes nothing.
 --
---   values_at words y     the values of all nets at input y: bit y of each net's word
---   leaf_at n v y i       leaf i at input y and vector v: the n inputs, and the targets behind them
+--   values_at words y    the values of all nets at input y: bit y of each net's word
+--   leaf_at n v y i      leaf i at input y and vector v: the n inputs, and the targets behind them
 --   LeavesLoaded ..      the first k nets have the words of the leaves
 --   WordsRan cs ..       at each of 64 inputs the values after are those that the gates cs give
 --   NarrowOf j n m cs    the job j has n inputs, six at most, and m targets, and the gates cs may stand for its miter's

@@ -1,16 +1,16 @@
 -- Gates in one number, and their values on 0 and 1 (src/packed.rt). No public contract cites this file. Assumes nothing.
 --
---   fields n x       n numbers of ten bits each, the lowest first
+--   fields n x        n numbers of ten bits each, the lowest first
 --   kind_of c, count_of c, own c, operands_of c     a packed gate's parts, from its lowest bit on: its kind (4 bits), how many operands
---                    it has (3), the net that it drives (10), the nets of its operands (10 each)
+--                     it has (3), the net that it drives (10), the nets of its operands (10 each)
 --   slots_number ss   operand slots as one number, ten bits each
 --   gate_with k n ss  the gate of kind k with n operands and the slots ss
---   packed d g       gate g, driving net d, in one number
+--   packed d g        gate g, driving net d, in one number
 --   packed_from d gs  the gates gs, which drive d, d + 1, ..
---   formed g         gate g has all its operand slots
+--   formed g          gate g has all its operand slots
 --   operation c, inverts c     a kind is an operation (from 2 on: and, or, parity) and, if it is odd, an inversion
---   joined op x y    the operation on two values
---   folded op vs     the operation over the values vs, first to last; 0 of none
+--   joined op x y     the operation on two values
+--   folded op vs      the operation over the values vs, first to last; 0 of none
 --   code_value vs c   the value of the packed gate c where the nets have the values vs
 --   evaluated F vs cs     what is known of the nets once the packed gates cs, one after the other, have set their own by F
 use Rattle.std.specs.Prelude.{ℕ, zero, suc, ◌+◌, ◌*◌, ◌/◌, ◌%◌, min, max, List, [], ◌∷◌, map, Bool, cond, eqb, length, set}

@@ -1,21 +1,21 @@
 -- The gates of a miter in the lists that a walk evaluates: those that outputs or readings need, in two lists, for no target leads to the
 -- first ones, and, for each target, those that it leads to (src/plan.rt). No public contract cites this file. Assumes nothing.
 --
---   code_mark vs c             the mark of the packed gate c where the nets have the marks vs: 1 if an operand has one, else 0
---   marks_of base from k gs    1 for each net that a path of gates leads to from one of the k leaves from .. on, else 0
+--   code_mark vs c            the mark of the packed gate c where the nets have the marks vs: 1 if an operand has one, else 0
+--   marks_of base from k gs   1 for each net that a path of gates leads to from one of the k leaves from .. on, else 0
 --   marked ms i               net i has a mark
 --   Closed live base gs       a gate of gs that is live has live operands
 --   Agrees j live x v vs      on the live nets the values vs are those of the miter at input x and vector v
 --   BlockAt j live b v words  .. in each of the 1,024 scenarios of block b: at input 1,024 b + y and vector v y
---   fanned j, led_by j t       net i of the miter is a target or led to by one; .. target t or led to by it
+--   fanned j, led_by j t      net i of the miter is a target or led to by one; .. target t or led to by it
 --   BlockFree j live b words  on the live nets that are not, the values are those of the miter in each scenario of block b, whatever the vector
---   marked_all ms is           the marks ms, and a mark for each net of is
---   live_from ms cs            the marks ms, and from the last gate of cs to the first one for each operand of a gate with a mark
---   live_marks os gs is cs     .. from the outputs os and gs and the nets is on
---   leaves_from from k         the marks of 1,024 nets where the k from from on have one
---   marks_from cs from k       .. and the gates cs, in turn, give theirs
+--   marked_all ms is          the marks ms, and a mark for each net of is
+--   live_from ms cs           the marks ms, and from the last gate of cs to the first one for each operand of a gate with a mark
+--   live_marks os gs is cs    .. from the outputs os and gs and the nets is on
+--   leaves_from from k        the marks of 1,024 nets where the k from from on have one
+--   marks_from cs from k      .. and the gates cs, in turn, give theirs
 --   picked live ms led cs     the gates of cs that have a mark in live, and one in ms (where led says so) or none there
---   list_at, lists_to           list s of a plan: the live gates that no target leads to, the others, those that target s - 2 leads to; the lists
+--   list_at, lists_to         list s of a plan: the live gates that no target leads to, the others, those that target s - 2 leads to; the lists
 --                             up to it, one behind the other
 --   ListPut list at ..        the places with one list more, from place at on, as far as there is room
 --   ListsUpTo n ..            the ends and the places of the first n lists, as far as there is room

@@ -4,10 +4,10 @@
 --   known_at known i            what is known of net i: 0, 1 or 2
 --   ternary_of known g          gate g on what is known of its operands
 --   code_ternary known c        the packed gate c on what is known of its operands, of which a gate has four at most
---   Completed k vs ns          each of the first k values of vs is one that its place in ns may turn out to have
+--   Completed k vs ns           each of the first k values of vs is one that its place in ns may turn out to have
 --   partial_input low prefix i  input i where the inputs from low on are the bits of prefix, and those below not yet known
---   InRange low prefix x       x is a number whose bits from bit low on are those of prefix
---   Known x y                  x and y are the same known value
+--   InRange low prefix x        x is a number whose bits from bit low on are those of prefix
+--   Known x y                   x and y are the same known value
 use Rattle.std.specs.Prelude.{ℕ, ◌+◌, ◌*◌, ◌-◌, ◌^◌, ◌≤◌, ◌<◌, min, ◌≡◌, List, map, cond, ltb, get_or, take}
 use Rattle.records.specs.Gate.{Gate, slot_count, operands}
 use Rattle.records.specs.Netlist.{net_at}

@@ -1,13 +1,13 @@
 -- The nets and gates of a patched netlist at their new numbers (src/renumber.rt). No public contract cites this file. Assumes nothing.
 --
---   gate_in c, unpacked n cs     the gate in the number c; those in the first n of the numbers cs
---   old_gates o, old_base o       the gates of the old side o, and the net of the first of them
+--   gate_in c, unpacked n cs    the gate in the number c; those in the first n of the numbers cs
+--   old_gates o, old_base o     the gates of the old side o, and the net of the first of them
 --   OldHeld o                   they are good, and the marks say which nets a target leads to
---   indices_with ms base b n     the numbers i below n whose mark, that of net base + i, is b, ascending
+--   indices_with ms base b n    the numbers i below n whose mark, that of net base + i, is b, ascending
 --   InputsNumbered ..           the inputs have their own numbers
 --   Numbered ..                 the gates with mark b, among the first n, have consecutive new numbers from first on
---   moved_from gs ns ks          the gates of gs with the numbers ks, their used operands at their new numbers ns
---   with_mark o b                the indices of the old gates with mark b
+--   moved_from gs ns ks         the gates of gs with the numbers ks, their used operands at their new numbers ns
+--   with_mark o b               the indices of the old gates with mark b
 --   MarkedPlaced ..             those gates have their numbers, and stand behind the gates of the new side n, which gives r
 use Rattle.std.specs.Prelude.{ℕ, ◌+◌, ◌/◌, ◌≤◌, ◌<◌, ◌≡◌, List, map, true, eqb, length, get_or, take}
 use Rattle.records.specs.Bytes.{up_from}

@@ -8,7 +8,7 @@
 --   BlockVector ..      the words of a block at a vector, from those
 --   RowsSay ..          rows from some row on have the bits of vectors
 --   DrivenRow ..        where vectors rectify a block's inputs
---   sole_of s            the only vector of the set s
+--   sole_of s           the only vector of the set s
 --   SoleTable ss t      the table t of the readings' only vectors
 --   BlockKept ..        the sets stay as they are in a block
 --   TargetTurned ..     the words of a block at one vector have become those at another, which differs in target t alone

@@ -1,7 +1,7 @@
 -- The table of a support and its notes (src/table.rt). No public contract cites this file. Assumes nothing.
 --
 --   TableFilled ss n t     the first 2 ^ n places of t are the table of n nets that have the sets ss
---   note_from s             the note of a reading with the set s, whose bit 16 is 1 where no input gives it
+--   note_from s            the note of a reading with the set s, whose bit 16 is 1 where no input gives it
 --   NotesFilled ss n t     .. are its notes
 use Rattle.std.specs.Prelude.{ℕ, ◌%◌, ◌^◌, ◌≡◌, List, cond, eqb, length, take}
 use Rattle.records.specs.Job.{Job}

@@ -1,15 +1,15 @@
 -- Building multiplexer trees: gates put into the places of a netlist (src/tree.rt). No public contract cites this file. Assumes nothing.
 --
---   column_part tb at k t    the column of target t at the 2 ^ k entries of the table tb from place at on
+--   column_part tb at k t   the column of target t at the 2 ^ k entries of the table tb from place at on
 --   TablePart tb at k t     those entries stand in the table, and t is a bit of a byte
 --   tree_start k col           how the tree over k nets and the column col starts
---   join_size j              how many gates join two halves
+--   join_size j             how many gates join two halves
 --   JoinRoom ..             there is room for the gates that join two halves behind their trees
---   trees_size m j k tb      how many gates the trees of the m targets from target j on have, over k nets and the table tb
+--   trees_size m j k tb     how many gates the trees of the m targets from target j on have, over k nets and the table tb
 --   Nets k ns               each of the first k numbers of ns is one of 1,024 nets
 --   GateRoom base n cs      the places cs hold n gates, and the net base + i of each gate i is one of 1,024
 --   GatesPut base ..        the gates gs now stand behind the first count gates, r gates in all; gate i drives net base + i
---   support_trees ..         the trees of m targets over the first k nets of is and the table tb, the first gate driving net next
+--   support_trees ..        the trees of m targets over the first k nets of is and the table tb, the first gate driving net next
 --   TreesPut ..             those trees now stand behind the first count gates, and the numbers from base on are their nets
 use Rattle.std.specs.Prelude.{ℕ, zero, suc, ◌+◌, ◌^◌, ◌≤◌, ◌<◌, ◌≡◌, List, ◌++◌, Bool, true, cond, eqb, length, get_or, take, drop}
 use Rattle.records.specs.Bytes.{all, placed}
