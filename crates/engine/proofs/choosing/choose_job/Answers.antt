@@ -29,10 +29,9 @@ rule_blind-requires c =
 
 pub returns-then-reading-count : goal.returns-then-reading-count
 returns-then-reading-count c =
-    let met : (j : Job) → PartsOf j c.args.job → SetsTo j (2 ^ j.inputs) c.reading_sets-met.result.skipped c.reading_sets-met.result.sets =
-    λ j p. c.reading_sets-met.ensures j (c.merged_miter-miter.ensures.merged_of j p) (parts-nets p) in
     λ j p.
-    let b = rule-blind p (met j p) c.reading_count-count.ensures c.first_empty-reading.ensures c.if-reading-count.true in
+    let met = c.reading_sets-met.ensures j (c.merged_miter-miter.ensures.merged_of j p) (parts-nets p) in
+    let b = rule-blind p met c.reading_count-count.ensures c.first_empty-reading.ensures c.if-reading-count.true in
     c.rule_blind.ensures j b.0 b.1
 
 pub best_support-best-requires : goal.best_support-best-requires
@@ -49,12 +48,11 @@ rule_patch-requires c =
 
 pub returns : goal.returns
 returns c =
-    let met : (j : Job) → PartsOf j c.args.job → SetsTo j (2 ^ j.inputs) c.reading_sets-met.result.skipped c.reading_sets-met.result.sets =
-    λ j p. c.reading_sets-met.ensures j (c.merged_miter-miter.ensures.merged_of j p) (parts-nets p) in
     λ j p.
     let m = c.merged_miter-miter.ensures.merged_of j p in
-    let q = rule-sound p (met j p) c.reading_count-count.ensures c.first_empty-reading.ensures m.targets c.if-reading-count.false in
+    let met = c.reading_sets-met.ensures j m (parts-nets p) in
+    let q = rule-sound p met c.reading_count-count.ensures c.first_empty-reading.ensures m.targets c.if-reading-count.false in
     let best = c.best_support-best.ensures.chosen_of j q in
     c.rule_patch.ensures j q.sound (chosen-same c.see_skipped.ensures.same_vectors best.0)
     (c.see_skipped.ensures.unseen j (chosen j) m best.0.support (chosen-good p.good q.sound)
-    (best.1 _ (rule-given p (met j p) c.reading_count-count.ensures c.first_empty-reading.ensures)))
+    (best.1 _ (rule-given p met c.reading_count-count.ensures c.first_empty-reading.ensures)))

@@ -13,14 +13,11 @@ vector_list-list-requires c =
 
 pub rule_list-requires : goal.rule_list-requires
 rule_list-requires c =
-    let listed : (j : Job) → PartsOf j c.args.job → ListTo j (2 ^ j.inputs) c.vector_list-list.result =
-    λ j p. c.vector_list-list.ensures.1 j (c.merged_miter.ensures.merged_of j p) (parts-nets p) in
     let p = c.requires.0.parts in
-    (c.vector_list-list.ensures.0, stuck-small p c.vector_list-list.result (listed c.requires.0.job p), c.requires.2)
+    (c.vector_list-list.ensures.0, stuck-small p c.vector_list-list.result (c.vector_list-list.ensures.1 c.requires.0.job (c.merged_miter.ensures.merged_of c.requires.0.job p) (parts-nets p)), c.requires.2)
 
 pub returns : goal.returns
 returns c =
-    let listed : (j : Job) → PartsOf j c.args.job → ListTo j (2 ^ j.inputs) c.vector_list-list.result =
-    λ j p. c.vector_list-list.ensures.1 j (c.merged_miter.ensures.merged_of j p) (parts-nets p) in
     λ j p.
-    c.rule_list.ensures j (list-loop p c.vector_list-list.result (listed j p))
+    c.rule_list.ensures j
+    (list-loop p c.vector_list-list.result (c.vector_list-list.ensures.1 j (c.merged_miter.ensures.merged_of j p) (parts-nets p)))

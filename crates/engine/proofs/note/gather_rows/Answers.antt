@@ -10,17 +10,11 @@ loop-i-init c = (omega arith, sym (rows_from-none c.args.masks.now c.args.y))
 
 pub overflow_mul-r : goal.overflow_mul-r
 overflow_mul-r c =
-    let short : c.loop-i.r < 65536 =
-    let a = c.args in
-    omega (arith, rows_from-lt a.masks.now a.y c.loop-i.i) in
-    let s = short in omega arith
+    let s = rows_from-lt c.args.masks.now c.args.y c.loop-i.i in omega arith
 
 pub overflow_add-r-in-loop-i : goal.overflow_add-r-in-loop-i
 overflow_add-r-in-loop-i c =
-    let short : c.loop-i.r < 65536 =
-    let a = c.args in
-    omega (arith, rows_from-lt a.masks.now a.y c.loop-i.i) in
-    let s = short in omega arith
+    let s = rows_from-lt c.args.masks.now c.args.y c.loop-i.i in omega arith
 
 pub loop-i-preserved : goal.loop-i-preserved
 loop-i-preserved c =
@@ -33,9 +27,6 @@ loop-i-preserved c =
 
 pub returns : goal.returns
 returns c =
-    let short : c.loop-i.r < 65536 =
-    let a = c.args in
-    omega (arith, rows_from-lt a.masks.now a.y c.loop-i.i) in
     let a = c.args in
     let e : c.loop-i.i ≡ 0 = omega arith in
-    (c.loop-i.invariant.1 ∙ ap (rows_from a.masks.now a.y) e ∙ rows_from-all a.masks.now a.y, short)
+    (c.loop-i.invariant.1 ∙ ap (rows_from a.masks.now a.y) e ∙ rows_from-all a.masks.now a.y, omega (arith, rows_from-lt a.masks.now a.y c.loop-i.i))

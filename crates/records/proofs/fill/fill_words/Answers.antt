@@ -23,7 +23,7 @@ loop-i-preserved c =
     let l = c.loop-i in
     let a = c.args in
     let s = a.s.now in
-    let byte = c.shared_slice_known-1.given in
+    let byte = c.type_inv.s in
     let e : c.word_at.result % 65536 ≡ word s (a.size * l.i + a.offset) =
     rw c.word_at.ensures (omega (arith, byte l.at, byte (l.at + 1)))
     ∙ ap (word s) l.invariant.1 in (

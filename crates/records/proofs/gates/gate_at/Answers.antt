@@ -11,7 +11,7 @@ pub returns : goal.returns
 unfolding struct_at
 returns c =
     let a = c.args in
-    let byte = c.shared_slice_known-3-1.given in
+    let byte = c.type_inv.s in
     let cut : (i : ℕ) → word a.s.now i % 65536 ≡ word a.s.now i =
     λ i. mod-eq_of_lt (word_lt a.s.now i (byte i).fits (byte (i + 1)).fits) in
     rw (

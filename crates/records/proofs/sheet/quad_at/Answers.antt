@@ -11,7 +11,7 @@ unfolding quad
 returns c =
     let s = c.args.s.now in
     let p = c.args.at in
-    let byte = c.shared_slice_known-1.given in
+    let byte = c.type_inv.s in
     rw (
       word-drop s p 0,
       word-drop s p 2,

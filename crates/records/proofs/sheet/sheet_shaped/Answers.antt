@@ -14,4 +14,4 @@ returns c =
     let a = c.args in
     c.spanned.ensures
     ∙ walk-spans a.sheet.now c.walked-w.result c.walked-w.ensures
-    (λ i. (c.shared_slice_known-1.given i).fits) c.in-Passed.is
+    (λ i. (c.type_inv.sheet i).fits) c.in-Passed.is

@@ -17,7 +17,7 @@ pub loop-i-preserved : goal.loop-i-preserved
 loop-i-preserved c =
     let a = c.args in
     let s = a.s.now in
-    let byte = c.shared_slice_known-1.given in
+    let byte = c.type_inv.s in
     let p = 2 * c.loop-i.i + 3 in
     let xs = word_column s 2 3 a.len in
     let e : c.word_at.result % 65536 ≡ get_or xs c.loop-i.i 0 =

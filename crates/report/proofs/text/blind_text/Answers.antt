@@ -17,8 +17,8 @@ pub value_lines-requires : goal.value_lines-requires
 value_lines-requires c =
     let a = c.args.sheet.now in
     let u = c.requires.0 in
-    let bytes : Below 256 a = λ i. (c.shared_slice_known-1.given i).fits in
-    let vectors : Below 256 c.args.vectors.now = λ i. (c.shared_slice_known-2-1.given i).fits in
+    let bytes : Below 256 a = λ i. (c.type_inv.sheet i).fits in
+    let vectors : Below 256 c.args.vectors.now = λ i. (c.type_inv.vectors i).fits in
     let e : c.word_at.result ≡ word (nth 0 a) 0 = rw (blind-value a u) at c.word_at.ensures in
     let l = word-quad-lt (nth 0 a) (blind-below a u bytes) in
     omega (arith, value_room blind_word {vs = c.args.vectors.now} (omega arith) l c.requires.1 vectors e refl)

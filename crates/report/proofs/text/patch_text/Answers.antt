@@ -85,8 +85,8 @@ patch_lines-requires c =
     rw spans.cost at c.quad_at-paid.ensures in
     let a = c.args in
     let p = spans in
-    let bytes : Below 256 a.sheet.now = λ i. (c.shared_slice_known-1.given i).fits in
-    let vectors : Below 256 a.vectors.now = λ i. (c.shared_slice_known-2-1.given i).fits in
+    let bytes : Below 256 a.sheet.now = λ i. (c.type_inv.sheet i).fits in
+    let vectors : Below 256 a.vectors.now = λ i. (c.type_inv.vectors i).fits in
     let e = patch-same a.sheet.now a.vectors.now paid p.nets p.table p.notes in
     omega (arith, ap length e, patch-room a.sheet.now a.vectors.now c.requires.0 bytes c.requires.1 vectors)
 

@@ -8,13 +8,13 @@ use Rattle.report.proofs.text.quad_at.Goals as goal
 pub overflow_mul-result : goal.overflow_mul-result
 overflow_mul-result c =
     let s = c.args.s.now in
-    let byte = c.shared_slice_known-1.given in
+    let byte = c.type_inv.s in
     omega (arith, c.word_at.ensures, word_lt s 0 (byte 0).fits (byte 1).fits)
 
 pub overflow_add-result : goal.overflow_add-result
 overflow_add-result c =
     let s = c.args.s.now in
-    let byte = c.shared_slice_known-1.given in
+    let byte = c.type_inv.s in
     omega (
       arith,
       c.word_at.ensures,

@@ -26,7 +26,7 @@ pub value_lines-requires : goal.value_lines-requires
 value_lines-requires c =
     let a = c.args.sheet.now in
     let v = c.requires.0 in
-    let bytes : Below 256 a = λ i. (c.shared_slice_known-1.given i).fits in
+    let bytes : Below 256 a = λ i. (c.type_inv.sheet i).fits in
     let e : c.quad_at.result ≡ quad (nth 0 a) = rw (unfixable-input a v) at c.quad_at.ensures in
     let below = unfixable-below a v bytes in
     let l = quad-lt (nth 0 a) (below 0 (omega arith)) in
