@@ -8,37 +8,32 @@ use lib.ListN.{length, take}
 use Rattle.records.specs.Bytes.{nth}
 use Rattle.records.specs.Netlist.{fanout}
 use Rattle.records.specs.Job.{gates_of, candidates_of}
-use Rattle.records.specs.Inner.{check_of, starts_of, Laid, unmarked_ascending}
-use Rattle.records.specs.declared.job.Counts.{Counts}
-use Rattle.records.specs.declared.job.Starts.{Starts}
+use Rattle.records.specs.Inner.{check_of, unmarked_ascending}
 use Rattle.records.proofs.Laws.Bytes.{and_left}
-use Rattle.records.proofs.Laws.Shape.{Parts, parts, netlists-checks, laid-old, candidates-check}
+use Rattle.records.proofs.Laws.Shape.{parts, netlists-checks, laid-old, candidates-check}
 use Rattle.records.proofs.job.check_all_candidates.Goals as goal
 
--- where the fields stand, once the starts are known
-at : {s : List ℕ} {k : Counts} {r : Starts} → Laid s k → r ≡ starts_of k → Parts s r
-at l e = parts _ _ l _ e
-
 pub overflow_sub-b : goal.overflow_sub-b
-overflow_sub-b c = (at c.requires.laid c.starts_of-at.ensures).old-head
+overflow_sub-b c = (parts _ _ c.requires.laid _ c.starts_of-at.ensures).old-head
 
 pub slice_bounds-fanout_marks-count : goal.slice_bounds-fanout_marks-count
-slice_bounds-fanout_marks-count c = (at c.requires.laid c.starts_of-at.ensures).old.ordered
+slice_bounds-fanout_marks-count c = (parts _ _ c.requires.laid _ c.starts_of-at.ensures).old.ordered
 
 pub slice_bounds-fanout_marks-start : goal.slice_bounds-fanout_marks-start
-slice_bounds-fanout_marks-start c = (at c.requires.laid c.starts_of-at.ensures).old.ordered
+slice_bounds-fanout_marks-start c = (parts _ _ c.requires.laid _ c.starts_of-at.ensures).old.ordered
 
 pub slice_bounds-fanout_marks-end : goal.slice_bounds-fanout_marks-end
-slice_bounds-fanout_marks-end c = (at c.requires.laid c.starts_of-at.ensures).old.within
+slice_bounds-fanout_marks-end c = (parts _ _ c.requires.laid _ c.starts_of-at.ensures).old.within
 
 pub fanout_marks-marks-requires : goal.fanout_marks-marks-requires
 fanout_marks-marks-requires c =
     let s = c.args.job.now in
     let k = c.args.c in
     let p = c.requires in
-    let e = (at p.laid c.starts_of-at.ensures).old.is in
+    let e = (parts _ _ p.laid _ c.starts_of-at.ensures).old.is in
     let w = p.laid.within in
-    let n : k.inputs + k.targets + length (nth 1 s) / 10 ≤ 424 = omega (arith, laid-old s k p.laid, w.inputs, w.targets, w.old.gates) in
+    let n : k.inputs + k.targets + length (nth 1 s) / 10 ≤ 424 =
+    omega (arith, laid-old s k p.laid, w.inputs, w.targets, w.old.gates) in
     let g = and_left _ _ (sym (netlists-checks s k p.laid) ∙ p.good) in
     record {
       s_bound = rw e n;
@@ -46,20 +41,20 @@ fanout_marks-marks-requires c =
     }
 
 pub slice_bounds-check_candidates-count : goal.slice_bounds-check_candidates-count
-slice_bounds-check_candidates-count c = (at c.requires.laid c.starts_of-at.ensures).candidates.ordered
+slice_bounds-check_candidates-count c = (parts _ _ c.requires.laid _ c.starts_of-at.ensures).candidates.ordered
 
 pub slice_bounds-check_candidates-start : goal.slice_bounds-check_candidates-start
-slice_bounds-check_candidates-start c = (at c.requires.laid c.starts_of-at.ensures).candidates.ordered
+slice_bounds-check_candidates-start c = (parts _ _ c.requires.laid _ c.starts_of-at.ensures).candidates.ordered
 
 pub slice_bounds-check_candidates-end : goal.slice_bounds-check_candidates-end
-slice_bounds-check_candidates-end c = (at c.requires.laid c.starts_of-at.ensures).candidates.within
+slice_bounds-check_candidates-end c = (parts _ _ c.requires.laid _ c.starts_of-at.ensures).candidates.within
 
 pub returns : goal.returns
 returns c =
     let s = c.args.job.now in
     let k = c.args.c in
     let l = c.requires.laid in
-    let t = at l c.starts_of-at.ensures in
+    let t = parts _ _ l _ c.starts_of-at.ensures in
     let m = c.fanout_marks-marks.result in
     let n = k.inputs + k.targets + k.old.gates in
     let f : take n m ≡ fanout k.inputs k.targets (gates_of (nth 1 s)) =

@@ -11,6 +11,7 @@ use Rattle.records.specs.Bytes.{nth, all}
 use Rattle.records.specs.Job.{job_of}
 use Rattle.records.specs.Refusal.{outputs_good}
 use Rattle.records.specs.Inner.{check_of, starts_of, word_column, Laid}
+use Rattle.records.specs.declared.field.Check.{Check}
 use Rattle.records.specs.declared.field.Check.TheVariants.{Passed, Failed}
 use Rattle.records.specs.declared.job.Counts.{Counts}
 use Rattle.records.specs.declared.job.Starts.{Starts}
@@ -36,19 +37,19 @@ tests {s} {k} {r} l e =
     let at = parts s k l r e in
     rw (nets-in at.outputs _ (old-count l), nets-in at.goldens _ (golden-count l)) (outputs-checks s k l)
 
--- what the checks of a and b say of the whole test
-module _ (a b d : Bool) {g : Bool} (t : g ≡ (a && b && d)) where
-  first-fails : check_of a ≡ Failed → Failed ≡ check_of g
-  first-fails p = failed-of g (t ∙ ap (λ (x : Bool). x && b && d) (fails a p))
+-- what the checks of a and b, x and y, say of the whole test
+module _ (a b d : Bool) {g : Bool} {x : Check} (t : g ≡ (a && b && d)) (f : x ≡ check_of a) where
+  first-fails : x ≡ Failed → Failed ≡ check_of g
+  first-fails p = failed-of g (t ∙ ap (λ (v : Bool). v && b && d) (fails a (sym f ∙ p)))
 
-  second-fails : check_of a ≡ Passed → check_of b ≡ Failed → Failed ≡ check_of g
-  second-fails p q =
-      let z : (a && b && d) ≡ false = rw (passes a p, fails b q) in
+  second-fails : {y : Check} → x ≡ Passed → y ≡ check_of b → y ≡ Failed → Failed ≡ check_of g
+  second-fails p s q =
+      let z : (a && b && d) ≡ false = rw (passes a (sym f ∙ p), fails b (sym s ∙ q)) in
       failed-of g (t ∙ z)
 
-  both-pass : check_of a ≡ Passed → check_of b ≡ Passed → g ≡ d
-  both-pass p q =
-      let z : (a && b && d) ≡ d = rw (passes a p, passes b q) in
+  both-pass : {y : Check} → x ≡ Passed → y ≡ check_of b → y ≡ Passed → g ≡ d
+  both-pass p s q =
+      let z : (a && b && d) ≡ d = rw (passes a (sym f ∙ p), passes b (sym s ∙ q)) in
       t ∙ z
 
 pub check_outputs-first-requires : goal.check_outputs-first-requires
@@ -57,7 +58,7 @@ check_outputs-first-requires c =
 
 pub returns-in_default : goal.returns-in_default
 returns-in_default c =
-    first-fails _ _ _ (tests c.requires c.starts_of-at.ensures) (sym c.check_outputs-first.ensures ∙ c.in_default.is)
+    first-fails _ _ _ (tests c.requires c.starts_of-at.ensures) c.check_outputs-first.ensures c.in_default.is
 
 pub check_outputs-second-requires : goal.check_outputs-second-requires
 check_outputs-second-requires c =
@@ -65,19 +66,19 @@ check_outputs-second-requires c =
 
 pub returns-in_default-second : goal.returns-in_default-second
 returns-in_default-second c =
-    second-fails _ _ _ (tests c.requires c.starts_of-at.ensures) (sym c.check_outputs-first.ensures ∙ c.in-Passed.is)
-    (sym c.check_outputs-second.ensures ∙ c.in_default-second.is)
+    second-fails _ _ _ (tests c.requires c.starts_of-at.ensures) c.check_outputs-first.ensures c.in-Passed.is
+    c.check_outputs-second.ensures c.in_default-second.is
 
 pub returns-then-old-golden : goal.returns-then-old-golden
 returns-then-old-golden c =
     let both =
-    both-pass _ _ _ (tests c.requires c.starts_of-at.ensures) (sym c.check_outputs-first.ensures ∙ c.in-Passed.is)
-    (sym c.check_outputs-second.ensures ∙ c.in-Passed-second.is) in
+    both-pass _ _ _ (tests c.requires c.starts_of-at.ensures) c.check_outputs-first.ensures c.in-Passed.is
+    c.check_outputs-second.ensures c.in-Passed-second.is in
     passed _ (both ∙ eq-eqb _ _ c.if-old-golden.true)
 
 pub returns-else-old-golden : goal.returns-else-old-golden
 returns-else-old-golden c =
     let both =
-    both-pass _ _ _ (tests c.requires c.starts_of-at.ensures) (sym c.check_outputs-first.ensures ∙ c.in-Passed.is)
-    (sym c.check_outputs-second.ensures ∙ c.in-Passed-second.is) in
+    both-pass _ _ _ (tests c.requires c.starts_of-at.ensures) c.check_outputs-first.ensures c.in-Passed.is
+    c.check_outputs-second.ensures c.in-Passed-second.is in
     failed-of _ (both ∙ ne_eqb _ _ c.if-old-golden.false)

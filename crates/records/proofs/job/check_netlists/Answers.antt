@@ -11,33 +11,32 @@ use Rattle.records.specs.declared.job.Counts.{Counts}
 use Rattle.records.specs.declared.job.Starts.{Starts}
 use Rattle.records.proofs.Laws.Bytes.{and-false-left}
 use Rattle.records.proofs.Laws.Counts.{failed-of, passes, fails}
-use Rattle.records.proofs.Laws.Shape.{Parts, parts, netlists-checks}
+use Rattle.records.proofs.Laws.Shape.{parts, netlists-checks}
 use Rattle.records.proofs.job.check_netlists.Goals as goal
 
--- where the fields stand, once the starts are known, and the tests of the parts there
-at : {s : List ℕ} {k : Counts} {r : Starts} → Laid s k → r ≡ starts_of k → Parts s r
-at l e = parts _ _ l _ e
-
+-- the tests of the two parts, as they stand once the starts are known
 tests : {s : List ℕ} {k : Counts} {r : Starts} → Laid s k → r ≡ starts_of k
     → netlists_good (job_of s)
     ≡ (gates_good (k.inputs + k.targets) (gates_of (take (r.outputs - 3 - r.old) (drop r.old s)))
     && gates_good k.inputs (gates_of (take (r.goldens - 3 - r.golden) (drop r.golden s))))
-tests {s} {k} l e = rw ((at l e).old.is, (at l e).golden.is) (netlists-checks s k l)
+tests l e =
+    let at = parts _ _ l _ e in
+    rw (at.old.is, at.golden.is) (netlists-checks _ _ l)
 
 and-true-left : (a b : Bool) → a ≡ true → (a && b) ≡ b
 and-true-left a b e = rw e
 
 pub overflow_sub-b : goal.overflow_sub-b
-overflow_sub-b c = (at c.requires c.starts_of-at.ensures).old-head
+overflow_sub-b c = (parts _ _ c.requires _ c.starts_of-at.ensures).old-head
 
 pub slice_bounds-check_gates-count : goal.slice_bounds-check_gates-count
-slice_bounds-check_gates-count c = (at c.requires c.starts_of-at.ensures).old.ordered
+slice_bounds-check_gates-count c = (parts _ _ c.requires _ c.starts_of-at.ensures).old.ordered
 
 pub slice_bounds-check_gates-start : goal.slice_bounds-check_gates-start
-slice_bounds-check_gates-start c = (at c.requires c.starts_of-at.ensures).old.ordered
+slice_bounds-check_gates-start c = (parts _ _ c.requires _ c.starts_of-at.ensures).old.ordered
 
 pub slice_bounds-check_gates-end : goal.slice_bounds-check_gates-end
-slice_bounds-check_gates-end c = (at c.requires c.starts_of-at.ensures).old.within
+slice_bounds-check_gates-end c = (parts _ _ c.requires _ c.starts_of-at.ensures).old.within
 
 pub returns-in_default : goal.returns-in_default
 returns-in_default c =
@@ -45,16 +44,16 @@ returns-in_default c =
     failed-of _ (tests c.requires c.starts_of-at.ensures ∙ and-false-left _ _ e)
 
 pub overflow_sub-e : goal.overflow_sub-e
-overflow_sub-e c = (at c.requires c.starts_of-at.ensures).golden-head
+overflow_sub-e c = (parts _ _ c.requires _ c.starts_of-at.ensures).golden-head
 
 pub slice_bounds-check_gates-count-2 : goal.slice_bounds-check_gates-count-2
-slice_bounds-check_gates-count-2 c = (at c.requires c.starts_of-at.ensures).golden.ordered
+slice_bounds-check_gates-count-2 c = (parts _ _ c.requires _ c.starts_of-at.ensures).golden.ordered
 
 pub slice_bounds-check_gates-start-2 : goal.slice_bounds-check_gates-start-2
-slice_bounds-check_gates-start-2 c = (at c.requires c.starts_of-at.ensures).golden.ordered
+slice_bounds-check_gates-start-2 c = (parts _ _ c.requires _ c.starts_of-at.ensures).golden.ordered
 
 pub slice_bounds-check_gates-end-2 : goal.slice_bounds-check_gates-end-2
-slice_bounds-check_gates-end-2 c = (at c.requires c.starts_of-at.ensures).golden.within
+slice_bounds-check_gates-end-2 c = (parts _ _ c.requires _ c.starts_of-at.ensures).golden.within
 
 pub returns : goal.returns
 returns c =
