@@ -1,95 +1,61 @@
 -- `records::job::check_netlists` meets its contract: the parts handed on are the two gate fields. Assumes nothing.
 use mathlib.Core.Path.{◌≡◌, sym, ◌∙◌, ap}
-use mathlib.Core.Bool.{Bool, ◌&&◌}
+use mathlib.Core.Bool.{Bool, true, ◌&&◌}
 use mathlib.Core.List.{List}
-use Prim.Native.Nat.{ℕ, ◌+◌}
-use Rattle.records.specs.Bytes.{nth}
-use Rattle.records.specs.Job.{gates_of}
-use Rattle.records.specs.Refusal.{gates_good}
-use Rattle.records.specs.Inner.{check_of}
+use Prim.Native.Nat.{ℕ, ◌+◌, ◌-◌}
+use lib.ListN.{take, drop}
+use Rattle.records.specs.Job.{gates_of, job_of}
+use Rattle.records.specs.Refusal.{gates_good, netlists_good}
+use Rattle.records.specs.Inner.{check_of, starts_of, Laid}
+use Rattle.records.specs.declared.job.Counts.{Counts}
+use Rattle.records.specs.declared.job.Starts.{Starts}
 use Rattle.records.proofs.Laws.Bytes.{and-false-left}
 use Rattle.records.proofs.Laws.Counts.{failed-of, passes, fails}
-use Rattle.records.proofs.Laws.Shape.{Parts, parts, netlists-checks}
+use Rattle.records.proofs.Laws.Shape.{parts, netlists-checks}
 use Rattle.records.proofs.job.check_netlists.Goals as goal
 
+-- the tests of the two parts, as they stand once the starts are known
+tests : {s : List ℕ} {k : Counts} {r : Starts} → Laid s k → r ≡ starts_of k
+    → netlists_good (job_of s)
+    ≡ (gates_good (k.inputs + k.targets) (gates_of (take (r.outputs - 3 - r.old) (drop r.old s)))
+    && gates_good k.inputs (gates_of (take (r.goldens - 3 - r.golden) (drop r.golden s))))
+tests l e =
+    let at = parts _ _ l _ e in
+    rw (at.old.is, at.golden.is) (netlists-checks _ _ l)
+
+and-true-left : (a b : Bool) → a ≡ true → (a && b) ≡ b
+and-true-left a b e = rw e
+
 pub overflow_sub-b : goal.overflow_sub-b
-overflow_sub-b c =
-    let at : Parts c.args.job.now c.starts_of-at.result =
-    let a = c.args in
-    parts a.job.now a.c c.requires c.starts_of-at.result c.starts_of-at.ensures in
-    at.old-head
+overflow_sub-b c = (parts _ _ c.requires _ c.starts_of-at.ensures).old-head
 
 pub slice_bounds-check_gates-count : goal.slice_bounds-check_gates-count
-slice_bounds-check_gates-count c =
-    let at : Parts c.args.job.now c.starts_of-at.result =
-    let a = c.args in
-    parts a.job.now a.c c.requires c.starts_of-at.result c.starts_of-at.ensures in
-    at.old.ordered
+slice_bounds-check_gates-count c = (parts _ _ c.requires _ c.starts_of-at.ensures).old.ordered
 
 pub slice_bounds-check_gates-start : goal.slice_bounds-check_gates-start
-slice_bounds-check_gates-start c =
-    let at : Parts c.args.job.now c.starts_of-at.result =
-    let a = c.args in
-    parts a.job.now a.c c.requires c.starts_of-at.result c.starts_of-at.ensures in
-    at.old.ordered
+slice_bounds-check_gates-start c = (parts _ _ c.requires _ c.starts_of-at.ensures).old.ordered
 
 pub slice_bounds-check_gates-end : goal.slice_bounds-check_gates-end
-slice_bounds-check_gates-end c =
-    let at : Parts c.args.job.now c.starts_of-at.result =
-    let a = c.args in
-    parts a.job.now a.c c.requires c.starts_of-at.result c.starts_of-at.ensures in
-    at.old.within
+slice_bounds-check_gates-end c = (parts _ _ c.requires _ c.starts_of-at.ensures).old.within
 
 pub returns-in_default : goal.returns-in_default
 returns-in_default c =
-    let at : Parts c.args.job.now c.starts_of-at.result =
-    let a = c.args in
-    parts a.job.now a.c c.requires c.starts_of-at.result c.starts_of-at.ensures in
-    let first : c.check_gates-first.result ≡ check_of (gates_good (c.args.c.inputs + c.args.c.targets) (gates_of (nth 1 c.args.job.now))) =
-    let a = c.args in
-    c.check_gates-first.ensures ∙ ap (λ (l : List ℕ). check_of (gates_good (a.c.inputs + a.c.targets) (gates_of l))) at.old.is in
-    let a = c.args in
-    let e = fails _ (sym first ∙ c.in_default.is) in
-    failed-of _ (netlists-checks a.job.now a.c c.requires ∙ and-false-left _ _ e)
+    let e = fails _ (sym c.check_gates-first.ensures ∙ c.in_default.is) in
+    failed-of _ (tests c.requires c.starts_of-at.ensures ∙ and-false-left _ _ e)
 
 pub overflow_sub-e : goal.overflow_sub-e
-overflow_sub-e c =
-    let at : Parts c.args.job.now c.starts_of-at.result =
-    let a = c.args in
-    parts a.job.now a.c c.requires c.starts_of-at.result c.starts_of-at.ensures in
-    at.golden-head
+overflow_sub-e c = (parts _ _ c.requires _ c.starts_of-at.ensures).golden-head
 
 pub slice_bounds-check_gates-count-2 : goal.slice_bounds-check_gates-count-2
-slice_bounds-check_gates-count-2 c =
-    let at : Parts c.args.job.now c.starts_of-at.result =
-    let a = c.args in
-    parts a.job.now a.c c.requires c.starts_of-at.result c.starts_of-at.ensures in
-    at.golden.ordered
+slice_bounds-check_gates-count-2 c = (parts _ _ c.requires _ c.starts_of-at.ensures).golden.ordered
 
 pub slice_bounds-check_gates-start-2 : goal.slice_bounds-check_gates-start-2
-slice_bounds-check_gates-start-2 c =
-    let at : Parts c.args.job.now c.starts_of-at.result =
-    let a = c.args in
-    parts a.job.now a.c c.requires c.starts_of-at.result c.starts_of-at.ensures in
-    at.golden.ordered
+slice_bounds-check_gates-start-2 c = (parts _ _ c.requires _ c.starts_of-at.ensures).golden.ordered
 
 pub slice_bounds-check_gates-end-2 : goal.slice_bounds-check_gates-end-2
-slice_bounds-check_gates-end-2 c =
-    let at : Parts c.args.job.now c.starts_of-at.result =
-    let a = c.args in
-    parts a.job.now a.c c.requires c.starts_of-at.result c.starts_of-at.ensures in
-    at.golden.within
+slice_bounds-check_gates-end-2 c = (parts _ _ c.requires _ c.starts_of-at.ensures).golden.within
 
 pub returns : goal.returns
 returns c =
-    let at : Parts c.args.job.now c.starts_of-at.result =
-    let a = c.args in
-    parts a.job.now a.c c.requires c.starts_of-at.result c.starts_of-at.ensures in
-    let first : c.check_gates-first.result ≡ check_of (gates_good (c.args.c.inputs + c.args.c.targets) (gates_of (nth 1 c.args.job.now))) =
-    let a = c.args in
-    c.check_gates-first.ensures ∙ ap (λ (l : List ℕ). check_of (gates_good (a.c.inputs + a.c.targets) (gates_of l))) at.old.is in
-    let a = c.args in
-    let e = passes _ (sym first ∙ c.in-Passed.is) in
-    c.check_gates.ensures
-    ∙ ap (λ (l : List ℕ). check_of (gates_good a.c.inputs (gates_of l))) at.golden.is
-    ∙ sym (ap check_of (netlists-checks a.job.now a.c c.requires ∙ ap (λ (x : Bool). x && gates_good a.c.inputs (gates_of (nth 3 a.job.now))) e))
+    let e = passes _ (sym c.check_gates-first.ensures ∙ c.in-Passed.is) in
+    c.check_gates.ensures ∙ sym (ap check_of (tests c.requires c.starts_of-at.ensures ∙ and-true-left _ _ e))

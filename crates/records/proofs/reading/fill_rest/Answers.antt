@@ -1,7 +1,6 @@
 -- `records::reading::fill_rest` meets its contract: each list gets the words of its field. Assumes nothing.
 use native.Mathlib.Omega.{arith}
-use Rattle.records.specs.Inner.{Laid}
-use Rattle.records.proofs.Laws.Shape.{Parts, parts}
+use Rattle.records.proofs.Laws.Shape.{parts}
 use Rattle.records.proofs.Laws.Reading.{outputs-fit, goldens-fit, nets-fit, weights-fit, rest-filled, rest-left}
 use Rattle.records.proofs.reading.fill_rest.Goals as goal
 
@@ -10,50 +9,32 @@ returns-then-reply-ne0 c = rest-left _ _ _ _ _ _ c.if-reply-ne0.true
 
 pub fill_words-requires : goal.fill_words-requires
 fill_words-requires c =
-    let laid : Laid c.args.job.now c.args.reply.counts =
-    c.requires.laid c.if-reply-ne0.false in
-    let at : Parts c.args.job.now c.starts_of-at.result =
-    parts _ _ laid c.starts_of-at.result c.starts_of-at.ensures in
-    outputs-fit _ _ c.requires c.if-reply-ne0.false _ (at)
+    let z = c.if-reply-ne0.false in
+    outputs-fit _ _ c.requires z _ (parts _ _ (c.requires.laid z) _ c.starts_of-at.ensures)
 
 pub fill_words-requires-2 : goal.fill_words-requires-2
 fill_words-requires-2 c =
-    let laid : Laid c.args.job.now c.args.reply.counts =
-    c.requires.laid c.if-reply-ne0.false in
-    let at : Parts c.args.job.now c.starts_of-at.result =
-    parts _ _ laid c.starts_of-at.result c.starts_of-at.ensures in
-    goldens-fit _ _ c.requires c.if-reply-ne0.false _ (at)
+    let z = c.if-reply-ne0.false in
+    goldens-fit _ _ c.requires z _ (parts _ _ (c.requires.laid z) _ c.starts_of-at.ensures)
 
 pub fill_words-requires-3 : goal.fill_words-requires-3
 fill_words-requires-3 c =
-    let laid : Laid c.args.job.now c.args.reply.counts =
-    c.requires.laid c.if-reply-ne0.false in
-    let at : Parts c.args.job.now c.starts_of-at.result =
-    parts _ _ laid c.starts_of-at.result c.starts_of-at.ensures in
-    nets-fit _ _ c.requires c.if-reply-ne0.false _ (at)
+    let z = c.if-reply-ne0.false in
+    nets-fit _ _ c.requires z _ (parts _ _ (c.requires.laid z) _ c.starts_of-at.ensures)
 
 pub overflow_add-at : goal.overflow_add-at
 overflow_add-at c =
-    let laid : Laid c.args.job.now c.args.reply.counts =
-    c.requires.laid c.if-reply-ne0.false in
-    let at : Parts c.args.job.now c.starts_of-at.result =
-    parts _ _ laid c.starts_of-at.result c.starts_of-at.ensures in
-    let w = weights-fit _ _ c.requires c.if-reply-ne0.false _ at in
-    omega (arith, w)
+    let z = c.if-reply-ne0.false in
+    omega (arith, weights-fit _ _ c.requires z _ (parts _ _ (c.requires.laid z) _ c.starts_of-at.ensures))
 
 pub fill_words-requires-4 : goal.fill_words-requires-4
 fill_words-requires-4 c =
-    let laid : Laid c.args.job.now c.args.reply.counts =
-    c.requires.laid c.if-reply-ne0.false in
-    let at : Parts c.args.job.now c.starts_of-at.result =
-    parts _ _ laid c.starts_of-at.result c.starts_of-at.ensures in
-    weights-fit _ _ c.requires c.if-reply-ne0.false _ (at)
+    let z = c.if-reply-ne0.false in
+    weights-fit _ _ c.requires z _ (parts _ _ (c.requires.laid z) _ c.starts_of-at.ensures)
 
 pub returns : goal.returns
 returns c =
-    let laid : Laid c.args.job.now c.args.reply.counts =
-    c.requires.laid c.if-reply-ne0.false in
-    let at : Parts c.args.job.now c.starts_of-at.result =
-    parts _ _ laid c.starts_of-at.result c.starts_of-at.ensures in
-    rest-filled _ _ _ _ _ _ c.if-reply-ne0.false laid _ at
+    let z = c.if-reply-ne0.false in
+    let laid = c.requires.laid z in
+    rest-filled _ _ _ _ _ _ z laid _ (parts _ _ laid _ c.starts_of-at.ensures)
     c.fill_words.ensures c.fill_words-2.ensures c.fill_words-3.ensures c.fill_words-4.ensures
