@@ -136,7 +136,7 @@ module _ (c : Counts) (p : Places) (d : List ℕ) where
           let n : write_number c p d ≡ 0 = write-tested ∙ sym (written-refusal c p) ∙ a.0 in
           (rw (l, n), rw n)
 
--- ---- a service's answer from its two equations, the last of them behind a call's
+-- ---- what a service claims, from its reply's equation and that of what it was lent
 
 pub replied : {A B : Type 0} → A × B → record { reply : A; lent : B; }
 replied t = record { reply = t.0; lent = t.1 }

@@ -4,18 +4,18 @@ use Rattle.records.proofs.Laws.Put.{field-left, field_put, put-field-full, put-f
 use Rattle.records.proofs.put.put_field.Goals as goal
 
 pub returns-then-buf-at : goal.returns-then-buf-at
-returns-then-buf-at c = field-left _ _ _ _ (put-field-full c.args.buf.now c.args.at c.args.bytes.now (omega arith))
+returns-then-buf-at c = field-left _ _ _ _ (put-field-full _ _ _ (omega arith))
 
 pub returns-then-room-lt3 : goal.returns-then-room-lt3
-returns-then-room-lt3 c = field-left _ _ _ _ (put-field-full c.args.buf.now c.args.at c.args.bytes.now (omega arith))
+returns-then-room-lt3 c = field-left _ _ _ _ (put-field-full _ _ _ (omega arith))
 
 pub returns-then-room-len : goal.returns-then-room-len
-returns-then-room-len c = field-left _ _ _ _ (put-field-full c.args.buf.now c.args.at c.args.bytes.now (omega arith))
+returns-then-room-len c = field-left _ _ _ _ (put-field-full _ _ _ (omega arith))
 
 pub returns-then-len-gt65535 : goal.returns-then-len-gt65535
 returns-then-len-gt65535 c = field-left _ _ _ _ (put-field-long _ _ _ c.if-len-gt65535.true)
 
 pub returns : goal.returns
 returns c =
-    field_put c.args.buf.now c.args.at c.args.bytes.now c.args.tag c.put_head-a.result c.put_head-a.new.buf
+    field_put _ _ _ _ _ _
     (omega arith) (omega arith) (omega arith) c.put_head-a.ensures.0 c.put_head-a.ensures.1 c.copy.ensures

@@ -8,21 +8,21 @@ use Rattle.records.proofs.writing.write.Goals as goal
 
 pub put_gates-requires : goal.put_gates-requires
 put_gates-requires c =
-    let s = spans-held _ _ c.args.buf.now _ _ c.plan_write-plan.ensures c.gate_spans-spans.ensures in (s.0, s.1)
+    let s = spans-held _ _ _ _ _ c.plan_write-plan.ensures c.gate_spans-spans.ensures in (s.0, s.1)
 
 pub put_gates-requires-2 : goal.put_gates-requires-2
 put_gates-requires-2 c =
-    let s = spans-held _ _ c.args.buf.now _ _ c.plan_write-plan.ensures c.gate_spans-spans.ensures in
+    let s = spans-held _ _ _ _ _ c.plan_write-plan.ensures c.gate_spans-spans.ensures in
     let n : length c.put_gates.new.buf ≡ 8188 = c.put_gates.auto.buf in
     (omega (arith, s.2, n), s.3)
 
 pub write_rest-requires : goal.write_rest-requires
 write_rest-requires c =
-    rest-held _ _ c.args.buf.now _ _ c.plan_write-plan.ensures (c.put_gates-2.auto.buf ∙ c.put_gates.auto.buf)
+    rest-held _ _ _ _ _ c.plan_write-plan.ensures (c.put_gates-2.auto.buf ∙ c.put_gates.auto.buf)
 
 pub returns : goal.returns
 returns c =
     let g =
-    gates-put _ _ c.args.buf.now _ _ _ _ _ c.plan_write-plan.ensures c.gate_spans-spans.ensures refl
+    gates-put _ _ _ _ _ _ _ _ c.plan_write-plan.ensures c.gate_spans-spans.ensures refl
     c.put_gates.ensures c.put_gates-2.ensures in
     replied (write-ends _ _ _ _ _ _ c.plan_write-plan.ensures (c.write_rest.ensures c.args.old.now c.args.golden.now g))
