@@ -18,11 +18,12 @@ returns-in_default-second c =
     let r = small-golden _ _ (fails _ (sym c.check_columns-second.ensures ∙ c.in_default-second.is)) in
     replied (c.refused-in_default-second.ensures ∙ r.0, r.1)
 
--- what the other netlist's gates are split into plays no part
+-- the kinds, counts and slots of the other netlist play no part: none stand for them
 pub split-requires : goal.split-requires
 split-requires c =
     let r = c.read_gates-found.ensures in
-    old-splits (columns _ (side_columns [] [] [] _) _ _) _ _ r.reply r.lent (passes _ (sym c.check_columns-first.ensures ∙ c.in-Passed.is))
+    old-splits (columns _ (side_columns [] [] [] _) _ _) _ _ r.reply r.lent
+    (passes _ (sym c.check_columns-first.ensures ∙ c.in-Passed.is))
 
 pub split-requires-2 : goal.split-requires-2
 split-requires-2 c =
@@ -34,6 +35,5 @@ pub returns : goal.returns
 returns c =
     let r = c.read_gates-found.ensures in
     replied
-    (read-columns-ends _ _ _ r.reply r.lent
-    (passes _ (sym c.check_columns-first.ensures ∙ c.in-Passed.is)) (passes _ (sym c.check_columns-second.ensures ∙ c.in-Passed-second.is))
-    c.split.ensures c.split-2.ensures)
+    (read-columns-ends _ _ _ r.reply r.lent (passes _ (sym c.check_columns-first.ensures ∙ c.in-Passed.is))
+    (passes _ (sym c.check_columns-second.ensures ∙ c.in-Passed-second.is)) c.split.ensures c.split-2.ensures)

@@ -20,11 +20,13 @@ returns-in_default c =
 
 pub returns-in_default-second : goal.returns-in_default-second
 returns-in_default-second c =
-    replied (unheld-old _ _ _ c.if-buf-lt-LONGEST_JOB.false (fails _ (sym c.check_columns-second.ensures ∙ c.in_default-second.is)))
+    replied
+    (unheld-old _ _ _ c.if-buf-lt-LONGEST_JOB.false (fails _ (sym c.check_columns-second.ensures ∙ c.in_default-second.is)))
 
 pub returns-in_default-third : goal.returns-in_default-third
 returns-in_default-third c =
-    replied (unheld-golden _ _ _ c.if-buf-lt-LONGEST_JOB.false (fails _ (sym c.check_columns-third.ensures ∙ c.in_default-third.is)))
+    replied
+    (unheld-golden _ _ _ c.if-buf-lt-LONGEST_JOB.false (fails _ (sym c.check_columns-third.ensures ∙ c.in_default-third.is)))
 
 -- past the checks the counts are within their ranges, and each netlist's columns hold its gates
 within : (c : In-Passed-third) → Within c.args.counts

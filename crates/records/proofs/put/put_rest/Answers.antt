@@ -13,17 +13,15 @@ pub returns : goal.returns
 returns c =
     let long : length c.args.bytes ≡ 8188 = search rules in
     let first : length c.headed-first.result ≡ 8188 =
-    length-headed c.args.bytes 0 1 2 (omega (arith, long)) c.headed-first.ensures ∙ long in
-    let within : (c.put_side-golden.result.len + 3 + 4 * c.args.counts.candidates ≤ 8188) × (length c.put_side-golden.result.bytes ≡ 8188) =
+    length-headed _ _ _ _ (omega (arith, long)) c.headed-first.ensures ∙ long in
     let b = c.requires in
-    let o = c.put_side-old.ensures.1.end in
-    let g = c.put_side-golden.ensures.1.end in
-    (omega (arith, o, g), c.put_side-golden.ensures.0) in
+    let side = c.put_side-golden.result in
+    let within : (side.len + 3 + 4 * c.args.counts.candidates ≤ 8188) × (length side.bytes ≡ 8188) =
+    (omega (arith, b, c.put_side-old.ensures.1.end, c.put_side-golden.ensures.1.end), c.put_side-golden.ensures.0) in
     let headed : length c.headed-second.result ≡ 8188 =
-    length-headed c.put_side-golden.result.bytes c.put_side-golden.result.len 6 _ (omega (arith, within)) c.headed-second.ensures ∙ within.1 in
+    length-headed _ _ _ _ (omega (arith, within)) c.headed-second.ensures ∙ within.1 in
     let netted : length c.put_column-third.result ≡ 8188 =
-    ap length c.put_column-third.ensures ∙ length-spread _ _ 4 _ _ (omega (arith, within, headed)) ∙ headed in
-    let b = c.requires in (
+    ap length c.put_column-third.ensures ∙ length-spread _ _ 4 _ _ (omega (arith, within, headed)) ∙ headed in (
       within.0,
       ap length c.put_column-fourth.ensures ∙ length-spread _ _ 4 _ _ (omega (arith, within, netted)) ∙ netted,
       λ gs hs g.
