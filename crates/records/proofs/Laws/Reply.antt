@@ -135,3 +135,8 @@ module _ (c : Counts) (p : Places) (d : List ℕ) where
           let a = checked-accepted (job_bytes (job_from c p)) x e in
           let n : write_number c p d ≡ 0 = write-tested ∙ sym (written-refusal c p) ∙ a.0 in
           (rw (l, n), rw n)
+
+-- ---- what a service claims, from its reply's equation and that of what it was lent
+
+pub replied : {A B : Type 0} → A × B → record { reply : A; lent : B; }
+replied t = record { reply = t.0; lent = t.1 }

@@ -3,107 +3,58 @@
 use mathlib.Core.Path.{◌≡◌, sym, ◌∙◌}
 use mathlib.Core.Bool.{true}
 use native.Mathlib.Nat.{le_refl}
-use Rattle.records.specs.Columns.{Columns, side_columns, columns}
-use Rattle.records.specs.Inner.{Within}
+use lib.ListN.{length}
+use Rattle.records.specs.Inner.{Within, columns_hold}
 use Rattle.records.proofs.Laws.Counts.{passes, fails, counts_within-facts}
-use Rattle.records.proofs.Laws.Columns.{side_holds, splits_of, write-columns-ends, put-short, put-counts, unheld-old, unheld-golden}
+use Rattle.records.proofs.Laws.Columns.{splits_of, write-columns-ends, put-short, put-counts, unheld-old, unheld-golden}
+use Rattle.records.proofs.Laws.Reply.{replied}
 use Rattle.records.proofs.columns.write_columns.Goals as goal
+use Rattle.records.proofs.columns.write_columns.Goals.{In-Passed-third}
 
 pub returns-then-buf-lt-LONGEST_JOB : goal.returns-then-buf-lt-LONGEST_JOB
-returns-then-buf-lt-LONGEST_JOB c =
-    let lent : Columns =
-    let a = c.args in
-    columns
-    (side_columns a.old_kinds.now a.old_counts.now a.old_slots.now a.old_outputs.now)
-    (side_columns a.golden_kinds.now a.golden_counts.now a.golden_slots.now a.golden_outputs.now)
-    a.nets.now
-    a.weights.now in
-    let whole = put-short c.args.counts lent c.args.buf.now c.if-buf-lt-LONGEST_JOB.true in
-    record { reply = whole.0; lent = whole.1 }
+returns-then-buf-lt-LONGEST_JOB c = replied (put-short _ _ _ c.if-buf-lt-LONGEST_JOB.true)
 
 pub returns-in_default : goal.returns-in_default
 returns-in_default c =
-    let lent : Columns =
-    let a = c.args in
-    columns
-    (side_columns a.old_kinds.now a.old_counts.now a.old_slots.now a.old_outputs.now)
-    (side_columns a.golden_kinds.now a.golden_counts.now a.golden_slots.now a.golden_outputs.now)
-    a.nets.now
-    a.weights.now in
-    let whole = put-counts c.args.counts lent c.args.buf.now c.if-buf-lt-LONGEST_JOB.false
-    (fails _ (sym c.check_counts-first.ensures ∙ c.in_default.is)) in
-    record { reply = whole.0; lent = whole.1 }
+    replied (put-counts _ _ _ c.if-buf-lt-LONGEST_JOB.false (fails _ (sym c.check_counts-first.ensures ∙ c.in_default.is)))
 
 pub returns-in_default-second : goal.returns-in_default-second
 returns-in_default-second c =
-    let lent : Columns =
-    let a = c.args in
-    columns
-    (side_columns a.old_kinds.now a.old_counts.now a.old_slots.now a.old_outputs.now)
-    (side_columns a.golden_kinds.now a.golden_counts.now a.golden_slots.now a.golden_outputs.now)
-    a.nets.now
-    a.weights.now in
-    let whole = unheld-old c.args.counts lent c.args.buf.now c.if-buf-lt-LONGEST_JOB.false
-    (fails _ (sym c.check_columns-second.ensures ∙ c.in_default-second.is)) in
-    record { reply = whole.0; lent = whole.1 }
+    replied
+    (unheld-old _ _ _ c.if-buf-lt-LONGEST_JOB.false (fails _ (sym c.check_columns-second.ensures ∙ c.in_default-second.is)))
 
 pub returns-in_default-third : goal.returns-in_default-third
 returns-in_default-third c =
-    let lent : Columns =
-    let a = c.args in
-    columns
-    (side_columns a.old_kinds.now a.old_counts.now a.old_slots.now a.old_outputs.now)
-    (side_columns a.golden_kinds.now a.golden_counts.now a.golden_slots.now a.golden_outputs.now)
-    a.nets.now
-    a.weights.now in
-    let whole = unheld-golden c.args.counts lent c.args.buf.now c.if-buf-lt-LONGEST_JOB.false
-    (fails _ (sym c.check_columns-third.ensures ∙ c.in_default-third.is)) in
-    record { reply = whole.0; lent = whole.1 }
+    replied
+    (unheld-golden _ _ _ c.if-buf-lt-LONGEST_JOB.false (fails _ (sym c.check_columns-third.ensures ∙ c.in_default-third.is)))
+
+-- past the checks the counts are within their ranges, and each netlist's columns hold its gates
+within : (c : In-Passed-third) → Within c.args.counts
+within c = counts_within-facts _ (passes _ (sym c.check_counts-first.ensures ∙ c.in-Passed.is))
+
+old-holds : (c : In-Passed-third)
+    → let a = c.args in
+    columns_hold a.counts.old.gates (length a.old_kinds.now) (length a.old_counts.now) (length a.old_slots.now) ≡ true
+old-holds c = passes _ (sym c.check_columns-second.ensures ∙ c.in-Passed-second.is)
+
+golden-holds : (c : In-Passed-third)
+    → let a = c.args in
+    columns_hold a.counts.golden.gates (length a.golden_kinds.now) (length a.golden_counts.now) (length a.golden_slots.now) ≡ true
+golden-holds c = passes _ (sym c.check_columns-third.ensures ∙ c.in-Passed-third.is)
 
 pub joined-old_gates-requires : goal.joined-old_gates-requires
 joined-old_gates-requires c =
-    let lent : Columns =
-    let a = c.args in
-    columns
-    (side_columns a.old_kinds.now a.old_counts.now a.old_slots.now a.old_outputs.now)
-    (side_columns a.golden_kinds.now a.golden_counts.now a.golden_slots.now a.golden_outputs.now)
-    a.nets.now
-    a.weights.now in
-    let within : Within c.args.counts =
-    counts_within-facts _ (passes _ (sym c.check_counts-first.ensures ∙ c.in-Passed.is)) in
-    let old-holds : side_holds lent.old c.args.counts.old.gates ≡ true =
-    passes _ (sym c.check_columns-second.ensures ∙ c.in-Passed-second.is) in
-    splits_of _ _ _ _ _ _ within.old.gates (le_refl _) (old-holds)
+    let t = (goal.at.joined-old_gates-requires c).In-Passed-third in
+    splits_of _ _ _ _ _ _ (within t).old.gates (le_refl _) (old-holds t)
 
 pub joined-golden_gates-requires : goal.joined-golden_gates-requires
 joined-golden_gates-requires c =
-    let lent : Columns =
-    let a = c.args in
-    columns
-    (side_columns a.old_kinds.now a.old_counts.now a.old_slots.now a.old_outputs.now)
-    (side_columns a.golden_kinds.now a.golden_counts.now a.golden_slots.now a.golden_outputs.now)
-    a.nets.now
-    a.weights.now in
-    let within : Within c.args.counts =
-    counts_within-facts _ (passes _ (sym c.check_counts-first.ensures ∙ c.in-Passed.is)) in
-    let golden-holds : side_holds lent.golden c.args.counts.golden.gates ≡ true =
-    passes _ (sym c.check_columns-third.ensures ∙ c.in-Passed-third.is) in
-    splits_of _ _ _ _ _ _ within.golden.gates (le_refl _) (golden-holds)
+    let t = (goal.at.joined-golden_gates-requires c).In-Passed-third in
+    splits_of _ _ _ _ _ _ (within t).golden.gates (le_refl _) (golden-holds t)
 
 pub returns : goal.returns
 returns c =
-    let lent : Columns =
-    let a = c.args in
-    columns
-    (side_columns a.old_kinds.now a.old_counts.now a.old_slots.now a.old_outputs.now)
-    (side_columns a.golden_kinds.now a.golden_counts.now a.golden_slots.now a.golden_outputs.now)
-    a.nets.now
-    a.weights.now in
-    let old-holds : side_holds lent.old c.args.counts.old.gates ≡ true =
-    passes _ (sym c.check_columns-second.ensures ∙ c.in-Passed-second.is) in
-    let golden-holds : side_holds lent.golden c.args.counts.golden.gates ≡ true =
-    passes _ (sym c.check_columns-third.ensures ∙ c.in-Passed-third.is) in
-    let whole = write-columns-ends c.args.counts lent c.args.buf.now old-holds golden-holds
-    _ _ c.joined-old_gates.ensures c.joined-golden_gates.ensures
-    (c.write_gates.ensures.reply, c.write_gates.ensures.lent) in
-    record { reply = whole.0; lent = whole.1 }
+    let t = (goal.at.returns c).In-Passed-third in
+    replied
+    (write-columns-ends _ _ _ (old-holds t) (golden-holds t) _ _ c.joined-old_gates.ensures c.joined-golden_gates.ensures
+    (c.write_gates.ensures.reply, c.write_gates.ensures.lent))

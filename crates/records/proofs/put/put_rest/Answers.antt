@@ -11,27 +11,19 @@ use Rattle.records.proofs.put.put_rest.Goals as goal
 
 pub returns : goal.returns
 returns c =
-    let long : length c.args.bytes ≡ 8188 =
-    search rules in
+    let long : length c.args.bytes ≡ 8188 = search rules in
     let first : length c.headed-first.result ≡ 8188 =
-    let n = long in
-    length-headed c.args.bytes 0 1 2 (omega (arith, n)) c.headed-first.ensures ∙ n in
-    let within : (c.put_side-golden.result.len + 3 + 4 * c.args.counts.candidates ≤ 8188) × (length c.put_side-golden.result.bytes ≡ 8188) =
+    length-headed _ _ _ _ (omega (arith, long)) c.headed-first.ensures ∙ long in
     let b = c.requires in
-    let o = c.put_side-old.ensures.1.end in
-    let g = c.put_side-golden.ensures.1.end in
-    (omega (arith, o, g), c.put_side-golden.ensures.0) in
+    let side = c.put_side-golden.result in
+    let within : (side.len + 3 + 4 * c.args.counts.candidates ≤ 8188) × (length side.bytes ≡ 8188) =
+    (omega (arith, b, c.put_side-old.ensures.1.end, c.put_side-golden.ensures.1.end), c.put_side-golden.ensures.0) in
     let headed : length c.headed-second.result ≡ 8188 =
-    let k = within in
-    length-headed c.put_side-golden.result.bytes c.put_side-golden.result.len 6 _ (omega (arith, k)) c.headed-second.ensures ∙ k.1 in
+    length-headed _ _ _ _ (omega (arith, within)) c.headed-second.ensures ∙ within.1 in
     let netted : length c.put_column-third.result ≡ 8188 =
-    let k = within in
-    let n = headed in
-    ap length c.put_column-third.ensures ∙ length-spread c.headed-second.result _ 4 _ _ (omega (arith, k, n)) ∙ n in
-    let b = c.requires in
-    let n = netted in (
+    ap length c.put_column-third.ensures ∙ length-spread _ _ 4 _ _ (omega (arith, within, headed)) ∙ headed in (
       within.0,
-      ap length c.put_column-fourth.ensures ∙ length-spread c.put_column-third.result _ 4 _ _ (omega (arith, within, n)) ∙ n,
+      ap length c.put_column-fourth.ensures ∙ length-spread _ _ 4 _ _ (omega (arith, within, netted)) ∙ netted,
       λ gs hs g.
           job-done c.args.bytes (job-bounds _ b g) b.within g b.room c.headed-first.ensures
           (two_bytes c.headed-first.result 3 _ _ (omega arith) (omega arith) (omega (arith, first)))
