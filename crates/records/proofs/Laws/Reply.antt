@@ -138,5 +138,5 @@ module _ (c : Counts) (p : Places) (d : List ℕ) where
 
 -- ---- what a service claims, from its reply's equation and that of what it was lent
 
-pub replied : {A B : Type 0} → A × B → record { reply : A; lent : B; }
+pub replied : {A B : Type 0} → A × B → record { reply : A; lent : B }
 replied t = record { reply = t.0; lent = t.1 }

@@ -1,11 +1,7 @@
 -- `engine::choosing::choose_job` meets its contract: the miter, and the sets of all readings; blind where some
 -- reading's set is empty, and else the chosen support has a patch. Assumes nothing.
-use Prim.Native.Nat.{◌^◌}
 use native.Mathlib.Omega.{arith}
-use Rattle.records.specs.Job.{Job}
-use Rattle.records.specs.Parts.{PartsOf}
 use Rattle.engine.specs.Support.{chosen}
-use Rattle.engine.specs.Inner.Search.{SetsTo}
 use Rattle.engine.proofs.Laws.Rule.{readings-many, parts-few, parts-nets, chosen-good, chosen-same, rule-given, rule-blind, rule-sound}
 use Rattle.engine.proofs.choosing.choose_job.Goals as goal
 

@@ -1,8 +1,4 @@
 -- `engine::judging::judge_job` meets its contract: the miter, and the vector list of all inputs. Assumes nothing.
-use Prim.Native.Nat.{◌^◌}
-use Rattle.records.specs.Job.{Job}
-use Rattle.records.specs.Parts.{PartsOf}
-use Rattle.engine.specs.Inner.Guess.{ListTo}
 use Rattle.engine.proofs.Laws.Rule.{parts-few, parts-nets, list-loop, stuck-small}
 use Rattle.engine.proofs.judging.judge_job.Goals as goal
 

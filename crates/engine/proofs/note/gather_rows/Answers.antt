@@ -1,5 +1,5 @@
 -- `engine::note::gather_rows` meets its contract. The invariant: the rows from i on are gathered. Assumes nothing.
-use Prim.Native.Nat.{◌+◌, ◌-◌, ◌<◌}
+use Prim.Native.Nat.{◌+◌, ◌-◌}
 use mathlib.Core.Path.{◌≡◌, sym, ◌∙◌, ap}
 use native.Mathlib.Omega.{arith}
 use Rattle.engine.proofs.Laws.Note.{rows_from, rows_from-all, rows_from-none, rows_from-lt, rows_from-turn}

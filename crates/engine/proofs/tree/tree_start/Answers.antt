@@ -4,7 +4,6 @@ use lib.ListN.{take, drop}
 use Rattle.engine.specs.Tree.{column, join_of}
 use Rattle.engine.specs.Choice.{same}
 use mathlib.Core.Path.{◌≡◌, sym, ◌∙◌, ap}
-use mathlib.Core.List.{List}
 use mathlib.Core.Bool.{Bool, false, cond}
 use lib.Dec.{eqb}
 use Rattle.records.specs.Bytes.{all}

@@ -2,21 +2,19 @@
 -- Assumes nothing.
 use Prim.Native.Nat.{ℕ, ◌-◌, ◌^◌}
 use mathlib.Core.Path.{◌≡◌, sym, ◌∙◌, ap}
-use mathlib.Core.Bool.{Bool, true, false, ◌&&◌}
+use mathlib.Core.Bool.{true, false}
 use mathlib.Core.List.{List}
 use native.Mathlib.Omega.{arith}
 use lib.Dec.{ltb}
 use lib.ListN.{length, take, drop}
 use Rattle.records.specs.Bytes.{all, nth}
 use Rattle.records.specs.Job.{Candidate, nets_of}
-use Rattle.records.specs.Sheet.{quad, patch_of, sheet_whole, patch_good}
+use Rattle.records.specs.Sheet.{patch_of, sheet_whole, patch_good}
 use Rattle.records.specs.Service.{candidates_from, sheet_reply}
 use Rattle.records.specs.Inner.{check_of, word_column, bare_whole, notes_at, refused_sheet, sheet_room, support_of, ten_places}
-use Rattle.records.specs.declared.sheet.SheetReply.{SheetReply}
 use Rattle.records.specs.declared.field.Check.{Check}
 use Rattle.records.specs.declared.sheet.SheetSpans.{SheetSpans}
 use Rattle.records.specs.declared.sheet.Costs.{Costs}
-use Rattle.records.specs.declared.sheet.Costs.TheVariants.{Sum}
 use Rattle.records.proofs.Laws.Bytes.{and_both, and-false-left, and-false-right}
 use Rattle.records.proofs.Laws.Counts.{passes, fails}
 use Rattle.records.proofs.Laws.Notes.{sheet-split}
