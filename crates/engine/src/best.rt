@@ -60,10 +60,8 @@ fn fill_arena(sets: &[u32; READINGS], len: usize, arena: &mut [u32; ARENA])
     ensures { (length arena.new ≡ 2048) × SameTo (2 ^ len) sets.now arena.new }
 {
     let count = reading_count(len);
-    let mut r = 0usize;
-    while r < count {
+    for r in 0..count {
         arena[r] = sets[r];
-        r += 1;
     }
 }
 
@@ -74,10 +72,8 @@ fn sets_at(arena: &[u32; ARENA], at: usize, len: usize) -> [u32; READINGS]
 {
     let count = reading_count(len);
     let mut sets = [0u32; READINGS];
-    let mut r = 0usize;
-    while r < count {
+    for r in 0..count {
         sets[r] = arena[at + r];
-        r += 1;
     }
     sets
 }
@@ -93,15 +89,13 @@ fn leave_out(at: usize, len: usize, place: usize, arena: &mut [u32; ARENA]) -> b
     let to = at + reading_count(len);
     let count = reading_count(len - 1);
     let other = reading_count(place);
-    let mut q = 0usize;
-    while q < count {
+    for q in 0..count {
         let r = at + (q + ((q >> place) << place));
         let both = arena[r] & arena[r + other];
         if both % UNSEEN == 0 {
             return false;
         }
         arena[to + q] = both;
-        q += 1;
     }
     true
 }
@@ -115,9 +109,7 @@ fn sets_of(candidates: usize, set: usize, arena: &mut [u32; ARENA]) -> [u32; REA
 {
     let mut at = 0usize;
     let mut len = candidates;
-    let mut i = candidates;
-    while 0 < i {
-        i -= 1;
+    for i in (0..candidates).rev() {
         if (set >> i) % 2 == 0 {
             leave_out(at, len, i, arena);
             at += reading_count(len);
@@ -134,13 +126,11 @@ fn pick_support(nets: [u16; CANDIDATES], count: usize, set: usize) -> Support
 {
     let mut picks = [0u16; CANDIDATES];
     let mut len = 0usize;
-    let mut i = 0usize;
-    while i < count {
+    for i in 0..count {
         if (set >> i) % 2 == 1 {
             picks[len] = nets[i];
             len += 1;
         }
-        i += 1;
     }
     Support { nets: picks, len }
 }
@@ -151,10 +141,8 @@ fn sum_weights(weights: [u16; CANDIDATES], count: usize) -> u32
     ensures { result ≡ total (take count weights) }
 {
     let mut sum = 0u32;
-    let mut i = 0usize;
-    while i < count {
+    for i in 0..count {
         sum += weights[i] as u32;
-        i += 1;
     }
     sum
 }
@@ -163,13 +151,11 @@ fn sum_weights(weights: [u16; CANDIDATES], count: usize) -> u32
 fn low_first(a: usize, b: usize) -> bool
     ensures { result ≡ low_first 10 a b }
 {
-    let mut i = 0usize;
-    while i < CANDIDATES {
+    for i in 0..CANDIDATES {
         let x = (a >> i) % 2;
         if x != (b >> i) % 2 {
             return x == 1;
         }
-        i += 1;
     }
     false
 }

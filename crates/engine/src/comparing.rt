@@ -69,10 +69,8 @@ fn table_of(sheet: &[u8], start: usize, count: usize) -> [u16; READINGS]
     ensures { TableCopied sheet.now start count result }
 {
     let mut table = [0u16; READINGS];
-    let mut k = 0usize;
-    while k < count {
+    for k in 0..count {
         table[k] = sheet[start + k] as u16;
-        k += 1;
     }
     table
 }

@@ -38,10 +38,8 @@ pub(super) fn next_unseen(sets: &[u32; READINGS], at: usize, count: usize) -> us
 // How many readings are unseen.
 pub(super) fn unseen_count(sets: &[u32; READINGS]) -> usize {
     let mut n = 0usize;
-    let mut r = 0usize;
-    while r < READINGS {
+    for r in 0..READINGS {
         n += (sets[r] / UNSEEN % 2) as usize;
-        r += 1;
     }
     n
 }
@@ -60,12 +58,10 @@ fn in_cover(cover: Cover, reading: usize) -> bool
 {
     let values = cover.values;
     let cares = cover.cares;
-    let mut i = 0usize;
-    while i < cover.count {
+    for i in 0..cover.count {
         if in_cube(reading, values[i] as usize, cares[i] as usize) {
             return true;
         }
-        i += 1;
     }
     false
 }
@@ -84,8 +80,7 @@ fn in_either(a: Cover, b: Cover, reading: usize) -> bool
 // Whether the readings of a cube are unseen. They are looked at one after the other, by counting in the bits that the cube leaves open.
 fn all_unseen(sets: &[u32; READINGS], value: usize, care: usize) -> bool {
     let mut free = 0usize;
-    let mut i = 0usize;
-    while i < READINGS {
+    for i in 0..READINGS {
         if sets[(value ^ free) % READINGS] / UNSEEN % 2 == 0 {
             return false;
         }
@@ -93,7 +88,6 @@ fn all_unseen(sets: &[u32; READINGS], value: usize, care: usize) -> bool {
         if free == 0 {
             return true;
         }
-        i += 1;
     }
     true
 }
@@ -104,12 +98,10 @@ fn widened(sets: &[u32; READINGS], reading: usize, reads: usize) -> usize
     ensures { result < 1024 }
 {
     let mut care = READINGS - 1;
-    let mut i = 0usize;
-    while i < reads {
+    for i in 0..reads {
         if all_unseen(sets, reading ^ (1 << i), care) {
             care = care ^ (1 << i);
         }
-        i += 1;
     }
     care % READINGS
 }
@@ -181,10 +173,8 @@ fn keep_value(i: usize, x: usize, r: &mut [u64; ROW], words: &[u64; WORDS])
         ≡ cond (eqb (value_in words.now y i) (bit 0 x)) (row_value r.old y) 0) }
 {
     let v = broadcast(x);
-    let mut w = 0usize;
-    while w < ROW {
+    for w in 0..ROW {
         r[w] = r[w] & (words[ROW * i + w] ^ v ^ !0);
-        w += 1;
     }
 }
 
@@ -200,12 +190,10 @@ fn cube_row(
     ensures { (y : ℕ) → y < 1024 → InCube value care (reading_in words.now (take reads nets) y) → row_value result y ≡ 1 }
 {
     let mut r = [!0u64; ROW];
-    let mut k = 0usize;
-    while k < reads {
+    for k in 0..reads {
         if (care >> k) % 2 == 1 {
             keep_value(nets[k] as usize, value >> k, &mut r, words);
         }
-        k += 1;
     }
     r
 }
@@ -222,12 +210,10 @@ pub(super) fn gives_cover(
 {
     let values = cover.values;
     let cares = cover.cares;
-    let mut i = 0usize;
-    while i < cover.count {
+    for i in 0..cover.count {
         if !zero_row(cube_row(nets, reads, values[i] as usize, cares[i] as usize, words)) {
             return true;
         }
-        i += 1;
     }
     false
 }

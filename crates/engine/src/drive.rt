@@ -46,10 +46,8 @@ pub(super) fn table_rows(mut readings: [u64; ROWS], table: &[u16; READINGS]) -> 
 {
     transpose(&mut readings, ROW);
     let mut found = [0u64; ROWS];
-    let mut i = 0usize;
-    while i < ROWS {
+    for i in 0..ROWS {
         found[i] = look_four(readings[i], table);
-        i += 1;
     }
     transpose(&mut found, ROW);
     found
@@ -61,10 +59,8 @@ pub(super) fn row_at(rows: &[u64; ROWS], i: usize) -> [u64; ROW]
     ensures { (y : ℕ) → y < 1024 → row_value result y ≡ value_in rows.now y i }
 {
     let mut r = [0u64; ROW];
-    let mut w = 0usize;
-    while w < ROW {
+    for w in 0..ROW {
         r[w] = rows[ROW * i + w];
-        w += 1;
     }
     r
 }
@@ -80,10 +76,8 @@ fn set_targets(
     requires { (at + targets ≤ 1024) × (first + targets ≤ 16) × (length words.old ≡ 16384) }
     ensures { NetsSet at targets (λ y k. value_in rows.now y (first + k)) words.old words.new }
 {
-    let mut i = 0usize;
-    while i < targets {
+    for i in 0..targets {
         set_row(at + i, row_at(rows, first + i), words);
-        i += 1;
     }
 }
 

@@ -46,10 +46,8 @@ fn listed_set(list: [u8; VECTORS], len: usize) -> u16
     ensures { (v : ℕ) → v < 16 → bit v result ≡ 1 → any (eqb v) (take len list) ≡ true }
 {
     let mut set = 0u16;
-    let mut i = 0usize;
-    while i < len {
+    for i in 0..len {
         set = set | (1u16 << (list[i] as usize));
-        i += 1;
     }
     set
 }
@@ -62,13 +60,11 @@ fn listed_table(sets: [u32; READINGS], list: Vectors) -> [u16; READINGS]
     let vectors = list.list;
     let listed = listed_set(vectors, list.len) as usize;
     let mut table = [0u16; READINGS];
-    let mut r = 0usize;
-    while r < READINGS {
+    for r in 0..READINGS {
         let both = sets[r] as usize;
         let first = lowest_of(both & listed);
         let second = lowest_of((both >> 16) & listed);
         table[r] = (first + VECTORS * second) as u16;
-        r += 1;
     }
     table
 }
@@ -113,15 +109,13 @@ fn try_listed(
     let outputs = plan.outputs;
     let goldens = plan.goldens;
     let mut row = [0u64; ROW];
-    let mut i = 0usize;
-    while i < list.len {
+    for i in 0..list.len {
         vector_block(gates, plan, vectors[i] as usize, words);
         let next = join_rows(row, equal_row(outputs, goldens, plan.outs, words));
         row = next;
         if count <= first_zero(row) {
             return true;
         }
-        i += 1;
     }
     false
 }

@@ -84,9 +84,7 @@ fn learn_backward(gates: &[u64], count: usize, known: &mut [u8; NETS]) -> bool
     requires { (count ≤ length gates.now) × (length known.old ≡ 1024) }
     ensures { (length known.new ≡ 1024) × Learns (ValuesOf gates.now count) known.old result known.new }
 {
-    let mut i = count;
-    while 0 < i {
-        i -= 1;
+    for i in (0..count).rev() {
         if !learn_from_net(gates[i], known) {
             return false;
         }
@@ -118,12 +116,10 @@ fn learn_forward(gates: &[u64], count: usize, known: &mut [u8; NETS]) -> bool
     requires { (count ≤ length gates.now) × (length known.old ≡ 1024) }
     ensures { (length known.new ≡ 1024) × Learns (ValuesOf gates.now count) known.old result known.new }
 {
-    let mut i = 0usize;
-    while i < count {
+    for i in 0..count {
         if !learn_from_operands(gates[i], known) {
             return false;
         }
-        i += 1;
     }
     true
 }
@@ -139,14 +135,12 @@ fn learn_cube(
     requires { (reads ≤ 10) × (length nets ≡ 10) × ((i : ℕ) → get_or nets i 0 < 1024) × (length known.old ≡ 1024) }
     ensures { (length known.new ≡ 1024) × Learns (CubeHas nets reads value care) known.old result known.new }
 {
-    let mut k = 0usize;
-    while k < reads {
+    for k in 0..reads {
         if (care >> k) % 2 == 1 {
             if !learn(nets[k] as usize, ((value >> k) % 2) as u8, known) {
                 return false;
             }
         }
-        k += 1;
     }
     true
 }
@@ -172,9 +166,7 @@ fn open_net(gates: &[u64], count: usize, known: &[u8; NETS]) -> usize
     requires { count ≤ length gates.now }
     ensures { result ≤ 1024 }
 {
-    let mut i = count;
-    while 0 < i {
-        i -= 1;
+    for i in (0..count).rev() {
         let c = gates[i];
         if known[(c / NET_AT % NET) as usize] < UNKNOWN {
             if UNKNOWN <= ternary_gate(c, known) {
@@ -282,8 +274,7 @@ pub(super) fn sort_cubes(
         left: no_cubes(),
         never,
     };
-    let mut i = 0usize;
-    while i < cover.count {
+    for i in 0..cover.count {
         sorted = sort_cube(
             gates,
             plan,
@@ -292,7 +283,6 @@ pub(super) fn sort_cubes(
             splits,
             sorted,
         );
-        i += 1;
     }
     sorted
 }

@@ -26,10 +26,8 @@ fn join(op: u64, at: usize, r: &mut [u64; ROW], words: &[u64; WORDS])
     ensures { Filled (λ w. applied op (get_or r.old w 0) (get_or words.now (at + w) 0)) 0 16
         r.old r.new }
 {
-    let mut w = 0usize;
-    while w < ROW {
+    for w in 0..ROW {
         r[w] = apply(op, r[w], words[at + w]);
-        w += 1;
     }
 }
 
@@ -38,10 +36,8 @@ pub(super) fn store(at: usize, x: u64, r: [u64; ROW], words: &mut [u64; WORDS])
     requires { (at + 16 ≤ 16384) × (length words.old ≡ 16384) }
     ensures { Filled (λ w. bit_xor (get_or r w 0) x) at 16 words.old words.new }
 {
-    let mut w = 0usize;
-    while w < ROW {
+    for w in 0..ROW {
         words[at + w] = r[w] ^ x;
-        w += 1;
     }
 }
 
@@ -68,8 +64,7 @@ pub(super) fn run(gates: &[u64], from: usize, to: usize, words: &mut [u64; WORDS
     requires { (to ≤ length gates.now) × (length words.old ≡ 16384) }
     ensures { Ran (slice from to gates.now) words.old words.new }
 {
-    let mut i = from;
-    while i < to {
+    for i in from..to {
         let c = gates[i];
         let r = gate_words(c, words);
         store(
@@ -78,6 +73,5 @@ pub(super) fn run(gates: &[u64], from: usize, to: usize, words: &mut [u64; WORDS
             r,
             words,
         );
-        i += 1;
     }
 }

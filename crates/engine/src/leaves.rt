@@ -24,10 +24,8 @@ pub(super) fn set_row(i: usize, r: [u64; ROW], words: &mut [u64; WORDS])
     requires { (i < 1024) × (length words.old ≡ 16384) }
     ensures { NetSet i (row_value r) words.old words.new }
 {
-    let mut w = 0usize;
-    while w < ROW {
+    for w in 0..ROW {
         words[ROW * i + w] = r[w];
-        w += 1;
     }
 }
 
@@ -47,10 +45,8 @@ fn input_row(i: usize, b: usize) -> [u64; ROW]
     ensures { (y : ℕ) → y < 1024 → row_value result y ≡ bit i (1024 * b + y) }
 {
     let mut r = [0u64; ROW];
-    let mut w = 0usize;
-    while w < ROW {
+    for w in 0..ROW {
         r[w] = input_word(i, ROW * b + w);
-        w += 1;
     }
     r
 }
@@ -60,11 +56,9 @@ pub(super) fn load_inputs(inputs: usize, b: usize, words: &mut [u64; WORDS])
     requires { (inputs ≤ 20) × (b < 65536) × (length words.old ≡ 16384) }
     ensures { NetsSet 0 inputs (λ y k. bit k (1024 * b + y)) words.old words.new }
 {
-    let mut i = 0usize;
-    while i < inputs {
+    for i in 0..inputs {
         let r = input_row(i, b);
         set_row(i, r, words);
-        i += 1;
     }
 }
 
@@ -73,10 +67,8 @@ pub(super) fn set_vector(at: usize, targets: usize, vector: usize, words: &mut [
     requires { (at + targets ≤ 1024) × (targets ≤ 16) × (length words.old ≡ 16384) }
     ensures { NetsSet at targets (λ y k. bit k vector) words.old words.new }
 {
-    let mut i = 0usize;
-    while i < targets {
+    for i in 0..targets {
         set_net(at + i, vector >> i, words);
-        i += 1;
     }
 }
 
@@ -86,10 +78,8 @@ pub(super) fn row_of(i: usize, words: &[u64; WORDS]) -> [u64; ROW]
     ensures { (length result ≡ 16) × ((y : ℕ) → y < 1024 → row_value result y ≡ value_in words.now y i) }
 {
     let mut r = [0u64; ROW];
-    let mut w = 0usize;
-    while w < ROW {
+    for w in 0..ROW {
         r[w] = words[ROW * i + w];
-        w += 1;
     }
     r
 }
@@ -99,10 +89,8 @@ pub(super) fn put_row(i: usize, r: [u64; ROW], rows: &mut [u64; ROWS])
     requires { (i < 16) × (length rows.old ≡ 256) }
     ensures { NetSet i (row_value r) rows.old rows.new }
 {
-    let mut w = 0usize;
-    while w < ROW {
+    for w in 0..ROW {
         rows[ROW * i + w] = r[w];
-        w += 1;
     }
 }
 
@@ -113,11 +101,9 @@ pub(super) fn read_rows(nets: [u16; CANDIDATES], count: usize, words: &[u64; WOR
         → gathered result y ≡ number_of (map (value_in words.now y) (take count nets))) }
 {
     let mut rows = [0u64; ROWS];
-    let mut k = 0usize;
-    while k < count {
+    for k in 0..count {
         let r = row_of(nets[k] as usize, words);
         put_row(k, r, &mut rows);
-        k += 1;
     }
     rows
 }
@@ -128,10 +114,8 @@ fn keep_equal(a: usize, b: usize, r: &mut [u64; ROW], words: &[u64; WORDS])
     ensures { (length r.new ≡ 16) × ((y : ℕ) → y < 1024 → row_value r.new y
         ≡ cond (eqb (value_in words.now y a) (value_in words.now y b)) (row_value r.old y) 0) }
 {
-    let mut w = 0usize;
-    while w < ROW {
+    for w in 0..ROW {
         r[w] = r[w] & (words[ROW * a + w] ^ words[ROW * b + w] ^ !0);
-        w += 1;
     }
 }
 
@@ -148,10 +132,8 @@ pub(super) fn equal_row(
         ≡ cond (same (map (value_in words.now y) (take count outputs)) (map (value_in words.now y) (take count goldens))) 1 0) }
 {
     let mut r = [!0u64; ROW];
-    let mut k = 0usize;
-    while k < count {
+    for k in 0..count {
         keep_equal(outputs[k] as usize, goldens[k] as usize, &mut r, words);
-        k += 1;
     }
     r
 }

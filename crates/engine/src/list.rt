@@ -19,12 +19,10 @@ pub struct Vectors {
 pub(super) fn lowest_of(set: usize) -> usize
     ensures { result ≡ or_zero (lowest set) }
 {
-    let mut v = 0usize;
-    while v < VECTORS {
+    for v in 0..VECTORS {
         if (set >> v) % 2 == 1 {
             return v;
         }
-        v += 1;
     }
     0
 }
@@ -34,13 +32,11 @@ fn rectifies_any(list: [u8; VECTORS], len: usize, set: usize) -> bool
     requires { (len ≤ 16) × ((i : ℕ) → get_or list i 0 < 16) }
     ensures { result ≡ any (λ v. eqb (bit v set) 1) (take len list) }
 {
-    let mut i = 0usize;
-    while i < len {
+    for i in 0..len {
         let v = list[i] as usize;
         if (set >> v) % 2 == 1 {
             return true;
         }
-        i += 1;
     }
     false
 }

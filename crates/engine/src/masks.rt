@@ -44,12 +44,10 @@ fn shortest_list(ends: [usize; LISTS], targets: usize) -> usize
     ensures { (result < 4) × Among targets result }
 {
     let mut best = 0usize;
-    let mut t = 1usize;
-    while t < targets {
+    for t in 1..targets {
         if ends[t + 2] + ends[best + 1] < ends[best + 2] + ends[t + 1] {
             best = t;
         }
-        t += 1;
     }
     best
 }
@@ -79,13 +77,11 @@ pub(super) fn masks_of(gates: &[u64], plan: Plan, words: &mut [u64; WORDS]) -> [
     let u = shortest_list(ends, plan.targets);
     let mut masks = [0u64; ROWS];
     put_row(0, equal_row(outputs, goldens, plan.outs, words), &mut masks);
-    let mut step = 1usize;
-    while step < vectors {
+    for step in 1..vectors {
         let v = vector_at(u, step);
         let t = turned_at(u, step);
         turn_target(gates, plan, t, v >> t, words);
         put_row(v, equal_row(outputs, goldens, plan.outs, words), &mut masks);
-        step += 1;
     }
     masks
 }

@@ -70,8 +70,7 @@ fn merge_gates(base: usize, count: usize, gates: [u64; MITER_GATES]) -> MergedGa
     let mut stands = number_inputs(base + count);
     let mut heads = [0u16; NETS];
     let mut next = [0u16; MITER_GATES];
-    let mut i = 0usize;
-    while i < count {
+    for i in 0..count {
         let c = moved_code(gates[i], base + i, &stands);
         gates[i] = c;
         let at = place_of(c);
@@ -82,7 +81,6 @@ fn merge_gates(base: usize, count: usize, gates: [u64; MITER_GATES]) -> MergedGa
             next[i] = heads[at];
             heads[at] = (i + 1) as u16;
         }
-        i += 1;
     }
     MergedGates { gates, stands }
 }
@@ -95,8 +93,7 @@ fn pairs_apart(outputs: [u16; OUTPUTS], goldens: [u16; OUTPUTS], outs: usize) ->
     let mut olds = [0u16; OUTPUTS];
     let mut news = [0u16; OUTPUTS];
     let mut count = 0usize;
-    let mut i = 0usize;
-    while i < outs {
+    for i in 0..outs {
         let a = outputs[i];
         let b = goldens[i];
         if a != b {
@@ -104,7 +101,6 @@ fn pairs_apart(outputs: [u16; OUTPUTS], goldens: [u16; OUTPUTS], outs: usize) ->
             news[count] = b;
             count += 1;
         }
-        i += 1;
     }
     Pairs {
         count,

@@ -40,15 +40,13 @@ fn shift_slots(slots: [u16; SLOTS], count: usize, inputs: usize, shift: usize) -
     ensures { (result ≡ map (shifted_net inputs shift) (take count slots) ++ drop count slots) × Below 1024 result }
 {
     let mut r = slots;
-    let mut i = 0usize;
-    while i < SLOTS {
+    for i in 0..SLOTS {
         let net = slots[i];
         r[i] = if i < count {
             shift_net(net as usize, inputs, shift) as u16
         } else {
             net
         };
-        i += 1;
     }
     r
 }
@@ -75,10 +73,8 @@ fn put_gates(
     requires { GatesFit gates count shift base at out }
     ensures { CodesPut gates count inputs shift base at out result }
 {
-    let mut i = 0usize;
-    while i < count {
+    for i in 0..count {
         out[at + i] = gate_code(gates[i], base + i, inputs, shift);
-        i += 1;
     }
     out
 }
@@ -89,10 +85,8 @@ fn shift_nets(nets: [u16; OUTPUTS], count: usize, inputs: usize, shift: usize) -
     ensures { NetsShifted nets count inputs shift result }
 {
     let mut r = [0u16; OUTPUTS];
-    let mut i = 0usize;
-    while i < count {
+    for i in 0..count {
         r[i] = shift_net(nets[i] as usize, inputs, shift) as u16;
-        i += 1;
     }
     r
 }

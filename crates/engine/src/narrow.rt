@@ -44,10 +44,8 @@ fn load_leaves(inputs: usize, count: usize, vector: usize, words: &mut [u64; NET
     requires { (count ≤ 64) × (length words.old ≡ 1024) }
     ensures { LeavesLoaded inputs vector count words.old words.new }
 {
-    let mut i = 0usize;
-    while i < count {
+    for i in 0..count {
         words[i] = leaf_word(inputs, vector, i);
-        i += 1;
     }
 }
 
@@ -73,12 +71,10 @@ fn run_words(gates: &[u64; MITER_GATES], count: usize, words: &mut [u64; NETS])
     requires { (count ≤ 800) × (length gates.now ≡ 800) × (length words.old ≡ 1024) }
     ensures { WordsRan (take count gates.now) words.old words.new }
 {
-    let mut i = 0usize;
-    while i < count {
+    for i in 0..count {
         let c = gates[i];
         let r = gate_word(c, words);
         words[(c / NET_AT % NET) as usize] = r;
-        i += 1;
     }
 }
 
@@ -95,12 +91,10 @@ fn equal_word(
         (map (net_at (values_at words.now y)) (take count goldens))) 1 0 }
 {
     let mut r = !0u64;
-    let mut k = 0usize;
-    while k < count {
+    for k in 0..count {
         let a = words[outputs[k] as usize];
         let b = words[goldens[k] as usize];
         r = r & (a ^ b ^ !0);
-        k += 1;
     }
     r
 }
@@ -133,8 +127,7 @@ fn word_masks(miter: Miter, words: &mut [u64; NETS]) -> [u64; ROWS]
     let goldens = miter.goldens;
     let vectors = 1usize << miter.targets;
     let mut masks = [0u64; ROWS];
-    let mut step = 0usize;
-    while step < vectors {
+    for step in 0..vectors {
         let v = vector_at(0, step);
         eval_vector(
             &miter.gates,
@@ -146,7 +139,6 @@ fn word_masks(miter: Miter, words: &mut [u64; NETS]) -> [u64; ROWS]
         );
         let r = equal_word(outputs, goldens, miter.outs, words);
         put_row(v, [r; ROW], &mut masks);
-        step += 1;
     }
     masks
 }
@@ -158,11 +150,9 @@ fn read_words(nets: [u16; CANDIDATES], count: usize, words: &[u64; NETS]) -> [u6
         → gathered result y ≡ number_of (map (net_at (values_at words.now (y % 64))) (take count nets))) }
 {
     let mut rows = [0u64; ROWS];
-    let mut k = 0usize;
-    while k < count {
+    for k in 0..count {
         let r = words[nets[k] as usize];
         put_row(k, [r; ROW], &mut rows);
-        k += 1;
     }
     rows
 }

@@ -18,13 +18,11 @@ fn put_code(c: u64, at: usize, bytes: &mut [u8; GATE_SIZE * GATES])
     bytes[at] = (c % COUNT_AT) as u8;
     bytes[at + 1] = (c / COUNT_AT % COUNTS) as u8;
     let mut rest = c / SLOTS_AT;
-    let mut i = 1usize;
-    while i < 5 {
+    for i in 1..5 {
         let pair = two_bytes((rest % NET) as u16);
         bytes[at + 2 * i] = pair[0];
         bytes[at + 2 * i + 1] = pair[1];
         rest = rest / NET;
-        i += 1;
     }
 }
 
@@ -34,10 +32,8 @@ fn gates_bytes(gates: [u64; GATES], count: usize) -> [u8; GATE_SIZE * GATES]
     ensures { take (10 * count) result ≡ flat gate_bytes (unpacked count gates) }
 {
     let mut bytes = [0u8; GATE_SIZE * GATES];
-    let mut i = 0usize;
-    while i < count {
+    for i in 0..count {
         put_code(gates[i], GATE_SIZE * i, &mut bytes);
-        i += 1;
     }
     bytes
 }
@@ -48,13 +44,11 @@ fn pair_bytes(nets: [u16; OUTPUTS], count: usize) -> [u8; 2 * OUTPUTS]
     ensures { take (2 * count) result ≡ flat byte_pair (take count nets) }
 {
     let mut bytes = [0u8; 2 * OUTPUTS];
-    let mut i = 0usize;
-    while i < count {
+    for i in 0..count {
         let pair = two_bytes(nets[i]);
         let at = 2 * i;
         bytes[at] = pair[0];
         bytes[at + 1] = pair[1];
-        i += 1;
     }
     bytes
 }

@@ -40,10 +40,8 @@ fn meet_column(masks: &[u64; ROWS], readings: &[u64; ROWS], w: usize, sets: &mut
     requires { w < 16 }
     ensures { ColumnMet masks.now readings.now w sets.old sets.new }
 {
-    let mut i = 0usize;
-    while i < ROW {
+    for i in 0..ROW {
         meet_four(readings[ROW * i + w], masks[ROW * i + w], sets);
-        i += 1;
     }
 }
 
@@ -60,10 +58,8 @@ pub(super) fn meet_block(
 {
     transpose(&mut masks, columns);
     transpose(&mut readings, columns);
-    let mut w = 0usize;
-    while w < columns {
+    for w in 0..columns {
         meet_column(&masks, &readings, w, sets);
-        w += 1;
     }
 }
 
@@ -86,12 +82,10 @@ fn sort_column(masks: &[u64; ROWS], readings: &[u64; ROWS], w: usize, sets: &mut
     requires { w < 16 }
     ensures { length sets.new ≡ length sets.old }
 {
-    let mut i = 0usize;
-    while i < WORD {
+    for i in 0..WORD {
         let at = ROW * (i / 4) + w;
         let by = 16 * (i % 4);
         sort(readings[at] >> by, masks[at] >> by, sets);
-        i += 1;
     }
 }
 
@@ -107,10 +101,8 @@ pub(super) fn sort_block(
 {
     transpose(&mut masks, columns);
     transpose(&mut readings, columns);
-    let mut w = 0usize;
-    while w < columns {
+    for w in 0..columns {
         sort_column(&masks, &readings, w, sets);
-        w += 1;
     }
 }
 
@@ -122,9 +114,7 @@ fn gather_rows(masks: &[u64; ROWS], y: usize) -> usize
     let w = y / WORD;
     let b = y % WORD;
     let mut r = 0usize;
-    let mut i = VECTORS;
-    while 0 < i {
-        i -= 1;
+    for i in (0..VECTORS).rev() {
         r = 2 * r + ((masks[ROW * i + w] >> b) % 2) as usize;
     }
     r
@@ -136,10 +126,8 @@ fn join_row(v: usize, masks: &[u64; ROWS], words: [u64; ROW]) -> [u64; ROW]
     ensures { (w : ℕ) → w < 16 → get_or result w 0 ≡ bit_or (get_or words w 0) (get_or masks.now (16 * v + w) 0) }
 {
     let mut r = [0u64; ROW];
-    let mut w = 0usize;
-    while w < ROW {
+    for w in 0..ROW {
         r[w] = words[w] | masks[ROW * v + w];
-        w += 1;
     }
     r
 }
@@ -150,11 +138,9 @@ fn listed_row(masks: &[u64; ROWS], list: [u8; VECTORS], len: usize) -> [u64; ROW
     ensures { Joined masks.now (take len list) result }
 {
     let mut words = [0u64; ROW];
-    let mut i = 0usize;
-    while i < len {
+    for i in 0..len {
         let next = join_row(list[i] as usize, masks, words);
         words = next;
-        i += 1;
     }
     words
 }

@@ -56,10 +56,8 @@ fn leaf_marks(from: usize, k: usize) -> [u8; NETS]
     ensures { result ≡ leaves_from from k }
 {
     let mut marks = [0u8; NETS];
-    let mut i = 0usize;
-    while i < k {
+    for i in 0..k {
         marks[from + i] = 1;
-        i += 1;
     }
     marks
 }
@@ -70,12 +68,10 @@ pub(super) fn mark_from(gates: &[u64], count: usize, from: usize, k: usize) -> [
     ensures { result ≡ marks_from (take count gates.now) from k }
 {
     let mut marks = leaf_marks(from, k);
-    let mut i = 0usize;
-    while i < count {
+    for i in 0..count {
         let c = gates[i];
         let m = gate_mark(c, &marks);
         marks[(c / NET_AT % NET) as usize] = m;
-        i += 1;
     }
     marks
 }
@@ -85,11 +81,9 @@ fn mark_nets(nets: &[u16], count: usize, mut marks: [u8; NETS]) -> [u8; NETS]
     requires { (count ≤ length nets.now) × Below 1024 nets.now }
     ensures { result ≡ marked_all marks (take count nets.now) }
 {
-    let mut i = 0usize;
-    while i < count {
+    for i in 0..count {
         let net = nets[i] as usize;
         marks[net] = 1;
-        i += 1;
     }
     marks
 }
@@ -112,9 +106,7 @@ fn mark_live(gates: &[u64], count: usize, mut marks: [u8; NETS]) -> [u8; NETS]
     requires { count ≤ length gates.now }
     ensures { result ≡ live_from marks (take count gates.now) }
 {
-    let mut i = count;
-    while 0 < i {
-        i -= 1;
+    for i in (0..count).rev() {
         let c = gates[i];
         if marks[(c / NET_AT % NET) as usize] != 0 {
             mark_operands(c, &mut marks);
@@ -139,8 +131,7 @@ fn pick(
         out.old result out.new }
 {
     let mut end = at;
-    let mut i = 0usize;
-    while i < count {
+    for i in 0..count {
         let c = gates[i];
         let net = (c / NET_AT % NET) as usize;
         if live[net] != 0 {
@@ -151,7 +142,6 @@ fn pick(
                 }
             }
         }
-        i += 1;
     }
     end
 }
@@ -174,11 +164,9 @@ fn lists_of(
     let mut ends = [0usize; LISTS];
     ends[0] = pick(gates, count, &live, &fan, false, 0, out);
     ends[1] = pick(gates, count, &live, &fan, true, ends[0], out);
-    let mut t = 0usize;
-    while t < turns {
+    for t in 0..turns {
         let marks = mark_from(gates, count, inputs + t, 1);
         ends[t + 2] = pick(gates, count, &live, &marks, true, ends[t + 1], out);
-        t += 1;
     }
     ends
 }

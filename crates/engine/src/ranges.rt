@@ -25,13 +25,11 @@ fn known_operands(c: u64, known: &[u8; NETS]) -> [u8; SLOTS]
     let mut r = [0u8; SLOTS];
     let mut rest = c / SLOTS_AT;
     let count = (c / COUNT_AT % COUNTS) as usize;
-    let mut i = 0usize;
-    while i < SLOTS {
+    for i in 0..SLOTS {
         if i < count {
             r[i] = known[(rest % NET) as usize];
         }
         rest = rest / NET;
-        i += 1;
     }
     r
 }
@@ -57,11 +55,9 @@ fn eval_partial(gates: &[u64], count: usize, known: &mut [u8; NETS])
     requires { (count ≤ length gates.now) × (length known.old ≡ 1024) }
     ensures { known.new ≡ evaluated code_ternary known.old (slice 0 count gates.now) }
 {
-    let mut i = 0usize;
-    while i < count {
+    for i in 0..count {
         let c = gates[i];
         known[(c / NET_AT % NET) as usize] = ternary_gate(c, known);
-        i += 1;
     }
 }
 
@@ -81,10 +77,8 @@ fn load_partial(inputs: usize, low: usize, prefix: usize, known: &mut [u8; NETS]
     requires { (inputs < 64) × (length known.old ≡ 1024) }
     ensures { known.new ≡ placed known.old 0 (tabulate inputs (partial_input low prefix)) }
 {
-    let mut i = 0usize;
-    while i < inputs {
+    for i in 0..inputs {
         known[i] = partial_input(i, low, prefix);
-        i += 1;
     }
 }
 
@@ -93,10 +87,8 @@ fn load_unknown(at: usize, count: usize, known: &mut [u8; NETS])
     requires { (at + count ≤ 1024) × (length known.old ≡ 1024) }
     ensures { known.new ≡ placed known.old at (tabulate count (λ i. unknown)) }
 {
-    let mut i = 0usize;
-    while i < count {
+    for i in 0..count {
         known[at + i] = 2;
-        i += 1;
     }
 }
 
@@ -111,8 +103,7 @@ fn known_equal(
     ensures { (result ≡ true) ↔ ((i : ℕ) → i < count → Known
         (get_or known.now (get_or outputs i 0) 0) (get_or known.now (get_or goldens i 0) 0)) }
 {
-    let mut i = 0usize;
-    while i < count {
+    for i in 0..count {
         let a = outputs[i] as usize;
         let b = goldens[i] as usize;
         let x = known[a];
@@ -122,7 +113,6 @@ fn known_equal(
         if x != known[b] {
             return false;
         }
-        i += 1;
     }
     true
 }

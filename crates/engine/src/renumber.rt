@@ -34,10 +34,8 @@ pub(super) fn number_inputs(inputs: usize) -> [u16; NETS]
     ensures { InputsNumbered inputs result }
 {
     let mut numbers = [0u16; NETS];
-    let mut i = 0usize;
-    while i < inputs {
+    for i in 0..inputs {
         numbers[i] = i as u16;
-        i += 1;
     }
     numbers
 }
@@ -48,11 +46,9 @@ pub(super) fn move_nets(nets: &[u16], count: usize, numbers: &[u16; NETS], out: 
     ensures { take count out.new
         ≡ map (λ o. get_or numbers.now o 0) (take count nets.now) }
 {
-    let mut i = 0usize;
-    while i < count {
+    for i in 0..count {
         let a = nets[i] as usize;
         out[i] = numbers[a];
-        i += 1;
     }
 }
 
@@ -64,12 +60,10 @@ fn moved_slots(c: u64, numbers: &[u16; NETS]) -> [u16; SLOTS]
     let mut r = [0u16; SLOTS];
     let mut rest = c / SLOTS_AT;
     let count = (c / COUNT_AT % COUNTS) as usize;
-    let mut i = 0usize;
-    while i < SLOTS {
+    for i in 0..SLOTS {
         let net = (rest % NET) as usize;
         r[i] = if i < count { numbers[net] } else { net as u16 };
         rest = rest / NET;
-        i += 1;
     }
     r
 }
@@ -102,8 +96,7 @@ pub(super) fn place_marked(old: OldSide, mark: u8, new: NewSide) -> NewSide
     let mut numbers = new.numbers;
     let mut gates = new.gates;
     let mut count = new.count;
-    let mut i = 0usize;
-    while i < many {
+    for i in 0..many {
         let net = base + i;
         if marks[net] == mark {
             let own = inputs + count;
@@ -111,7 +104,6 @@ pub(super) fn place_marked(old: OldSide, mark: u8, new: NewSide) -> NewSide
             gates[count] = moved_code(codes[i], own, &numbers);
             count += 1;
         }
-        i += 1;
     }
     NewSide {
         count,

@@ -36,13 +36,11 @@ fn net_bytes(support: Support) -> [u8; 2 * CANDIDATES]
     let nets = support.nets;
     let len = support.len;
     let mut bytes = [0u8; 2 * CANDIDATES];
-    let mut i = 0usize;
-    while i < len {
+    for i in 0..len {
         let pair = two_bytes(nets[i]);
         let at = 2 * i;
         bytes[at] = pair[0];
         bytes[at + 1] = pair[1];
-        i += 1;
     }
     bytes
 }

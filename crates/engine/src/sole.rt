@@ -36,10 +36,8 @@ pub(super) fn sole_table(sets: [u32; READINGS]) -> [u16; READINGS]
     ensures { SoleTable sets result }
 {
     let mut table = [0u16; READINGS];
-    let mut r = 0usize;
-    while r < READINGS {
+    for r in 0..READINGS {
         table[r] = sole_of(sets[r]);
-        r += 1;
     }
     table
 }

@@ -31,10 +31,8 @@ pub(super) fn fill_table(sets: &[u32], len: usize) -> [u8; READINGS]
 {
     let count = reading_count(len);
     let mut table = [0u8; READINGS];
-    let mut r = 0usize;
-    while r < count {
+    for r in 0..count {
         table[r] = lowest_vector(sets[r]);
-        r += 1;
     }
     table
 }
@@ -59,10 +57,8 @@ pub(super) fn fill_notes(sets: &[u32; READINGS], len: usize) -> [u8; READINGS]
 {
     let count = reading_count(len);
     let mut notes = [0u8; READINGS];
-    let mut r = 0usize;
-    while r < count {
+    for r in 0..count {
         notes[r] = note_of(sets[r]);
-        r += 1;
     }
     notes
 }

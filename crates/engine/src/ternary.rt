@@ -57,9 +57,7 @@ pub fn ternary_value(kind: u8, count: u8, operands: [u8; SLOTS]) -> u8
     let plain = kind - kind % 2;
     let table = ternary_table(plain);
     let mut r = if plain == 4 { 1 } else { 0 };
-    let mut i = if count < 4 { count as usize } else { SLOTS };
-    while 0 < i {
-        i -= 1;
+    for i in (0..if count < 4 { count as usize } else { SLOTS }).rev() {
         r = ternary_entry(table, wide(operands[i]), wide(r));
     }
     if kind % 2 == 1 {

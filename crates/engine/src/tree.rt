@@ -109,12 +109,10 @@ fn column_is(table: &[u8], at: usize, count: usize, t: usize, x: u8) -> bool
     requires { (at + count ≤ length table.now) × (t < 8) }
     ensures { result ≡ all (eqb x) (column (take count (drop at table.now)) t) }
 {
-    let mut i = 0usize;
-    while i < count {
+    for i in 0..count {
         if table_bit(table, at + i, t) != x {
             return false;
         }
-        i += 1;
     }
     true
 }
@@ -126,12 +124,10 @@ fn halves_equal(table: &[u8], at: usize, half: usize, t: usize) -> bool
         (column (take half (drop (at + half) table.now)) t) }
 {
     let high = at + half;
-    let mut i = 0usize;
-    while i < half {
+    for i in 0..half {
         if table_bit(table, at + i, t) != table_bit(table, high + i, t) {
             return false;
         }
-        i += 1;
     }
     true
 }
@@ -220,9 +216,7 @@ fn column_word(table: &[u8], at: usize, k: usize, t: usize) -> u64
     ensures { result ≡ number_of (column_part table.now at k t) }
 {
     let mut w = 0u64;
-    let mut i = reading_count(k);
-    while 0 < i {
-        i -= 1;
+    for i in (0..reading_count(k)).rev() {
         w = 2 * w + table_bit(table, at + i, t) as u64;
     }
     w
@@ -355,10 +349,8 @@ pub(super) fn trees_size(table: &[u8], k: usize, targets: usize) -> usize
     ensures { result ≡ trees_size targets 0 k table.now }
 {
     let mut sum = 0usize;
-    let mut t = 0usize;
-    while t < targets {
+    for t in 0..targets {
         sum += tree_size(table, 0, k, t);
-        t += 1;
     }
     sum
 }
@@ -382,11 +374,9 @@ pub(super) fn put_trees(
         numbers.new gates.new }
 {
     let mut next = count;
-    let mut t = 0usize;
-    while t < targets {
+    for t in 0..targets {
         next = put_tree(table, 0, k, t, support, base, next, gates);
         numbers[base + t] = (base + next - 1) as u16;
-        t += 1;
     }
     next
 }

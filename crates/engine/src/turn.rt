@@ -36,10 +36,8 @@ fn stage(x: [u64; ROW], e: u64, low: u64) -> [u64; ROW]
     ensures { Swapped e x result }
 {
     let mut y = [0u64; ROW];
-    let mut i = 0usize;
-    while i < ROW {
+    for i in 0..ROW {
         y[i] = row(&x, e, low, i);
-        i += 1;
     }
     y
 }
@@ -60,10 +58,8 @@ fn column(x: &[u64; ROWS], w: usize) -> [u64; ROW]
     ensures { Column x.now w result }
 {
     let mut c = [0u64; ROW];
-    let mut i = 0usize;
-    while i < ROW {
+    for i in 0..ROW {
         c[i] = x[ROW * i + w];
-        i += 1;
     }
     c
 }
@@ -72,10 +68,8 @@ fn put_column(w: usize, c: [u64; ROW], x: &mut [u64; ROWS])
     requires { (w < 16) × (length x.old ≡ 256) }
     ensures { Placed w 16 c x.old x.new }
 {
-    let mut i = 0usize;
-    while i < ROW {
+    for i in 0..ROW {
         x[ROW * i + w] = c[i];
-        i += 1;
     }
 }
 
@@ -84,10 +78,8 @@ pub(super) fn transpose(x: &mut [u64; ROWS], columns: usize)
     requires { (length x.old ≡ 256) × (columns ≤ 16) }
     ensures { (length x.new ≡ 256) × ColumnsTurned columns x.old x.new }
 {
-    let mut w = 0usize;
-    while w < columns {
+    for w in 0..columns {
         let c = turn(column(x, w));
         put_column(w, c, x);
-        w += 1;
     }
 }

@@ -38,12 +38,10 @@ fn lowest_bit(word: u64, count: usize) -> usize
     if word == 0 {
         return count;
     }
-    let mut i = 0usize;
-    while i < count {
+    for i in 0..count {
         if (word >> i) % 2 == 1 {
             return i;
         }
-        i += 1;
     }
     count
 }
@@ -52,13 +50,11 @@ fn lowest_bit(word: u64, count: usize) -> usize
 pub(super) fn first_zero(row: [u64; ROW]) -> usize
     ensures { FirstZero row result }
 {
-    let mut w = 0usize;
-    while w < ROW {
+    for w in 0..ROW {
         let i = lowest_bit(row[w] ^ !0, WORD);
         if i < WORD {
             return WORD * w + i;
         }
-        w += 1;
     }
     BLOCK
 }
@@ -67,12 +63,10 @@ pub(super) fn first_zero(row: [u64; ROW]) -> usize
 pub(super) fn zero_row(row: [u64; ROW]) -> bool
     ensures { result ≡ true → (y : ℕ) → y < 1024 → row_value row y ≡ 0 }
 {
-    let mut w = 0usize;
-    while w < ROW {
+    for w in 0..ROW {
         if row[w] != 0 {
             return false;
         }
-        w += 1;
     }
     true
 }
@@ -82,10 +76,8 @@ pub(super) fn join_rows(a: [u64; ROW], b: [u64; ROW]) -> [u64; ROW]
     ensures { (y : ℕ) → y < 1024 → row_value result y ≡ max (row_value a y) (row_value b y) }
 {
     let mut r = [0u64; ROW];
-    let mut w = 0usize;
-    while w < ROW {
+    for w in 0..ROW {
         r[w] = a[w] | b[w];
-        w += 1;
     }
     r
 }

@@ -13,8 +13,7 @@ pub(super) fn check_candidates(s: &[u8], nets: usize, marks: &[u8; NETS]) -> Che
 {
     let count = s.len() / CANDIDATE_SIZE;
     let mut least = 0usize;
-    let mut i = 0usize;
-    while i < count {
+    for i in 0..count {
         let net = word_at(s, CANDIDATE_SIZE * i);
         if net < least {
             return Check::Failed;
@@ -26,7 +25,6 @@ pub(super) fn check_candidates(s: &[u8], nets: usize, marks: &[u8; NETS]) -> Che
             return Check::Failed;
         }
         least = net + 1;
-        i += 1;
     }
     Check::Passed
 }

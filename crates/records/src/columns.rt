@@ -111,8 +111,7 @@ fn split(gates: [Gate; GATES], count: usize, kinds: &mut [u8], counts: &mut [u8]
         kinds.old counts.old slots.old
         kinds.new counts.new slots.new }
 {
-    let mut i = 0usize;
-    while i < count {
+    for i in 0..count {
         let gate = gates[i];
         kinds[i] = gate.kind;
         counts[i] = gate.count;
@@ -121,7 +120,6 @@ fn split(gates: [Gate; GATES], count: usize, kinds: &mut [u8], counts: &mut [u8]
         slots[at + 1] = gate.second;
         slots[at + 2] = gate.third;
         slots[at + 3] = gate.fourth;
-        i += 1;
     }
 }
 
@@ -138,8 +136,7 @@ fn joined(kinds: &[u8], counts: &[u8], slots: &[u16], count: usize) -> [Gate; GA
         third: 0,
         fourth: 0,
     }; GATES];
-    let mut k = 0usize;
-    while k < count {
+    for k in 0..count {
         let at = SLOTS * k;
         gates[k] = Gate {
             kind: kinds[k],
@@ -149,7 +146,6 @@ fn joined(kinds: &[u8], counts: &[u8], slots: &[u16], count: usize) -> [Gate; GA
             third: slots[at + 2],
             fourth: slots[at + 3],
         };
-        k += 1;
     }
     gates
 }

@@ -10,10 +10,8 @@ pub(super) fn copy(src: &[u8], buf: &mut [u8])
     requires { length src.now ≤ length buf.old }
     ensures { buf.new ≡ placed buf.old 0 src.now }
 {
-    let mut i = 0usize;
-    while i < src.len() {
+    for i in 0..src.len() {
         buf[i] = src[i];
-        i += 1;
     }
 }
 
@@ -22,11 +20,9 @@ pub(super) fn fill_words(s: &[u8], size: usize, offset: usize, count: usize, pla
     requires { (size ≤ 4) × (offset + size * count + 2 ≤ length s.now + size) × (count ≤ length places.old) }
     ensures { places.new ≡ placed places.old 0 (word_column s.now size offset count) }
 {
-    let mut i = 0usize;
     let mut at = offset;
-    while i < count {
+    for i in 0..count {
         places[i] = (word_at(s, at) % 65536) as u16;
         at += size;
-        i += 1;
     }
 }

@@ -52,12 +52,10 @@ pub(super) fn gate_good(gate: Gate, net: usize) -> bool
     }
     let slots = slots_of(gate);
     let count = gate.count as usize;
-    let mut i = 0usize;
-    while i < SLOTS {
+    for i in 0..SLOTS {
         if !slot_good(i < count, slots[i] as usize, net) {
             return false;
         }
-        i += 1;
     }
     true
 }
@@ -87,9 +85,7 @@ pub fn value(kind: u8, count: u8, operands: [u8; SLOTS]) -> u8
     }
     let plain = kind - kind % 2;
     let mut r = if plain == 4 { 1 } else { 0 };
-    let mut i = if count < 4 { count as usize } else { SLOTS };
-    while 0 < i {
-        i -= 1;
+    for i in (0..if count < 4 { count as usize } else { SLOTS }).rev() {
         r = plain_value(plain, operands[i] % 2, r);
     }
     if kind % 2 == 1 { 1 - r } else { r }

@@ -18,12 +18,10 @@ pub(super) fn check_gates(s: &[u8], base: usize) -> Check
     ensures { result ≡ check_of (gates_good base (gates_of s.now)) }
 {
     let count = s.len() / GATE_SIZE;
-    let mut i = 0usize;
-    while i < count {
+    for i in 0..count {
         if !gate_good(gate_at(s, GATE_SIZE * i), base + i) {
             return Check::Failed;
         }
-        i += 1;
     }
     Check::Passed
 }
@@ -33,13 +31,11 @@ pub(super) fn check_outputs(s: &[u8], at: usize, count: usize, nets: usize) -> C
     requires { at + 2 * count ≤ length s.now }
     ensures { result ≡ check_of (all (λ i. ltb i nets) (word_column s.now 2 at count)) }
 {
-    let mut i = 0usize;
-    while i < count {
+    for i in 0..count {
         let net = word_at(s, 2 * i + at);
         if nets <= net {
             return Check::Failed;
         }
-        i += 1;
     }
     Check::Passed
 }
@@ -57,9 +53,7 @@ fn gate_mark(marks: &[u8; NETS], gate: Gate) -> u8
 {
     let slots = slots_of(gate);
     let mut r = 0u8;
-    let mut i = gate.count as usize;
-    while 0 < i {
-        i -= 1;
+    for i in (0..gate.count as usize).rev() {
         r = greater(marks[slots[i] as usize], r);
     }
     r
@@ -71,10 +65,8 @@ fn leaf_marks(inputs: usize, targets: usize) -> [u8; NETS]
     ensures { (length result ≡ 424) × (take (inputs + targets) result ≡ leaf_marks inputs targets) }
 {
     let mut marks = [0u8; NETS];
-    let mut i = 0usize;
-    while i < targets {
+    for i in 0..targets {
         marks[inputs + i] = 1;
-        i += 1;
     }
     marks
 }
@@ -88,11 +80,9 @@ pub(super) fn fanout_marks(s: &[u8], inputs: usize, targets: usize) -> [u8; NETS
     let mut marks = leaf_marks(inputs, targets);
     let count = s.len() / GATE_SIZE;
     let base = inputs + targets;
-    let mut i = 0usize;
-    while i < count {
+    for i in 0..count {
         let m = gate_mark(&marks, gate_at(s, GATE_SIZE * i));
         marks[base + i] = m;
-        i += 1;
     }
     marks
 }

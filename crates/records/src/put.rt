@@ -89,11 +89,9 @@ fn put_column(
 {
     let mut bytes = bytes;
     let mut p = at;
-    let mut i = 0usize;
-    while i < count {
+    for i in 0..count {
         put_word(&mut bytes, p, xs[i]);
         p += size;
-        i += 1;
     }
     bytes
 }

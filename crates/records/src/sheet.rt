@@ -87,10 +87,8 @@ fn power(k: usize) -> usize
     ensures { result ≡ 2 ^ k }
 {
     let mut p = 1usize;
-    let mut i = 0usize;
-    while i < k {
+    for i in 0..k {
         p = 2 * p;
-        i += 1;
     }
     p
 }
@@ -119,8 +117,7 @@ fn fields_end(s: &[u8], count: usize) -> usize
     ensures { (result ≤ length s.now) × (start_of count s.now ≤ length s.now + 3 → result + 3 ≡ start_of count s.now) }
 {
     let mut at = 0usize;
-    let mut i = 0usize;
-    while i < count {
+    for i in 0..count {
         if s.len() - at < 3 {
             return s.len();
         }
@@ -129,7 +126,6 @@ fn fields_end(s: &[u8], count: usize) -> usize
             return s.len();
         }
         at = at + 3 + len;
-        i += 1;
     }
     at
 }
@@ -153,13 +149,11 @@ fn find(nets: &[u16], count: usize, net: usize) -> Found
     requires { count ≤ length nets.now }
     ensures { result ≡ found_in (take count nets.now) net }
 {
-    let mut i = 0usize;
-    while i < count {
+    for i in 0..count {
         let x = nets[i] as usize;
         if x == net {
             return Found::At(i);
         }
-        i += 1;
     }
     Found::Nowhere
 }
@@ -171,8 +165,7 @@ fn support_cost(s: &[u8], long: usize, count: usize, nets: &[u16], weights: &[u1
 {
     let mut least = 0usize;
     let mut sum = 0u32;
-    let mut i = 0usize;
-    while i < long {
+    for i in 0..long {
         let net = word_at(s, 2 * i + 3);
         if net < least {
             return Costs::Unfit;
@@ -183,7 +176,6 @@ fn support_cost(s: &[u8], long: usize, count: usize, nets: &[u16], weights: &[u1
         };
         sum += weights[k] as u32;
         least = net + 1;
-        i += 1;
     }
     Costs::Sum(sum)
 }
@@ -193,12 +185,10 @@ fn check_entries(s: &[u8], from: usize, end: usize, limit: usize) -> Check
     requires { (from ≤ end) × (end ≤ length s.now) }
     ensures { result ≡ check_of (all (λ v. ltb v limit) (take (end - from) (drop from s.now))) }
 {
-    let mut i = from;
-    while i < end {
+    for i in from..end {
         if limit <= wide(s[i]) {
             return Check::Failed;
         }
-        i += 1;
     }
     Check::Passed
 }
@@ -235,10 +225,8 @@ fn support_from(s: &[u8], len: usize) -> Support
     ensures { result ≡ ten_places (word_column s.now 2 3 len) }
 {
     let mut nets = [0u16; CANDIDATES];
-    let mut i = 0usize;
-    while i < len {
+    for i in 0..len {
         nets[i] = (word_at(s, 2 * i + 3) % 65536) as u16;
-        i += 1;
     }
     Support { nets, len }
 }

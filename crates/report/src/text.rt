@@ -62,10 +62,8 @@ fn put_bytes(text: &mut [u8], at: usize, bytes: &[u8]) -> usize
     ensures { Printed text.old at (numbers bytes.now) result text.new }
 {
     let mut end = at;
-    let mut i = 0usize;
-    while i < bytes.len() {
+    for i in 0..bytes.len() {
         end = put_number(text, end, wide(bytes[i]));
-        i += 1;
     }
     end
 }
@@ -77,10 +75,8 @@ fn put_nets(text: &mut [u8], at: usize, nets: &[u8]) -> usize
 {
     let count = nets.len() / 2;
     let mut end = at;
-    let mut i = 0usize;
-    while i < count {
+    for i in 0..count {
         end = put_number(text, end, word_at(nets, 2 * i));
-        i += 1;
     }
     end
 }

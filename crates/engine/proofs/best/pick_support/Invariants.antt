@@ -1,5 +1,5 @@
 -- `engine::best::pick_support`: the first len places hold what is picked before place i.
-use Prim.Native.Nat.{ℕ, ◌-◌, ◌≤◌}
+use Prim.Native.Nat.{ℕ, ◌≤◌}
 use mathlib.Core.Path.{◌≡◌}
 use mathlib.Core.List.{List}
 use lib.ListN.{length, take}
@@ -16,6 +16,3 @@ pub record Picking (is : List ℕ) (s i : ℕ) (picks : List ℕ) (len : ℕ) : 
 
 abbrev pub invariant-loop-i : goal.invariant-loop-i
 invariant-loop-i l = (l.i ≤ l.count) × Picking l.nets l.set l.i l.picks l.len
-
-abbrev pub decreases-loop-i : goal.decreases-loop-i
-decreases-loop-i l = l.count - l.i

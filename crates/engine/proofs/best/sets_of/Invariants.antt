@@ -9,6 +9,3 @@ use Rattle.engine.proofs.best.sets_of.Given as goal
 abbrev pub invariant-loop-i : goal.invariant-loop-i
 invariant-loop-i l =
     (l.i ≤ l.candidates) × (l.i ≤ l.len) × (l.len ≤ 10) × ArenaRoom l.at l.len l.arena × SetsTo l.initial.arena l.candidates l.set l.i l.len (drop l.at l.arena)
-
-abbrev pub decreases-loop-i : goal.decreases-loop-i
-decreases-loop-i l = l.i

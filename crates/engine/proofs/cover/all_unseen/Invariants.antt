@@ -1,9 +1,5 @@
 -- `engine::cover::all_unseen` meets its contract, which asks nothing of its answer. Assumes nothing.
-use Prim.Native.Nat.{◌-◌}
 use Rattle.engine.proofs.cover.all_unseen.Given as goal
 
 abbrev pub invariant-loop-i : goal.invariant-loop-i
 invariant-loop-i l = Unit {0}
-
-abbrev pub decreases-loop-i : goal.decreases-loop-i
-decreases-loop-i l = 1024 - l.i

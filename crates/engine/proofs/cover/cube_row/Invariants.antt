@@ -1,5 +1,5 @@
 -- `engine::cover::cube_row` meets its contract. The invariant: where the reading is in the cube, the row says 1. Assumes nothing.
-use Prim.Native.Nat.{ℕ, ◌-◌, ◌≤◌, ◌<◌}
+use Prim.Native.Nat.{ℕ, ◌≤◌, ◌<◌}
 use mathlib.Core.Path.{◌≡◌}
 use lib.ListN.{length, take}
 use Rattle.engine.specs.Inner.Cover.{InCube, reading_in}
@@ -11,6 +11,3 @@ invariant-loop-k l =
     (l.k ≤ l.reads)
     × (length l.r ≡ 16)
     × ((y : ℕ) → y < 1024 → InCube l.value l.care (reading_in l.words (take l.reads l.nets) y) → row_value l.r y ≡ 1)
-
-abbrev pub decreases-loop-k : goal.decreases-loop-k
-decreases-loop-k l = l.reads - l.k

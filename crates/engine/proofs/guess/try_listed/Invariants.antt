@@ -1,6 +1,5 @@
 -- `engine::guess::try_listed` meets its contract. The invariant: the row says 1 only of inputs that a listed vector rectifies. Assumes
 -- nothing.
-use Prim.Native.Nat.{◌-◌}
 use mathlib.Core.Path.{◌≡◌}
 use lib.ListN.{length, take}
 use Rattle.engine.specs.Inner.Search.{FreeKept}
@@ -9,7 +8,4 @@ use Rattle.engine.proofs.guess.try_listed.Given as goal
 
 abbrev pub invariant-loop-i : goal.invariant-loop-i
 invariant-loop-i l =
-    (length l.words ≡ 16384) × FreeKept l.plan l.gates l.initial.words l.words × RowShown l.plan l.gates l.initial.words (take l.list.len l.list.list) l.row
-
-abbrev pub decreases-loop-i : goal.decreases-loop-i
-decreases-loop-i l = l.list.len - l.i
+    (length l.words ≡ 16384) × FreeKept l.plan l.gates l.initial.words l.words × RowShown l.plan l.gates l.initial.words (take l.fn.list.len l.fn.list.list) l.row

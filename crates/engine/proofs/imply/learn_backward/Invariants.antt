@@ -8,6 +8,3 @@ use Rattle.engine.proofs.imply.learn_backward.Given as goal
 
 abbrev pub invariant-loop-i : goal.invariant-loop-i
 invariant-loop-i l = (l.i ≤ l.count) × (length l.known ≡ 1024) × Learns (ValuesOf l.gates l.count) l.initial.known true l.known
-
-abbrev pub decreases-loop-i : goal.decreases-loop-i
-decreases-loop-i l = l.i

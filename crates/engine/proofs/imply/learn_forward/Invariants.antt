@@ -1,5 +1,4 @@
 -- `engine::imply::learn_forward` meets its contract. The invariant: the steps so far went well. Assumes nothing.
-use Prim.Native.Nat.{◌-◌}
 use mathlib.Core.Path.{◌≡◌}
 use mathlib.Core.Bool.{true}
 use lib.ListN.{length}
@@ -8,6 +7,3 @@ use Rattle.engine.proofs.imply.learn_forward.Given as goal
 
 abbrev pub invariant-loop-i : goal.invariant-loop-i
 invariant-loop-i l = (length l.known ≡ 1024) × Learns (ValuesOf l.gates l.count) l.initial.known true l.known
-
-abbrev pub decreases-loop-i : goal.decreases-loop-i
-decreases-loop-i l = l.count - l.i

@@ -1,5 +1,5 @@
 -- `engine::imply::sort_cubes` meets its contract. The invariant: what may be given of the first i cubes is in the cubes left. Assumes nothing.
-use Prim.Native.Nat.{ℕ, ◌-◌, ◌≤◌, ◌<◌}
+use Prim.Native.Nat.{ℕ, ◌≤◌, ◌<◌}
 use mathlib.Core.List.{List, map}
 use lib.ListN.{get_or, take}
 use Rattle.records.specs.Netlist.{net_at}
@@ -13,9 +13,6 @@ invariant-loop-i l =
     CoverHeld l.sorted.left
     × (l.sorted.left.count ≤ l.i)
     × ((vs : List ℕ) → ValuesOf l.gates (get_or l.plan.ends 0 0) vs → (k : ℕ) → k < l.i
-    → InCube (get_or l.cover.values k 0) (get_or l.cover.cares k 0) (number_of (map (net_at vs) (take l.plan.reads l.plan.nets)))
+    → InCube (get_or l.fn.cover.values k 0) (get_or l.fn.cover.cares k 0) (number_of (map (net_at vs) (take l.plan.reads l.plan.nets)))
     → InCover l.sorted.left (number_of (map (net_at vs) (take l.plan.reads l.plan.nets))))
     × NoneGives l.plan l.gates l.sorted.never
-
-abbrev pub decreases-loop-i : goal.decreases-loop-i
-decreases-loop-i l = l.cover.count - l.i

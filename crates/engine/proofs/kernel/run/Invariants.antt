@@ -1,6 +1,6 @@
 -- `engine::kernel::run` meets its contract. The invariant: in each scenario the values so far, with the gates left, give the whole.
 -- Assumes nothing.
-use Prim.Native.Nat.{ℕ, ◌-◌, ◌<◌}
+use Prim.Native.Nat.{ℕ, ◌<◌}
 use mathlib.Core.Path.{◌≡◌}
 use lib.ListN.{length}
 use lib.Seq.{slice}
@@ -13,6 +13,3 @@ invariant-loop-i l =
     (length l.words ≡ length l.initial.words)
     × ((y : ℕ) → y < 1024
     → evaluated code_value (column l.words y) (slice l.i l.to l.gates) ≡ evaluated code_value (column l.initial.words y) (slice l.from l.to l.gates))
-
-abbrev pub decreases-loop-i : goal.decreases-loop-i
-decreases-loop-i l = l.to - l.i

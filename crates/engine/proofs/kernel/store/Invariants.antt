@@ -1,5 +1,5 @@
 -- `engine::kernel::store` meets its contract. The invariant: the first w words are stored. Assumes nothing.
-use Prim.Native.Nat.{◌-◌, ◌≤◌}
+use Prim.Native.Nat.{◌≤◌}
 use lib.Bits.{bit_xor}
 use lib.ListN.{get_or}
 use Rattle.engine.specs.Inner.Kernel.{Filled}
@@ -7,6 +7,3 @@ use Rattle.engine.proofs.kernel.store.Given as goal
 
 abbrev pub invariant-loop-w : goal.invariant-loop-w
 invariant-loop-w l = (l.w ≤ 16) × Filled (λ k. bit_xor (get_or l.r k 0) l.x) l.at l.w l.initial.words l.words
-
-abbrev pub decreases-loop-w : goal.decreases-loop-w
-decreases-loop-w l = 16 - l.w

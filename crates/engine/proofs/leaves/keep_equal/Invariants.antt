@@ -10,6 +10,3 @@ abbrev pub invariant-loop-w : goal.invariant-loop-w
 invariant-loop-w l =
     (l.w ≤ 16)
     × Filled (λ k. bit_and (get_or l.initial.r k 0) (bit_xor (bit_xor (get_or l.words (16 * l.a + k) 0) (get_or l.words (16 * l.b + k) 0)) (2 ^ 64 - 1))) 0 l.w l.initial.r l.r
-
-abbrev pub decreases-loop-w : goal.decreases-loop-w
-decreases-loop-w l = 16 - l.w

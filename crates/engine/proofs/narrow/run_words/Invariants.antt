@@ -1,6 +1,6 @@
 -- `engine::narrow::run_words` meets its contract. The invariant: at each input the values so far, with the gates left, give the whole.
 -- Assumes nothing.
-use Prim.Native.Nat.{ℕ, ◌-◌, ◌<◌}
+use Prim.Native.Nat.{ℕ, ◌<◌}
 use mathlib.Core.Path.{◌≡◌}
 use lib.ListN.{length, take, drop}
 use Rattle.engine.specs.Inner.Packed.{code_value, evaluated}
@@ -12,6 +12,3 @@ invariant-loop-i l =
     (length l.words ≡ length l.initial.words)
     × ((y : ℕ) → y < 64
     → evaluated code_value (values_at l.words y) (drop l.i (take l.count l.gates)) ≡ evaluated code_value (values_at l.initial.words y) (take l.count l.gates))
-
-abbrev pub decreases-loop-i : goal.decreases-loop-i
-decreases-loop-i l = l.count - l.i

@@ -1,6 +1,6 @@
 -- `engine::narrow::word_masks` meets its contract. The invariant: the rows of the vectors taken so far are done, and the words are those at the
 -- last of them. Assumes nothing.
-use Prim.Native.Nat.{◌-◌, ◌^◌, ◌≤◌}
+use Prim.Native.Nat.{◌^◌, ◌≤◌}
 use mathlib.Core.Path.{◌≡◌}
 use lib.ListN.{length}
 use Rattle.records.specs.Job.{Job}
@@ -15,6 +15,3 @@ invariant-loop-step l =
     × (l.step ≤ l.vectors)
     × (l.vectors ≡ 2 ^ l.miter.targets)
     × ((j : Job) → MergedOf j l.miter → WordsTo j l.miter l.step l.words l.masks)
-
-abbrev pub decreases-loop-step : goal.decreases-loop-step
-decreases-loop-step l = l.vectors - l.step

@@ -6,6 +6,3 @@ use Rattle.engine.proofs.note.gather_rows.Given as goal
 
 abbrev pub invariant-loop-i : goal.invariant-loop-i
 invariant-loop-i l = (l.i ≤ 16) × (l.r ≡ rows_from l.masks l.y l.i)
-
-abbrev pub decreases-loop-i : goal.decreases-loop-i
-decreases-loop-i l = l.i

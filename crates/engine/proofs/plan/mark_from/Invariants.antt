@@ -1,6 +1,5 @@
 -- `engine::plan::mark_from` meets its contract. The invariant: the marks so far, with those of the gates left, give the whole.
 -- Assumes nothing.
-use Prim.Native.Nat.{◌-◌}
 use mathlib.Core.Path.{◌≡◌}
 use lib.ListN.{take, drop}
 use Rattle.engine.specs.Inner.Packed.{evaluated}
@@ -10,6 +9,3 @@ use Rattle.engine.proofs.plan.mark_from.Given as goal
 abbrev pub invariant-loop-i : goal.invariant-loop-i
 invariant-loop-i l =
     evaluated code_mark l.marks (drop l.i (take l.count l.gates)) ≡ marks_from (take l.count l.gates) l.from l.k
-
-abbrev pub decreases-loop-i : goal.decreases-loop-i
-decreases-loop-i l = l.count - l.i

@@ -7,6 +7,3 @@ use Rattle.engine.proofs.plan.mark_live.Given as goal
 
 abbrev pub invariant-loop-i : goal.invariant-loop-i
 invariant-loop-i l = (l.i ≤ l.count) × (l.marks ≡ live_from l.initial.marks (drop l.i (take l.count l.gates)))
-
-abbrev pub decreases-loop-i : goal.decreases-loop-i
-decreases-loop-i l = l.i

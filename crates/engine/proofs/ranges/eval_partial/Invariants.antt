@@ -1,6 +1,5 @@
 -- `engine::ranges::eval_partial` meets its contract. The invariant: what is known so far, with the gates left, gives the whole.
 -- Assumes nothing.
-use Prim.Native.Nat.{◌-◌}
 use mathlib.Core.Path.{◌≡◌}
 use lib.ListN.{length}
 use lib.Seq.{slice}
@@ -12,6 +11,3 @@ abbrev pub invariant-loop-i : goal.invariant-loop-i
 invariant-loop-i l =
     (length l.known ≡ 1024)
     × (evaluated code_ternary l.known (slice l.i l.count l.gates) ≡ evaluated code_ternary l.initial.known (slice 0 l.count l.gates))
-
-abbrev pub decreases-loop-i : goal.decreases-loop-i
-decreases-loop-i l = l.count - l.i

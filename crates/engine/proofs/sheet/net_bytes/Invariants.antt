@@ -1,6 +1,6 @@
 -- `engine::sheet::net_bytes` meets its contract: after i turns the first i nets stand at the start, two bytes each. Assumes
 -- nothing.
-use Prim.Native.Nat.{◌-◌, ◌≤◌}
+use Prim.Native.Nat.{◌≤◌}
 use lib.ListN.{get_or}
 use Rattle.records.specs.Bytes.{byte_pair}
 use Rattle.records.proofs.Laws.Job.{Put}
@@ -8,6 +8,3 @@ use Rattle.engine.proofs.sheet.net_bytes.Given as goal
 
 abbrev pub invariant-loop-i : goal.invariant-loop-i
 invariant-loop-i l = (l.i ≤ l.len) × Put byte_pair (λ k. get_or l.nets k 0) l.initial.bytes 0 l.bytes l.i
-
-abbrev pub decreases-loop-i : goal.decreases-loop-i
-decreases-loop-i l = l.len - l.i

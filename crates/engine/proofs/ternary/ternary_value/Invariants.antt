@@ -10,6 +10,3 @@ use Rattle.engine.proofs.ternary.ternary_value.Given as goal
 abbrev pub invariant-loop-i : goal.invariant-loop-i
 invariant-loop-i l =
     (l.i ≤ length (knowns l.count l.operands)) × (l.r ≡ ternary_value l.plain (drop l.i (knowns l.count l.operands)))
-
-abbrev pub decreases-loop-i : goal.decreases-loop-i
-decreases-loop-i l = l.i

@@ -1,5 +1,5 @@
 -- `engine::tree::column_is` meets its contract. The invariant: the entries from place i on decide. Assumes nothing.
-use Prim.Native.Nat.{◌-◌, ◌≤◌}
+use Prim.Native.Nat.{◌≤◌}
 use mathlib.Core.Path.{◌≡◌}
 use lib.Dec.{eqb}
 use lib.ListN.{take, drop}
@@ -11,6 +11,3 @@ abbrev pub invariant-loop-i : goal.invariant-loop-i
 invariant-loop-i l =
     (l.i ≤ l.count)
     × (all (eqb l.x) (drop l.i (column (take l.count (drop l.at l.table)) l.t)) ≡ all (eqb l.x) (column (take l.count (drop l.at l.table)) l.t))
-
-abbrev pub decreases-loop-i : goal.decreases-loop-i
-decreases-loop-i l = l.count - l.i

@@ -8,6 +8,3 @@ use Rattle.engine.proofs.tree.column_word.Given as goal
 
 abbrev pub invariant-loop-i : goal.invariant-loop-i
 invariant-loop-i l = (l.i ≤ 2 ^ l.k) × (l.w ≡ number_of (drop l.i (column_part l.table l.at l.k l.t)))
-
-abbrev pub decreases-loop-i : goal.decreases-loop-i
-decreases-loop-i l = l.i

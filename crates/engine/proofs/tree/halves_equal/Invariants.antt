@@ -1,5 +1,5 @@
 -- `engine::tree::halves_equal` meets its contract. The invariant: the entries from place i on decide. Assumes nothing.
-use Prim.Native.Nat.{◌+◌, ◌-◌, ◌≤◌}
+use Prim.Native.Nat.{◌+◌, ◌≤◌}
 use mathlib.Core.Path.{◌≡◌}
 use lib.ListN.{take, drop}
 use Rattle.engine.specs.Choice.{same}
@@ -11,6 +11,3 @@ invariant-loop-i l =
     (l.i ≤ l.half)
     × (same (drop l.i (column (take l.half (drop l.at l.table)) l.t)) (drop l.i (column (take l.half (drop (l.at + l.half) l.table)) l.t))
     ≡ same (column (take l.half (drop l.at l.table)) l.t) (column (take l.half (drop (l.at + l.half) l.table)) l.t))
-
-abbrev pub decreases-loop-i : goal.decreases-loop-i
-decreases-loop-i l = l.half - l.i

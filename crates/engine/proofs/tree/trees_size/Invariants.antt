@@ -8,6 +8,3 @@ use Rattle.engine.proofs.tree.trees_size.Given as goal
 abbrev pub invariant-loop-t : goal.invariant-loop-t
 invariant-loop-t l =
     (l.t ≤ l.targets) × (l.sum + trees_size (l.targets - l.t) l.t l.k l.table ≡ trees_size l.targets 0 l.k l.table)
-
-abbrev pub decreases-loop-t : goal.decreases-loop-t
-decreases-loop-t l = l.targets - l.t

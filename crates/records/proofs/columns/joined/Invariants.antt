@@ -1,6 +1,6 @@
 -- `records::columns::joined` meets its contract: after i turns the first i gates of the columns stand at the start.
 -- Assumes nothing.
-use Prim.Native.Nat.{ℕ, ◌+◌, ◌*◌, ◌-◌, ◌≤◌}
+use Prim.Native.Nat.{ℕ, ◌+◌, ◌*◌, ◌≤◌}
 use mathlib.Core.List.{List}
 use lib.ListN.{get_or}
 use Rattle.records.specs.Inner.{no_gates}
@@ -22,6 +22,3 @@ gate kinds counts slots i =
 
 abbrev pub invariant-loop-k : goal.invariant-loop-k
 invariant-loop-k l = (l.k ≤ l.count) × Filled no_gates l.gates l.k (gate l.kinds l.counts l.slots)
-
-abbrev pub decreases-loop-k : goal.decreases-loop-k
-decreases-loop-k l = l.count - l.k

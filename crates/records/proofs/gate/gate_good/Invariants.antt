@@ -8,6 +8,3 @@ use Rattle.records.proofs.gate.gate_good.Given as goal
 
 abbrev pub invariant-loop-i : goal.invariant-loop-i
 invariant-loop-i l = slots_good l.net (l.count - l.i) (drop l.i l.slots) ≡ slots_good l.net l.count l.slots
-
-abbrev pub decreases-loop-i : goal.decreases-loop-i
-decreases-loop-i l = 4 - l.i

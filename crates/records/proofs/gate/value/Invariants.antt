@@ -10,6 +10,3 @@ use Rattle.records.proofs.gate.value.Given as goal
 abbrev pub invariant-loop-i : goal.invariant-loop-i
 invariant-loop-i l =
     (l.i ≤ length (lowest l.count l.operands)) × (l.r < 2) × (l.r ≡ gate_value l.plain (drop l.i (lowest l.count l.operands)))
-
-abbrev pub decreases-loop-i : goal.decreases-loop-i
-decreases-loop-i l = l.i

@@ -1,6 +1,6 @@
 -- `records::netlist::check_outputs` meets its contract. The loop's invariant: the nets from i on pass the test exactly
 -- when all do. Assumes nothing.
-use Prim.Native.Nat.{ℕ, ◌-◌}
+use Prim.Native.Nat.{ℕ}
 use mathlib.Core.Path.{◌≡◌}
 use mathlib.Core.List.{List}
 use mathlib.Core.Bool.{Bool}
@@ -16,6 +16,3 @@ below nets s at count i = all (λ k. ltb k nets) (drop i (word_column s 2 at cou
 
 abbrev pub invariant-loop-i : goal.invariant-loop-i
 invariant-loop-i l = below l.nets l.s l.at l.count l.i ≡ below l.nets l.s l.at l.count 0
-
-abbrev pub decreases-loop-i : goal.decreases-loop-i
-decreases-loop-i l = l.count - l.i

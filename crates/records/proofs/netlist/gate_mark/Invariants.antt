@@ -10,6 +10,3 @@ use Rattle.records.proofs.netlist.gate_mark.Given as goal
 
 abbrev pub invariant-loop-i : goal.invariant-loop-i
 invariant-loop-i l = (l.i ≤ l.initial.i) × (l.r ≡ disj (map (net_at l.marks) (drop l.i (take l.initial.i l.slots))))
-
-abbrev pub decreases-loop-i : goal.decreases-loop-i
-decreases-loop-i l = l.i

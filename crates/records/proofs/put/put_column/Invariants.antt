@@ -1,6 +1,6 @@
 -- `records::put::put_column` meets its contract: after i turns the first i numbers stand in bytes, and p is where the next one goes.
 -- Assumes nothing.
-use Prim.Native.Nat.{◌+◌, ◌*◌, ◌≤◌, ◌-◌}
+use Prim.Native.Nat.{◌+◌, ◌*◌, ◌≤◌}
 use mathlib.Core.Path.{◌≡◌}
 use lib.ListN.{length, get_or}
 use Rattle.records.specs.Inner.{spread}
@@ -12,6 +12,3 @@ invariant-loop-i l =
     × (l.p ≡ l.at + l.size * l.i)
     × (length l.bytes ≡ 8188)
     × (l.bytes ≡ spread l.initial.bytes l.at l.size l.i (λ k. get_or l.xs k 0))
-
-abbrev pub decreases-loop-i : goal.decreases-loop-i
-decreases-loop-i l = l.count - l.i

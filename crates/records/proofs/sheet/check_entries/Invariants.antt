@@ -18,6 +18,3 @@ part s from end = take (end - from) (drop from s)
 abbrev pub invariant-loop-i : goal.invariant-loop-i
 invariant-loop-i l =
     (l.from ≤ l.i) × (l.i ≤ l.end) × (all (below l.limit) (drop (l.i - l.from) (part l.s l.from l.end)) ≡ all (below l.limit) (part l.s l.from l.end))
-
-abbrev pub decreases-loop-i : goal.decreases-loop-i
-decreases-loop-i l = l.end - l.i

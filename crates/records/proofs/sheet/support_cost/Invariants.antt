@@ -1,6 +1,6 @@
 -- `records::sheet::support_cost` meets its contract. The loop's invariant: the nets left from place i on, above `least`
 -- and after `sum`, cost what the whole support costs. Assumes nothing.
-use Prim.Native.Nat.{◌-◌, ◌*◌, ◌≤◌}
+use Prim.Native.Nat.{◌*◌, ◌≤◌}
 use mathlib.Core.Path.{◌≡◌}
 use Rattle.records.specs.Service.{candidates_from}
 use Rattle.records.specs.Inner.{word_column, support_of}
@@ -13,6 +13,3 @@ invariant-loop-i l =
     × (l.sum ≤ 65535 * l.i)
     × (support_left (word_column l.s 2 3 l.long) l.count l.nets l.weights l.least l.sum l.i
     ≡ support_of (candidates_from l.count l.nets l.weights) (word_column l.s 2 3 l.long))
-
-abbrev pub decreases-loop-i : goal.decreases-loop-i
-decreases-loop-i l = l.long - l.i

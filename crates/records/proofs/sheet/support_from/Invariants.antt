@@ -1,6 +1,6 @@
 -- `records::sheet::support_from` meets its contract. The loop's invariant: the places hold the first i nets, and zeros
 -- after them. Assumes nothing.
-use Prim.Native.Nat.{◌-◌, ◌≤◌}
+use Prim.Native.Nat.{◌≤◌}
 use mathlib.Core.Path.{◌≡◌}
 use Rattle.records.specs.Inner.{word_column}
 use Rattle.records.proofs.Laws.Sheet.{ten}
@@ -8,6 +8,3 @@ use Rattle.records.proofs.sheet.support_from.Given as goal
 
 abbrev pub invariant-loop-i : goal.invariant-loop-i
 invariant-loop-i l = (l.i ≤ l.len) × (l.nets ≡ ten (word_column l.s 2 3 l.len) l.i)
-
-abbrev pub decreases-loop-i : goal.decreases-loop-i
-decreases-loop-i l = l.len - l.i
