@@ -12,6 +12,7 @@ pub mod Job
 pub mod Loading
 pub mod Netlist
 pub mod Notes
+pub mod Option
 pub mod Put
 pub mod ReadColumns
 pub mod Reading

@@ -15,11 +15,9 @@ use Rattle.records.specs.Gate.{Gate, slot_count, gate_of}
 use Rattle.records.specs.Netlist.{Netlist}
 use Rattle.records.specs.Job.{Candidate, Job, job_of, job_bytes}
 use Rattle.records.specs.Refusal.{max_gates, max_outputs, max_candidates, longest_job, first_failing, part_tests, job_tests}
-use Rattle.records.specs.Service.{counts_of, no_counts, candidates_from}
+use Rattle.records.specs.Service.{ReadReply, WriteReply, counts_of, no_counts, candidates_from}
 use Rattle.records.specs.declared.job.SideCounts.{SideCounts}
 use Rattle.records.specs.declared.job.Counts.{Counts}
-use Rattle.records.specs.declared.reading.ReadReply.{ReadReply}
-use Rattle.records.specs.declared.writing.WriteReply.{WriteReply}
 
 pub record SideColumns : Type 0 where
   pub kinds : List ℕ

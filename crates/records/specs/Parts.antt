@@ -26,4 +26,4 @@ pub record PartsOf (j : Job) (p : JobParts) : Type 0 where
   pub weights-long : length p.weights ≡ max_candidates
 
 abbrev pub LoadGiven : Type 0
-LoadGiven = (s : List ℕ) → ((loaded s).number ≡ job_refusal s) × (job_refusal s ≡ 0 → PartsOf (job_of s) (loaded s))
+LoadGiven = (s : List ℕ) → ((loaded s).number ≡ job_refusal s) × (job_refusal s ≡ 0 → PartsOf (job_of s) (loaded s).parts)

@@ -7,21 +7,27 @@
 --   gate_from g, struct_of g                 the gate that a gate struct holds, and back
 --   no_gate, no_gates     the gate struct of zeros, and a netlist's places of it
 --   check_of b            a check's answer for a test
+--   number_of e           the number of a refusal
+--   told_number r         .. of an answer: 0 where it is accepted
 --   SidePlaces, Places    the lent places of a netlist, of a job
 --   side_places, places   the same from the lists of their places
 --   side_counts_of l, counts_of j, no_counts   the counts of a netlist, of a job, and of a refused one
 --   side_roomy, roomy p   number 1 for read: places for the longest job
 --   filled_side, filled p j                 the places p with the parts of j at their starts
+--   ReadReply, read_told r                    number and counts of a reply, and what an answer of read says of them: counts of 0 where it refuses
 --   read_number, read_reply, read_places      what read replies, and the places afterwards
 --   empty_places          places for the longest job that hold zeros
+--   Loaded, parts_in c p, load_told r         number and parts, and what an answer of load says of them: empty places where it refuses
 --   loaded s              what load gives: the reply of read into empty places, and what they hold afterwards
 --   side_held, held c p   number 3 for write: no count of c exceeds its places
 --   gates_in, netlist_from, candidates_from, job_from c p     the job whose parts stand at the starts of the places p, as many as the counts c say
+--   WriteReply, write_told r                  number and length of a reply, and what an answer of write says of them
 --   write_number, write_reply, written_bytes  what write replies, and the reply buffer afterwards
 --   sheet_roomy           number 3 for read_sheet: target and candidate counts within their ranges and places
+--   SheetReply, sheet_told r                 what an answer of read_sheet says: number, support, where the table starts, cost
 --   sheet_number, sheet_reply                what read_sheet replies
 --   field_fits d at xs    a field of the bytes xs fits into the buffer d from position at on, and its length into two bytes
-use Rattle.std.specs.Prelude.{ℕ, ◌+◌, ◌-◌, List, [], ◌∷◌, ◌++◌, map, Bool, cond, ◌&&◌, length, get_or, take, replicate, leb, ltb, eqb}
+use Rattle.std.specs.Prelude.{◌≡◌, ℕ, ◌+◌, ◌-◌, List, [], ◌∷◌, ◌++◌, map, Bool, cond, ◌&&◌, length, get_or, take, replicate, leb, ltb, eqb, Result, Ok, Err}
 use Rattle.records.specs.Bytes.{tabulate, placed, head_size, nth}
 use Rattle.records.specs.Gate.{Gate, gate_of}
 use Rattle.records.specs.Netlist.{Netlist}
@@ -33,10 +39,10 @@ use Rattle.records.specs.declared.field.Check.{Check}
 use Rattle.records.specs.declared.field.Check.TheVariants.{Passed, Failed}
 use Rattle.records.specs.declared.job.SideCounts.{SideCounts}
 use Rattle.records.specs.declared.job.Counts.{Counts}
-use Rattle.records.specs.declared.reading.ReadReply.{ReadReply}
 use Rattle.records.specs.declared.loading.JobParts.{JobParts}
-use Rattle.records.specs.declared.writing.WriteReply.{WriteReply}
-use Rattle.records.specs.declared.sheet.SheetReply.{SheetReply}
+use Rattle.records.specs.declared.refusal.Refusal.{Refusal}
+use Rattle.records.specs.declared.sheet.Support.{Support}
+use Rattle.records.specs.declared.sheet.PatchSheet.{PatchSheet}
 
 unfoldable pub slot_of : ℕ → Gate → ℕ
 slot_of i g = get_or g.slots i 0
@@ -83,7 +89,31 @@ side_places gs os = record { gates = gs; outputs = os }
 abbrev pub places : SidePlaces → SidePlaces → List ℕ → List ℕ → Places
 places old golden nets weights = record { old = old; golden = golden; nets = nets; weights = weights }
 
+-- ---- refusals
+
+unfoldable pub number_of : Refusal → ℕ
+number_of Refusal.Room = 1
+number_of Refusal.Fields = 2
+number_of Refusal.Counts = 3
+number_of Refusal.Gates = 4
+number_of Refusal.Outputs = 5
+number_of Refusal.Candidates = 6
+number_of Refusal.Sheet = 7
+number_of Refusal.Patch = 8
+number_of Refusal.Size = 9
+
+abbrev pub Numbers : Refusal → ℕ → Type 0
+Numbers e n = n ≡ number_of e
+
+unfoldable pub told_number : {A : Type 0} → Result A Refusal → ℕ
+told_number (Ok _) = 0
+told_number (Err e) = number_of e
+
 -- ---- read
+
+pub record ReadReply : Type 0 where
+  pub number : ℕ
+  pub counts : Counts
 
 unfoldable pub side_counts_of : Netlist → SideCounts
 side_counts_of l = record { gates = length l.gates; outputs = length l.outputs }
@@ -134,6 +164,10 @@ no_counts =
       candidates = 0;
     }
 
+unfoldable pub read_told : Result Counts Refusal → ReadReply
+read_told (Ok counts) = record { number = 0; counts = counts }
+read_told (Err e) = record { number = number_of e; counts = no_counts }
+
 unfoldable pub read_reply : Places → List ℕ → ReadReply
 read_reply p s =
     record { number = read_number p s; counts = cond (eqb (read_number p s) 0) (counts_of (job_of s)) no_counts }
@@ -151,21 +185,30 @@ empty_places =
     (replicate max_candidates 0)
     (replicate max_candidates 0)
 
-unfoldable pub loaded : List ℕ → JobParts
+pub record Loaded : Type 0 where
+  pub number : ℕ
+  pub parts : JobParts
+
+unfoldable pub parts_in : Counts → Places → JobParts
+parts_in c p =
+    record {
+      counts = c;
+      old = p.old.gates;
+      outputs = p.old.outputs;
+      golden = p.golden.gates;
+      goldens = p.golden.outputs;
+      nets = p.nets;
+      weights = p.weights;
+    }
+
+unfoldable pub load_told : Result JobParts Refusal → Loaded
+load_told (Ok parts) = record { number = 0; parts = parts }
+load_told (Err e) = record { number = number_of e; parts = parts_in no_counts empty_places }
+
+unfoldable pub loaded : List ℕ → Loaded
 loaded s =
     let reply = read_reply empty_places s in
-    let held = read_places empty_places s in
-    record {
-      number = reply.number;
-      check = check_of (eqb reply.number 0);
-      counts = reply.counts;
-      old = held.old.gates;
-      outputs = held.old.outputs;
-      golden = held.golden.gates;
-      goldens = held.golden.outputs;
-      nets = held.nets;
-      weights = held.weights;
-    }
+    record { number = reply.number; parts = parts_in reply.counts (read_places empty_places s) }
 
 -- ---- write
 
@@ -205,6 +248,14 @@ write_number c p d =
     ∷ record { number = 3; passes = held c p }
     ∷ part_tests (job_from c p))
 
+pub record WriteReply : Type 0 where
+  pub number : ℕ
+  pub len : ℕ
+
+unfoldable pub write_told : Result ℕ Refusal → WriteReply
+write_told (Ok len) = record { number = 0; len = len }
+write_told (Err e) = record { number = number_of e; len = 0 }
+
 unfoldable pub write_reply : Counts → Places → List ℕ → WriteReply
 write_reply c p d =
     record { number = write_number c p d; len = cond (eqb (write_number c p d) 0) (length (job_bytes (job_from c p))) 0 }
@@ -221,6 +272,17 @@ unfoldable pub sheet_number : ℕ → ℕ → List ℕ → List ℕ → List ℕ
 sheet_number m k nets weights s =
     first_failing
     (record { number = 3; passes = sheet_roomy m k nets weights } ∷ sheet_tests m (candidates_from k nets weights) s)
+
+pub record SheetReply : Type 0 where
+  pub number : ℕ
+  pub support : Support
+  pub table : ℕ
+  pub cost : ℕ
+
+unfoldable pub sheet_told : Result PatchSheet Refusal → SheetReply
+sheet_told (Ok p) = record { number = 0; support = p.support; table = p.table; cost = p.cost }
+sheet_told (Err e) =
+    record { number = number_of e; support = record { nets = replicate max_candidates 0; len = 0 }; table = 0; cost = 0 }
 
 -- an accepted sheet's support in ten places, where its table starts, and its cost
 unfoldable pub sheet_reply : ℕ → ℕ → List ℕ → List ℕ → List ℕ → SheetReply

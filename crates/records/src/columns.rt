@@ -2,7 +2,7 @@
 // operand slots, four a gate.
 ghost use Rattle.std.specs.Prelude.{◌≡◌, length};
 ghost use Rattle.records.specs.Bytes.{placed};
-ghost use Rattle.records.specs.Service.{side_places, places, read_reply, read_places, write_reply, written_bytes};
+ghost use Rattle.records.specs.Service.{read_told, write_told};
 ghost use Rattle.records.specs.Columns.{side_columns, columns, columns_reply, columns_after, columns_write_reply, columns_written};
 ghost use Rattle.records.specs.Inner.{check_of, columns_hold, no_gates, structs_from, ColumnsHold, Split};
 
@@ -10,104 +10,30 @@ use super::field::Check;
 use super::gate::Gate;
 use super::job::{Counts, check_counts};
 use super::limits::{GATES, LONGEST_JOB, SLOTS};
-use super::reading::{ReadReply, read, refused};
-use super::writing::{WriteReply, write};
+use super::reading::read;
+use super::refusal::Refusal;
+use super::writing::write;
 
-// What read replies, and the gates of both netlists.
-#[derive(Drop)]
-pub struct GatesRead {
-    pub reply: ReadReply,
-    pub old: [Gate; GATES],
-    pub golden: [Gate; GATES],
-}
-
-// Read into gates of its own.
-pub(super) fn read_gates(
-    job: &[u8],
-    old_outputs: &mut [u16],
-    golden_outputs: &mut [u16],
-    nets: &mut [u16],
-    weights: &mut [u16],
-) -> GatesRead
-    ensures reply { result.reply ≡ read_reply
-        (places
-        (side_places no_gates old_outputs.old)
-        (side_places no_gates golden_outputs.old)
-        nets.old weights.old)
-        job.now }
-    ensures lent { places
-        (side_places result.old old_outputs.new)
-        (side_places result.golden golden_outputs.new)
-        nets.new weights.new
-        ≡ read_places
-        (places
-        (side_places no_gates old_outputs.old)
-        (side_places no_gates golden_outputs.old)
-        nets.old weights.old)
-        job.now }
-{
-    let none = Gate {
-        kind: 0,
-        count: 0,
-        first: 0,
-        second: 0,
-        third: 0,
-        fourth: 0,
-    };
-    let mut old = [none; GATES];
-    let mut golden = [none; GATES];
-    let reply = read(
-        job,
-        &mut old,
-        old_outputs,
-        &mut golden,
-        golden_outputs,
-        nets,
-        weights,
-    );
-    GatesRead { reply, old, golden }
-}
-
-// Write from gates by value.
-fn write_gates(
-    counts: Counts,
-    old: [Gate; GATES],
-    old_outputs: &[u16],
-    golden: [Gate; GATES],
-    golden_outputs: &[u16],
-    nets: &[u16],
-    weights: &[u16],
-    buf: &mut [u8],
-) -> WriteReply
-    ensures reply { result ≡ write_reply counts
-        (places
-        (side_places old old_outputs.now)
-        (side_places golden golden_outputs.now)
-        nets.now weights.now)
-        buf.old }
-    ensures lent { buf.new ≡ written_bytes counts
-        (places
-        (side_places old old_outputs.now)
-        (side_places golden golden_outputs.now)
-        nets.now weights.now)
-        buf.old }
-{
-    write(
-        counts,
-        &old,
-        old_outputs,
-        &golden,
-        golden_outputs,
-        nets,
-        weights,
-        buf,
-    )
-}
+// The places of a netlist's gates before any is read.
+pub(super) const NO_GATES: [Gate; GATES] = [Gate {
+    kind: 0,
+    count: 0,
+    first: 0,
+    second: 0,
+    third: 0,
+    fourth: 0,
+}; GATES];
 
 // The first count gates into columns.
-fn split(gates: [Gate; GATES], count: usize, kinds: &mut [u8], counts: &mut [u8], slots: &mut [u16])
-    requires { ColumnsHold (length gates) count (length kinds.old) (length counts.old) (length slots.old) }
-    ensures { Split gates count
+fn split(
+    gates: &[Gate; GATES],
+    count: usize,
+    kinds: &mut [u8],
+    counts: &mut [u8],
+    slots: &mut [u16],
+)
+    requires { ColumnsHold (length gates.now) count (length kinds.old) (length counts.old) (length slots.old) }
+    ensures { Split gates.now count
         kinds.old counts.old slots.old
         kinds.new counts.new slots.new }
 {
@@ -128,14 +54,7 @@ fn joined(kinds: &[u8], counts: &[u8], slots: &[u16], count: usize) -> [Gate; GA
     requires { ColumnsHold 400 count (length kinds.now) (length counts.now) (length slots.now) }
     ensures { result ≡ placed no_gates 0 (structs_from count kinds.now counts.now slots.now) }
 {
-    let mut gates = [Gate {
-        kind: 0,
-        count: 0,
-        first: 0,
-        second: 0,
-        third: 0,
-        fourth: 0,
-    }; GATES];
+    let mut gates = NO_GATES;
     for k in 0..count {
         let at = SLOTS * k;
         gates[k] = Gate {
@@ -173,8 +92,8 @@ pub fn read_columns(
     golden_outputs: &mut [u16],
     nets: &mut [u16],
     weights: &mut [u16],
-) -> ReadReply
-    ensures reply { result ≡ columns_reply
+) -> Result<Counts, Refusal>
+    ensures reply { read_told result ≡ columns_reply
         (columns
         (side_columns old_kinds.old old_counts.old old_slots.old old_outputs.old)
         (side_columns golden_kinds.old golden_counts.old golden_slots.old golden_outputs.old)
@@ -191,35 +110,39 @@ pub fn read_columns(
         nets.old weights.old)
         job.now }
 {
-    let first = check_columns(GATES, old_kinds.len(), old_counts.len(), old_slots.len());
-    let Check::Passed = first else {
-        return refused(1);
+    let old_room = check_columns(GATES, old_kinds.len(), old_counts.len(), old_slots.len());
+    let Check::Passed = old_room else {
+        return Err(Refusal::Room);
     };
-    let second = check_columns(
+    let golden_room = check_columns(
         GATES,
         golden_kinds.len(),
         golden_counts.len(),
         golden_slots.len(),
     );
-    let Check::Passed = second else {
-        return refused(1);
+    let Check::Passed = golden_room else {
+        return Err(Refusal::Room);
     };
-    let found = read_gates(job, old_outputs, golden_outputs, nets, weights);
-    let reply = found.reply;
-    let counts = reply.counts;
-    let old = counts.old;
-    let golden = counts.golden;
-    let gates = found.old;
-    split(gates, old.gates, old_kinds, old_counts, old_slots);
-    let gates = found.golden;
+    let mut old = NO_GATES;
+    let mut golden = NO_GATES;
+    let counts = read(
+        job,
+        &mut old,
+        old_outputs,
+        &mut golden,
+        golden_outputs,
+        nets,
+        weights,
+    )?;
+    split(&old, counts.old.gates, old_kinds, old_counts, old_slots);
     split(
-        gates,
-        golden.gates,
+        &golden,
+        counts.golden.gates,
         golden_kinds,
         golden_counts,
         golden_slots,
     );
-    reply
+    Ok(counts)
 }
 
 // The service write, with a netlist's gates in columns. It takes one pass over the gates and write's time.
@@ -236,8 +159,8 @@ pub fn write_columns(
     nets: &[u16],
     weights: &[u16],
     buf: &mut [u8],
-) -> WriteReply
-    ensures reply { result ≡ columns_write_reply counts
+) -> Result<usize, Refusal>
+    ensures reply { write_told result ≡ columns_write_reply counts
         (columns
         (side_columns old_kinds.now old_counts.now old_slots.now old_outputs.now)
         (side_columns golden_kinds.now golden_counts.now golden_slots.now golden_outputs.now)
@@ -251,39 +174,33 @@ pub fn write_columns(
         buf.old }
 {
     if buf.len() < LONGEST_JOB {
-        return WriteReply { number: 1, len: 0 };
+        return Err(Refusal::Room);
     }
-    let first = check_counts(counts);
-    let Check::Passed = first else {
-        return WriteReply { number: 3, len: 0 };
+    let Check::Passed = check_counts(counts) else {
+        return Err(Refusal::Counts);
     };
-    let old = counts.old;
-    let second = check_columns(
-        old.gates,
-        old_kinds.len(),
-        old_counts.len(),
-        old_slots.len(),
-    );
-    let Check::Passed = second else {
-        return WriteReply { number: 3, len: 0 };
+    let old = counts.old.gates;
+    let old_held = check_columns(old, old_kinds.len(), old_counts.len(), old_slots.len());
+    let Check::Passed = old_held else {
+        return Err(Refusal::Counts);
     };
-    let golden = counts.golden;
-    let third = check_columns(
-        golden.gates,
+    let golden = counts.golden.gates;
+    let golden_held = check_columns(
+        golden,
         golden_kinds.len(),
         golden_counts.len(),
         golden_slots.len(),
     );
-    let Check::Passed = third else {
-        return WriteReply { number: 3, len: 0 };
+    let Check::Passed = golden_held else {
+        return Err(Refusal::Counts);
     };
-    let old_gates = joined(old_kinds, old_counts, old_slots, old.gates);
-    let golden_gates = joined(golden_kinds, golden_counts, golden_slots, golden.gates);
-    write_gates(
+    let old_gates = joined(old_kinds, old_counts, old_slots, old);
+    let golden_gates = joined(golden_kinds, golden_counts, golden_slots, golden);
+    write(
         counts,
-        old_gates,
+        &old_gates,
         old_outputs,
-        golden_gates,
+        &golden_gates,
         golden_outputs,
         nets,
         weights,

@@ -3,46 +3,12 @@ ghost use Rattle.std.specs.Prelude.{◌≡◌, ◌+◌, ◌*◌, ◌≤◌, leng
 ghost use Rattle.records.specs.Bytes.{placed};
 ghost use Rattle.records.specs.Job.{gate_bytes};
 ghost use Rattle.records.specs.Service.{gate_from};
-ghost use Rattle.records.specs.Inner.{struct_at, structs_at, gates_bytes, gate_spans};
+ghost use Rattle.records.specs.Inner.{struct_at, structs_at, gates_bytes};
 
-use super::field::{Check, word_at};
+use super::field::word_at;
 use super::gate::Gate;
-use super::job::{Counts, check_counts, starts_of};
 use super::limits::GATE_SIZE;
 use super::put::put_word;
-
-// Where the gates of both netlists stand in a job's bytes, and how many they are.
-#[derive(Drop)]
-pub struct GateSpans {
-    pub old: usize,
-    pub old_count: usize,
-    pub golden: usize,
-    pub golden_count: usize,
-}
-
-// The spans of a job with these counts; none where a count is outside its range.
-pub(super) fn gate_spans(counts: Counts) -> GateSpans
-    ensures { result ≡ gate_spans counts }
-{
-    let check = check_counts(counts);
-    let Check::Passed = check else {
-        return GateSpans {
-            old: 0,
-            old_count: 0,
-            golden: 0,
-            golden_count: 0,
-        };
-    };
-    let at = starts_of(counts);
-    let old = counts.old;
-    let golden = counts.golden;
-    GateSpans {
-        old: at.old,
-        old_count: old.gates,
-        golden: at.golden,
-        golden_count: golden.gates,
-    }
-}
 
 // The gate whose bytes stand at a position.
 pub(super) fn gate_at(s: &[u8], at: usize) -> Gate

@@ -2,13 +2,14 @@
 ghost use Rattle.std.specs.Prelude.{◌≡◌, length};
 ghost use Rattle.records.specs.Job.{job_of};
 ghost use Rattle.records.specs.Refusal.{netlists_good, outputs_good, candidates_good};
-ghost use Rattle.records.specs.Service.{no_counts};
-ghost use Rattle.records.specs.Inner.{check_of, counted_from, counts_within, Within, shape_of, starts_of, Laid, LaidGates, checked_of};
+ghost use Rattle.records.specs.Service.{read_told};
+ghost use Rattle.records.specs.Inner.{check_of, lens_in, counted_from, counts_within, Within, shape_of, starts_of, Laid, LaidGates, checked_of};
 
 use super::candidate::check_candidates;
-use super::field::{Check, walked, wide};
+use super::field::{Check, Span, walked, wide};
 use super::limits::{CANDIDATE_SIZE, CANDIDATES, GATE_SIZE, GATES, INPUTS, OUTPUTS, TARGETS};
 use super::netlist::{check_gates, check_outputs, fanout_marks};
+use super::refusal::Refusal;
 
 // How many gates and outputs a netlist has.
 #[derive(Clone, Copy)]
@@ -27,23 +28,6 @@ pub struct Counts {
     pub candidates: usize,
 }
 
-// Counts of 0, as a refusal gives them.
-pub(super) fn no_counts() -> Counts
-    ensures { result ≡ no_counts }
-{
-    let none = SideCounts {
-        gates: 0,
-        outputs: 0,
-    };
-    Counts {
-        inputs: 0,
-        targets: 0,
-        old: none,
-        golden: none,
-        candidates: 0,
-    }
-}
-
 // Where the bytes of fields 2 to 6 start, and where the last one's end.
 #[derive(Drop)]
 pub struct Starts {
@@ -55,34 +39,19 @@ pub struct Starts {
     pub end: usize,
 }
 
-// The fields of a job's bytes: the counts that they give, or that they are not a whole job.
-#[derive(Drop)]
-pub enum Shape {
-    Whole(Counts),
-    Broken,
-}
-
-// What the check of a whole job finds.
-#[derive(Drop)]
-pub enum Checked {
-    Accepted(Counts),
-    Refused(u8),
-}
-
-// The counts of fields of these lengths, of which the first holds the inputs and targets, or that they are not those of two counts
-// and whole gates, nets and candidates.
-fn counted(lens: [usize; 6], inputs: usize, targets: usize) -> Shape
-    requires { length lens ≡ 6 }
-    ensures { result ≡ counted_from lens inputs targets }
+// The counts of fields with these spans, of which the first holds the inputs and targets; none where they are not those of two counts and
+// whole gates, nets and candidates.
+fn counted(spans: [Span; 6], inputs: usize, targets: usize) -> Option<Counts>
+    ensures { result ≡ counted_from (lens_in spans) inputs targets }
 {
-    let old = lens[1];
-    let outputs = lens[2];
-    let golden = lens[3];
-    let goldens = lens[4];
-    let candidates = lens[5];
-    let first = (lens[0] == 2) & (old % GATE_SIZE == 0) & (outputs % 2 == 0);
+    let old = spans[1].len;
+    let outputs = spans[2].len;
+    let golden = spans[3].len;
+    let goldens = spans[4].len;
+    let candidates = spans[5].len;
+    let first = (spans[0].len == 2) & (old % GATE_SIZE == 0) & (outputs % 2 == 0);
     if first & (golden % GATE_SIZE == 0) & (goldens % 2 == 0) & (candidates % CANDIDATE_SIZE == 0) {
-        return Shape::Whole(Counts {
+        return Some(Counts {
             inputs,
             targets,
             old: SideCounts {
@@ -96,20 +65,17 @@ fn counted(lens: [usize; 6], inputs: usize, targets: usize) -> Shape
             candidates: candidates / CANDIDATE_SIZE,
         });
     }
-    Shape::Broken
+    None
 }
 
-// The six fields, and that each has a length that its records allow.
-fn shaped(job: &[u8]) -> Shape
+// The counts that a job's six fields give; none where they are not all there, or one has a length that its records do not allow.
+fn shaped(job: &[u8]) -> Option<Counts>
     ensures { result ≡ shape_of job.now }
 {
-    let w = walked(job, 1, 6);
-    let check = w.check;
-    let Check::Passed = check else {
-        return Shape::Broken;
+    let Some(spans) = walked(job, 1, 6) else {
+        return None;
     };
-    let lens = w.lens;
-    counted(lens, wide(job[3]), wide(job[4]))
+    counted(spans, wide(job[3]), wide(job[4]))
 }
 
 // Whether every count is within its range.
@@ -204,29 +170,24 @@ fn check_all_candidates(job: &[u8], c: Counts) -> Check
     check_candidates(&job[d..e], c.inputs + c.targets + old.gates, &marks)
 }
 
-// The counts of an accepted job, or the first number that applies, each tested over the whole job before the next.
-pub(super) fn check_job(job: &[u8]) -> Checked
-    ensures { result ≡ checked_of job.now }
+// The counts of an accepted job, or the first refusal that applies, each tested over the whole job before the next.
+pub(super) fn check_job(job: &[u8]) -> Result<Counts, Refusal>
+    ensures { read_told result ≡ checked_of job.now }
 {
-    let found = shaped(job);
-    let Shape::Whole(counts) = found else {
-        return Checked::Refused(2);
+    let Some(counts) = shaped(job) else {
+        return Err(Refusal::Fields);
     };
-    let third = check_counts(counts);
-    let Check::Passed = third else {
-        return Checked::Refused(3);
+    let Check::Passed = check_counts(counts) else {
+        return Err(Refusal::Counts);
     };
-    let fourth = check_netlists(job, counts);
-    let Check::Passed = fourth else {
-        return Checked::Refused(4);
+    let Check::Passed = check_netlists(job, counts) else {
+        return Err(Refusal::Gates);
     };
-    let fifth = check_all_outputs(job, counts);
-    let Check::Passed = fifth else {
-        return Checked::Refused(5);
+    let Check::Passed = check_all_outputs(job, counts) else {
+        return Err(Refusal::Outputs);
     };
-    let sixth = check_all_candidates(job, counts);
-    let Check::Passed = sixth else {
-        return Checked::Refused(6);
+    let Check::Passed = check_all_candidates(job, counts) else {
+        return Err(Refusal::Candidates);
     };
-    Checked::Accepted(counts)
+    Ok(counts)
 }

@@ -1,18 +1,17 @@
-// The service read for callers with plain parameters: a job's parts by value, beside what the check of its bytes found.
-ghost use Rattle.std.specs.Prelude.{◌≡◌, eqb};
-ghost use Rattle.records.specs.Service.{check_of, loaded};
+// The service read for callers with plain parameters: a job's parts by value.
+ghost use Rattle.std.specs.Prelude.{◌≡◌};
+ghost use Rattle.records.specs.Service.{load_told, loaded};
 
-use super::columns::read_gates;
-use super::field::Check;
+use super::columns::NO_GATES;
 use super::gate::Gate;
 use super::job::Counts;
 use super::limits::{CANDIDATES, GATES, OUTPUTS};
+use super::reading::read;
+use super::refusal::Refusal;
 
-// A job's parts by value, beside what the check of its bytes found. Counts and places of a refused job are 0.
+// A job's parts by value: as many as the counts say stand at the starts of the places.
 #[derive(Clone, Copy)]
 pub struct JobParts {
-    pub number: u8,
-    pub check: Check,
     pub counts: Counts,
     pub old: [Gate; GATES],
     pub outputs: [u16; OUTPUTS],
@@ -22,32 +21,26 @@ pub struct JobParts {
     pub weights: [u16; CANDIDATES],
 }
 
-// Whether a number accepts.
-fn check_number(number: u8) -> Check
-    ensures { result ≡ check_of (eqb number 0) }
-{
-    if number != 0 {
-        return Check::Failed;
-    }
-    Check::Passed
-}
-
 // The service read into places of its own. It takes read's time and one copy of the parts.
-pub fn load(job: &[u8]) -> JobParts
-    ensures { result ≡ loaded job.now }
+pub fn load(job: &[u8]) -> Result<JobParts, Refusal>
+    ensures { load_told result ≡ loaded job.now }
 {
+    let mut old = NO_GATES;
     let mut outputs = [0u16; OUTPUTS];
+    let mut golden = NO_GATES;
     let mut goldens = [0u16; OUTPUTS];
     let mut nets = [0u16; CANDIDATES];
     let mut weights = [0u16; CANDIDATES];
-    let found = read_gates(job, &mut outputs, &mut goldens, &mut nets, &mut weights);
-    let reply = found.reply;
-    let counts = reply.counts;
-    let old = found.old;
-    let golden = found.golden;
-    JobParts {
-        number: reply.number,
-        check: check_number(reply.number),
+    let counts = read(
+        job,
+        &mut old,
+        &mut outputs,
+        &mut golden,
+        &mut goldens,
+        &mut nets,
+        &mut weights,
+    )?;
+    Ok(JobParts {
         counts,
         old,
         outputs,
@@ -55,5 +48,5 @@ pub fn load(job: &[u8]) -> JobParts
         goldens,
         nets,
         weights,
-    }
+    })
 }

@@ -2,11 +2,12 @@
 ghost use Rattle.std.specs.Prelude.{◌≡◌, ◌+◌, ◌*◌, ◌-◌, ◌^◌, ◌≤◌, ◌<◌, length, take, drop, ltb};
 ghost use Rattle.records.specs.Bytes.{all};
 ghost use Rattle.records.specs.Sheet.{quad};
-ghost use Rattle.records.specs.Service.{candidates_from, sheet_reply};
-ghost use Rattle.records.specs.Inner.{check_of, start_of, spanned_from, sheet_shape_of, notes_at, sheet_room, found_in, word_column, support_of, refused_sheet, ten_places};
+ghost use Rattle.records.specs.Service.{candidates_from, sheet_told, sheet_reply};
+ghost use Rattle.records.specs.Inner.{check_of, start_of, starts_in, lens_in, spanned_from, sheet_shape_of, notes_at, sheet_room, found_in, word_column, support_of, ten_places};
 
-use super::field::{Check, Field, field_at, walked, wide, word_at};
+use super::field::{Check, Span, field_at, walked, wide, word_at};
 use super::limits::{CANDIDATES, TARGETS};
+use super::refusal::Refusal;
 
 // Candidate nets: the first len of ten places.
 #[derive(Clone, Copy)]
@@ -15,10 +16,9 @@ pub struct Support {
     pub len: usize,
 }
 
-// The number, and of an accepted sheet its support, where its table starts and its cost; on refusal all are 0.
+// What an accepted sheet says: its support, where its table starts, and its cost.
 #[derive(Clone, Copy)]
-pub struct SheetReply {
-    pub number: u8,
+pub struct PatchSheet {
     pub support: Support,
     pub table: usize,
     pub cost: u32,
@@ -30,41 +30,6 @@ pub struct SheetSpans {
     pub nets: usize,
     pub table: usize,
     pub cost: usize,
-}
-
-// The three fields of a sheet without notes, or that its bytes are not such a sheet.
-#[derive(Drop)]
-pub enum SheetShape {
-    Whole(SheetSpans),
-    Broken,
-}
-
-// Where a net stands among the candidates.
-#[derive(Drop)]
-pub enum Found {
-    At(usize),
-    Nowhere,
-}
-
-// The cost of a support, or that it does not ascend or has a net that is no candidate.
-#[derive(Drop)]
-pub enum Costs {
-    Sum(u32),
-    Unfit,
-}
-
-fn refused(number: u8) -> SheetReply
-    ensures { result ≡ refused_sheet number }
-{
-    SheetReply {
-        number,
-        support: Support {
-            nets: [0u16; CANDIDATES],
-            len: 0,
-        },
-        table: 0,
-        cost: 0,
-    }
 }
 
 // Whether the counts of targets and candidates are within their ranges and the candidates within their places.
@@ -86,30 +51,25 @@ fn power(k: usize) -> usize
     requires { k < 16 }
     ensures { result ≡ 2 ^ k }
 {
-    let mut p = 1usize;
-    for i in 0..k {
-        p = 2 * p;
-    }
-    p
+    1 << k
 }
 
-// The fields that start and are as long as these say, or that their lengths do not fit each other.
-fn spanned(starts: [usize; 6], lens: [usize; 6]) -> SheetShape
-    requires { (length starts ≡ 6) × (length lens ≡ 6) }
-    ensures { result ≡ spanned_from starts lens }
+// Where nets, table and cost stand of the sheet whose fields have these spans; none where their lengths do not fit each other.
+fn spanned(spans: [Span; 6]) -> Option<SheetSpans>
+    ensures { result ≡ spanned_from (starts_in spans) (lens_in spans) }
 {
-    let long = lens[0];
+    let long = spans[0].len;
     if 31 < long {
-        return SheetShape::Broken;
+        return None;
     }
-    if (long % 2 == 0) & (lens[1] == power(long / 2)) & (lens[2] == 4) {
-        return SheetShape::Whole(SheetSpans {
+    if (long % 2 == 0) & (spans[1].len == power(long / 2)) & (spans[2].len == 4) {
+        return Some(SheetSpans {
             nets: long / 2,
-            table: starts[1],
-            cost: starts[2],
+            table: spans[1].start,
+            cost: spans[2].start,
         });
     }
-    SheetShape::Broken
+    None
 }
 
 // Where the field behind the first count ones starts, by their lengths; the end where they are not all there.
@@ -130,36 +90,33 @@ fn fields_end(s: &[u8], count: usize) -> usize
     at
 }
 
-// The three fields of a sheet without notes, and that their lengths fit each other.
-fn sheet_shaped(sheet: &[u8]) -> SheetShape
+// Where nets, table and cost stand of a sheet without notes; none where its three fields are not all there, or do not fit each other.
+fn sheet_shaped(sheet: &[u8]) -> Option<SheetSpans>
     ensures { result ≡ sheet_shape_of sheet.now }
 {
-    let w = walked(sheet, 16, 3);
-    let check = w.check;
-    let Check::Passed = check else {
-        return SheetShape::Broken;
+    let Some(spans) = walked(sheet, 16, 3) else {
+        return None;
     };
-    let starts = w.starts;
-    let lens = w.lens;
-    spanned(starts, lens)
+    spanned(spans)
 }
 
 // Where net stands among the first count of nets.
-fn find(nets: &[u16], count: usize, net: usize) -> Found
+fn find(nets: &[u16], count: usize, net: usize) -> Option<usize>
     requires { count ≤ length nets.now }
     ensures { result ≡ found_in (take count nets.now) net }
 {
     for i in 0..count {
         let x = nets[i] as usize;
         if x == net {
-            return Found::At(i);
+            return Some(i);
         }
     }
-    Found::Nowhere
+    None
 }
 
-// The cost of the support, of which a sheet has long nets, from position 3 on.
-fn support_cost(s: &[u8], long: usize, count: usize, nets: &[u16], weights: &[u16]) -> Costs
+// The cost of the support, of which a sheet has long nets, from position 3 on; none where it does not ascend or has a net that is no
+// candidate.
+fn support_cost(s: &[u8], long: usize, count: usize, nets: &[u16], weights: &[u16]) -> Option<u32>
     requires { (2 * long + 3 ≤ length s.now) × (long ≤ 15) × (count ≤ length nets.now) × (count ≤ length weights.now) }
     ensures { result ≡ support_of (candidates_from count nets.now weights.now) (word_column s.now 2 3 long) }
 {
@@ -168,16 +125,15 @@ fn support_cost(s: &[u8], long: usize, count: usize, nets: &[u16], weights: &[u1
     for i in 0..long {
         let net = word_at(s, 2 * i + 3);
         if net < least {
-            return Costs::Unfit;
+            return None;
         }
-        let place = find(nets, count, net);
-        let Found::At(k) = place else {
-            return Costs::Unfit;
+        let Some(place) = find(nets, count, net) else {
+            return None;
         };
-        sum += weights[k] as u32;
+        sum += weights[place] as u32;
         least = net + 1;
     }
-    Costs::Sum(sum)
+    Some(sum)
 }
 
 // Whether each byte between two positions is below limit.
@@ -201,14 +157,13 @@ fn check_notes(s: &[u8], at: usize, count: usize) -> Check
     if at == s.len() {
         return Check::Passed;
     }
-    let found = field_at(s, at, 22);
-    let Field::Body { start, len } = found else {
+    let Some(span) = field_at(s, at, 22) else {
         return Check::Failed;
     };
-    if (len != count) | (start + len != s.len()) {
+    if (span.len != count) | (span.start + span.len != s.len()) {
         return Check::Failed;
     }
-    check_entries(s, start, s.len(), 3)
+    check_entries(s, span.start, s.len(), 3)
 }
 
 // The four-byte number at a position.
@@ -241,38 +196,32 @@ pub fn read_sheet(
     nets: &[u16],
     weights: &[u16],
     sheet: &[u8],
-) -> SheetReply
-    ensures { result ≡ sheet_reply targets candidates nets.now weights.now sheet.now }
+) -> Result<PatchSheet, Refusal>
+    ensures { sheet_told result ≡ sheet_reply targets candidates nets.now weights.now sheet.now }
 {
-    let first = check_sheet_room(targets, candidates, nets.len(), weights.len());
-    let Check::Passed = first else {
-        return refused(3);
+    let Check::Passed = check_sheet_room(targets, candidates, nets.len(), weights.len()) else {
+        return Err(Refusal::Counts);
     };
     let end = fields_end(sheet, 3);
-    let found = sheet_shaped(&sheet[..end]);
-    let SheetShape::Whole(at) = found else {
-        return refused(7);
+    let Some(at) = sheet_shaped(&sheet[..end]) else {
+        return Err(Refusal::Sheet);
     };
-    let notes = check_notes(sheet, end, at.cost - 3 - at.table);
-    let Check::Passed = notes else {
-        return refused(7);
+    let Check::Passed = check_notes(sheet, end, at.cost - 3 - at.table) else {
+        return Err(Refusal::Sheet);
     };
-    let costs = support_cost(sheet, at.nets, candidates, nets, weights);
-    let Costs::Sum(sum) = costs else {
-        return refused(8);
+    let Some(cost) = support_cost(sheet, at.nets, candidates, nets, weights) else {
+        return Err(Refusal::Patch);
     };
     let limit = power(targets);
-    let second = check_entries(sheet, at.table, at.cost - 3, limit);
-    let Check::Passed = second else {
-        return refused(8);
+    let Check::Passed = check_entries(sheet, at.table, at.cost - 3, limit) else {
+        return Err(Refusal::Patch);
     };
-    if sum != quad_at(sheet, at.cost) {
-        return refused(8);
+    if cost != quad_at(sheet, at.cost) {
+        return Err(Refusal::Patch);
     }
-    SheetReply {
-        number: 0,
+    Ok(PatchSheet {
         support: support_from(sheet, at.nets),
         table: at.table,
-        cost: sum,
-    }
+        cost,
+    })
 }

@@ -6,29 +6,28 @@ use mathlib.Core.List.{List, [], ◌∷◌, map, map-map}
 use mathlib.Core.Bool.{Bool, true, false, true≢false, ◌&&◌}
 use native.Mathlib.Numerals.{add-one}
 use native.Mathlib.Omega.{arith}
-use borrow.Author.Tests.{eqb-true, eqb-false, ne_eqb, lt-leb, le-leb}
-use lib.Dec.{leb, eqb}
+use borrow.Author.Tests.{ne_eqb, lt-leb, le-leb}
+use lib.Dec.{leb}
 use lib.ListN.{length, get_or, set, take, length-map, length-replicate}
 use Rattle.records.specs.Bytes.{tabulate, flat, placed}
 use Rattle.records.specs.Netlist.{Netlist}
 use Rattle.records.specs.Job.{job_of}
 use Rattle.records.specs.Refusal.{first_failing}
-use Rattle.records.specs.Service.{SidePlaces, Places, side_places, places, gate_from, struct_of, side_counts_of, counts_of, no_counts, side_roomy, roomy, filled_side, filled, read_number, read_reply, read_places, gates_in, netlist_from, job_from, side_held, held, write_reply, written_bytes}
+use Rattle.records.specs.Service.{SidePlaces, Places, side_places, places, gate_from, struct_of, side_counts_of, counts_of, number_of, read_told, write_told, side_roomy, roomy, filled_side, filled, read_number, read_reply, read_places, gates_in, netlist_from, job_from, side_held, held, write_reply, written_bytes}
 use Rattle.records.specs.Columns.{SideColumns, Columns, side_columns, columns, side_columns_roomy, columns_roomy, side_columns_filled, columns_filled, columns_number, columns_reply, columns_after, gates_from, columns_netlist, columns_job, side_columns_held, columns_held, columns_write_number, columns_write_reply, columns_written}
-use Rattle.records.specs.Inner.{counts_within, Within, no_gate, no_gates, refused_read, columns_hold, ColumnsHold, struct_slots, Split, structs_from}
+use Rattle.records.specs.Inner.{counts_within, Within, no_gate, no_gates, columns_hold, ColumnsHold, struct_slots, Split, structs_from}
 use Rattle.records.specs.declared.gate.Gate.{Gate as GateStruct}
-use Rattle.records.specs.declared.columns.GatesRead.{GatesRead}
 use Rattle.records.specs.declared.job.SideCounts.{SideCounts}
 use Rattle.records.specs.declared.job.Counts.{Counts}
-use Rattle.records.specs.declared.reading.ReadReply.{ReadReply}
-use Rattle.records.specs.declared.writing.WriteReply.{WriteReply}
-use Rattle.records.proofs.Laws.Bytes.{row_at, and_left, false_of, length-tabulate, map-tabulate, tabulate-take, placed-nil}
+use Rattle.records.specs.declared.refusal.Refusal.{Refusal}
+use Rattle.std.specs.Prelude.{Result, Ok, Err}
+use Rattle.records.proofs.Laws.Bytes.{row_at, and_left, false_of, length-tabulate, map-tabulate, tabulate-take}
 use Rattle.records.proofs.Laws.Counts.{columns_hold-facts, counts_within-facts, counts_within-counts_of}
 use Rattle.records.proofs.Laws.Job.{sets-placed, Filled, Put, length-placed-front, take-placed-front}
 use Rattle.records.proofs.Laws.RoundTrip.{All, Four}
 use Rattle.records.proofs.Laws.Accepted.{four-job_of, read-accepts, read-refuses, read-counts, read-places}
 use Rattle.records.proofs.Laws.ReadColumns.{slots-structs, sides-held, columns-write}
-use Rattle.records.proofs.Laws.Reply.{write-counts}
+use Rattle.records.proofs.Laws.Reply.{refusal-number, ok-number, ok-counts, err-number, Written, write-counts}
 
 -- ---- gate structs and columns
 
@@ -83,20 +82,6 @@ module _ (q : SideColumns) {gs : List GateStruct} {count : ℕ} {ks ns ss : List
           → d' ≡ placed d 0 (F (take count gs)) → d' ≡ placed d 0 xs
       column F d d' xs h p = p ∙ ap (λ (z : List GateStruct). placed d 0 (F z)) e ∙ ap (placed d 0) h
 
-  side_left : count ≡ 0 → os ≡ q.outputs → side_columns ks ns ss os ≡ q
-  unfolding flat
-  side_left z o =
-      rw (
-        column (map (λ (g : GateStruct). g.kind)) refl _ _ t.kinds,
-        column (map (λ (g : GateStruct). g.count)) refl _ _ t.counts,
-        column (flat struct_slots) refl _ _ t.slots,
-        o,
-      )
-    where
-      column : (F : List GateStruct → List ℕ) → F [] ≡ [] → (d d' : List ℕ) → d' ≡ placed d 0 (F (take count gs)) → d' ≡ d
-      column F h d d' p =
-          p ∙ ap (λ (n : ℕ). placed d 0 (F (take n gs))) z ∙ ap (placed d 0) h ∙ placed-nil d 0
-
 -- the columns of q hold n gates
 abbrev pub side_holds : SideColumns → ℕ → Bool
 side_holds q n = columns_hold n (length q.kinds) (length q.counts) (length q.slots)
@@ -125,14 +110,14 @@ module _ (p : Columns) where
       )
 
   module _ (s : List ℕ) where
-    columns-small : columns_roomy p ≡ false → (refused_read 1 ≡ columns_reply p s) × (p ≡ columns_after p s)
-    unfolding refused_read columns_reply columns_after columns_number first_failing
+    columns-small : columns_roomy p ≡ false → (read_told (Err Refusal.Room) ≡ columns_reply p s) × (p ≡ columns_after p s)
+    unfolding read_told number_of columns_reply columns_after columns_number first_failing
     columns-small e = (rw e, rw e)
 
-    pub small-old : side_holds p.old 400 ≡ false → (refused_read 1 ≡ columns_reply p s) × (p ≡ columns_after p s)
+    pub small-old : side_holds p.old 400 ≡ false → (read_told (Err Refusal.Room) ≡ columns_reply p s) × (p ≡ columns_after p s)
     small-old e = columns-small (false_of (columns_roomy p) (λ t. true≢false (sym (roomy-rows t).0 ∙ e)))
 
-    pub small-golden : side_holds p.golden 400 ≡ false → (refused_read 1 ≡ columns_reply p s) × (p ≡ columns_after p s)
+    pub small-golden : side_holds p.golden 400 ≡ false → (read_told (Err Refusal.Room) ≡ columns_reply p s) × (p ≡ columns_after p s)
     small-golden e = columns-small (false_of (columns_roomy p) (λ t. true≢false (sym (roomy-rows t).1 ∙ e)))
 
   module _ (h : side_holds p.old 400 ≡ true) (g : side_holds p.golden 400 ≡ true) where
@@ -157,17 +142,42 @@ module _ {q : SideColumns} {l : Netlist} {gs : List GateStruct} {count : ℕ} {o
   found_take : take count gs ≡ map struct_of l.gates
   found_take = rw (f.counted, f.gates) (take-placed-front no_gates (map struct_of l.gates))
 
--- once read is done: its reply and gates, and the outputs and candidates it leaves
-module _ (p : Columns) (s : List ℕ) (r : GatesRead) {b d n w : List ℕ} (e : r.reply ≡ read_reply (read_into p) s)
-    (f : places (side_places r.old b) (side_places r.golden d) n w ≡ read_places (read_into p) s) where
-  module _ (z : read_number (read_into p) s ≡ 0) where
-    counts-read : r.reply.counts ≡ counts_of (job_of s)
-    counts-read = ap (λ (x : ReadReply). x.counts) e ∙ read-counts (read_into p) s z
+-- once read is done: what it answers, and the gates, outputs and candidates it leaves
+module _ (p : Columns) (s : List ℕ) {gs hs : List GateStruct} {b d n w : List ℕ}
+    (f : places (side_places gs b) (side_places hs d) n w ≡ read_places (read_into p) s) where
+  pub read-columns-refused : (x : Refusal) → read_told (Err x) ≡ read_reply (read_into p) s
+      → side_holds p.old 400 ≡ true → side_holds p.golden 400 ≡ true
+      → let q = columns (side_columns p.old.kinds p.old.counts p.old.slots b) (side_columns p.golden.kinds p.golden.counts p.golden.slots d) n w in
+      (read_told (Err x) ≡ columns_reply p s) × (q ≡ columns_after p s)
+  unfolding read_told read_reply columns_reply columns_after
+  read-columns-refused x e h g =
+      let m : read_number (read_into p) s ≡ number_of x = err-number _ x e in
+      let u : read_number (read_into p) s ≡ 0 → ⊥ = λ z. refusal-number x (sym m ∙ z) in
+      let q = f ∙ (read-refuses (read_into p) s u).1 in (
+        e ∙ rw (number-read_into p h g s),
+        rw (
+          number-read_into p h g s,
+          m,
+          ne_eqb (number_of x) 0 (refusal-number x),
+          ap (λ (y : Places). y.old.outputs) q,
+          ap (λ (y : Places). y.golden.outputs) q,
+          ap (λ (y : Places). y.nets) q,
+          ap (λ (y : Places). y.weights) q,
+        ),
+      )
 
-    places-read : places (side_places r.old b) (side_places r.golden d) n w ≡ filled (read_into p) (job_of s)
-    places-read = f ∙ read-places (read_into p) s z
+  module _ (c : Counts) (e : read_told (Ok c) ≡ read_reply (read_into p) s) where
+    accepted : read_number (read_into p) s ≡ 0
+    unfolding read_reply
+    accepted = ok-number _ c e
 
-    found-old : Found p.old (job_of s).old r.old r.reply.counts.old.gates b
+    counts-read : c ≡ counts_of (job_of s)
+    counts-read = ok-counts _ c e ∙ read-counts (read_into p) s accepted
+
+    places-read : places (side_places gs b) (side_places hs d) n w ≡ filled (read_into p) (job_of s)
+    places-read = f ∙ read-places (read_into p) s accepted
+
+    found-old : Found p.old (job_of s).old gs c.old.gates b
     unfolding counts_of side_counts_of filled filled_side
     found-old =
         record {
@@ -176,7 +186,7 @@ module _ (p : Columns) (s : List ℕ) (r : GatesRead) {b d n w : List ℕ} (e : 
           outputs = ap (λ (x : Places). x.old.outputs) places-read;
         }
 
-    found-golden : Found p.golden (job_of s).golden r.golden r.reply.counts.golden.gates d
+    found-golden : Found p.golden (job_of s).golden hs c.golden.gates d
     unfolding counts_of side_counts_of filled filled_side
     found-golden =
         record {
@@ -185,90 +195,37 @@ module _ (p : Columns) (s : List ℕ) (r : GatesRead) {b d n w : List ℕ} (e : 
           outputs = ap (λ (x : Places). x.golden.outputs) places-read;
         }
 
-    within-read : Within r.reply.counts
+    within-read : Within c
     within-read =
         rw counts-read
-        (counts_within-facts (counts_of (job_of s)) (counts_within-counts_of (job_of s) ∙ ((read-accepts (read_into p) s).0 z).2.counts))
+        (counts_within-facts (counts_of (job_of s)) (counts_within-counts_of (job_of s) ∙ ((read-accepts (read_into p) s).0 accepted).2.counts))
 
-  module _ (z : read_number (read_into p) s ≡ 0 → ⊥) where
-    counts-refused : r.reply.counts ≡ no_counts
-    counts-refused = ap (λ (x : ReadReply). x.counts) e ∙ (read-refuses (read_into p) s z).0
+    pub old-splits : side_holds p.old 400 ≡ true
+        → ColumnsHold (length gs) c.old.gates (length p.old.kinds) (length p.old.counts) (length p.old.slots)
+    old-splits h = splits_of _ 400 _ _ _ _ (found-le found-old) within-read.old.gates h
 
-    places-refused : places (side_places r.old b) (side_places r.golden d) n w ≡ read_into p
-    places-refused = f ∙ (read-refuses (read_into p) s z).1
+    pub golden-splits : side_holds p.golden 400 ≡ true
+        → ColumnsHold (length hs) c.golden.gates (length p.golden.kinds) (length p.golden.counts) (length p.golden.slots)
+    golden-splits h = splits_of _ 400 _ _ _ _ (found-le found-golden) within-read.golden.gates h
 
-    old-refused : r.reply.counts.old.gates ≡ 0
-    unfolding no_counts
-    old-refused = ap (λ (x : Counts). x.old.gates) counts-refused
-
-    golden-refused : r.reply.counts.golden.gates ≡ 0
-    unfolding no_counts
-    golden-refused = ap (λ (x : Counts). x.golden.gates) counts-refused
-
-  gates-read : (r.reply.counts.old.gates ≤ length r.old)
-      × (r.reply.counts.old.gates ≤ 400)
-      × (r.reply.counts.golden.gates ≤ length r.golden)
-      × (r.reply.counts.golden.gates ≤ 400)
-  gates-read = pick (eqb (read_number (read_into p) s) 0) refl
-    where
-      pick : (t : Bool) → eqb (read_number (read_into p) s) 0 ≡ t
-          → (r.reply.counts.old.gates ≤ length r.old)
-          × (r.reply.counts.old.gates ≤ 400)
-          × (r.reply.counts.golden.gates ≤ length r.golden)
-          × (r.reply.counts.golden.gates ≤ 400)
-      pick true h =
-          let z = eqb-true (read_number (read_into p) s) 0 h in
-          let w = within-read z in
-          (found-le (found-old z), w.old.gates, found-le (found-golden z), w.golden.gates)
-      pick false h =
-          let z = eqb-false (read_number (read_into p) s) 0 h in
-          rw (old-refused z, golden-refused z) (omega arith, omega arith, omega arith, omega arith)
-
-  pub old-splits : side_holds p.old 400 ≡ true
-      → ColumnsHold (length r.old) r.reply.counts.old.gates
-      (length p.old.kinds) (length p.old.counts) (length p.old.slots)
-  old-splits h = splits_of _ 400 _ _ _ _ gates-read.0 gates-read.1 h
-
-  pub golden-splits : side_holds p.golden 400 ≡ true
-      → ColumnsHold (length r.golden) r.reply.counts.golden.gates
-      (length p.golden.kinds) (length p.golden.counts) (length p.golden.slots)
-  golden-splits h = splits_of _ 400 _ _ _ _ gates-read.2 gates-read.3 h
-
-  -- the reply and the columns, once the gates are split
-  pub read-columns-ends : {ks ns ss gks gns gss : List ℕ} → side_holds p.old 400 ≡ true → side_holds p.golden 400 ≡ true
-      → Split r.old r.reply.counts.old.gates p.old.kinds p.old.counts p.old.slots ks ns ss
-      → Split r.golden r.reply.counts.golden.gates p.golden.kinds p.golden.counts p.golden.slots gks gns gss
-      → (r.reply ≡ columns_reply p s)
-      × (columns (side_columns ks ns ss b) (side_columns gks gns gss d) n w ≡ columns_after p s)
-  unfolding read_reply columns_reply columns_after columns_filled filled
-  read-columns-ends {ks} {ns} {ss} {gks} {gns} {gss} h g o k =
-      (e ∙ rw (number-read_into p h g s), pick (eqb (read_number (read_into p) s) 0) refl)
-    where
-      pick : (t : Bool) → eqb (read_number (read_into p) s) 0 ≡ t
-          → columns (side_columns ks ns ss b) (side_columns gks gns gss d) n w ≡ columns_after p s
-      pick true t =
-          let z = eqb-true (read_number (read_into p) s) 0 t in
-          let f₁ = found-old z in
-          let f₂ = found-golden z in
-          rw (
-            number-read_into p h g s,
-            t,
-            side-filled p.old o b (job_of s).old (four-job_of s).old (found_take f₁) f₁.outputs,
-            side-filled p.golden k d (job_of s).golden (four-job_of s).golden (found_take f₂) f₂.outputs,
-            ap (λ (x : Places). x.nets) (places-read z),
-            ap (λ (x : Places). x.weights) (places-read z),
-          )
-      pick false t =
-          let z = eqb-false (read_number (read_into p) s) 0 t in
-          let q = places-refused z in
-          rw (
-            number-read_into p h g s,
-            t,
-            side_left p.old o b (old-refused z) (ap (λ (x : Places). x.old.outputs) q),
-            side_left p.golden k d (golden-refused z) (ap (λ (x : Places). x.golden.outputs) q),
-            ap (λ (x : Places). x.nets) q,
-            ap (λ (x : Places). x.weights) q,
-          )
+    -- the reply and the columns, once the gates are split
+    pub read-columns-ends : {ks ns ss gks gns gss : List ℕ} → side_holds p.old 400 ≡ true → side_holds p.golden 400 ≡ true
+        → Split gs c.old.gates p.old.kinds p.old.counts p.old.slots ks ns ss
+        → Split hs c.golden.gates p.golden.kinds p.golden.counts p.golden.slots gks gns gss
+        → (read_told (Ok c) ≡ columns_reply p s)
+        × (columns (side_columns ks ns ss b) (side_columns gks gns gss d) n w ≡ columns_after p s)
+    unfolding read_reply columns_reply columns_after columns_filled filled
+    read-columns-ends {ks} {ns} {ss} {gks} {gns} {gss} h g o k = (
+      e ∙ rw (number-read_into p h g s),
+      rw (
+        number-read_into p h g s,
+        accepted,
+        side-filled p.old o b (job_of s).old (four-job_of s).old (found_take found-old) found-old.outputs,
+        side-filled p.golden k d (job_of s).golden (four-job_of s).golden (found_take found-golden) found-golden.outputs,
+        ap (λ (x : Places). x.nets) places-read,
+        ap (λ (x : Places). x.weights) places-read,
+      ),
+    )
 
 -- ---- write_columns
 
@@ -327,43 +284,43 @@ module _ (c : Counts) (p : Columns) where
         columns-write c p written_from d (sym job-written)
         (sym (rw (held-joined c.old p.old h, held-joined c.golden p.golden g)))
 
-    -- the reply and the buffer, once write is done with the joined gates
+    -- what write_columns answers, and that it alters nothing, or puts the job
+    abbrev pub ColumnsWritten : Result ℕ Refusal → List ℕ → Type 0
+    ColumnsWritten r d' = (write_told r ≡ columns_write_reply c p d) × (d' ≡ columns_written c p d)
+
+    -- .. once write is done with the joined gates
     pub write-columns-ends : side_holds p.old c.old.gates ≡ true → side_holds p.golden c.golden.gates ≡ true
-        → (gs hs : List GateStruct) {r : WriteReply} {d' : List ℕ}
+        → (gs hs : List GateStruct) (r : Result ℕ Refusal) (d' : List ℕ)
         → gs ≡ (joined_side c.old p.old).gates → hs ≡ (joined_side c.golden p.golden).gates
-        → let q = places (side_places gs p.old.outputs) (side_places hs p.golden.outputs) p.nets p.weights in
-        (r ≡ write_reply c q d) × (d' ≡ written_bytes c q d)
-        → (r ≡ columns_write_reply c p d) × (d' ≡ columns_written c p d)
-    write-columns-ends h g gs hs x y e =
+        → Written c (places (side_places gs p.old.outputs) (side_places hs p.golden.outputs) p.nets p.weights) d r d'
+        → ColumnsWritten r d'
+    write-columns-ends h g gs hs r d' x y e =
         let w = written-columns h g in (e.0 ∙ rw (x, y) (sym w.0), e.1 ∙ rw (x, y) (sym w.1))
 
-    put_other : (n : ℕ) → columns_write_number c p d ≡ n → (n ≡ 0 → ⊥)
-        → (record { number = n; len = 0 } ≡ columns_write_reply c p d) × (d ≡ columns_written c p d)
-    unfolding columns_write_reply columns_written
-    put_other n e h = (rw (e, ne_eqb n 0 h), rw (e, ne_eqb n 0 h))
+    put_other : (e : Refusal) → columns_write_number c p d ≡ number_of e → ColumnsWritten (Err e) d
+    unfolding write_told columns_write_reply columns_written
+    put_other e h = (rw (h, ne_eqb (number_of e) 0 (refusal-number e)), rw (h, ne_eqb (number_of e) 0 (refusal-number e)))
 
-    pub put-short : length d < 8188 → (record { number = 1; len = 0 } ≡ columns_write_reply c p d) × (d ≡ columns_written c p d)
-    unfolding columns_write_number first_failing
-    put-short h = put_other 1 (rw (lt-leb 8188 (length d) h)) (λ z. omega arith)
+    pub put-short : length d < 8188 → ColumnsWritten (Err Refusal.Room) d
+    unfolding columns_write_number first_failing number_of
+    put-short h = put_other Refusal.Room (rw (lt-leb 8188 (length d) h))
 
     module _ (l : 8188 ≤ length d) where
-      unheld : columns_held c p ≡ false → (record { number = 3; len = 0 } ≡ columns_write_reply c p d) × (d ≡ columns_written c p d)
-      unfolding columns_write_number first_failing
-      unheld e = put_other 3 (rw (le-leb 8188 (length d) l, e)) (λ z. omega arith)
+      unheld : columns_held c p ≡ false → ColumnsWritten (Err Refusal.Counts) d
+      unfolding columns_write_number first_failing number_of
+      unheld e = put_other Refusal.Counts (rw (le-leb 8188 (length d) l, e))
 
-      pub unheld-old : side_holds p.old c.old.gates ≡ false
-          → (record { number = 3; len = 0 } ≡ columns_write_reply c p d) × (d ≡ columns_written c p d)
+      pub unheld-old : side_holds p.old c.old.gates ≡ false → ColumnsWritten (Err Refusal.Counts) d
       unheld-old e = unheld (false_of (columns_held c p) (λ t. true≢false (sym (held_rows t).0 ∙ e)))
 
-      pub unheld-golden : side_holds p.golden c.golden.gates ≡ false
-          → (record { number = 3; len = 0 } ≡ columns_write_reply c p d) × (d ≡ columns_written c p d)
+      pub unheld-golden : side_holds p.golden c.golden.gates ≡ false → ColumnsWritten (Err Refusal.Counts) d
       unheld-golden e = unheld (false_of (columns_held c p) (λ t. true≢false (sym (held_rows t).1 ∙ e)))
 
       -- a count outside its range is 3, whether or not the columns hold the counts
-      pub put-counts : counts_within c ≡ false → (record { number = 3; len = 0 } ≡ columns_write_reply c p d) × (d ≡ columns_written c p d)
+      pub put-counts : counts_within c ≡ false → ColumnsWritten (Err Refusal.Counts) d
       put-counts e = pick (columns_held c p) refl
         where
-          pick : (b : Bool) → columns_held c p ≡ b → (record { number = 3; len = 0 } ≡ columns_write_reply c p d) × (d ≡ columns_written c p d)
+          pick : (b : Bool) → columns_held c p ≡ b → ColumnsWritten (Err Refusal.Counts) d
           pick false h = unheld h
           pick true h =
               let t = held_rows h in

@@ -9,8 +9,8 @@ use lib.Dec.{leb, eqb}
 use lib.ListN.{get_or}
 use Rattle.records.specs.Job.{Job}
 use Rattle.records.specs.Refusal.{side_counts_good, counts_good}
-use Rattle.records.specs.Service.{side_counts_of, counts_of, no_counts}
-use Rattle.records.specs.Inner.{check_of, lengths_good, side_within, counts_within, SideWithin, Within, starts_of, gate_spans, room, holds, columns_hold}
+use Rattle.records.specs.Service.{side_counts_of, counts_of}
+use Rattle.records.specs.Inner.{check_of, lengths_good, side_within, counts_within, SideWithin, Within, room, holds, columns_hold}
 use Rattle.records.specs.declared.field.Check.TheVariants.{Passed, Failed}
 use Rattle.records.specs.declared.job.SideCounts.{SideCounts}
 use Rattle.records.specs.declared.job.Counts.{Counts}
@@ -81,22 +81,6 @@ counts_within-true c h =
 pub counts_within-counts_of : (j : Job) → counts_within (counts_of j) ≡ counts_good j
 unfolding counts_within counts_of counts_good side_within side_counts_of side_counts_good
 counts_within-counts_of j = refl
-
--- where gates stand, by counts within their ranges and by none
-pub spans-within : (c : Counts) → Within c
-    → gate_spans c
-    ≡ record {
-      old = (starts_of c).old;
-      old_count = c.old.gates;
-      golden = (starts_of c).golden;
-      golden_count = c.golden.gates;
-    }
-unfolding gate_spans
-spans-within c h = rw (counts_within-true c h)
-
-pub spans-none : gate_spans no_counts ≡ record { old = 0; old_count = 0; golden = 0; golden_count = 0 }
-unfolding gate_spans no_counts counts_within side_within
-spans-none = refl
 
 -- ---- the lengths of a job's fields
 

@@ -2,17 +2,18 @@
 use Prim.Native.Nat.{ℕ, zero, suc, ◌+◌, ◌-◌, ◌≤◌, ◌<◌}
 use mathlib.Core.Path.{◌≡◌, refl, sym, ◌∙◌, ap}
 use mathlib.Core.List.{List, [], ◌∷◌}
-use mathlib.Core.Bool.{Bool, true, false, cond, ◌&&◌}
+use mathlib.Core.Bool.{true, false, ◌&&◌}
 use native.Mathlib.Nat.{add-zero, add_assoc}
 use native.Mathlib.Omega.{arith}
 use borrow.Author.Tests.{lt-leb, le-leb, eq-eqb, ne_eqb, leb-true, eqb-true}
 use lib.Dec.{leb, eqb}
-use lib.ListN.{length, get_or, take, drop, length-drop}
+use lib.ListN.{length, get_or, take, drop, length-drop, get_or-map}
 use lib.Seq.{get_or-drop, drop-drop, length-take-le}
 use Rattle.records.specs.Bytes.{word, body_length, body, rest, fits, whole, nth}
-use Rattle.records.specs.Inner.{start_of, field_at, end_of}
-use Rattle.records.specs.declared.field.Field.{Field}
-use Rattle.records.specs.declared.field.Field.TheVariants.{Body, Missing}
+use Rattle.std.specs.Prelude.{Some, None}
+use Rattle.records.specs.Inner.{start_of, field_at, starts_in, lens_in}
+use Rattle.records.specs.declared.field.Span.{Span}
+use Rattle.records.proofs.Laws.Option.{pick-some, pick-none}
 use Rattle.records.proofs.Laws.Bytes.{and_left, and_right, and_both, and-false-left, and-false-right}
 
 -- ---- a field at a position
@@ -162,28 +163,33 @@ module _ (ts s : List ℕ) (w : whole ts s ≡ true) (k : ℕ) (h : k < length t
 
 -- ---- what reading a field answers
 
-pick-body : (b : Bool) (x y x' y' : ℕ) → cond b (Body x y) Missing ≡ Body x' y' → (b ≡ true) × (x' ≡ x) × (y' ≡ y)
-pick-body true x y x' y' e = (refl, cc, cc)
-pick-body false x y x' y' e = let z : ◌≡◌ {A = ℕ} 0 1 = cc in let f : ⊥ = omega arith in absurd f
-
-pick-missing : (b : Bool) (x y : ℕ) → cond b (Body x y) Missing ≡ Missing → b ≡ false
-pick-missing false x y e = refl
-pick-missing true x y e = let z : ◌≡◌ {A = ℕ} 0 1 = cc in let f : ⊥ = omega arith in absurd f
-
 module _ (s : List ℕ) (at t : ℕ) where
-  pub field_at-body : (a b : ℕ) → field_at s at t ≡ Body a b
-      → (fits t (drop at s) ≡ true) × (a ≡ at + 3) × (b ≡ body_length (drop at s))
+  pub field_at-some : (x : Span) → field_at s at t ≡ Some x
+      → (fits t (drop at s) ≡ true) × (x.start ≡ at + 3) × (x.len ≡ body_length (drop at s))
   unfolding field_at
-  field_at-body a b e = pick-body (fits t (drop at s)) (at + 3) (body_length (drop at s)) a b e
+  field_at-some x e =
+      let p = pick-some (fits t (drop at s)) _ x e in
+      (p.0, ap (λ (y : Span). y.start) p.1, ap (λ (y : Span). y.len) p.1)
 
-  pub field_at-missing : field_at s at t ≡ Missing → fits t (drop at s) ≡ false
+  pub field_at-none : field_at s at t ≡ None → fits t (drop at s) ≡ false
   unfolding field_at
-  field_at-missing e = pick-missing (fits t (drop at s)) (at + 3) (body_length (drop at s)) e
+  field_at-none e = pick-none (fits t (drop at s)) _ e
 
   -- the field found ends within the bytes
-  pub end-within : (f : Field) → field_at s at t ≡ f → end_of f ≤ length s
-  unfolding end_of
-  end-within Missing e = omega arith
-  end-within (Body a b) e =
-      let f = field_at-body a b e in
+  pub end-within : (x : Span) → field_at s at t ≡ Some x → x.start + x.len ≤ length s
+  end-within x e =
+      let f = field_at-some x e in
       omega (arith, f.1, f.2, fits-room t (drop at s) f.0, length-drop at s)
+
+-- ---- a list of spans
+
+abbrev pub no_span : Span
+no_span = record { start = 0; len = 0 }
+
+pub start-at : (spans : List Span) (i : ℕ) → get_or (starts_in spans) i 0 ≡ (get_or spans i no_span).start
+unfolding starts_in
+start-at spans i = get_or-map (λ (x : Span). x.start) spans i no_span
+
+pub len-at : (spans : List Span) (i : ℕ) → get_or (lens_in spans) i 0 ≡ (get_or spans i no_span).len
+unfolding lens_in
+len-at spans i = get_or-map (λ (x : Span). x.len) spans i no_span

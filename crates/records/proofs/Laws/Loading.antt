@@ -1,20 +1,22 @@
 -- Laws of load: what it gives from what read gives, and the parts of a good job. Assumes nothing.
 use Prim.Native.Nat.{ℕ, ◌≤◌}
-use mathlib.Core.Path.{◌≡◌, refl, ◌∙◌, ap}
+use mathlib.Core.Path.{◌≡◌, refl, sym, ◌∙◌, ap}
 use mathlib.Core.List.{List, map}
 use mathlib.Core.Bool.{true}
 use native.Mathlib.Omega.{arith}
-use lib.Dec.{eqb}
 use lib.ListN.{length, replicate, length-map, length-replicate}
 use Rattle.records.specs.Bytes.{placed}
 use Rattle.records.specs.Job.{Candidate, Job, job_of}
 use Rattle.records.specs.Refusal.{first_failing, job_refusal}
-use Rattle.records.specs.Service.{Places, struct_of, no_gates, check_of, side_counts_of, counts_of, side_roomy, roomy, filled_side, filled, read_number, read_reply, read_places, empty_places, loaded, netlist_from, job_from}
+use Rattle.records.specs.Service.{number_of, Places, struct_of, no_gates, side_counts_of, counts_of, side_roomy, roomy, filled_side, filled, read_number, read_told, read_reply, read_places, empty_places, Loaded, parts_in, load_told, loaded, netlist_from, job_from}
 use Rattle.records.specs.Inner.{Within}
 use Rattle.records.specs.Claims.{PartsGood}
 use Rattle.records.specs.Parts.{PartsOf}
-use Rattle.records.specs.declared.field.Check.{Check}
-use Rattle.records.specs.declared.reading.ReadReply.{ReadReply}
+use Rattle.records.specs.declared.job.Counts.{Counts}
+use Rattle.records.specs.declared.refusal.Refusal.{Refusal}
+use Rattle.std.specs.Prelude.{Ok, Err}
+use borrow.Author.Tests.{ne_eqb}
+use Rattle.records.proofs.Laws.Reply.{refusal-number, ok-number, ok-counts, err-number}
 use Rattle.records.specs.declared.loading.JobParts.{JobParts}
 use Rattle.records.proofs.Laws.Bytes.{length-placed}
 use Rattle.records.proofs.Laws.Counts.{counts_within-facts, counts_within-counts_of}
@@ -24,25 +26,17 @@ use Rattle.records.proofs.Laws.Columns.{length-no_gates}
 
 -- ---- load
 
--- the parts of a reply and of places
-abbrev pub parts_in : ReadReply → Check → Places → JobParts
-parts_in r c p =
-    record {
-      number = r.number;
-      check = c;
-      counts = r.counts;
-      old = p.old.gates;
-      outputs = p.old.outputs;
-      golden = p.golden.gates;
-      goldens = p.golden.outputs;
-      nets = p.nets;
-      weights = p.weights;
-    }
+module _ (s : List ℕ) where
+  pub load-refused : (e : Refusal) → read_told (Err e) ≡ read_reply empty_places s → load_told (Err e) ≡ loaded s
+  unfolding load_told loaded read_told read_reply read_places
+  load-refused e f =
+      let n : read_number empty_places s ≡ number_of e = err-number _ e f in
+      rw (n, ne_eqb (number_of e) 0 (refusal-number e))
 
-pub load-ends : (s : List ℕ) (r : ReadReply) (c : Check) (p : Places)
-    → r ≡ read_reply empty_places s → c ≡ check_of (eqb r.number 0) → p ≡ read_places empty_places s → parts_in r c p ≡ loaded s
-unfolding loaded
-load-ends s r c p e f g = rw (f, e, g)
+  pub load-accepted : (c : Counts) (p : Places) → read_told (Ok c) ≡ read_reply empty_places s → p ≡ read_places empty_places s
+      → load_told (Ok (parts_in c p)) ≡ loaded s
+  unfolding load_told loaded
+  load-accepted c p e f = rw (f, ok-counts _ c e, ok-number _ c e)
 
 -- ---- its number
 
@@ -58,9 +52,14 @@ pub loaded-number : (s : List ℕ) → (loaded s).number ≡ job_refusal s
 unfolding loaded read_reply
 loaded-number s = number-empty s
 
-pub loaded-check : (s : List ℕ) → (loaded s).check ≡ check_of (eqb (job_refusal s) 0)
-unfolding loaded read_reply
-loaded-check s = ap (λ (n : ℕ). check_of (eqb n 0)) (number-empty s)
+-- what load answers, by the check of the job's bytes
+pub loaded-refused : (s : List ℕ) (e : Refusal) → load_told (Err e) ≡ loaded s → job_refusal s ≡ number_of e
+unfolding load_told
+loaded-refused s e f = sym (loaded-number s) ∙ sym (ap (λ (x : Loaded). x.number) f)
+
+pub loaded-accepted : (s : List ℕ) (p : JobParts) → load_told (Ok p) ≡ loaded s → (job_refusal s ≡ 0) × (p ≡ (loaded s).parts)
+unfolding load_told
+loaded-accepted s p f = (sym (loaded-number s) ∙ sym (ap (λ (x : Loaded). x.number) f), ap (λ (x : Loaded). x.parts) f)
 
 -- ---- the parts of a good job
 
@@ -68,7 +67,7 @@ loaded-check s = ap (λ (n : ℕ). check_of (eqb n 0)) (number-empty s)
 length_front : {A : Type 0} (n : ℕ) (d xs : List A) → length d ≡ n → length xs ≤ n → length (placed d 0 xs) ≡ n
 length_front n d xs e h = length-placed d 0 xs (omega (arith, e, h)) ∙ e
 
-module _ (j : Job) (w : FourEach j) (g : PartsGood j) (r : ReadReply) (c : Check) (e : r.counts ≡ counts_of j) where
+module _ (j : Job) (w : FourEach j) (g : PartsGood j) (c : Counts) (e : c ≡ counts_of j) where
   within : Within (counts_of j)
   within = counts_within-facts (counts_of j) (counts_within-counts_of j ∙ g.counts)
 
@@ -76,8 +75,8 @@ module _ (j : Job) (w : FourEach j) (g : PartsGood j) (r : ReadReply) (c : Check
   held : job_from (counts_of j) (filled empty_places j) ≡ j
   held = job_from-filled empty_places j w
 
-  filled-parts : PartsOf j (parts_in r c (filled empty_places j))
-  unfolding counts_of side_counts_of filled filled_side empty_places job_from netlist_from
+  filled-parts : PartsOf j (parts_in c (filled empty_places j))
+  unfolding parts_in counts_of side_counts_of filled filled_side empty_places job_from netlist_from
   filled-parts =
       let numbers : (n : ℕ) (xs : List ℕ) → length xs ≤ n → length (placed (replicate n 0) 0 xs) ≡ n =
       λ n xs. length_front n (replicate n 0) xs (length-replicate n 0) in
@@ -105,11 +104,10 @@ module _ (j : Job) (w : FourEach j) (g : PartsGood j) (r : ReadReply) (c : Check
             (omega (arith, within.candidates, length-map j.candidates (λ (x : Candidate). x.weight)));
       }
 
-pub loaded-parts : (s : List ℕ) → job_refusal s ≡ 0 → PartsOf (job_of s) (loaded s)
+pub loaded-parts : (s : List ℕ) → job_refusal s ≡ 0 → PartsOf (job_of s) (loaded s).parts
 unfolding loaded
 loaded-parts s e =
     let n = number-empty s ∙ e in
-    let r = read_reply empty_places s in
     let u = (read-accepts empty_places s).0 n in
     rw (read-places empty_places s n)
-    (filled-parts (job_of s) (four-job_of s) u.2 r (check_of (eqb r.number 0)) (read-counts empty_places s n))
+    (filled-parts (job_of s) (four-job_of s) u.2 _ (read-counts empty_places s n))

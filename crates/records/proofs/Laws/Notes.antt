@@ -15,13 +15,14 @@ use Rattle.records.specs.Bytes.{all, field, body_length, body, rest, fits, whole
 use Rattle.records.specs.Job.{Candidate}
 use Rattle.records.specs.Refusal.{Test, first_failing}
 use Rattle.records.specs.Sheet.{sheet_tags, notes_tag, patch_of, notes_whole, sheet_whole, patch_good, sheet_tests}
-use Rattle.records.specs.Inner.{start_of, field_at, end_of, bare_whole, notes_at}
-use Rattle.records.specs.declared.field.Field.TheVariants.{Body, Missing}
+use Rattle.records.specs.Inner.{start_of, field_at, bare_whole, notes_at}
+use Rattle.records.specs.declared.field.Span.{Span}
+use Rattle.std.specs.Prelude.{Some, None}
 use Rattle.records.specs.Service.{candidates_from, sheet_number, sheet_reply}
 use Rattle.records.specs.Claims.{Below, SheetNotes, NotesSeven, LeftOverSeven, VectorsSeven, SevenExactly}
 use Rattle.records.proofs.Laws.Accepted.{below-of-all}
 use Rattle.records.proofs.Laws.Bytes.{row, row-and, and_left, and_right, and_both, and-false-right, and_assoc, false_of, all-below}
-use Rattle.records.proofs.Laws.Field.{position_of, start_of-position, whole-end, fits-room, length-body, field_at-body, field_at-missing, end-within}
+use Rattle.records.proofs.Laws.Field.{position_of, start_of-position, whole-end, fits-room, length-body, field_at-some, field_at-none, end-within}
 use Rattle.records.proofs.Laws.Front.{position_of-cut, nth_cut, nth-behind, whole_append, whole-front, nth-front, whole-behind}
 use Rattle.records.proofs.Laws.Job.{length-field}
 use Rattle.records.proofs.Laws.RoundTrip.{fits-field, body-field, rest-field}
@@ -223,43 +224,42 @@ module _ (s : List ℕ) (at n : ℕ) where
     some : eqb (length (drop at s)) 0 ≡ false
     some = ends_there s at l ∙ ne_eqb at (length s) q
 
-    pub notes-missing : field_at s at notes_tag ≡ Missing → notes_at n (drop at s) ≡ false
+    pub notes-missing : field_at s at notes_tag ≡ None → notes_at n (drop at s) ≡ false
     unfolding notes_at whole
-    notes-missing e = rw (some, field_at-missing s at notes_tag e)
+    notes-missing e = rw (some, field_at-none s at notes_tag e)
 
-    module _ (a b : ℕ) (e : field_at s at notes_tag ≡ Body a b) where
-      found : (fits notes_tag (drop at s) ≡ true) × (a ≡ at + 3) × (b ≡ body_length (drop at s))
-      found = field_at-body s at notes_tag a b e
+    module _ (x : Span) (e : field_at s at notes_tag ≡ Some x) where
+      found : (fits notes_tag (drop at s) ≡ true) × (x.start ≡ at + 3) × (x.len ≡ body_length (drop at s))
+      found = field_at-some s at notes_tag x e
 
-      found-rest : rest (drop at s) ≡ drop (a + b) s
+      found-rest : rest (drop at s) ≡ drop (x.start + x.len) s
       unfolding rest
       found-rest =
-          let n : at + (3 + body_length (drop at s)) ≡ a + b = omega (arith, found.1, found.2) in
-          drop-drop (3 + body_length (drop at s)) at s ∙ ap (λ (x : ℕ). drop x s) n
+          let n : at + (3 + body_length (drop at s)) ≡ x.start + x.len = omega (arith, found.1, found.2) in
+          drop-drop (3 + body_length (drop at s)) at s ∙ ap (λ (k : ℕ). drop k s) n
 
-      found-body : body (drop at s) ≡ take b (drop a s)
+      found-body : body (drop at s) ≡ take x.len (drop x.start s)
       unfolding body
       found-body = rw (found.1, found.2, drop-drop 3 at s)
 
-      found-length : length (body (drop at s)) ≡ b
+      found-length : length (body (drop at s)) ≡ x.len
       found-length = length-body (drop at s) (fits-room notes_tag (drop at s) found.0) ∙ sym found.2
 
-      pub notes-within : a + b ≤ length s
-      unfolding end_of
-      notes-within = end-within s at notes_tag (Body a b) e
+      pub notes-within : x.start + x.len ≤ length s
+      notes-within = end-within s at notes_tag x e
 
       notes-body : notes_at n (drop at s)
-          ≡ (eqb (a + b) (length s) && eqb b n && all (λ v. ltb v 3) (take b (drop a s)))
+          ≡ (eqb (x.start + x.len) (length s) && eqb x.len n && all (λ v. ltb v 3) (take x.len (drop x.start s)))
       unfolding notes_at whole nth
-      notes-body = rw (some, found.0, found-length, found-body, found-rest, ends_there s (a + b) notes-within)
+      notes-body = rw (some, found.0, found-length, found-body, found-rest, ends_there s (x.start + x.len) notes-within)
 
       -- the code's test of its lengths
-      pub notes-bad : not (eqb b n) || not (eqb (a + b) (length s)) ≡ true → notes_at n (drop at s) ≡ false
-      notes-bad t = notes-body ∙ fitting-fails (eqb b n) (eqb (a + b) (length s)) _ t
+      pub notes-bad : not (eqb x.len n) || not (eqb (x.start + x.len) (length s)) ≡ true → notes_at n (drop at s) ≡ false
+      notes-bad t = notes-body ∙ fitting-fails (eqb x.len n) (eqb (x.start + x.len) (length s)) _ t
 
-      pub notes-good : not (eqb b n) || not (eqb (a + b) (length s)) ≡ false
-          → notes_at n (drop at s) ≡ all (λ v. ltb v 3) (take (length s - a) (drop a s))
+      pub notes-good : not (eqb x.len n) || not (eqb (x.start + x.len) (length s)) ≡ false
+          → notes_at n (drop at s) ≡ all (λ v. ltb v 3) (take (length s - x.start) (drop x.start s))
       notes-good t =
-          let f = fitting (eqb b n) (eqb (a + b) (length s)) t in
-          let r : b ≡ length s - a = omega (arith, eqb-true (a + b) (length s) f.1) in
+          let f = fitting (eqb x.len n) (eqb (x.start + x.len) (length s)) t in
+          let r : x.len ≡ length s - x.start = omega (arith, eqb-true (x.start + x.len) (length s) f.1) in
           notes-body ∙ rw (f.0, f.1, ← r)

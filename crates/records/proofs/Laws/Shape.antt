@@ -1,7 +1,7 @@
 -- Laws of a whole job's bytes: its six fields, its counts, and where each field's bytes stand. Assumes nothing.
 use Prim.Native.Nat.{ℕ, suc, ◌+◌, ◌-◌, ◌*◌, ◌/◌, ◌%◌, ◌≤◌, ◌<◌}
 use mathlib.Core.Path.{◌≡◌, refl, sym, ◌∙◌, ap}
-use mathlib.Core.Bool.{Bool, true, false, true≢false, cond, ◌&&◌}
+use mathlib.Core.Bool.{Bool, true, false, true≢false, ◌&&◌}
 use mathlib.Core.List.{List, [], ◌∷◌, map}
 use native.Mathlib.Omega.{arith}
 use borrow.Author.Tests.{eqb-true, eq-eqb, ltb-true}
@@ -12,16 +12,16 @@ use Rattle.records.specs.Bytes.{up_from, all, whole, nth}
 use Rattle.records.specs.Netlist.{net_at, fanout}
 use Rattle.records.specs.Job.{Candidate, job_tags, gates_of, nets_of, candidates_of, netlist_of, job_whole, job_of}
 use Rattle.records.specs.Refusal.{gates_good, netlists_good, old_nets, golden_nets, outputs_good, ascending, candidate_good, candidates_good, counts_good, first_failing, part_tests, job_tests, job_refusal}
-use Rattle.records.specs.Service.{side_counts_of, counts_of}
-use Rattle.records.specs.Inner.{start_of, starts_of, check_of, counted_from, shape_of, lengths_good, Walks, Laid, unmarked_ascending, checked_of}
-use Rattle.records.specs.declared.field.Check.TheVariants.{Passed, Failed}
-use Rattle.records.specs.declared.field.Walk.{Walk}
-use Rattle.records.specs.declared.job.Shape.TheVariants as Shape
-use Rattle.records.specs.declared.job.Checked.TheVariants.{Accepted, Refused}
+use Rattle.records.specs.Service.{side_counts_of, counts_of, number_of, read_told}
+use Rattle.records.specs.Inner.{start_of, starts_of, counted_from, shape_of, lengths_good, lens_in, Walked, Laid, unmarked_ascending, checked_of}
+use Rattle.records.specs.declared.field.Span.{Span}
+use Rattle.records.specs.declared.refusal.Refusal.{Refusal}
+use Rattle.records.proofs.Laws.Option.{pick-some, pick-none}
+use Rattle.std.specs.Prelude.{Some, None, Ok, Err}
 use Rattle.records.specs.declared.job.Counts.{Counts}
 use Rattle.records.specs.declared.job.Starts.{Starts}
 use Rattle.records.proofs.Laws.Bytes.{row_at, and_both, false_of, all-ext, length-tabulate}
-use Rattle.records.proofs.Laws.Counts.{LengthsGood, lengths_good-facts, lengths_good-true, passes, fails}
+use Rattle.records.proofs.Laws.Counts.{LengthsGood, lengths_good-facts, lengths_good-true}
 use Rattle.records.proofs.Laws.Field.{start_of-suc, start_of-le, nth-slice}
 
 pub record JobWhole (s : List ℕ) : Type 0 where
@@ -111,18 +111,19 @@ module _ (s : List ℕ) (w : JobWhole s) where
 
 -- ---- what a walk says of a job
 
-module _ (s : List ℕ) (w : Walk) (h : Walks s 1 6 w) where
-  walk-fields : w.check ≡ check_of (whole job_tags s)
+module _ (s : List ℕ) where
+  pub broken-of-walk : Walked s 1 6 None → job_whole s ≡ false
   unfolding up_from
-  walk-fields = h.check
+  broken-of-walk f = false_of (job_whole s) (λ t. true≢false (sym (job_whole-facts s t).fields ∙ f))
 
-  walk-lens : whole job_tags s ≡ true → (k : ℕ) → k < 6 → get_or w.lens k 0 ≡ length (nth k s)
+module _ (s : List ℕ) (spans : List Span) (h : Walked s 1 6 (Some spans)) where
+  fields : whole job_tags s ≡ true
   unfolding up_from
-  walk-lens t k l = h.lens t k l
+  fields = h.0
 
-  lengths-of-whole : JobWhole s → LengthsGood w.lens
+  lengths-of-whole : JobWhole s → LengthsGood (lens_in spans)
   lengths-of-whole j =
-      let n = walk-lens j.fields in
+      let n = h.1.lens in
       record {
         sizes = n 0 (omega arith) ∙ j.sizes;
         old = ap (λ (x : ℕ). x % 10) (n 1 (omega arith)) ∙ j.old;
@@ -132,12 +133,11 @@ module _ (s : List ℕ) (w : Walk) (h : Walks s 1 6 w) where
         candidates = ap (λ (x : ℕ). x % 4) (n 5 (omega arith)) ∙ j.candidates;
       }
 
-  whole-of-lengths : w.check ≡ Passed → LengthsGood w.lens → JobWhole s
-  whole-of-lengths p g =
-      let f = passes (whole job_tags s) (sym walk-fields ∙ p) in
-      let n = walk-lens f in
+  whole-of-lengths : LengthsGood (lens_in spans) → JobWhole s
+  whole-of-lengths g =
+      let n = h.1.lens in
       record {
-        fields = f;
+        fields = fields;
         sizes = sym (n 0 (omega arith)) ∙ g.sizes;
         old = ap (λ (x : ℕ). x % 10) (sym (n 1 (omega arith))) ∙ g.old;
         outputs = ap (λ (x : ℕ). x % 2) (sym (n 2 (omega arith))) ∙ g.outputs;
@@ -146,30 +146,25 @@ module _ (s : List ℕ) (w : Walk) (h : Walks s 1 6 w) where
         candidates = ap (λ (x : ℕ). x % 4) (sym (n 5 (omega arith))) ∙ g.candidates;
       }
 
-  pub broken-of-walk : w.check ≡ Failed → job_whole s ≡ false
-  broken-of-walk p =
-      false_of (job_whole s) (λ t. true≢false (sym (job_whole-facts s t).fields ∙ fails (whole job_tags s) (sym walk-fields ∙ p)))
-
-  broken-of-lengths : lengths_good w.lens ≡ false → job_whole s ≡ false
+  broken-of-lengths : lengths_good (lens_in spans) ≡ false → job_whole s ≡ false
   broken-of-lengths e =
-      false_of (job_whole s) (λ t. true≢false (sym (lengths_good-true w.lens (lengths-of-whole (job_whole-facts s t))) ∙ e))
+      false_of (job_whole s) (λ t. true≢false (sym (lengths_good-true _ (lengths-of-whole (job_whole-facts s t))) ∙ e))
 
   -- past the walk there is a first field
-  pub walk-room : w.check ≡ Passed → 5 ≤ length s
+  pub walk-room : 5 ≤ length s
   unfolding start_of
-  walk-room p =
-      omega (arith, start_of-le job_tags s (passes (whole job_tags s) (sym walk-fields ∙ p)) 1 (omega arith))
+  walk-room = omega (arith, start_of-le job_tags s fields 1 (omega arith))
 
   -- the shape, from the walk
-  pub walk-counts : w.check ≡ Passed → (n m : ℕ) → n ≡ get_or s 3 0 → m ≡ get_or s 4 0 → counted_from w.lens n m ≡ shape_of s
+  pub walk-counts : (n m : ℕ) → n ≡ get_or s 3 0 → m ≡ get_or s 4 0 → counted_from (lens_in spans) n m ≡ shape_of s
   unfolding shape_of counted_from
-  walk-counts p n m en em = pick (lengths_good w.lens) refl
+  walk-counts n m en em = pick (lengths_good (lens_in spans)) refl
     where
-      pick : (b : Bool) → lengths_good w.lens ≡ b → counted_from w.lens n m ≡ shape_of s
+      pick : (b : Bool) → lengths_good (lens_in spans) ≡ b → counted_from (lens_in spans) n m ≡ shape_of s
       pick false e = rw (e, broken-of-lengths e)
       pick true e =
-          let j = whole-of-lengths p (lengths_good-facts w.lens e) in
-          let l = walk-lens j.fields in
+          let j = whole-of-lengths (lengths_good-facts (lens_in spans) e) in
+          let l = h.1.lens in
           rw (e, job_whole-true s j, counts-at s j, en, em, l 1 (omega arith), l 2 (omega arith), l 3 (omega arith), l 4 (omega arith), l 5 (omega arith))
 
 -- ---- where the parts of a whole job stand
@@ -320,45 +315,37 @@ module _ (s : List ℕ) (c : Counts) (l : Laid s c) where
 
 -- ---- what the shape and the checks of a job answer
 
-pick-whole : (b : Bool) (x y : Counts) → cond b (Shape.Whole x) Shape.Broken ≡ Shape.Whole y → (b ≡ true) × (y ≡ x)
-pick-whole true x y e = (refl, cc)
-pick-whole false x y e = let z : ◌≡◌ {A = ℕ} 0 1 = cc in let f : ⊥ = omega arith in absurd f
-
-pick-broken : (b : Bool) (x : Counts) → cond b (Shape.Whole x) Shape.Broken ≡ Shape.Broken → b ≡ false
-pick-broken false x e = refl
-pick-broken true x e = let z : ◌≡◌ {A = ℕ} 0 1 = cc in let f : ⊥ = omega arith in absurd f
-
 module _ (s : List ℕ) where
-  pub shape-whole : (c : Counts) → shape_of s ≡ Shape.Whole c → (job_whole s ≡ true) × (c ≡ counts_of (job_of s))
+  pub shape-whole : (c : Counts) → shape_of s ≡ Some c → (job_whole s ≡ true) × (c ≡ counts_of (job_of s))
   unfolding shape_of
-  shape-whole c e = pick-whole (job_whole s) (counts_of (job_of s)) c e
+  shape-whole c e = pick-some (job_whole s) (counts_of (job_of s)) c e
 
-  pub refused-two : shape_of s ≡ Shape.Broken → Refused 2 ≡ checked_of s
-  unfolding shape_of checked_of job_refusal job_tests part_tests first_failing
-  refused-two e = rw (pick-broken (job_whole s) (counts_of (job_of s)) e)
+  pub refused-two : shape_of s ≡ None → read_told (Err Refusal.Fields) ≡ checked_of s
+  unfolding shape_of read_told number_of checked_of job_refusal job_tests part_tests first_failing
+  refused-two e = rw (pick-none (job_whole s) (counts_of (job_of s)) e)
 
   module _ (w : job_whole s ≡ true) where
-    pub refused-three : counts_good (job_of s) ≡ false → Refused 3 ≡ checked_of s
-    unfolding checked_of job_refusal job_tests part_tests first_failing
+    pub refused-three : counts_good (job_of s) ≡ false → read_told (Err Refusal.Counts) ≡ checked_of s
+    unfolding read_told number_of checked_of job_refusal job_tests part_tests first_failing
     refused-three e = rw (w, e)
 
     module _ (c : counts_good (job_of s) ≡ true) where
-      pub refused-four : netlists_good (job_of s) ≡ false → Refused 4 ≡ checked_of s
-      unfolding checked_of job_refusal job_tests part_tests first_failing
+      pub refused-four : netlists_good (job_of s) ≡ false → read_told (Err Refusal.Gates) ≡ checked_of s
+      unfolding read_told number_of checked_of job_refusal job_tests part_tests first_failing
       refused-four e = rw (w, c, e)
 
       module _ (g : netlists_good (job_of s) ≡ true) where
-        pub refused-five : outputs_good (job_of s) ≡ false → Refused 5 ≡ checked_of s
-        unfolding checked_of job_refusal job_tests part_tests first_failing
+        pub refused-five : outputs_good (job_of s) ≡ false → read_told (Err Refusal.Outputs) ≡ checked_of s
+        unfolding read_told number_of checked_of job_refusal job_tests part_tests first_failing
         refused-five e = rw (w, c, g, e)
 
         module _ (o : outputs_good (job_of s) ≡ true) where
-          pub refused-six : candidates_good (job_of s) ≡ false → Refused 6 ≡ checked_of s
-          unfolding checked_of job_refusal job_tests part_tests first_failing
+          pub refused-six : candidates_good (job_of s) ≡ false → read_told (Err Refusal.Candidates) ≡ checked_of s
+          unfolding read_told number_of checked_of job_refusal job_tests part_tests first_failing
           refused-six e = rw (w, c, g, o, e)
 
-          pub accepted : candidates_good (job_of s) ≡ true → Accepted (counts_of (job_of s)) ≡ checked_of s
-          unfolding checked_of job_refusal job_tests part_tests first_failing
+          pub accepted : candidates_good (job_of s) ≡ true → read_told (Ok (counts_of (job_of s))) ≡ checked_of s
+          unfolding read_told number_of checked_of job_refusal job_tests part_tests first_failing
           accepted e = rw (w, c, g, o, e)
 
 -- ---- the parts of a job between its starts

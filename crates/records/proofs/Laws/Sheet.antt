@@ -18,10 +18,8 @@ use Rattle.records.specs.Refusal.{ascending, max_candidates}
 use Rattle.records.specs.Sheet.{weight_of, cost_of, is_candidate}
 use Rattle.records.specs.Service.{candidates_from}
 use Rattle.records.specs.Inner.{word_column, found_from, found_in, support_of, ten_places}
-use Rattle.records.specs.declared.sheet.Found.{Found}
-use Rattle.records.specs.declared.sheet.Found.TheVariants.{At, Nowhere}
-use Rattle.records.specs.declared.sheet.Costs.{Costs}
-use Rattle.records.specs.declared.sheet.Costs.TheVariants.{Sum, Unfit}
+use Rattle.std.specs.Prelude.{Option, Some, None}
+use Rattle.records.proofs.Laws.Option.{some-none}
 use Rattle.records.proofs.Laws.Bytes.{and_left, and_right, and-false-right, length-tabulate, get_d_tabulate}
 use Rattle.records.proofs.Laws.Job.{tabulate-get_or}
 use Rattle.records.proofs.Laws.Refusal.{ascending_from, ascending-from}
@@ -115,7 +113,7 @@ module _ (nets : List ℕ) (count net i : ℕ) (l : count ≤ length nets) where
       drop-next (take count nets) i (omega (arith, length-take-le count nets l))
       ∙ ap (λ (x : ℕ). x ∷ drop (i + 1) (take count nets)) (get_or-take count nets i 0 h)
 
-  pub found_here : i < count → get_or nets i 0 ≡ net → found_from i (drop i (take count nets)) net ≡ At i
+  pub found_here : i < count → get_or nets i 0 ≡ net → found_from i (drop i (take count nets)) net ≡ Some i
   unfolding found_from
   found_here h e = rw (rest-next h, eq-eqb (get_or nets i 0) net e)
 
@@ -124,7 +122,7 @@ module _ (nets : List ℕ) (count net i : ℕ) (l : count ≤ length nets) where
   unfolding found_from
   found-next h e = rw (rest-next h, ne_eqb (get_or nets i 0) net e, add-one)
 
-  pub found-end : count ≤ i → found_from i (drop i (take count nets)) net ≡ Nowhere
+  pub found-end : count ≤ i → found_from i (drop i (take count nets)) net ≡ None
   unfolding found_from
   found-end h = rw (drop_of_length-le (take count nets) {i = i} (omega (arith, length-take-le count nets l)))
 
@@ -138,34 +136,34 @@ module _ (nets weights : List ℕ) (net : ℕ) where
   candidates : ℕ → ℕ → List Candidate
   candidates a n = map (λ i. record { net = get_or nets i 0; weight = get_or weights i 0 }) (up_from a n)
 
-  found : ℕ → ℕ → Found
+  found : ℕ → ℕ → Option ℕ
   found a n = found_from a (map (λ i. get_or nets i 0) (up_from a n)) net
 
   -- the first of the candidates from place a on has the net if b; otherwise those after it tell
   stands-cons : (b : Bool) (a n k : ℕ)
-      → cond b (At a) (found (suc a) n) ≡ At k
-      → (found (suc a) n ≡ At k → Stands (candidates (suc a) n) net (get_or weights k 0) k (suc a + n))
+      → cond b (Some a) (found (suc a) n) ≡ Some k
+      → (found (suc a) n ≡ Some k → Stands (candidates (suc a) n) net (get_or weights k 0) k (suc a + n))
       → (k < a + suc n)
       × (b || is_candidate (candidates (suc a) n) net ≡ true)
       × (cond b (get_or weights a 0) (weight_of (candidates (suc a) n) net) ≡ get_or weights k 0)
   stands-cons true a n k e later = let p : a ≡ k = cc in (omega arith, refl, ap (λ (i : ℕ). get_or weights i 0) p)
   stands-cons false a n k e later = (omega (arith, (later e).below), (later e).candidate, (later e).weight)
 
-  stands : (n a k : ℕ) → found a n ≡ At k → Stands (candidates a n) net (get_or weights k 0) k (a + n)
+  stands : (n a k : ℕ) → found a n ≡ Some k → Stands (candidates a n) net (get_or weights k 0) k (a + n)
   unfolding found candidates up_from found_from is_candidate weight_of
-  stands zero a k e = let z : ◌≡◌ {A = ℕ} 0 1 = cc in absurd (omega arith)
+  stands zero a k e = absurd (some-none (sym e))
   stands (suc n) a k e =
       let all = stands-cons (eqb (get_or nets a 0) net) a n k e (stands n (suc a) k) in
       record { below = all.0; candidate = all.1; weight = all.2 }
 
   nowhere-cons : (b : Bool) (a n : ℕ)
-      → cond b (At a) (found (suc a) n) ≡ Nowhere
-      → (found (suc a) n ≡ Nowhere → is_candidate (candidates (suc a) n) net ≡ false)
+      → cond b (Some a) (found (suc a) n) ≡ None
+      → (found (suc a) n ≡ None → is_candidate (candidates (suc a) n) net ≡ false)
       → b || is_candidate (candidates (suc a) n) net ≡ false
-  nowhere-cons true a n e later = let z : ◌≡◌ {A = ℕ} 0 1 = cc in absurd (omega arith)
+  nowhere-cons true a n e later = absurd (some-none e)
   nowhere-cons false a n e later = later e
 
-  nowhere : (n a : ℕ) → found a n ≡ Nowhere → is_candidate (candidates a n) net ≡ false
+  nowhere : (n a : ℕ) → found a n ≡ None → is_candidate (candidates a n) net ≡ false
   unfolding found candidates up_from found_from is_candidate
   nowhere zero a e = refl
   nowhere (suc n) a e = nowhere-cons (eqb (get_or nets a 0) net) a n e (nowhere n (suc a))
@@ -176,13 +174,13 @@ module _ (nets weights : List ℕ) (net : ℕ) where
     found_take = rw (← tabulate-get_or nets count h)
 
     -- the net stands at place k among the first count nets
-    pub found_at : (k : ℕ) → found_in (take count nets) net ≡ At k
+    pub found_at : (k : ℕ) → found_in (take count nets) net ≡ Some k
         → Stands (candidates_from count nets weights) net (get_or weights k 0) k count
     unfolding candidates_from candidates tabulate
     found_at k e = rw zero-add at (stands count 0 k (sym found_take ∙ e))
 
     -- it does not stand there
-    pub found_nowhere : found_in (take count nets) net ≡ Nowhere → is_candidate (candidates_from count nets weights) net ≡ false
+    pub found_nowhere : found_in (take count nets) net ≡ None → is_candidate (candidates_from count nets weights) net ≡ false
     unfolding candidates_from candidates tabulate
     found_nowhere e = nowhere count 0 (sym found_take ∙ e)
 
@@ -193,19 +191,19 @@ length-candidates_from k nets weights = length-tabulate k _
 -- ---- a support's cost, net by net
 
 -- the cost of the nets xs that are left, when those before cost sum and the next has to be at least lo
-unfoldable pub support_from : List Candidate → ℕ → ℕ → List ℕ → Costs
-support_from cs lo sum xs = cond (ascending_from lo xs && all (is_candidate cs) xs) (Sum (sum + cost_of cs xs)) Unfit
+unfoldable pub support_from : List Candidate → ℕ → ℕ → List ℕ → Option ℕ
+support_from cs lo sum xs = cond (ascending_from lo xs && all (is_candidate cs) xs) (Some (sum + cost_of cs xs)) None
 
 pub support-start : (cs : List Candidate) (xs : List ℕ) → support_from cs 0 0 xs ≡ support_of cs xs
 unfolding support_of support_from
 support-start cs xs = rw (ascending-from, zero-add)
 
 module _ (cs : List Candidate) (lo sum x : ℕ) (xs : List ℕ) where
-  cons-low : x < lo → support_from cs lo sum (x ∷ xs) ≡ Unfit
+  cons-low : x < lo → support_from cs lo sum (x ∷ xs) ≡ None
   unfolding support_from ascending_from
   cons-low h = rw (lt-leb lo x h)
 
-  cons-odd : is_candidate cs x ≡ false → support_from cs lo sum (x ∷ xs) ≡ Unfit
+  cons-odd : is_candidate cs x ≡ false → support_from cs lo sum (x ∷ xs) ≡ None
   unfolding support_from all
   cons-odd e = rw (e, and-false-right (ascending_from lo (x ∷ xs)) false refl)
 
@@ -215,11 +213,11 @@ module _ (cs : List Candidate) (lo sum x : ℕ) (xs : List ℕ) where
   cons-good v h e w = rw (le-leb lo x h, e, w, add-one, add_assoc)
 
 -- .. of the nets xs that are left from place i on, against the first count of nets and weights
-abbrev pub support_left : List ℕ → ℕ → List ℕ → List ℕ → ℕ → ℕ → ℕ → Costs
+abbrev pub support_left : List ℕ → ℕ → List ℕ → List ℕ → ℕ → ℕ → ℕ → Option ℕ
 support_left xs count nets weights lo sum i = support_from (candidates_from count nets weights) lo sum (drop i xs)
 
 module _ (xs : List ℕ) (count : ℕ) (nets weights : List ℕ) (lo sum i : ℕ) where
-  pub support-end : length xs ≤ i → support_left xs count nets weights lo sum i ≡ Sum sum
+  pub support-end : length xs ≤ i → support_left xs count nets weights lo sum i ≡ Some sum
   unfolding support_from ascending_from all cost_of
   support-end h = rw (drop_of_length-le xs {i = i} h, add-zero)
 
@@ -228,11 +226,11 @@ module _ (xs : List ℕ) (count : ℕ) (nets weights : List ℕ) (lo sum i : ℕ
     nets-next : drop i xs ≡ x ∷ drop (i + 1) xs
     nets-next = rw e (drop-next xs i h)
 
-    pub support-low : x < lo → support_left xs count nets weights lo sum i ≡ Unfit
+    pub support-low : x < lo → support_left xs count nets weights lo sum i ≡ None
     support-low l = rw nets-next (cons-low _ lo sum x _ l)
 
-    pub support-odd : count ≤ length nets → found_in (take count nets) x ≡ Nowhere
-        → support_left xs count nets weights lo sum i ≡ Unfit
+    pub support-odd : count ≤ length nets → found_in (take count nets) x ≡ None
+        → support_left xs count nets weights lo sum i ≡ None
     support-odd l f = rw nets-next (cons-odd _ lo sum x _ (found_nowhere nets weights x count l f))
 
     pub support-next : (v k n : ℕ) → lo ≤ x → Stands (candidates_from count nets weights) x v k n

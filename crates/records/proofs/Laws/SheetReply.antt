@@ -2,9 +2,8 @@
 -- by one. Assumes nothing.
 use Prim.Native.Nat.{ℕ, ◌+◌, ◌^◌, ◌≤◌}
 use mathlib.Core.Path.{◌≡◌, refl, sym, ◌∙◌}
-use mathlib.Core.Bool.{Bool, true, false, true≢false, cond, ◌&&◌}
+use mathlib.Core.Bool.{Bool, true, false, true≢false, ◌&&◌}
 use mathlib.Core.List.{List, [], ◌∷◌}
-use native.Mathlib.Omega.{arith}
 use borrow.Author.Tests.{leb-true, eq-eqb, ne_eqb}
 use lib.Dec.{leb, ltb, eqb}
 use lib.ListN.{length, get_or}
@@ -13,11 +12,13 @@ use Rattle.records.specs.Bytes.{all, nth}
 use Rattle.records.specs.Job.{Candidate, nets_of}
 use Rattle.records.specs.Refusal.{ascending, first_failing}
 use Rattle.records.specs.Sheet.{quad, patch_of, sheet_whole, is_candidate, cost_of, patch_good, sheet_tests}
-use Rattle.records.specs.Service.{candidates_from, sheet_roomy, sheet_number, sheet_reply}
-use Rattle.records.specs.Inner.{refused_sheet, sheet_room, support_of, ten_places}
+use Rattle.records.specs.Service.{number_of, candidates_from, sheet_roomy, sheet_number, sheet_told, sheet_reply}
+use Rattle.records.specs.Inner.{sheet_room, support_of, ten_places}
 use Rattle.records.specs.Claims.{SheetGiven}
 use Rattle.records.specs.declared.sheet.Support.{Support}
-use Rattle.records.specs.declared.sheet.Costs.TheVariants.{Sum, Unfit}
+use Rattle.records.specs.declared.refusal.Refusal.{Refusal}
+use Rattle.std.specs.Prelude.{Some, None, Ok, Err}
+use Rattle.records.proofs.Laws.Option.{pick-some, pick-none}
 use Rattle.records.proofs.Laws.Bytes.{row, row_at, and_left, and_right, and_both, false_of}
 use Rattle.records.proofs.Laws.Accepted.{sheet-accepts}
 use Rattle.records.proofs.Laws.Sheet.{support-length}
@@ -45,25 +46,25 @@ room-facts m k n w h =
 -- ---- the reply
 
 module _ (m k : ℕ) (nets weights s : List ℕ) where
-  pub reply-room : sheet_room m k (length nets) (length weights) ≡ false → refused_sheet 3 ≡ sheet_reply m k nets weights s
-  unfolding sheet_reply sheet_number first_failing sheet_roomy sheet_room refused_sheet
+  pub reply-room : sheet_room m k (length nets) (length weights) ≡ false → sheet_told (Err Refusal.Counts) ≡ sheet_reply m k nets weights s
+  unfolding sheet_reply sheet_number first_failing sheet_roomy sheet_room sheet_told number_of
   reply-room e = rw e
 
   module _ (r : sheet_room m k (length nets) (length weights) ≡ true) where
-    pub reply-whole : sheet_whole s ≡ false → refused_sheet 7 ≡ sheet_reply m k nets weights s
-    unfolding sheet_reply sheet_number sheet_tests first_failing sheet_roomy sheet_room refused_sheet
+    pub reply-whole : sheet_whole s ≡ false → sheet_told (Err Refusal.Sheet) ≡ sheet_reply m k nets weights s
+    unfolding sheet_reply sheet_number sheet_tests first_failing sheet_roomy sheet_room sheet_told number_of
     reply-whole e = rw (r, e)
 
     module _ (w : sheet_whole s ≡ true) where
       pub reply-good : patch_good m (candidates_from k nets weights) (patch_of s) ≡ false
-          → refused_sheet 8 ≡ sheet_reply m k nets weights s
-      unfolding sheet_reply sheet_number sheet_tests first_failing sheet_roomy sheet_room refused_sheet
+          → sheet_told (Err Refusal.Patch) ≡ sheet_reply m k nets weights s
+      unfolding sheet_reply sheet_number sheet_tests first_failing sheet_roomy sheet_room sheet_told number_of
       reply-good e = rw (r, w, e)
 
       pub reply-accepted : patch_good m (candidates_from k nets weights) (patch_of s) ≡ true → (is : Support) (at v : ℕ)
           → is ≡ ten_places (nets_of (nth 0 s)) → at ≡ 3 + length (nth 0 s) + 3 → v ≡ quad (nth 2 s)
-          → record { number = 0; support = is; table = at; cost = v } ≡ sheet_reply m k nets weights s
-      unfolding sheet_reply sheet_number sheet_tests first_failing sheet_roomy sheet_room ten_places patch_of
+          → sheet_told (Ok (record { support = is; table = at; cost = v })) ≡ sheet_reply m k nets weights s
+      unfolding sheet_reply sheet_number sheet_tests first_failing sheet_roomy sheet_room sheet_told ten_places patch_of
       reply-accepted e is at v p q c = rw (r, w, e, p, q, c)
 
 -- what is replied of an accepted sheet
@@ -76,14 +77,6 @@ sheet-given m k nets weights s e =
     record { support = rw z (take-append_seam is _); table = rw z (table-bytes s w); cost = rw z }
 
 -- ---- number 8
-
-pick-sum : (b : Bool) (x y : ℕ) → cond b (Sum x) Unfit ≡ Sum y → (b ≡ true) × (x ≡ y)
-pick-sum true x y e = (refl, (cc))
-pick-sum false x y e = let z : ◌≡◌ {A = ℕ} 0 1 = cc in absurd (omega arith)
-
-pick-unfit : (b : Bool) (x : ℕ) → cond b (Sum x) Unfit ≡ Unfit → b ≡ false
-pick-unfit false x e = refl
-pick-unfit true x e = let z : ◌≡◌ {A = ℕ} 0 1 = cc in absurd (omega arith)
 
 pub entries : (limit m : ℕ) (part xs : List ℕ) → limit ≡ 2 ^ m → part ≡ xs
     → all (λ v. ltb v limit) part ≡ all (λ v. ltb v (2 ^ m)) xs
@@ -107,18 +100,18 @@ module _ (m : ℕ) (cs : List Candidate) (s : List ℕ) where
   bad : (i : ℕ) → get_or (fit ∷ others) i true ≡ false → patch_good m cs (patch_of s) ≡ false
   bad i e = false_of _ (λ t. true≢false (sym (row_at fit others (sym good-row ∙ t) i) ∙ e))
 
-  pub bad-support : support_of cs (nets_of (nth 0 s)) ≡ Unfit → patch_good m cs (patch_of s) ≡ false
+  pub bad-support : support_of cs (nets_of (nth 0 s)) ≡ None → patch_good m cs (patch_of s) ≡ false
   unfolding support_of fit
-  bad-support e = bad 0 (pick-unfit _ _ e)
+  bad-support e = bad 0 (pick-none _ _ e)
 
   pub bad-table : all (λ v. ltb v (2 ^ m)) (nth 1 s) ≡ false → patch_good m cs (patch_of s) ≡ false
   unfolding others
   bad-table e = bad 1 e
 
-  module _ (v : ℕ) (e : support_of cs (nets_of (nth 0 s)) ≡ Sum v) where
+  module _ (v : ℕ) (e : support_of cs (nets_of (nth 0 s)) ≡ Some v) where
     sum : (fit ≡ true) × (cost_of cs (nets_of (nth 0 s)) ≡ v)
     unfolding support_of fit
-    sum = pick-sum _ _ v e
+    sum = let p = pick-some _ _ v e in (p.0, sym p.1)
 
     pub bad-cost : (v ≡ quad (nth 2 s) → ⊥) → patch_good m cs (patch_of s) ≡ false
     unfolding others

@@ -2,7 +2,7 @@
 use Prim.Native.Nat.{ℕ, suc, ◌+◌, ◌-◌, ◌*◌, ◌/◌, ◌%◌, ◌^◌, ◌≤◌, ◌<◌}
 use mathlib.Core.Path.{◌≡◌, refl, sym, ◌∙◌, ap}
 use mathlib.Core.Logic.{◌⊎◌, inl, inr, ⊎_elim}
-use mathlib.Core.Bool.{Bool, true, false, true≢false, cond, ◌&&◌, ◌||◌}
+use mathlib.Core.Bool.{Bool, true, false, true≢false, ◌&&◌, ◌||◌}
 use mathlib.Core.List.{List, [], ◌∷◌, ◌++◌}
 use native.Mathlib.Omega.{arith}
 use borrow.Author.Tests.{eqb-true, eq-eqb, leb-true, le-leb}
@@ -12,13 +12,12 @@ use lib.Seq.{get_or-take, length-take-le}
 use Rattle.records.specs.Bytes.{up_from, word, body_length, body, whole, nth}
 use Rattle.records.specs.Job.{nets_of}
 use Rattle.records.specs.Sheet.{quad, sheet_tags, notes_tag, notes_whole, sheet_whole}
-use Rattle.records.specs.Inner.{start_of, check_of, Walks, spans_of, bare_whole, word_column, sheet_lengths, spanned_from, sheet_shape_of}
-use Rattle.records.specs.declared.field.Check.TheVariants.{Passed, Failed}
-use Rattle.records.specs.declared.field.Walk.{Walk}
+use Rattle.records.specs.Inner.{start_of, starts_in, lens_in, Walked, spans_of, bare_whole, word_column, sheet_lengths, spanned_from, sheet_shape_of}
+use Rattle.records.specs.declared.field.Span.{Span}
+use Rattle.std.specs.Prelude.{Some, None}
+use Rattle.records.proofs.Laws.Option.{pick-some, pick-none}
 use Rattle.records.specs.declared.sheet.SheetSpans.{SheetSpans}
-use Rattle.records.specs.declared.sheet.SheetShape.TheVariants.{Whole, Broken}
 use Rattle.records.proofs.Laws.Bytes.{row, row_at, and_left, and_right, and_both, or_left, or_right, or_cases, false_of, part-append}
-use Rattle.records.proofs.Laws.Counts.{passes, fails}
 use Rattle.records.proofs.Laws.Field.{position_of, skip, skip-drop, body_length-drop, nth-body, start_of-suc, start_of-position, start_of-le, whole-end, nth-slice}
 use Rattle.records.proofs.Laws.Front.{nth-front}
 use Rattle.records.proofs.Laws.Reading.{nets-in}
@@ -144,22 +143,19 @@ nth-short s bytes k =
 few-nets : (s : List ℕ) → ((i : ℕ) → get_or s i 0 < 256) → BareWhole s → length (nth 0 s) / 2 ≤ 15
 few-nets s bytes j = power-short (length (nth 0 s) / 2) (omega (arith, nth-short s bytes 1, j.table))
 
-module _ (s : List ℕ) (w : Walk) (h : Walks s 16 3 w) where
-  walk-fields : w.check ≡ check_of (whole sheet_tags s)
-  unfolding up_from
-  walk-fields = h.check
+module _ (s : List ℕ) where
+  pub broken-of-walk : Walked s 16 3 None → None ≡ sheet_shape_of s
+  unfolding up_from sheet_shape_of
+  broken-of-walk f = rw (false_of (bare_whole s) (λ t. true≢false (sym (bare_whole-facts s t).fields ∙ f)))
 
-  walk-starts : whole sheet_tags s ≡ true → (k : ℕ) → k < 3 → get_or w.starts k 0 ≡ start_of k s
+module _ (s : List ℕ) (spans : List Span) (h : Walked s 16 3 (Some spans)) where
+  fields : whole sheet_tags s ≡ true
   unfolding up_from
-  walk-starts t k l = h.starts t k l
+  fields = h.0
 
-  walk-lens : whole sheet_tags s ≡ true → (k : ℕ) → k < 3 → get_or w.lens k 0 ≡ length (nth k s)
-  unfolding up_from
-  walk-lens t k l = h.lens t k l
-
-  lengths-of-whole : ((i : ℕ) → get_or s i 0 < 256) → BareWhole s → SheetLengths w.lens
+  lengths-of-whole : ((i : ℕ) → get_or s i 0 < 256) → BareWhole s → SheetLengths (lens_in spans)
   lengths-of-whole bytes j =
-      let n = walk-lens j.fields in
+      let n = h.1.lens in
       record {
         nets = rw (n 0 (omega arith)) j.nets;
         few = rw (n 0 (omega arith)) (omega (arith, few-nets s bytes j));
@@ -167,39 +163,32 @@ module _ (s : List ℕ) (w : Walk) (h : Walks s 16 3 w) where
         cost = rw (n 2 (omega arith)) j.cost;
       }
 
-  whole-of-lengths : w.check ≡ Passed → SheetLengths w.lens → BareWhole s
-  whole-of-lengths p g =
-      let f = passes (whole sheet_tags s) (sym walk-fields ∙ p) in
-      let n = walk-lens f in
+  whole-of-lengths : SheetLengths (lens_in spans) → BareWhole s
+  whole-of-lengths g =
+      let n = h.1.lens in
       record {
-        fields = f;
+        fields = fields;
         nets = rw (← n 0 (omega arith)) g.nets;
         table = rw (← n 0 (omega arith), ← n 1 (omega arith)) g.table;
         cost = rw (← n 2 (omega arith)) g.cost;
       }
 
-  pub broken-of-walk : w.check ≡ Failed → Broken ≡ sheet_shape_of s
-  unfolding sheet_shape_of
-  broken-of-walk p =
-      let f = fails (whole sheet_tags s) (sym walk-fields ∙ p) in
-      rw (false_of (bare_whole s) (λ t. true≢false (sym (bare_whole-facts s t).fields ∙ f)))
-
-  broken-of-lengths : ((i : ℕ) → get_or s i 0 < 256) → sheet_lengths w.lens ≡ false → bare_whole s ≡ false
+  broken-of-lengths : ((i : ℕ) → get_or s i 0 < 256) → sheet_lengths (lens_in spans) ≡ false → bare_whole s ≡ false
   broken-of-lengths bytes e =
       false_of (bare_whole s)
-      (λ t. true≢false (sym (sheet_lengths-true w.lens (lengths-of-whole bytes (bare_whole-facts s t))) ∙ e))
+      (λ t. true≢false (sym (sheet_lengths-true _ (lengths-of-whole bytes (bare_whole-facts s t))) ∙ e))
 
   -- the shape, from the walk
-  pub walk-spans : ((i : ℕ) → get_or s i 0 < 256) → w.check ≡ Passed → spanned_from w.starts w.lens ≡ sheet_shape_of s
+  pub walk-spans : ((i : ℕ) → get_or s i 0 < 256) → spanned_from (starts_in spans) (lens_in spans) ≡ sheet_shape_of s
   unfolding sheet_shape_of spanned_from spans_of
-  walk-spans bytes p = pick (sheet_lengths w.lens) refl
+  walk-spans bytes = pick (sheet_lengths (lens_in spans)) refl
     where
-      pick : (b : Bool) → sheet_lengths w.lens ≡ b → spanned_from w.starts w.lens ≡ sheet_shape_of s
+      pick : (b : Bool) → sheet_lengths (lens_in spans) ≡ b → spanned_from (starts_in spans) (lens_in spans) ≡ sheet_shape_of s
       pick false e = rw (e, broken-of-lengths bytes e)
       pick true e =
-          let j = whole-of-lengths p (sheet_lengths-facts w.lens e) in
-          let n = walk-lens j.fields in
-          let a = walk-starts j.fields in
+          let j = whole-of-lengths (sheet_lengths-facts (lens_in spans) e) in
+          let n = h.1.lens in
+          let a = h.1.starts in
           rw (e, bare_whole-true s j, n 0 (omega arith), a 1 (omega arith), a 2 (omega arith))
 
 -- ---- where the fields of a sheet stand, of which the three without notes end at e
@@ -222,17 +211,9 @@ unfolding quad word
 quad-four u =
     rw (get_or-take 4 u 0 0 (omega arith), get_or-take 4 u 1 0 (omega arith), get_or-take 4 u 2 0 (omega arith), get_or-take 4 u 3 0 (omega arith))
 
-pick-whole : (b : Bool) (x y : SheetSpans) → cond b (Whole x) Broken ≡ Whole y → (b ≡ true) × (y ≡ x)
-pick-whole true x y e = (refl, (cc))
-pick-whole false x y e = let z : ◌≡◌ {A = ℕ} 0 1 = cc in absurd (omega arith)
-
-pick-broken : (b : Bool) (x : SheetSpans) → cond b (Whole x) Broken ≡ Broken → b ≡ false
-pick-broken false x e = refl
-pick-broken true x e = let z : ◌≡◌ {A = ℕ} 0 1 = cc in absurd (omega arith)
-
-pub shape-broken : (s : List ℕ) → sheet_shape_of s ≡ Broken → bare_whole s ≡ false
+pub shape-broken : (s : List ℕ) → sheet_shape_of s ≡ None → bare_whole s ≡ false
 unfolding sheet_shape_of
-shape-broken s e = pick-broken (bare_whole s) (spans_of s) e
+shape-broken s e = pick-none (bare_whole s) (spans_of s) e
 
 start-zero : (s : List ℕ) → start_of 0 s ≡ 3
 unfolding start_of
@@ -294,10 +275,10 @@ module _ (s : List ℕ) (e : ℕ) (l : e ≤ length s) (j : BareWhole (take e s)
       }
 
 pub shape-whole : (s : List ℕ) → ((i : ℕ) → get_or s i 0 < 256) → (e : ℕ) → e ≤ length s
-    → (at : SheetSpans) → sheet_shape_of (take e s) ≡ Whole at → Spans s e at
+    → (at : SheetSpans) → sheet_shape_of (take e s) ≡ Some at → Spans s e at
 unfolding sheet_shape_of
 shape-whole s bytes e l at q =
-    let p = pick-whole (bare_whole (take e s)) (spans_of (take e s)) at q in
+    let p = pick-some (bare_whole (take e s)) (spans_of (take e s)) at q in
     rw p.1 (spans s e l (bare_whole-facts (take e s) p.0) bytes)
 
 -- ---- where the table of a whole sheet stands

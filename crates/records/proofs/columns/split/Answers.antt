@@ -15,9 +15,9 @@ pub loop-i-init : goal.loop-i-init
 loop-i-init c =
     let a = c.args in (
       omega arith,
-      filled_none a.kinds.now (λ k. (get_or a.gates k no_gate).kind),
-      filled_none a.counts.now (λ k. (get_or a.gates k no_gate).count),
-      put-none struct_slots (λ k. get_or a.gates k no_gate) a.slots.now 0,
+      filled_none a.kinds.now (λ k. (get_or a.gates.now k no_gate).kind),
+      filled_none a.counts.now (λ k. (get_or a.gates.now k no_gate).count),
+      put-none struct_slots (λ k. get_or a.gates.now k no_gate) a.slots.now 0,
     )
 
 pub loop-i-preserved : goal.loop-i-preserved
@@ -26,10 +26,10 @@ loop-i-preserved c =
     let l = c.loop-i in
     let a = c.args in (
       omega arith,
-      filled_next a.kinds.now (λ k. (get_or a.gates k no_gate).kind) l.kinds l.i _ (omega arith) refl l.invariant.1,
-      filled_next a.counts.now (λ k. (get_or a.gates k no_gate).count) l.counts l.i _ (omega arith) refl l.invariant.2,
-      put_next struct_slots (λ k. get_or a.gates k no_gate) a.slots.now 0 4 (λ i. length-struct_slots _) l.slots _ l.i (4 * l.i)
-          (omega arith) (omega arith) (slots-placed l.slots (4 * l.i) (get_or a.gates l.i no_gate) (omega arith)) l.invariant.3,
+      filled_next a.kinds.now (λ k. (get_or a.gates.now k no_gate).kind) l.kinds l.i _ (omega arith) refl l.invariant.1,
+      filled_next a.counts.now (λ k. (get_or a.gates.now k no_gate).count) l.counts l.i _ (omega arith) refl l.invariant.2,
+      put_next struct_slots (λ k. get_or a.gates.now k no_gate) a.slots.now 0 4 (λ i. length-struct_slots _) l.slots _ l.i (4 * l.i)
+          (omega arith) (omega arith) (slots-placed l.slots (4 * l.i) (get_or a.gates.now l.i no_gate) (omega arith)) l.invariant.3,
     )
 
 pub returns : goal.returns
@@ -39,7 +39,7 @@ returns c =
     let h = c.requires.gates in
     let e : l.i ≡ a.count = omega arith in
     record {
-      kinds = column-split a.gates a.kinds.now l.kinds l.i a.count e h (λ (g : Gate). g.kind) l.invariant.1;
-      counts = column-split a.gates a.counts.now l.counts l.i a.count e h (λ (g : Gate). g.count) l.invariant.2;
-      slots = slots-split a.gates a.slots.now l.slots l.i a.count e h l.invariant.3;
+      kinds = column-split a.gates.now a.kinds.now l.kinds l.i a.count e h (λ (g : Gate). g.kind) l.invariant.1;
+      counts = column-split a.gates.now a.counts.now l.counts l.i a.count e h (λ (g : Gate). g.count) l.invariant.2;
+      slots = slots-split a.gates.now a.slots.now l.slots l.i a.count e h l.invariant.3;
     }

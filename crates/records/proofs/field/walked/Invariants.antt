@@ -1,15 +1,10 @@
--- `records::field::walked`: the walk so far is that after its count of fields, and the reader stands where it ends.
-use Rattle.std.proofs.Common.{◌≡◌, ◌-◌, ◌≤◌}
-use Rattle.records.specs.Inner.{walk_after}
+-- `records::field::walked`: the reader stands behind the fields found so far, and their spans are known.
+use Rattle.std.proofs.Common.{◌≡◌}
+use Rattle.records.proofs.Laws.Walk.{Walking}
 use Rattle.records.proofs.field.walked.Given as goal
 
-abbrev pub invariant-loop-walk : goal.invariant-loop-walk
-invariant-loop-walk l = record {
-  in_range : l.walk.count ≤ l.count;
-  so_far : l.walk ≡ walk_after l.s l.first l.walk.count;
+abbrev pub invariant-loop-i : goal.invariant-loop-i
+invariant-loop-i l = record {
   bytes : l.reader.bytes.now ≡ l.s;
-  stands : l.reader.at ≡ l.walk.at;
+  walking : Walking l.s l.first l.count l.i l.reader.at l.spans;
 }
-
-abbrev pub decreases-loop-walk : goal.decreases-loop-walk
-decreases-loop-walk l = l.count - l.walk.count

@@ -10,11 +10,12 @@ use lib.ListN.{length, take, drop}
 use Rattle.records.specs.Bytes.{all, nth}
 use Rattle.records.specs.Job.{Candidate, nets_of}
 use Rattle.records.specs.Sheet.{patch_of, sheet_whole, patch_good}
-use Rattle.records.specs.Service.{candidates_from, sheet_reply}
-use Rattle.records.specs.Inner.{check_of, word_column, bare_whole, notes_at, refused_sheet, sheet_room, support_of, ten_places}
+use Rattle.records.specs.Service.{candidates_from, sheet_told, sheet_reply}
+use Rattle.records.specs.Inner.{check_of, word_column, bare_whole, notes_at, sheet_room, support_of, ten_places}
 use Rattle.records.specs.declared.field.Check.{Check}
 use Rattle.records.specs.declared.sheet.SheetSpans.{SheetSpans}
-use Rattle.records.specs.declared.sheet.Costs.{Costs}
+use Rattle.records.specs.declared.refusal.Refusal.{Refusal}
+use Rattle.std.specs.Prelude.{Option, Err}
 use Rattle.records.proofs.Laws.Bytes.{and_both, and-false-left, and-false-right}
 use Rattle.records.proofs.Laws.Counts.{passes, fails}
 use Rattle.records.proofs.Laws.Notes.{sheet-split}
@@ -23,7 +24,7 @@ use Rattle.records.proofs.Laws.Sheet.{length-candidates_from}
 use Rattle.records.proofs.Laws.SheetShape.{Spans, shape-whole, shape-broken}
 use Rattle.records.proofs.Laws.SheetReply.{Room, room-facts, reply-room, reply-whole, reply-good, reply-accepted, entries, bad-support, bad-table, bad-cost, good, few-support}
 use Rattle.records.proofs.sheet.read_sheet.Goals as goal
-use Rattle.records.proofs.sheet.read_sheet.Goals.{In-Passed, In-Passed-notes}
+use Rattle.records.proofs.sheet.read_sheet.Goals.{In-Passed, In-Passed-check_notes}
 
 -- the check of the notes of the sheet s, of which the first end bytes have the spans at, by the sheet's fields
 noted : {s : List ℕ} {end : ℕ} {at : SheetSpans} → Spans s end at
@@ -34,7 +35,7 @@ noted {s = s} {end = end} {at = at} p e =
 
 -- .. and of its support and its table
 supported : {s : List ℕ} {end : ℕ} {at : SheetSpans} → Spans s end at → (cs : List Candidate)
-    → {r : Costs} → r ≡ support_of cs (word_column s 2 3 at.nets) → r ≡ support_of cs (nets_of (nth 0 s))
+    → {r : Option ℕ} → r ≡ support_of cs (word_column s 2 3 at.nets) → r ≡ support_of cs (nets_of (nth 0 s))
 supported p cs e = e ∙ ap (support_of cs) p.nets_part
 
 tested : {s : List ℕ} {end : ℕ} {at : SheetSpans} → Spans s end at → (m : ℕ) → {limit : ℕ} → limit ≡ 2 ^ m
@@ -44,30 +45,30 @@ tested p m l e = e ∙ ap check_of (entries _ m _ _ l p.table_part)
 
 -- a sheet that is not its three fields and their notes is refused with 7
 broken : (c : In-Passed) → let a = c.args in
-    sheet_whole a.sheet.now ≡ false → refused_sheet 7 ≡ sheet_reply a.targets a.candidates a.nets.now a.weights.now a.sheet.now
+    sheet_whole a.sheet.now ≡ false → sheet_told (Err Refusal.Sheet) ≡ sheet_reply a.targets a.candidates a.nets.now a.weights.now a.sheet.now
 broken c = let a = c.args in
-    reply-whole a.targets a.candidates a.nets.now a.weights.now a.sheet.now (passes _ (sym c.check_sheet_room-first.ensures ∙ c.in-Passed.is))
+    reply-whole a.targets a.candidates a.nets.now a.weights.now a.sheet.now (passes _ (sym c.check_sheet_room.ensures ∙ c.in-Passed.is))
 
 -- past the first three checks there is room, the fields stand where they should, and the sheet is whole
-roomy : (c : In-Passed-notes) → let a = c.args in sheet_room a.targets a.candidates (length a.nets.now) (length a.weights.now) ≡ true
-roomy c = passes _ (sym c.check_sheet_room-first.ensures ∙ c.in-Passed.is)
+roomy : (c : In-Passed-check_notes) → let a = c.args in sheet_room a.targets a.candidates (length a.nets.now) (length a.weights.now) ≡ true
+roomy c = passes _ (sym c.check_sheet_room.ensures ∙ c.in-Passed.is)
 
-room : (c : In-Passed-notes) → let a = c.args in Room a.targets a.candidates (length a.nets.now) (length a.weights.now)
+room : (c : In-Passed-check_notes) → let a = c.args in Room a.targets a.candidates (length a.nets.now) (length a.weights.now)
 room c = room-facts _ _ _ _ (roomy c)
 
-spans : (c : In-Passed-notes) → Spans c.args.sheet.now c.fields_end-end.result c.in-Whole.at
+spans : (c : In-Passed-check_notes) → Spans c.args.sheet.now c.fields_end-end.result c.in-Some.at
 spans c =
-    shape-whole _ (λ i. (c.type_inv.sheet i).fits) _ c.fields_end-end.ensures.0 c.in-Whole.at (sym c.sheet_shaped-found.ensures ∙ c.in-Whole.is)
+    shape-whole _ (λ i. (c.type_inv.sheet i).fits) _ c.fields_end-end.ensures.0 c.in-Some.at (sym c.sheet_shaped.ensures ∙ c.in-Some.is)
 
-whole : (c : In-Passed-notes) → sheet_whole c.args.sheet.now ≡ true
+whole : (c : In-Passed-check_notes) → sheet_whole c.args.sheet.now ≡ true
 whole c =
     sheet-split _ _ c.fields_end-end.ensures.0 c.fields_end-end.ensures.1
-    ∙ and_both _ _ (spans c).whole (passes _ (sym (noted (spans c) c.check_notes-notes.ensures) ∙ c.in-Passed-notes.is))
+    ∙ and_both _ _ (spans c).whole (passes _ (sym (noted (spans c) c.check_notes.ensures) ∙ c.in-Passed-check_notes.is))
 
 -- a whole sheet that does not fit the candidates is refused with 8
-unfit : (c : In-Passed-notes) → let a = c.args in
+unfit : (c : In-Passed-check_notes) → let a = c.args in
     patch_good a.targets (candidates_from a.candidates a.nets.now a.weights.now) (patch_of a.sheet.now) ≡ false
-    → refused_sheet 8 ≡ sheet_reply a.targets a.candidates a.nets.now a.weights.now a.sheet.now
+    → sheet_told (Err Refusal.Patch) ≡ sheet_reply a.targets a.candidates a.nets.now a.weights.now a.sheet.now
 unfit c = let a = c.args in reply-good a.targets a.candidates a.nets.now a.weights.now a.sheet.now (roomy c) (whole c)
 
 -- ---- the goals
@@ -75,78 +76,73 @@ unfit c = let a = c.args in reply-good a.targets a.candidates a.nets.now a.weigh
 pub returns-in_default : goal.returns-in_default
 returns-in_default c =
     let a = c.args in
-    c.refused.ensures
-    ∙ reply-room a.targets a.candidates a.nets.now a.weights.now a.sheet.now
-    (fails _ (sym c.check_sheet_room-first.ensures ∙ c.in_default.is))
+    reply-room a.targets a.candidates a.nets.now a.weights.now a.sheet.now
+    (fails _ (sym c.check_sheet_room.ensures ∙ c.in_default.is))
 
-pub returns-in_default-found : goal.returns-in_default-found
-returns-in_default-found c =
-    c.refused-in_default-found.ensures
-    ∙ broken (goal.at.returns-in_default-found c).In-Passed
+pub returns-in_default-sheet_shaped : goal.returns-in_default-sheet_shaped
+returns-in_default-sheet_shaped c =
+    broken (goal.at.returns-in_default-sheet_shaped c).In-Passed
     (sheet-split _ _ c.fields_end-end.ensures.0 c.fields_end-end.ensures.1
-    ∙ and-false-left _ _ (shape-broken _ (sym c.sheet_shaped-found.ensures ∙ c.in_default-found.is)))
+    ∙ and-false-left _ _ (shape-broken _ (sym c.sheet_shaped.ensures ∙ c.in_default-sheet_shaped.is)))
 
 pub overflow_sub-at : goal.overflow_sub-at
 overflow_sub-at c =
-    let p = shape-whole _ (λ i. (c.type_inv.sheet i).fits) _ c.fields_end-end.ensures.0 c.in-Whole.at (sym c.sheet_shaped-found.ensures ∙ c.in-Whole.is) in
+    let p = shape-whole _ (λ i. (c.type_inv.sheet i).fits) _ c.fields_end-end.ensures.0 c.in-Some.at (sym c.sheet_shaped.ensures ∙ c.in-Some.is) in
     omega (arith, p.cost)
 
 pub overflow_sub-at-2 : goal.overflow_sub-at-2
 overflow_sub-at-2 c =
-    let p = shape-whole _ (λ i. (c.type_inv.sheet i).fits) _ c.fields_end-end.ensures.0 c.in-Whole.at (sym c.sheet_shaped-found.ensures ∙ c.in-Whole.is) in
+    let p = shape-whole _ (λ i. (c.type_inv.sheet i).fits) _ c.fields_end-end.ensures.0 c.in-Some.at (sym c.sheet_shaped.ensures ∙ c.in-Some.is) in
     omega (arith, p.cost)
 
-pub returns-in_default-notes : goal.returns-in_default-notes
-returns-in_default-notes c =
-    let p = shape-whole _ (λ i. (c.type_inv.sheet i).fits) _ c.fields_end-end.ensures.0 c.in-Whole.at (sym c.sheet_shaped-found.ensures ∙ c.in-Whole.is) in
-    c.refused-in_default-notes.ensures
-    ∙ broken (goal.at.returns-in_default-notes c).In-Passed
+pub returns-in_default-check_notes : goal.returns-in_default-check_notes
+returns-in_default-check_notes c =
+    let p = shape-whole _ (λ i. (c.type_inv.sheet i).fits) _ c.fields_end-end.ensures.0 c.in-Some.at (sym c.sheet_shaped.ensures ∙ c.in-Some.is) in
+    broken (goal.at.returns-in_default-check_notes c).In-Passed
     (sheet-split _ _ c.fields_end-end.ensures.0 c.fields_end-end.ensures.1
-    ∙ and-false-right (bare_whole _) _ (fails _ (sym (noted p c.check_notes-notes.ensures) ∙ c.in_default-notes.is)))
+    ∙ and-false-right (bare_whole _) _ (fails _ (sym (noted p c.check_notes.ensures) ∙ c.in_default-check_notes.is)))
 
-pub support_cost-costs-requires : goal.support_cost-costs-requires
-support_cost-costs-requires c =
-    let p = spans (goal.at.support_cost-costs-requires c).In-Passed-notes in
-    let r = room (goal.at.support_cost-costs-requires c).In-Passed-notes in
+pub support_cost-requires : goal.support_cost-requires
+support_cost-requires c =
+    let p = spans (goal.at.support_cost-requires c).In-Passed-check_notes in
+    let r = room (goal.at.support_cost-requires c).In-Passed-check_notes in
     (omega (arith, p), omega (arith, p.few), r.nets, r.weights)
 
-pub returns-in_default-costs : goal.returns-in_default-costs
-returns-in_default-costs c =
-    let n = (goal.at.returns-in_default-costs c).In-Passed-notes in
-    c.refused-in_default-costs.ensures
-    ∙ unfit n (bad-support c.args.targets _ _ (sym (supported (spans n) _ c.support_cost-costs.ensures) ∙ c.in_default-costs.is))
+pub returns-in_default-support_cost : goal.returns-in_default-support_cost
+returns-in_default-support_cost c =
+    let n = (goal.at.returns-in_default-support_cost c).In-Passed-check_notes in
+    unfit n (bad-support c.args.targets _ _ (sym (supported (spans n) _ c.support_cost.ensures) ∙ c.in_default-support_cost.is))
 
 pub power-limit-requires : goal.power-limit-requires
-power-limit-requires c = let r = room (goal.at.power-limit-requires c).In-Passed-notes in omega (arith, r.targets)
+power-limit-requires c = let r = room (goal.at.power-limit-requires c).In-Passed-check_notes in omega (arith, r.targets)
 
 pub overflow_sub-at-3 : goal.overflow_sub-at-3
-overflow_sub-at-3 c = let p = spans (goal.at.overflow_sub-at-3 c).In-Passed-notes in omega (arith, p.cost)
+overflow_sub-at-3 c = let p = spans (goal.at.overflow_sub-at-3 c).In-Passed-check_notes in omega (arith, p.cost)
 
-pub check_entries-second-requires : goal.check_entries-second-requires
-check_entries-second-requires c = let p = spans (goal.at.check_entries-second-requires c).In-Passed-notes in omega (arith, p)
+pub check_entries-requires : goal.check_entries-requires
+check_entries-requires c = let p = spans (goal.at.check_entries-requires c).In-Passed-check_notes in omega (arith, p)
 
-pub returns-in_default-second : goal.returns-in_default-second
-returns-in_default-second c =
-    let n = (goal.at.returns-in_default-second c).In-Passed-notes in
-    let e = tested (spans n) c.args.targets c.power-limit.ensures c.check_entries-second.ensures in
-    c.refused-in_default-second.ensures ∙ unfit n (bad-table c.args.targets _ _ (fails _ (sym e ∙ c.in_default-second.is)))
+pub returns-in_default-check_entries : goal.returns-in_default-check_entries
+returns-in_default-check_entries c =
+    let n = (goal.at.returns-in_default-check_entries c).In-Passed-check_notes in
+    let e = tested (spans n) c.args.targets c.power-limit.ensures c.check_entries.ensures in
+    unfit n (bad-table c.args.targets _ _ (fails _ (sym e ∙ c.in_default-check_entries.is)))
 
 pub quad_at-requires : goal.quad_at-requires
-quad_at-requires c = let p = spans (goal.at.quad_at-requires c).In-Passed-notes in omega (arith, p)
+quad_at-requires c = let p = spans (goal.at.quad_at-requires c).In-Passed-check_notes in omega (arith, p)
 
-pub returns-then-sum-quad_at : goal.returns-then-sum-quad_at
-returns-then-sum-quad_at c =
-    let n = (goal.at.returns-then-sum-quad_at c).In-Passed-notes in
-    let sum = sym (supported (spans n) _ c.support_cost-costs.ensures) ∙ c.in-Sum.is in
-    c.refused-then-sum-quad_at.ensures
-    ∙ unfit n (bad-cost c.args.targets _ _ _ sum (λ q. c.if-sum-quad_at.true (q ∙ sym (c.quad_at.ensures ∙ (spans n).cost_part))))
+pub returns-then-cost-quad_at : goal.returns-then-cost-quad_at
+returns-then-cost-quad_at c =
+    let n = (goal.at.returns-then-cost-quad_at c).In-Passed-check_notes in
+    let sum = sym (supported (spans n) _ c.support_cost.ensures) ∙ c.in-Some-support_cost.is in
+    unfit n (bad-cost c.args.targets _ _ _ sum (λ q. c.if-cost-quad_at.true (q ∙ sym (c.quad_at.ensures ∙ (spans n).cost_part))))
 
 pub support_from-requires : goal.support_from-requires
 support_from-requires c =
-    let n = (goal.at.support_from-requires c).In-Passed-notes in
+    let n = (goal.at.support_from-requires c).In-Passed-check_notes in
     let p = spans n in
     let r = room n in
-    let f = few-support c.args.targets _ c.args.sheet.now _ (sym (supported p _ c.support_cost-costs.ensures) ∙ c.in-Sum.is) in
+    let f = few-support c.args.targets _ c.args.sheet.now _ (sym (supported p _ c.support_cost.ensures) ∙ c.in-Some-support_cost.is) in
     omega (
       arith,
       p,
@@ -159,11 +155,11 @@ support_from-requires c =
 pub returns : goal.returns
 returns c =
     let a = c.args in
-    let n = (goal.at.returns c).In-Passed-notes in
+    let n = (goal.at.returns c).In-Passed-check_notes in
     let p = spans n in
-    let sum = sym (supported p _ c.support_cost-costs.ensures) ∙ c.in-Sum.is in
-    let cost = c.if-sum-quad_at.false ∙ c.quad_at.ensures ∙ p.cost_part in
-    let e = tested p a.targets c.power-limit.ensures c.check_entries-second.ensures in
+    let sum = sym (supported p _ c.support_cost.ensures) ∙ c.in-Some-support_cost.is in
+    let cost = c.if-cost-quad_at.false ∙ c.quad_at.ensures ∙ p.cost_part in
+    let e = tested p a.targets c.power-limit.ensures c.check_entries.ensures in
     reply-accepted a.targets a.candidates a.nets.now a.weights.now a.sheet.now (roomy n) (whole n)
-    (good a.targets _ _ _ sum (passes _ (sym e ∙ c.in-Passed-second.is)) cost) c.support_from.result c.in-Whole.at.table _
+    (good a.targets _ _ _ sum (passes _ (sym e ∙ c.in-Passed-check_entries.is)) cost) c.support_from.result c.in-Some.at.table _
     (c.support_from.ensures ∙ ap ten_places p.nets_part) p.table cost

@@ -1,16 +1,15 @@
--- `records::writing::write_rest` meets its contract: an accepted plan's job is put around its gates, checked as read checks it, and
--- copied where it is accepted. Assumes nothing.
+-- `records::writing::write_rest` meets its contract: the job is put around its gates, checked as read checks it, and copied where it
+-- is accepted. Assumes nothing.
+use Rattle.records.proofs.Laws.Option.{err-is}
 use Rattle.records.proofs.Laws.Writing.{rest-refused, rest-accepted}
 use Rattle.records.proofs.writing.write_rest.Goals as goal
 
-pub returns-in-Refused : goal.returns-in-Refused
-returns-in-Refused c gs hs g =
-    let n = c.if-plan-ne0.false in
-    rest-refused c.args.plan _ c.args.buf.now c.args.scratch n c.requires (g n)
-    (c.put_rest-job.ensures.2 gs hs (g n)) c.check_job-answer.ensures _ c.in-Refused.is
+pub returns-in_err-checked : goal.returns-in_err-checked
+returns-in_err-checked c gs hs g =
+    rw (err-is _ _ c.from_residual.ensures.1)
+    (rest-refused c.args.counts _ c.args.buf.now c.args.scratch c.requires g (c.put_rest-job.ensures.2 gs hs g) _ c.in_err-checked.ensures)
 
-pub returns-in-Accepted : goal.returns-in-Accepted
-returns-in-Accepted c gs hs g =
-    let n = c.if-plan-ne0.false in
-    rest-accepted c.args.plan _ c.args.buf.now c.args.scratch n c.requires (g n)
-    (c.put_rest-job.ensures.2 gs hs (g n)) c.check_job-answer.ensures _ c.in-Accepted.is c.copy.ensures
+pub returns : goal.returns
+returns c gs hs g =
+    rest-accepted c.args.counts _ c.args.buf.now c.args.scratch c.requires g (c.put_rest-job.ensures.2 gs hs g) _
+    c.in_ok-checked.ensures c.copy.ensures
