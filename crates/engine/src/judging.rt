@@ -14,14 +14,14 @@ ghost use Rattle.engine.specs.Inner.Plan.{NetsRead};
 ghost use Rattle.engine.specs.Inner.Judging.{JudgedJob};
 
 use super::guess::list_of_inputs;
-use super::limits::{LISTED, LONGEST_JUDGE, WORD_INPUTS};
+use super::limits::{LONGEST_JUDGE, WORD_INPUTS};
 use super::list::Vectors;
 use super::merge::merged_miter;
 use super::miter::Miter;
 use super::narrow::list_of_words;
-use super::plan::plan_of;
+use super::planning::plan_of;
 use super::sheet::{put_unfixable, put_vectors};
-use records::{CANDIDATES, Check, JobParts, load};
+use records::{Check, JobParts, Support, load};
 
 #[derive(Clone, Copy)]
 pub struct UnfixableInput {
@@ -78,17 +78,16 @@ fn rule_list(list: Vectors, reply: &mut [u8]) -> JudgeReply
     }
 }
 
-// The vector list over all inputs of a miter; of the first reads nets the tables are made (see guess.rt).
-fn vector_list(miter: Miter, nets: [u16; CANDIDATES], reads: usize) -> Vectors
-    requires { MiterRoom miter × NetsRead nets reads }
-    ensures { Held result × ((j : Job) → MergedOf j miter → take reads nets ≡ candidate_nets j → ListTo j (2 ^ j.inputs) result) }
+// The vector list over all inputs of a miter; of the nets read the tables are made (see guess.rt).
+fn vector_list(miter: Miter, reads: Support) -> Vectors
+    requires { MiterRoom miter × NetsRead reads.nets reads.len }
+    ensures { Held result × ((j : Job) → MergedOf j miter → take reads.len reads.nets ≡ candidate_nets j → ListTo j (2 ^ j.inputs) result) }
 {
     if miter.inputs <= WORD_INPUTS {
         return list_of_words(miter);
     }
-    let mut gates = [0u64; LISTED];
-    let plan = plan_of(miter, nets, reads, miter.targets, &mut gates);
-    list_of_inputs(&gates, plan)
+    let targets = miter.targets;
+    list_of_inputs(&plan_of(miter, reads, targets))
 }
 
 // The judgement on a good job's parts, and its sheet.
@@ -96,9 +95,12 @@ fn judge_job(job: JobParts, reply: &mut [u8]) -> JudgeReply
     requires { SomeParts job × Below 1024 job.nets × (26 ≤ length reply.old) }
     ensures { (j : Job) → PartsOf j job → JudgedJob j reply.old result reply.new }
 {
-    let candidates = job.counts.candidates;
     let nets = job.nets;
-    let list = vector_list(merged_miter(job), nets, candidates);
+    let candidates = Support {
+        nets,
+        len: job.counts.candidates,
+    };
+    let list = vector_list(merged_miter(job), candidates);
     rule_list(list, reply)
 }
 

@@ -21,7 +21,7 @@ use Rattle.engine.specs.Inner.Guess.{ListTo}
 use Rattle.engine.specs.Inner.Masks.{rectifiers}
 use Rattle.engine.specs.Inner.List.{listed_of, listed_from, start_list}
 use Rattle.engine.specs.Inner.Note.{sets_from, gathered, filled, ListNoted}
-use Rattle.engine.specs.Inner.Plan.{PlanHeld, ReadsOf}
+use Rattle.engine.specs.Inner.Plan.{ReadsOf}
 use Rattle.engine.specs.Inner.Search.{BlockRange, BlockRead, BlockVector, FreeKept, BlockKept, BlockMasks, BlockMet}
 use Rattle.engine.proofs.Laws.Choice.{true-or-false}
 use Rattle.engine.proofs.Laws.Miter.{candidates-good}
@@ -132,10 +132,10 @@ pub first-few : (n : ℕ) (nets : List ℕ) {is : List ℕ} → take n nets ≡ 
 first-few n nets e = omega (arith, ap length (sym e), length-take n nets)
 
 -- readings of at most ten nets
-pub reading_small : {j : Job} {is : List ℕ} {p : Plan} {gates : List ℕ} → p.reads ≤ 10 → ReadsOf j is p gates
+pub reading_small : {j : Job} {is : List ℕ} {p : Plan} → p.reads.len ≤ 10 → ReadsOf j is p
     → (x : ℕ) → reading j is x < 1024
 reading_small {j} {is} {p} h q x =
-    let few : length is ≤ 10 = omega (arith, first-few p.reads p.nets q.nets) in
+    let few : length is ≤ 10 = omega (arith, first-few p.reads.len p.reads.nets q.nets) in
     omega (arith, reading-lt j is x, pow_mono {j = 10} few)
 
 -- ---- the sets after a block
@@ -144,28 +144,28 @@ pub met-long : (masks readings ss : List ℕ) (count : ℕ) {ts : List ℕ}
     → ts ≡ sets_from (gathered masks) (λ y. gathered readings y % 1024) ss 0 (filled count) → length ts ≡ length ss
 met-long masks readings ss count e = ap length e ∙ sets_from-length (gathered masks) (λ y. gathered readings y % 1024) ss 0 (filled count)
 
-module _ {p : Plan} {gates : List ℕ} (h : PlanHeld p gates) (b count : ℕ) {words readings : List ℕ} (e : BlockRead p gates b words readings) where
+module _ {p : Plan} (b count : ℕ) {words readings : List ℕ} (e : BlockRead p b words readings) where
   -- from the masks of its inputs
-  pub block-met : {w₁ w₂ masks ss ts : List ℕ} → BlockRange p.inputs b count → FreeKept p gates words w₁ → BlockVector p gates 0 w₁ w₂
-      → BlockMasks p gates w₂ masks → ts ≡ sets_from (gathered masks) (λ y. gathered readings y % 1024) ss 0 (filled count)
-      → BlockMet p gates b count ss ts
+  pub block-met : {w₁ w₂ masks ss ts : List ℕ} → BlockRange p.inputs b count → FreeKept p words w₁ → BlockVector p 0 w₁ w₂
+      → BlockMasks p w₂ masks → ts ≡ sets_from (gathered masks) (λ y. gathered readings y % 1024) ss 0 (filled count)
+      → BlockMet p b count ss ts
   block-met {masks = masks} {ss = ss} r k z m n =
       record {
         long = met-long masks readings ss count n;
         sets = λ j s t.
             let is = candidate_nets j in
             let q = t.planned in
-            sets_more j (omega (arith, h.targets, q.targets)) (1024 * b) count
+            sets_more j (omega (arith, p.few_targets, q.targets)) (1024 * b) count
             (n
             ∙ noted-sets j is (rectifiers j) (λ x. rectifiers-low j j.inputs x (omega arith)) b count masks readings ss
             (subst (λ (i : ℕ). BlockRange i b count) q.inputs r)
             (m.sets j is t b (z.values j is q b (k j is q b (e.free j is (reads_of q)))))
             (e.readings j is (reads_of q) (candidates-good j q.good))
-            (reading_small h.reads (reads_of q)));
+            (reading_small p.few_reads (reads_of q)));
       }
 
   -- where it leaves them
-  pub block-kept : {ss : List ℕ} → count ≤ 1024 → BlockKept p gates readings words ss → BlockMet p gates b count ss ss
+  pub block-kept : {ss : List ℕ} → count ≤ 1024 → BlockKept p readings words ss → BlockMet p b count ss ss
   block-kept {ss} few k =
       record {
         long = refl;
@@ -178,7 +178,7 @@ module _ {p : Plan} {gates : List ℕ} (h : PlanHeld p gates) (b count : ℕ) {w
             let i : 1024 * b + y ≡ z = omega arith in
             let g : gathered readings y % 1024 ≡ reading j is z =
             ap (λ (r : ℕ). r % 1024) (e.readings j is (reads_of q) (candidates-good j q.good) y (omega arith) ∙ ap (reading j is) i)
-            ∙ mod-eq_of_lt (reading_small h.reads (reads_of q) z) in
+            ∙ mod-eq_of_lt (reading_small p.few_reads (reads_of q) z) in
             let t = rw (g, i) at (k j is q b (e.free j is (reads_of q)) y (omega arith)) in
             (λ c. t.0, t.1));
       }

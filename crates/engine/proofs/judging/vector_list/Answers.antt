@@ -11,4 +11,4 @@ returns-then-miter-le-WORD_INPUTS c = let r = c.list_of_words.ensures in (r.0, �
 pub returns : goal.returns
 returns c =
     let r = c.list_of_inputs.ensures in
-    (r.held, λ j q e. r.list_to j ((c.plan_of-plan.ensures.planned_of j (candidate_nets j) q e (candidates-good j q.good)).1 refl))
+    (r.held, λ j q e. r.list_to j ((c.plan_of.ensures j (candidate_nets j) q e (candidates-good j q.good)).1 refl))

@@ -1,10 +1,10 @@
--- `engine::plan::mark_from` meets its contract. The invariant: the marks so far, with those of the gates left, give the whole.
+-- `engine::planning::mark_from` meets its contract. The invariant: the marks so far, with those of the gates left, give the whole.
 -- Assumes nothing.
 use mathlib.Core.Path.{◌≡◌}
 use lib.ListN.{take, drop}
 use Rattle.engine.specs.Inner.Packed.{evaluated}
 use Rattle.engine.specs.Inner.Plan.{code_mark, marks_from}
-use Rattle.engine.proofs.plan.mark_from.Given as goal
+use Rattle.engine.proofs.planning.mark_from.Given as goal
 
 abbrev pub invariant-loop-i : goal.invariant-loop-i
 invariant-loop-i l =

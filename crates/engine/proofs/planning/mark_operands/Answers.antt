@@ -1,10 +1,10 @@
--- `engine::plan::mark_operands` meets its contract. The invariant: the marks so far, with those of the operands left, give the
+-- `engine::planning::mark_operands` meets its contract. The invariant: the marks so far, with those of the operands left, give the
 -- whole. Assumes nothing.
 use mathlib.Core.Path.{sym, ◌∙◌}
 use native.Mathlib.Omega.{arith}
 use lib.ListN.{length-set}
 use Rattle.engine.proofs.Laws.PlanCode.{marked_all-fields, marked_all-none}
-use Rattle.engine.proofs.plan.mark_operands.Goals as goal
+use Rattle.engine.proofs.planning.mark_operands.Goals as goal
 
 pub loop-i-preserved : goal.loop-i-preserved
 loop-i-preserved c =

@@ -1,11 +1,11 @@
--- `engine::plan::leaf_marks` meets its contract. The invariant: the first i leaves have their mark. Assumes nothing.
+-- `engine::planning::leaf_marks` meets its contract. The invariant: the first i leaves have their mark. Assumes nothing.
 use Prim.Native.Nat.{ℕ, ◌+◌}
 use mathlib.Core.List.{List}
 use mathlib.Core.Path.{◌∙◌, ap}
 use native.Mathlib.Omega.{arith}
 use lib.ListN.{set}
 use Rattle.engine.proofs.Laws.PlanCode.{leaves_none, leaves-next}
-use Rattle.engine.proofs.plan.leaf_marks.Goals as goal
+use Rattle.engine.proofs.planning.leaf_marks.Goals as goal
 
 pub loop-i-init : goal.loop-i-init
 loop-i-init c = (omega arith, leaves_none _)

@@ -1,4 +1,4 @@
--- `engine::plan::mark_from` meets its contract. The invariant: the marks so far, with those of the gates left, give the whole.
+-- `engine::planning::mark_from` meets its contract. The invariant: the marks so far, with those of the gates left, give the whole.
 -- Assumes nothing.
 use Prim.Native.Nat.{ℕ, ◌+◌}
 use mathlib.Core.Path.{sym, ◌∙◌, ap}
@@ -8,7 +8,7 @@ use lib.ListN.{get_or, take, drop, set}
 use Rattle.engine.specs.Inner.Packed.{own, evaluated}
 use Rattle.engine.specs.Inner.Plan.{code_mark, marks_from}
 use Rattle.engine.proofs.Laws.PlanCode.{evaluated-next, evaluated-end}
-use Rattle.engine.proofs.plan.mark_from.Goals as goal
+use Rattle.engine.proofs.planning.mark_from.Goals as goal
 
 pub loop-i-init : goal.loop-i-init
 unfolding marks_from

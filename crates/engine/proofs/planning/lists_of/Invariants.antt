@@ -1,8 +1,8 @@
--- `engine::plan::lists_of` meets its contract. The invariant: the first t + 2 lists stand. Assumes nothing.
+-- `engine::planning::lists_of` meets its contract. The invariant: the first t + 2 lists stand. Assumes nothing.
 use Prim.Native.Nat.{◌+◌, ◌≤◌}
 use lib.ListN.{take}
 use Rattle.engine.specs.Inner.Plan.{ListsUpTo}
-use Rattle.engine.proofs.plan.lists_of.Given as goal
+use Rattle.engine.proofs.planning.lists_of.Given as goal
 
 abbrev pub invariant-loop-t : goal.invariant-loop-t
 invariant-loop-t l =

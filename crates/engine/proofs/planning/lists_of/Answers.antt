@@ -1,10 +1,10 @@
--- `engine::plan::lists_of` meets its contract. The invariant: the first t + 2 lists stand. Assumes nothing.
+-- `engine::planning::lists_of` meets its contract. The invariant: the first t + 2 lists stand. Assumes nothing.
 use Prim.Native.Nat.{◌+◌, ◌<◌}
 use mathlib.Core.Path.{◌≡◌, refl}
 use native.Mathlib.Omega.{arith}
 use lib.ListN.{take}
 use Rattle.engine.proofs.Laws.PlanCode.{lists-none, list-fan, list-led, lists-next}
-use Rattle.engine.proofs.plan.lists_of.Goals as goal
+use Rattle.engine.proofs.planning.lists_of.Goals as goal
 
 pub loop-t-init : goal.loop-t-init
 loop-t-init c =

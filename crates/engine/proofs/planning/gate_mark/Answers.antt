@@ -1,8 +1,8 @@
--- `engine::plan::gate_mark` meets its contract. The invariant: the greatest mark so far, with those of the operands left, gives the
+-- `engine::planning::gate_mark` meets its contract. The invariant: the greatest mark so far, with those of the operands left, gives the
 -- gate's. Assumes nothing.
 use native.Mathlib.Omega.{arith}
 use Rattle.engine.proofs.Laws.PlanCode.{mark-all, mark-next, mark-none}
-use Rattle.engine.proofs.plan.gate_mark.Goals as goal
+use Rattle.engine.proofs.planning.gate_mark.Goals as goal
 
 pub loop-i-init : goal.loop-i-init
 loop-i-init c = mark-all c.args.marks.now c.args.c

@@ -1,8 +1,8 @@
--- `engine::plan::mark_live` meets its contract. The invariant: the marks are those that the gates from i on give. Assumes nothing.
+-- `engine::planning::mark_live` meets its contract. The invariant: the marks are those that the gates from i on give. Assumes nothing.
 use mathlib.Core.Path.{◌∙◌}
 use native.Mathlib.Omega.{arith}
 use Rattle.engine.proofs.Laws.PlanCode.{live-none, live-marked, live-unmarked}
-use Rattle.engine.proofs.plan.mark_live.Goals as goal
+use Rattle.engine.proofs.planning.mark_live.Goals as goal
 
 pub loop-i-init : goal.loop-i-init
 loop-i-init c =

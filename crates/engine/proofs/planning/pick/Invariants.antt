@@ -1,8 +1,8 @@
--- `engine::plan::pick` meets its contract. The invariant: the wanted ones of the first i gates are put, as far as there is room.
+-- `engine::planning::pick` meets its contract. The invariant: the wanted ones of the first i gates are put, as far as there is room.
 -- Assumes nothing.
 use Prim.Native.Nat.{◌≤◌}
 use Rattle.engine.proofs.Laws.PlanCode.{Picking}
-use Rattle.engine.proofs.plan.pick.Given as goal
+use Rattle.engine.proofs.planning.pick.Given as goal
 
 abbrev pub invariant-loop-i : goal.invariant-loop-i
 invariant-loop-i l =

@@ -1,18 +1,17 @@
--- `engine::plan::pick` meets its contract. The invariant: the wanted ones of the first i gates are put, as far as there is room.
+-- `engine::planning::pick` meets its contract. The invariant: the wanted ones of the first i gates are put, as far as there is room.
 -- Assumes nothing.
 use Prim.Native.Nat.{◌<◌}
 use mathlib.Core.Logic.{inl, inr}
 use native.Mathlib.Omega.{arith}
 use lib.ListN.{length, get_or}
 use Rattle.engine.proofs.Laws.PlanCode.{wanted-true, wanted-false, picking-none, picking-put, picking_full, picking-left}
-use Rattle.engine.proofs.plan.pick.Goals as goal
-use Rattle.engine.proofs.plan.pick.Goals.{then-live-net-ne0+then-marks-net+then-end-lt-LISTED, then-live-net-ne0+then-marks-net+else-end-lt-LISTED, then-live-net-ne0+else-marks-net, else-live-net-ne0}
+use Rattle.engine.proofs.planning.pick.Goals as goal
+use Rattle.engine.proofs.planning.pick.Goals.{then-live-net-ne0+then-marks-net+then-end-lt-LISTED, then-live-net-ne0+then-marks-net+else-end-lt-LISTED, then-live-net-ne0+else-marks-net, else-live-net-ne0}
 
 pub loop-i-init : goal.loop-i-init
 loop-i-init c =
     let a = c.args in
-    let p = c.requires in
-    (omega arith, picking-none a.live.now a.marks.now a.led a.gates.now a.out.now a.at p.1 p.2)
+    (omega arith, picking-none a.live.now a.marks.now a.led a.gates.now a.out.now a.at c.requires.1 (omega arith))
 
 pub loop-i-preserved : goal.loop-i-preserved
 loop-i-preserved c =
