@@ -8,7 +8,7 @@ ghost use Rattle.records.specs.Job.{Job};
 ghost use Rattle.engine.specs.Choice.{any};
 ghost use Rattle.engine.specs.Eval.{bit};
 ghost use Rattle.engine.specs.Support.{candidate_nets};
-ghost use Rattle.engine.specs.Inner.List.{Held, listed_of, start_list};
+ghost use Rattle.engine.specs.Inner.List.{listed_of};
 ghost use Rattle.engine.specs.Inner.Search.{FreeKept};
 ghost use Rattle.engine.specs.Inner.Plan.{PlanHeld, TurnsOf};
 ghost use Rattle.engine.specs.Inner.Guess.{ListTo, OfListed, BlockGuessed, BlockShown, BlockListed};
@@ -16,13 +16,13 @@ ghost use Rattle.engine.specs.Inner.Guess.{ListTo, OfListed, BlockGuessed, Block
 use super::drive::{driven_row, table_rows};
 use super::leaves::{block_inputs, equal_row};
 use super::limits::{BLOCK, READINGS, ROW, ROWS, VECTORS, WORDS};
-use super::list::{Vectors, lowest_of};
+use super::list::Vectors;
 use super::masks::masks_of;
 use super::note::{list_block, sort_block};
 use super::plan::Plan;
 use super::search::{first_tries, read_block, settled_from, vector_block};
 use super::trust::{first_trust, more, next_tries, next_trust};
-use super::word::{first_zero, join_rows};
+use super::word::{first_zero, join_rows, lowest_of};
 
 // The vector list after a block, how far the tables are trusted then, and whether they are to be made anew.
 #[derive(Drop)]
@@ -54,7 +54,6 @@ fn listed_set(list: [u8; VECTORS], len: usize) -> u16
 
 // The two tables: at each reading the smallest listed vector of its first set and, 16 times, that of its second, 0 where there is none.
 fn listed_table(sets: [u32; READINGS], list: Vectors) -> [u16; READINGS]
-    requires { Held list }
     ensures { OfListed list result }
 {
     let vectors = list.list;
@@ -101,7 +100,7 @@ fn try_listed(
     count: usize,
     words: &mut [u64; WORDS],
 ) -> bool
-    requires { PlanHeld plan gates.now × Held list × (length words.old ≡ 16384) }
+    requires { PlanHeld plan gates.now × (length words.old ≡ 16384) }
     ensures free_kept { FreeKept plan gates.now words.old words.new × (length words.new ≡ 16384) }
     ensures block_shown { result ≡ true → BlockShown plan gates.now words.old list count }
 {
@@ -154,7 +153,7 @@ fn shown_by(
     count: usize,
     words: &mut [u64; WORDS],
 ) -> Shown
-    requires { PlanHeld plan gates.now × (length readings ≡ 256) × Held list × (length words.old ≡ 16384) }
+    requires { PlanHeld plan gates.now × (length readings ≡ 256) × (length words.old ≡ 16384) }
     ensures free_kept { FreeKept plan gates.now words.old words.new × (length words.new ≡ 16384) }
     ensures block_shown { (result ≡ Shown.Listed → BlockShown plan gates.now words.old list count)
         × (result ≡ Shown.Tables → (0 < trust)
@@ -188,7 +187,7 @@ fn list_inputs(
     sets: &mut [u32; READINGS],
     words: &mut [u64; WORDS],
 ) -> Listing
-    requires plan_held { PlanHeld plan gates.now × (1024 * b < 2 ^ plan.inputs) × Held list }
+    requires plan_held { PlanHeld plan gates.now × (1024 * b < 2 ^ plan.inputs) }
     requires of_listed { (0 < trust → OfListed list table.now) × (length sets.old ≡ 1024) × (length words.old ≡ 16384) × (trust ≤ 64) }
     ensures block_listed { BlockListed plan gates.now b list result.list × (result.trust ≤ 64)
         × (result.anew ≡ false → 0 < result.trust → OfListed result.list table.now) }
@@ -233,14 +232,13 @@ fn list_inputs(
 // are skipped; that is given up where it settles too little.
 pub(super) fn list_of_inputs(gates: &[u64], plan: Plan) -> Vectors
     requires { PlanHeld plan gates.now }
-    ensures held { Held result }
-    ensures list_to { (j : Job) → TurnsOf j (candidate_nets j) plan gates.now → ListTo j (2 ^ j.inputs) result }
+    ensures { (j : Job) → TurnsOf j (candidate_nets j) plan gates.now → ListTo j (2 ^ j.inputs) result }
 {
     let size = 1usize << plan.inputs;
     let mut words = [0u64; WORDS];
     let mut sets = [!0u32; READINGS];
     let mut table = [0u16; READINGS];
-    let mut list = first_list();
+    let mut list = Vectors::start();
     let mut trust = first_trust(plan.inputs, 14);
     let mut tries = first_tries(gates, plan);
     let mut b = 0usize;
@@ -250,7 +248,7 @@ pub(super) fn list_of_inputs(gates: &[u64], plan: Plan) -> Vectors
         if skip == 0 {
             let next = list_inputs(gates, plan, b, list, trust, &table, &mut sets, &mut words);
             list = next.list;
-            if list.stuck {
+            if list.stuck.is_some() {
                 return list;
             }
             trust = next.trust;
@@ -263,16 +261,4 @@ pub(super) fn list_of_inputs(gates: &[u64], plan: Plan) -> Vectors
         }
     }
     list
-}
-
-// Vector 0 alone, with which the loop begins.
-pub(super) fn first_list() -> Vectors
-    ensures { Held result × (listed_of result ≡ start_list) × (result.stuck ≡ false) }
-{
-    Vectors {
-        list: [0u8; VECTORS],
-        len: 1,
-        stuck: false,
-        input: 0,
-    }
 }

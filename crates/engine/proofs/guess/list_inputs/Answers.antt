@@ -26,7 +26,7 @@ returns-in-Listed c =
     let e = c.shown_by-by.ensures in
     record {
       block_listed = (
-        block-shown c.read_block-readings.ensures (omega (arith, few p.plan_held.0.inputs)) p.plan_held.2
+        block-shown c.read_block-readings.ensures (omega (arith, few p.plan_held.0.inputs))
             (e.block_shown.0 c.in-Listed.is),
         p.of_listed.3,
         λ k. p.of_listed.0,
@@ -41,7 +41,7 @@ returns-in-Tables c =
     let z = e.block_shown.1 c.in-Tables.is in
     record {
       block_listed = (
-        block-guessed c.read_block-readings.ensures (omega (arith, few p.plan_held.0.inputs)) p.plan_held.2
+        block-guessed c.read_block-readings.ensures (omega (arith, few p.plan_held.0.inputs))
             (p.of_listed.0 z.0) z.1,
         c.more.ensures.1,
         λ k h. p.of_listed.0 z.0,

@@ -1,6 +1,7 @@
 -- `engine::guess::list_of_inputs` meets its contract. The invariant: the list after the inputs passed, and a table of its vectors
 -- while the tables are trusted. Assumes nothing.
 use Prim.Native.Nat.{ℕ}
+use mathlib.Core.Path.{sym, ◌∙◌}
 use native.Mathlib.Omega.{arith}
 use lib.ListN.{length-replicate}
 use Rattle.engine.proofs.Laws.Guess.{ListsTo, zeros-listed, lists-start, lists-skip, lists-stuck, lists-all}
@@ -16,11 +17,11 @@ first_tries-tries-requires c = c.requires
 
 pub loop-b-init : goal.loop-b-init
 loop-b-init c =
-    let f = c.first_list-list in (
+    let f = c.start-list in (
       length-replicate {A = ℕ} 16384 0,
       length-replicate {A = ℕ} 1024 4294967295,
-      record { held = c.first_list-list.ensures.0; few = c.first_trust-trust.ensures; table = λ l. zeros-listed f.result },
-      walk_start (ListsTo c.args.plan c.args.gates.now f.result) c.requires.inputs (lists-start f.result c.first_list-list.ensures.1),
+      record { few = c.first_trust-trust.ensures; table = λ l. zeros-listed f.result },
+      walk_start (ListsTo c.args.plan c.args.gates.now f.result) c.requires.inputs (lists-start f.result c.start-list.ensures),
       c.first_tries-tries.ensures,
     )
 
@@ -33,22 +34,18 @@ list_inputs-next-requires c =
     let i = c.loop-b.invariant in
     let t = i.2 in
     record {
-      plan_held = (c.requires, omega (arith, i.3.inputs), t.held);
+      plan_held = (c.requires, omega (arith, i.3.inputs));
       of_listed = (t.table, i.1, i.0, t.few);
     }
 
-pub returns-then-list : goal.returns-then-list
-returns-then-list c =
+pub returns-then-is_some : goal.returns-then-is_some
+returns-then-is_some c =
     let i = c.loop-b.invariant.3 in
     let e = c.list_inputs-next in
     let v = e.result.list in
     let r = block-range c.args.plan.inputs c.loop-b.b (omega (arith, i.inputs)) in
-    record {
-      held = e.ensures.block_listed.0.held;
-      list_to =
-          lists-all v
-          (lists-stuck v r.within c.if-list.true (λ j q. e.ensures.block_listed.0.listed j q (walk_here i (omega arith) j q)));
-    }
+    lists-all v
+    (lists-stuck v r.within (sym c.is_some.ensures ∙ c.if-is_some.true) (λ j q. e.ensures.block_listed.0.listed j q (walk_here i (omega arith) j q)))
 
 pub loop-b-preserved-then-skip-eq0 : goal.loop-b-preserved-then-skip-eq0
 loop-b-preserved-then-skip-eq0 c =
@@ -58,7 +55,6 @@ loop-b-preserved-then-skip-eq0 c =
       e.sets_len.1,
       e.sets_len.0,
       record {
-        held = e.block_listed.0.held;
         few = e.block_listed.1;
         table = λ h.
             elim c.if-next.branch [
@@ -88,8 +84,4 @@ loop-b-preserved c =
 
 pub returns : goal.returns
 returns c =
-    let i = c.loop-b.invariant in
-    record {
-      held = i.2.held;
-      list_to = lists-all _ (walk_end i.3 (omega arith));
-    }
+    lists-all _ (walk_end c.loop-b.invariant.3 (omega arith))

@@ -9,7 +9,7 @@ use Rattle.engine.proofs.guess.try_listed.Goals as goal
 
 pub loop-i-init : goal.loop-i-init
 loop-i-init c =
-    (c.requires.2, λ j is q b f. f, shown-none c.args.plan c.args.gates.now c.args.words.now _)
+    (c.requires.1, λ j is q b f. f, shown-none c.args.plan c.args.gates.now c.args.words.now _)
 
 pub returns-then-count-first_zero : goal.returns-then-count-first_zero
 unfolding listed_of
