@@ -8,7 +8,6 @@ ghost use Rattle.records.specs.Job.{Job};
 ghost use Rattle.engine.specs.Choice.{any};
 ghost use Rattle.engine.specs.Eval.{bit};
 ghost use Rattle.engine.specs.Support.{candidate_nets};
-ghost use Rattle.engine.specs.Inner.List.{Held, listed_of, start_list};
 ghost use Rattle.engine.specs.Inner.Search.{FreeKept};
 ghost use Rattle.engine.specs.Inner.Plan.{TurnsOf};
 ghost use Rattle.engine.specs.Inner.Guess.{ListTo, OfListed, BlockGuessed, BlockShown, BlockListed};
@@ -16,13 +15,13 @@ ghost use Rattle.engine.specs.Inner.Guess.{ListTo, OfListed, BlockGuessed, Block
 use super::drive::{driven_row, table_rows};
 use super::leaves::{block_inputs, equal_row};
 use super::limits::{BLOCK, READINGS, ROW, ROWS, VECTORS, WORDS};
-use super::list::{Vectors, lowest_of};
+use super::list::Vectors;
 use super::masks::masks_of;
 use super::note::{list_block, sort_block};
 use super::plan::Plan;
 use super::search::{first_tries, read_block, settled_from, vector_block};
 use super::trust::{first_trust, more, next_tries, next_trust};
-use super::word::{first_zero, join_rows};
+use super::word::{first_zero, join_rows, lowest_of};
 
 // The vector list after a block, how far the tables are trusted then, and whether they are to be made anew.
 #[derive(Drop)]
@@ -54,7 +53,6 @@ fn listed_set(list: [u8; VECTORS], len: usize) -> u16
 
 // The two tables: at each reading the smallest listed vector of its first set and, 16 times, that of its second, 0 where there is none.
 fn listed_table(sets: [u32; READINGS], list: Vectors) -> [u16; READINGS]
-    requires { Held list }
     ensures { OfListed list result }
 {
     let vectors = list.list;
@@ -93,7 +91,6 @@ fn guess_block(
 // Whether listed vectors rectify each of the first count inputs of a block. It costs, for each listed vector up to the one with which they
 // do, one gate evaluation a gate that a target leads to.
 fn try_listed(plan: &Plan, list: Vectors, count: usize, words: &mut [u64; WORDS]) -> bool
-    requires { Held list }
     ensures free_kept { FreeKept plan.now words.old words.new }
     ensures block_shown { result ≡ true → BlockShown plan.now words.old list count }
 {
@@ -140,7 +137,6 @@ fn shown_by(
     count: usize,
     words: &mut [u64; WORDS],
 ) -> Shown
-    requires { Held list }
     ensures free_kept { FreeKept plan.now words.old words.new }
     ensures block_shown { (result ≡ Shown.Listed → BlockShown plan.now words.old list count)
         × (result ≡ Shown.Tables → (0 < trust)
@@ -173,8 +169,7 @@ fn list_inputs(
     sets: &mut [u32; READINGS],
     words: &mut [u64; WORDS],
 ) -> Listing
-    requires within { (1024 * b < 2 ^ plan.now.inputs) × Held list }
-    requires of_listed { (0 < trust → OfListed list table.now) × (trust ≤ 64) }
+    requires { (1024 * b < 2 ^ plan.now.inputs) × (0 < trust → OfListed list table.now) × (trust ≤ 64) }
     ensures { BlockListed plan.now b list result.list × (result.trust ≤ 64)
         × (result.anew ≡ false → 0 < result.trust → OfListed result.list table.now) }
 {
@@ -216,14 +211,13 @@ fn list_inputs(
 // The vector list over all inputs. It ends at the first block with an input that no vector rectifies. Blocks that partial evaluation settles
 // are skipped; that is given up where it settles too little.
 pub(super) fn list_of_inputs(plan: &Plan) -> Vectors
-    ensures held { Held result }
-    ensures list_to { (j : Job) → TurnsOf j (candidate_nets j) plan.now → ListTo j (2 ^ j.inputs) result }
+    ensures { (j : Job) → TurnsOf j (candidate_nets j) plan.now → ListTo j (2 ^ j.inputs) result }
 {
     let size = 1usize << plan.inputs;
     let mut words = [0u64; WORDS];
     let mut sets = [!0u32; READINGS];
     let mut table = [0u16; READINGS];
-    let mut list = first_list();
+    let mut list = Vectors::start();
     let mut trust = first_trust(plan.inputs, 14);
     let mut tries = first_tries(plan);
     let mut b = 0usize;
@@ -233,7 +227,7 @@ pub(super) fn list_of_inputs(plan: &Plan) -> Vectors
         if skip == 0 {
             let next = list_inputs(plan, b, list, trust, &table, &mut sets, &mut words);
             list = next.list;
-            if list.stuck {
+            if list.stuck.is_some() {
                 return list;
             }
             trust = next.trust;
@@ -246,16 +240,4 @@ pub(super) fn list_of_inputs(plan: &Plan) -> Vectors
         }
     }
     list
-}
-
-// Vector 0 alone, with which the loop begins.
-pub(super) fn first_list() -> Vectors
-    ensures { Held result × (listed_of result ≡ start_list) × (result.stuck ≡ false) }
-{
-    Vectors {
-        list: [0u8; VECTORS],
-        len: 1,
-        stuck: false,
-        input: 0,
-    }
 }

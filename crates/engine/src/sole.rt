@@ -5,9 +5,8 @@ ghost use Rattle.engine.specs.Inner.Search.{FreeKept, sole_of, SoleTable, BlockK
 
 use super::drive::{driven_row, row_at, table_rows};
 use super::limits::{BLOCK, READINGS, ROWS, UNSEEN, WORDS};
-use super::list::lowest_of;
 use super::plan::Plan;
-use super::word::{first_zero, join_rows, zero_row};
+use super::word::{first_zero, join_rows, lowest_of, zero_row};
 
 // What the table has where there is no only vector: the set is empty; it has several, or no input gave its reading.
 const NO_VECTOR: u16 = 16;

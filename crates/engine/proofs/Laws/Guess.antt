@@ -20,7 +20,7 @@ use Rattle.engine.specs.Rectify.{rectifies, Listed}
 use Rattle.engine.specs.Support.{candidate_nets}
 use Rattle.engine.specs.Inner.Guess.{ListTo, OfListed, BlockGuessed, BlockShown, BlockListed}
 use Rattle.engine.specs.Inner.Kernel.{row_value, FirstZero}
-use Rattle.engine.specs.Inner.List.{Held, lowest, listed_from, listed_of, start_list}
+use Rattle.engine.specs.Inner.List.{lowest, listed_from, listed_of, start_list}
 use Rattle.engine.specs.Inner.Masks.{rectifiers}
 use Rattle.engine.specs.Inner.Note.{gathered, ListNoted}
 use Rattle.engine.specs.Inner.Plan.{BlockFree, PlannedOf, TurnsOf}
@@ -36,6 +36,7 @@ use Rattle.engine.proofs.Laws.List.{set_holds, zero-listed, listed-cases, listed
 use Rattle.engine.proofs.Laws.Note.{any_next, either-one, row_value-lt}
 use Rattle.engine.proofs.Laws.Plan.{reads_of, block-free}
 use Rattle.engine.proofs.Laws.Rows.{bit-pow}
+use Rattle.std.specs.Option.{is_some}
 use Rattle.engine.proofs.Laws.Search.{list-noted, list-stuck, list-skip}
 use Rattle.engine.proofs.Laws.Searching.{row-rectifies}
 use Rattle.engine.proofs.Laws.VectorSets.{in_set, bit-rectifiers, lowest-lt, lowest-bit}
@@ -257,20 +258,16 @@ vector-free k w j is q b f = block-free (w.values j is q b (k j is q b f))
 module _ {p : Plan} {b count : ℕ} {words readings : List ℕ} (r : BlockRead p b words readings)
     (e : count ≡ min (2 ^ p.inputs - 1024 * b) 1024) where
   -- a block on which the table does
-  pub block-guessed : {table : List ℕ} {v : Vectors} → Held v → OfListed v table → BlockGuessed p words readings table count
-      → BlockListed p b v v
-  block-guessed h o g =
+  pub block-guessed : {table : List ℕ} {v : Vectors} → OfListed v table → BlockGuessed p words readings table count → BlockListed p b v v
+  block-guessed o g =
       record {
-        held = h;
         listed = λ j t l. let q = t.planned in rw (← e) (list-guessed readings b count g q (r.free j (candidate_nets j) (reads_of q)) o l);
       }
 
   -- a block on which the listed vectors themselves do
-  pub block-shown : {v : Vectors} → Held v → BlockShown p words v count
-      → BlockListed p b v v
-  block-shown {v} h s =
+  pub block-shown : {v : Vectors} → BlockShown p words v count → BlockListed p b v v
+  block-shown {v} s =
       record {
-        held = h;
         listed = λ j t l.
             let is = candidate_nets j in
             let q = t.planned in
@@ -286,7 +283,6 @@ module _ {p : Plan} {b count : ℕ} {words readings : List ℕ} (r : BlockRead p
       → BlockListed p b v w
   block_noted k z m n =
       record {
-        held = n.held;
         listed = λ j t.
             let is = candidate_nets j in
             let q = t.planned in
@@ -309,7 +305,7 @@ module _ {p : Plan} (v : Vectors) where
       list-skip j (1024 * b) (1024 * (b + r)) v (omega arith) (s.settled j (candidate_nets j) q.planned) (l j q)
 
   -- once stuck, it is the list of all inputs
-  pub lists-stuck : {x : ℕ} → x ≤ 2 ^ p.inputs → v.stuck ≡ true → ListsTo p v x → ListsTo p v (2 ^ p.inputs)
+  pub lists-stuck : {x : ℕ} → x ≤ 2 ^ p.inputs → is_some v.stuck ≡ true → ListsTo p v x → ListsTo p v (2 ^ p.inputs)
   lists-stuck {x} h s l j q = list-stuck j x (2 ^ p.inputs) v h s (l j q)
 
   pub lists-all : ListsTo p v (2 ^ p.inputs) → (j : Job) → TurnsOf j (candidate_nets j) p → ListTo j (2 ^ j.inputs) v

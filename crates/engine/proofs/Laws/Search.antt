@@ -3,8 +3,8 @@
 use Prim.Native.Nat.{ℕ, ◌+◌, ◌-◌, ◌*◌, ◌%◌, ◌^◌, min, ◌≤◌, ◌<◌}
 use mathlib.Core.Path.{◌≡◌, refl, sym, ◌∙◌, ap, subst}
 use mathlib.Core.List.{List}
-use mathlib.Core.Bool.{Bool, true, false, cond}
-use mathlib.Core.Option.{none, some}
+use mathlib.Core.Bool.{true, false}
+use mathlib.Core.Option.{some}
 use native.Mathlib.Omega.{arith}
 use mathlib.Core.Logic.{inl, inr, ⊎_elim}
 use native.Mathlib.Nat.{zero-add, mod-eq_of_lt}
@@ -19,7 +19,7 @@ use Rattle.engine.specs.Rectify.{rectifies, Listed}
 use Rattle.engine.specs.Support.{reading, candidate_nets}
 use Rattle.engine.specs.Inner.Guess.{ListTo}
 use Rattle.engine.specs.Inner.Masks.{rectifiers}
-use Rattle.engine.specs.Inner.List.{listed_of, listed_from, start_list}
+use Rattle.engine.specs.Inner.List.{listed_from, start_list}
 use Rattle.engine.specs.Inner.Note.{sets_from, gathered, filled, ListNoted}
 use Rattle.engine.specs.Inner.Plan.{ReadsOf}
 use Rattle.engine.specs.Inner.Search.{BlockRange, BlockRead, BlockVector, FreeKept, BlockKept, BlockMasks, BlockMet}
@@ -29,6 +29,8 @@ use Rattle.engine.proofs.Laws.Plan.{reads_of}
 use Rattle.engine.proofs.Laws.ReadingSets.{sets_more, sets-stay}
 use Rattle.engine.proofs.Laws.Shift.{bit-mod}
 use Rattle.engine.proofs.Laws.Rows.{sets_from-agree, sets_from-repeats, block-sets, sets_from-length}
+use Rattle.std.specs.Option.{is_some}
+use Rattle.engine.proofs.Laws.Stream.{listed-stuck}
 use Rattle.engine.proofs.Laws.List.{listed_from-append, stuck-stays, walk-skip-list}
 use Rattle.engine.proofs.Laws.Support.{reading-lt}
 use Rattle.engine.specs.declared.list.Vectors.{Vectors}
@@ -83,14 +85,6 @@ module _ (j : Job) (is : List ℕ) (f : ℕ → ℕ) (low : (x : ℕ) → f x �
 
 -- ---- the list
 
-pub listed-stuck : (v : Vectors) → v.stuck ≡ true → (listed_of v).stuck ≡ some v.input
-unfolding listed_of
-listed-stuck v e = ap (λ (b : Bool). cond b (some v.input) none) e
-
-pub listed_free : (v : Vectors) → v.stuck ≡ false → (listed_of v).stuck ≡ none
-unfolding listed_of
-listed_free v e = ap (λ (b : Bool). cond b (some v.input) none) e
-
 -- the inputs from x up to y
 up_to : {x y : ℕ} → x ≤ y → x + (y - x) ≡ y
 up_to h = omega arith
@@ -113,11 +107,12 @@ module _ (j : Job) where
 
   module _ (x y : ℕ) (v : Vectors) (h : x ≤ y) where
     -- once stuck, it stays
-    pub list-stuck : v.stuck ≡ true → ListTo j x v → ListTo j y v
+    pub list-stuck : is_some v.stuck ≡ true → ListTo j x v → ListTo j y v
     list-stuck s p =
         let f = rectifiers j in
-        let e : (listed_from f start_list 0 x).stuck ≡ some v.input = ap (λ (l : Listed). l.stuck) (sym p) ∙ listed-stuck v s in
-        list_at_lem (x + (y - x)) y v (up_to h) (p ∙ sym (stuck-stays f start_list x (y - x) v.input e))
+        let i = listed-stuck v s in
+        let e : (listed_from f start_list 0 x).stuck ≡ some i.0 = ap (λ (l : Listed). l.stuck) (sym p) ∙ i.1 in
+        list_at_lem (x + (y - x)) y v (up_to h) (p ∙ sym (stuck-stays f start_list x (y - x) i.0 e))
 
     -- inputs that every vector rectifies leave it
     pub list-skip : ((z u : ℕ) → x ≤ z → z < y → rectifies j z u ≡ true) → ListTo j x v → ListTo j y v

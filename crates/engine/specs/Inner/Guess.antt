@@ -11,7 +11,7 @@ use Rattle.engine.specs.Choice.{any}
 use Rattle.engine.specs.Rectify.{rectifies}
 use Rattle.engine.specs.Support.{candidate_nets}
 use Rattle.engine.specs.Inner.Masks.{rectifiers}
-use Rattle.engine.specs.Inner.List.{Held, listed_of, listed_from, start_list}
+use Rattle.engine.specs.Inner.List.{listed_of, listed_from, start_list}
 use Rattle.engine.specs.Inner.Note.{gathered, max_readings}
 use Rattle.engine.specs.Inner.Plan.{BlockFree, PlannedOf, TurnsOf}
 use Rattle.engine.specs.declared.list.Vectors.{Vectors}
@@ -42,6 +42,5 @@ BlockShown p before v count =
     → (u : ℕ) × (any (eqb u) (listed_of v).vectors ≡ true) × (rectifies j (1024 * b + y) u ≡ true)
 
 pub record BlockListed (p : Plan) (b : ℕ) (before after : Vectors) : Type 0 where
-  pub held : Held after
   pub listed : (j : Job) → TurnsOf j (candidate_nets j) p → ListTo j (1024 * b) before
       → ListTo j (1024 * b + min (2 ^ p.inputs - 1024 * b) 1024) after

@@ -22,20 +22,19 @@ read_block-readings-requires c =
 pub returns-in-Listed : goal.returns-in-Listed
 returns-in-Listed c =
     let p = c.requires in (
-      block-shown c.read_block-readings.ensures (omega (arith, few c.args.plan.now.few_inputs)) p.within.1
-          (c.shown_by-by.ensures.block_shown.0 c.in-Listed.is),
-      p.of_listed.1,
-      λ k. p.of_listed.0,
+      block-shown c.read_block-readings.ensures (omega (arith, few c.args.plan.now.few_inputs)) (c.shown_by-by.ensures.block_shown.0 c.in-Listed.is),
+      p.2,
+      λ k. p.1,
     )
 
 pub returns-in-Tables : goal.returns-in-Tables
 returns-in-Tables c =
     let p = c.requires in
+    let p = c.requires in
     let z = c.shown_by-by.ensures.block_shown.1 c.in-Tables.is in (
-      block-guessed c.read_block-readings.ensures (omega (arith, few c.args.plan.now.few_inputs)) p.within.1
-          (p.of_listed.0 z.0) z.1,
+      block-guessed c.read_block-readings.ensures (omega (arith, few c.args.plan.now.few_inputs)) (p.1 z.0) z.1,
       c.more.ensures.1,
-      λ k h. p.of_listed.0 z.0,
+      λ k h. p.1 z.0,
     )
 
 -- ---- where all vectors are evaluated

@@ -1,5 +1,6 @@
 -- `engine::guess::list_of_inputs` meets its contract. The invariant: the list after the inputs passed, and a table of its vectors
 -- while the tables are trusted. Assumes nothing.
+use mathlib.Core.Path.{sym, ◌∙◌}
 use native.Mathlib.Omega.{arith}
 use Rattle.engine.proofs.Laws.Guess.{ListsTo, zeros-listed, lists-start, lists-skip, lists-stuck, lists-all}
 use Rattle.engine.proofs.Laws.Search.{block-range, walk_start, walk_here, walk_block, walk-skip, walk_end}
@@ -11,9 +12,9 @@ first_trust-trust-requires c = c.args.plan.now.few_inputs
 
 pub loop-b-init : goal.loop-b-init
 loop-b-init c =
-    let f = c.first_list-list in (
-      record { held = c.first_list-list.ensures.0; few = c.first_trust-trust.ensures; table = λ l. zeros-listed f.result },
-      walk_start (ListsTo c.args.plan.now f.result) c.args.plan.now.few_inputs (lists-start f.result c.first_list-list.ensures.1),
+    let f = c.start-list in (
+      record { few = c.first_trust-trust.ensures; table = λ l. zeros-listed f.result },
+      walk_start (ListsTo c.args.plan.now f.result) c.args.plan.now.few_inputs (lists-start f.result c.start-list.ensures),
       c.first_tries-tries.ensures,
     )
 
@@ -24,24 +25,16 @@ settled_from-skip-requires c = omega (arith, c.loop-b.invariant.1.inputs)
 pub list_inputs-next-requires : goal.list_inputs-next-requires
 list_inputs-next-requires c =
     let i = c.loop-b.invariant in
-    let t = i.0 in
-    record {
-      within = (omega (arith, i.1.inputs), t.held);
-      of_listed = (t.table, t.few);
-    }
+    (omega (arith, i.1.inputs), i.0.table, i.0.few)
 
-pub returns-then-list : goal.returns-then-list
-returns-then-list c =
+pub returns-then-is_some : goal.returns-then-is_some
+returns-then-is_some c =
     let i = c.loop-b.invariant.1 in
     let e = c.list_inputs-next in
     let v = e.result.list in
     let r = block-range c.args.plan.now.inputs c.loop-b.b (omega (arith, i.inputs)) in
-    record {
-      held = e.ensures.0.held;
-      list_to =
-          lists-all v
-          (lists-stuck v r.within c.if-list.true (λ j q. e.ensures.0.listed j q (walk_here i (omega arith) j q)));
-    }
+    lists-all v
+    (lists-stuck v r.within (sym c.is_some.ensures ∙ c.if-is_some.true) (λ j q. e.ensures.0.listed j q (walk_here i (omega arith) j q)))
 
 pub loop-b-preserved-then-skip-eq0 : goal.loop-b-preserved-then-skip-eq0
 loop-b-preserved-then-skip-eq0 c =
@@ -49,7 +42,6 @@ loop-b-preserved-then-skip-eq0 c =
     let v = c.list_inputs-next.result.list in
     let e = c.list_inputs-next.ensures in (
       record {
-        held = e.0.held;
         few = e.1;
         table = λ h.
             elim c.if-next.branch [
@@ -77,8 +69,4 @@ loop-b-preserved c =
 
 pub returns : goal.returns
 returns c =
-    let i = c.loop-b.invariant in
-    record {
-      held = i.0.held;
-      list_to = lists-all _ (walk_end i.1 (omega arith));
-    }
+    lists-all _ (walk_end c.loop-b.invariant.1 (omega arith))

@@ -3,7 +3,6 @@
 use Prim.Native.Nat.{ℕ, ◌-◌, ◌*◌, ◌≤◌, ◌<◌}
 use mathlib.Core.List.{List}
 use Rattle.engine.specs.Inner.Guess.{OfListed}
-use Rattle.engine.specs.Inner.List.{Held}
 use Rattle.engine.specs.declared.list.Vectors.{Vectors}
 use Rattle.engine.proofs.Laws.Guess.{ListsTo}
 use Rattle.engine.proofs.Laws.Search.{WalkTo}
@@ -11,7 +10,6 @@ use Rattle.engine.proofs.guess.list_of_inputs.Given as goal
 
 -- the list, the table and the trust between two blocks
 pub record Trusted (v : Vectors) (t : List ℕ) (n : ℕ) : Type 0 where
-  pub held : Held v
   pub few : n ≤ 64
   pub table : 0 < n → OfListed v t
 

@@ -1,4 +1,4 @@
--- `engine::list::lowest_of` meets its contract. The invariant: the smallest vector from v on is the smallest of all.
+-- `engine::word::lowest_of` meets its contract. The invariant: the smallest vector from v on is the smallest of all.
 -- Assumes nothing.
 use Prim.Native.Nat.{ℕ, ◌-◌}
 use mathlib.Core.Path.{◌≡◌, refl, sym, ◌∙◌, ap}
@@ -8,7 +8,7 @@ use Rattle.engine.specs.Choice.{first, or_zero}
 use Rattle.engine.specs.Inner.List.{lowest}
 use Rattle.engine.proofs.Laws.VectorSets.{in_set}
 use Rattle.engine.proofs.Laws.Stream.{in_set-true, in_set-false, first-from-here, first-from-there}
-use Rattle.engine.proofs.list.lowest_of.Goals as goal
+use Rattle.engine.proofs.word.lowest_of.Goals as goal
 
 pub loop-v-init : goal.loop-v-init
 unfolding lowest
