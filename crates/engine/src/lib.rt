@@ -26,6 +26,7 @@ mod netlist;
 mod note;
 mod packed;
 mod plan;
+mod planning;
 mod ranges;
 mod renumber;
 mod search;
