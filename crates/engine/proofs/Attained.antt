@@ -30,8 +30,8 @@ use Rattle.engine.specs.Verdict.{patch, ruling, four_bytes, judge_sheet, choose_
 use Rattle.engine.specs.Fit.{trees_from, trees, fitted, fitted_bytes, fits as fits', longest_fit}
 use Rattle.engine.specs.Reply.{fit_number}
 use Rattle.engine.specs.Claims.{LongestJudgeMet, LongestChooseMet, LongestFitMet}
-use Rattle.engine.specs.declared.judging.JudgeReply.{JudgeReply}
-use Rattle.engine.specs.declared.choosing.ChooseReply.{ChooseReply}
+use Rattle.engine.specs.Reply.{JudgeReply}
+use Rattle.engine.specs.Reply.{ChooseReply}
 use Rattle.engine.proofs.Laws.Choice.{true-or-false, or_cases, not-both, any-true, any_false, all-iff-below, mem_below, mem-keep, keep-lt, length-keep-le, map-agree, same-iff-equal}
 use Rattle.engine.proofs.Laws.Eval.{Bits, bits-map, net_at-lt, values-bits, bits-bits, number_of-lt}
 use Rattle.engine.proofs.Laws.Picked.{bits-number_of}

@@ -28,10 +28,10 @@ use Rattle.engine.specs.Compare.{difference, pair_tests}
 use Rattle.engine.specs.Verdict.{patch, blind_reading, ruling, four_bytes, judge_sheet, patch_sheet, choose_sheet, longest_judge, longest_choose, reply_number, reply_bytes, judge_number, judged_bytes, choose_number, chosen_bytes}
 use Rattle.engine.specs.Reply.{judgement_of, judgement_fields, declined_judge, judge_reply, choice_of, choice_fields, declined_choose, choose_reply, comparison_of, compare_number, compare_reply, fit_reply}
 use Rattle.engine.specs.Claims.{NumberGiven, JudgeAccepts, ChooseAccepts, JudgeRefuses, ChooseRefuses, RefuseAlike, JudgeKeeps, ChooseKeeps, JudgeIndependent, ChooseIndependent, LongestJudge, LongestChoose, OneJudgement, GivesFixable, GivesUnfixable, VectorsGiven, OneChoice, GivesPatch, PatchIn, PatchGiven, PatchFields, GivesBlind, GivesBlindExactly, UnfixableBlind, BlindGiven, CompareAccepts, CompareRefuses, ComparesEqual, ComparesDiffers, CompareIgnoresNotes}
-use Rattle.engine.specs.declared.judging.JudgeReply.{JudgeReply}
-use Rattle.engine.specs.declared.choosing.ChooseReply.{ChooseReply}
+use Rattle.engine.specs.Reply.{JudgeReply}
+use Rattle.engine.specs.Reply.{ChooseReply}
 use Rattle.engine.specs.declared.comparing.Comparison.{Comparison}
-use Rattle.engine.specs.declared.comparing.CompareReply.{CompareReply}
+use Rattle.engine.specs.Reply.{CompareReply}
 use Rattle.engine.proofs.Laws.Reply.{number_short, number-long, number-accepts, judge_given, choose_given}
 use Rattle.engine.proofs.Laws.Notes.{note-in}
 use Rattle.engine.proofs.Laws.Sheet.{whole-field, nth-field}
@@ -491,10 +491,10 @@ equal-injective none e = refl
 equal-injective (some x) e = let z : ◌≡◌ {A = ℕ} 0 1 = cc in let f : ⊥ = omega arith in absurd f
 
 -- the input that a comparison gives, 0 where it gives none
-input_of : Comparison → ℕ
-input_of Comparison.Equal = 0
-input_of (Comparison.Differs d) = d.input
-input_of Comparison.Declined = 0
+input_of : Option Comparison → ℕ
+input_of (some Comparison.Equal) = 0
+input_of (some (Comparison.Differs d)) = d.input
+input_of none = 0
 
 differs-injective : (o : Option ℕ) (x : ℕ) → comparison_of o ≡ comparison_of (some x) → o ≡ some x
 unfolding comparison_of input_of

@@ -58,7 +58,6 @@ use Rattle.engine.specs.Rectify.{rectifies, rectifiable, vector_loop}
 use Rattle.engine.specs.Support.{reading, driven_by, Carries, shared, sound, table_of, candidate_nets, subsets, cost, patch_gates, better}
 use Rattle.engine.specs.Verdict.{patch, unfixable, blind, ruling, four_bytes, judge_sheet, choose_sheet, longest_judge, longest_choose, judge_number, judged_bytes, choose_number, chosen_bytes}
 use Rattle.engine.specs.Reply.{judgement_fields, declined_judge, judge_reply, choice_fields, declined_choose, choose_reply, comparison_of, compare_number, compare_reply, fit_number, fit_reply, fitted_buffer}
-use Rattle.engine.specs.declared.comparing.Comparison.TheVariants as Comparison
 use Rattle.engine.specs.Tree.{column}
 use Rattle.engine.specs.Fit.{trees, fitted, fitted_bytes, fits, longest_fit}
 
@@ -460,7 +459,7 @@ CompareAccepts =
 abbrev pub CompareRefuses : Type 0
 CompareRefuses =
     (s p : List ℕ) → (compare_number s p ≡ 0 → ⊥)
-    → compare_reply s p ≡ record { number = compare_number s p; result = Comparison.Declined }
+    → compare_reply s p ≡ record { number = compare_number s p; result = none }
 
 -- Document 01: "Compare says equal, or gives the smallest input at which the driven old outputs differ from the golden ones."
 abbrev pub ComparesEqual : Type 0

@@ -5,7 +5,7 @@ ghost use Rattle.records.specs.Claims.{Below};
 ghost use Rattle.records.specs.Parts.{PartsOf};
 ghost use Rattle.engine.specs.Support.{sound, candidate_nets, chosen};
 ghost use Rattle.engine.specs.Verdict.{blind_reading, chosen_bytes};
-ghost use Rattle.engine.specs.Reply.{declined_choose, choose_reply};
+ghost use Rattle.engine.specs.Reply.{choose_told, choose_reply};
 ghost use Rattle.engine.specs.Inner.Miter.{SomeParts, MiterRoom, MergedOf};
 ghost use Rattle.engine.specs.Inner.Plan.{NetsRead};
 ghost use Rattle.engine.specs.Inner.Search.{SetsTo};
@@ -23,7 +23,7 @@ use super::planning::plan_of;
 use super::search::{Met, sets_of_inputs};
 use super::sheet::{put_blind, put_patch};
 use super::table::{fill_notes, fill_table, reading_count};
-use records::{Check, JobParts, Support, load};
+use records::{JobParts, Refusal, Support, load};
 
 #[derive(Clone, Copy)]
 pub struct PatchCost {
@@ -35,41 +35,28 @@ pub struct BlindReading {
     pub reading: u16,
 }
 
-// A patch or a blind reading; declined where the call is.
+// A patch or a blind reading.
 #[derive(Clone, Copy)]
 pub enum Choice {
     Patch(PatchCost),
     Blind(BlindReading),
-    Declined,
 }
 
-// The number, how many bytes of the reply buffer the sheet takes, and the choice; on refusal the length is 0.
+// How many bytes of the reply buffer the sheet takes, and the choice.
 #[derive(Clone, Copy)]
-pub struct ChooseReply {
-    pub number: u8,
+pub struct ChosenSheet {
     pub len: usize,
     pub verdict: Choice,
 }
 
-fn declined(number: u8) -> ChooseReply
-    ensures { result ≡ declined_choose number }
-{
-    ChooseReply {
-        number,
-        len: 0,
-        verdict: Choice::Declined,
-    }
-}
-
 // The choice where the inputs of a reading share no vector, and its sheet.
-fn rule_blind(reading: usize, reply: &mut [u8]) -> ChooseReply
+fn rule_blind(reading: usize, reply: &mut [u8]) -> ChosenSheet
     requires { (reading < 65536) × (2084 ≤ length reply.old) }
     ensures { (j : Job) → sound j (candidate_nets j) ≡ false → reading ≡ blind_reading j
-        → ChosenJob j reply.old result reply.new }
+        → ChosenJob j reply.old (choose_told (Ok result)) reply.new }
 {
     let len = put_blind(reply, reading);
-    ChooseReply {
-        number: 0,
+    ChosenSheet {
         len,
         verdict: Choice::Blind(BlindReading {
             reading: reading as u16,
@@ -78,16 +65,15 @@ fn rule_blind(reading: usize, reply: &mut [u8]) -> ChooseReply
 }
 
 // The choice where all candidates together are sound: the chosen support with its table and notes, and its sheet.
-fn rule_patch(support: Support, cost: u32, sets: &[u32; READINGS], reply: &mut [u8]) -> ChooseReply
+fn rule_patch(support: Support, cost: u32, sets: &[u32; READINGS], reply: &mut [u8]) -> ChosenSheet
     requires { HeldSupport support × (2084 ≤ length reply.old) }
     ensures { (j : Job) → sound j (candidate_nets j) ≡ true → ChosenOf j support cost sets.now
-        → Unseen j (chosen j) sets.now → ChosenJob j reply.old result reply.new }
+        → Unseen j (chosen j) sets.now → ChosenJob j reply.old (choose_told (Ok result)) reply.new }
 {
     let table = fill_table(sets, support.len);
     let notes = fill_notes(sets, support.len);
     let len = put_patch(reply, support, &table, cost, &notes);
-    ChooseReply {
-        number: 0,
+    ChosenSheet {
         len,
         verdict: Choice::Patch(PatchCost { cost }),
     }
@@ -107,9 +93,9 @@ fn reading_sets(miter: Miter, reads: Support) -> Met
 }
 
 // The choice on a good job's parts, and its sheet.
-fn choose_job(job: JobParts, reply: &mut [u8]) -> ChooseReply
+fn choose_job(job: JobParts, reply: &mut [u8]) -> ChosenSheet
     requires { SomeParts job × Below 1024 job.nets × (2084 ≤ length reply.old) }
-    ensures { (j : Job) → PartsOf j job → ChosenJob j reply.old result reply.new }
+    ensures { (j : Job) → PartsOf j job → ChosenJob j reply.old (choose_told (Ok result)) reply.new }
 {
     let candidates = job.counts.candidates;
     let nets = job.nets;
@@ -150,17 +136,13 @@ fn choose_job(job: JobParts, reply: &mut [u8]) -> ChooseReply
 // spared, and some 10 to 40 us where gates show which readings of the support no input gives (see imply.rt); else, for each block that was
 // spared until all readings are seen, one gate evaluation a gate that leads to the support, and some 1,000 steps where the block may give an
 // unseen reading, which is about what it would have cost at most. A job of at most six inputs costs as in judge.
-pub fn choose(job: &[u8], reply: &mut [u8]) -> ChooseReply
-    ensures reply { result ≡ choose_reply reply.old job.now }
+pub fn choose(job: &[u8], reply: &mut [u8]) -> Result<ChosenSheet, Refusal>
+    ensures reply { choose_told result ≡ choose_reply reply.old job.now }
     ensures lent { reply.new ≡ chosen_bytes reply.old job.now }
 {
     if reply.len() < LONGEST_CHOOSE {
-        return declined(1);
+        return Err(Refusal::Room);
     }
-    let parts = load(job);
-    let check = parts.check;
-    let Check::Passed = check else {
-        return declined(parts.number);
-    };
-    choose_job(parts, reply)
+    let parts = load(job)?;
+    Ok(choose_job(parts, reply))
 }

@@ -3,7 +3,7 @@ ghost use Rattle.std.specs.Prelude.{◌≡◌, List, ℕ, ◌+◌, ◌≤◌, �
 ghost use Rattle.records.specs.Job.{Job};
 ghost use Rattle.records.specs.Parts.{PartsOf};
 ghost use Rattle.engine.specs.Compare.{difference};
-ghost use Rattle.engine.specs.Reply.{comparison_of, compare_reply};
+ghost use Rattle.engine.specs.Reply.{comparison_of, compare_told, compare_reply};
 ghost use Rattle.engine.specs.Inner.Miter.{SomeParts};
 ghost use Rattle.engine.specs.Inner.Comparing.{PlanReads, TableCopied, sheet_comparison};
 
@@ -16,32 +16,25 @@ use super::planning::plan_of;
 use super::search::read_block;
 use super::table::reading_count;
 use super::word::first_zero;
-use records::{Check, JobParts, load, read_sheet};
+use records::{JobParts, Refusal, load, read_sheet};
 
 #[derive(Clone, Copy)]
 pub struct DifferingInput {
     pub input: u32,
 }
 
-// Equal, or the smallest input at which the driven old outputs differ from the golden ones; declined where the call is.
+// Equal, or the smallest input at which the driven old outputs differ from the golden ones.
 #[derive(Clone, Copy)]
 pub enum Comparison {
     Equal,
     Differs(DifferingInput),
-    Declined,
-}
-
-#[derive(Clone, Copy)]
-pub struct CompareReply {
-    pub number: u8,
-    pub result: Comparison,
 }
 
 // The smallest input at which the old outputs driven by the table differ from the golden ones. It costs, for each block of 1,024
 // inputs up to the one with the difference, one gate evaluation a gate of both netlists.
 fn first_difference(plan: &Plan, table: &[u16; READINGS]) -> Comparison
     ensures { (j : Job) (is : List ℕ) → PlanReads j is plan.now
-        → result ≡ comparison_of (difference j is table.now) }
+        → (compare_told (Ok result)).result ≡ comparison_of (difference j is table.now) }
 {
     let size = 1usize << plan.inputs;
     let mut words = [0u64; WORDS];
@@ -75,42 +68,25 @@ fn table_of(sheet: &[u8], start: usize, count: usize) -> [u16; READINGS]
 }
 
 // The comparison of a good job with a sheet's bytes.
-fn compare_sheet(job: JobParts, sheet: &[u8]) -> CompareReply
+fn compare_sheet(job: JobParts, sheet: &[u8]) -> Result<Comparison, Refusal>
     requires { SomeParts job }
-    ensures { (j : Job) → PartsOf j job → result ≡ sheet_comparison j sheet.now }
+    ensures { (j : Job) → PartsOf j job → compare_told result ≡ sheet_comparison j sheet.now }
 {
     let counts = job.counts;
     let nets = job.nets;
     let weights = job.weights;
-    let answer = read_sheet(counts.targets, counts.candidates, &nets, &weights, sheet);
-    if answer.number != 0 {
-        return CompareReply {
-            number: answer.number,
-            result: Comparison::Declined,
-        };
-    }
-    let support = answer.support;
-    let table = table_of(sheet, answer.table, reading_count(support.len));
+    let patch = read_sheet(counts.targets, counts.candidates, &nets, &weights, sheet)?;
+    let support = patch.support;
+    let table = table_of(sheet, patch.table, reading_count(support.len));
     let plan = plan_of(merged_miter(job), support, 0);
-    CompareReply {
-        number: 0,
-        result: first_difference(&plan, &table),
-    }
+    Ok(first_difference(&plan, &table))
 }
 
 // The service compare: whether the old circuit driven by the sheet's table has the golden outputs, or the smallest input at
 // which it has not. Refused are what read refuses of the job and read_sheet of the sheet. It costs, for each block of 1,024 inputs
 // up to the one with the difference, one gate evaluation a gate of both netlists, but for what judge leaves out too.
-pub fn compare(job: &[u8], sheet: &[u8]) -> CompareReply
-    ensures { result ≡ compare_reply job.now sheet.now }
+pub fn compare(job: &[u8], sheet: &[u8]) -> Result<Comparison, Refusal>
+    ensures { compare_told result ≡ compare_reply job.now sheet.now }
 {
-    let parts = load(job);
-    let check = parts.check;
-    let Check::Passed = check else {
-        return CompareReply {
-            number: parts.number,
-            result: Comparison::Declined,
-        };
-    };
-    compare_sheet(parts, sheet)
+    compare_sheet(load(job)?, sheet)
 }

@@ -3,7 +3,7 @@ ghost use Rattle.std.specs.Prelude.{◌≡◌, [], ℕ, ◌+◌, ◌^◌, ◌≤
 ghost use Rattle.records.specs.Job.{Job};
 ghost use Rattle.records.specs.Sheet.{patch_of};
 ghost use Rattle.records.specs.Parts.{PartsOf};
-ghost use Rattle.engine.specs.Reply.{fit_reply, fitted_buffer};
+ghost use Rattle.engine.specs.Reply.{fit_told, fit_reply, fitted_buffer};
 ghost use Rattle.engine.specs.Inner.Miter.{SomeParts};
 ghost use Rattle.engine.specs.Inner.Tree.{Nets, GateRoom, trees_size};
 ghost use Rattle.engine.specs.Fit.{fitted_bytes};
@@ -17,14 +17,7 @@ use super::planning::mark_from;
 use super::renumber::{NewSide, OldSide, move_nets, number_inputs, place_marked};
 use super::table::reading_count;
 use super::tree::{put_trees, trees_size};
-use records::{CANDIDATES, Check, GATES, JobParts, OUTPUTS, Support, load, read_sheet};
-
-// The number, and how many bytes of the reply buffer the patched netlist takes; on refusal the length is 0.
-#[derive(Clone, Copy)]
-pub struct FitReply {
-    pub number: u8,
-    pub len: usize,
-}
+use records::{CANDIDATES, GATES, JobParts, OUTPUTS, Refusal, Support, load, read_sheet};
 
 // A tree for each target, over the support's nets at their new numbers, behind the new gates. The targets get the nets of their
 // trees as their numbers.
@@ -83,7 +76,7 @@ fn place_gates(old: OldSide, support: Support, table: &[u8]) -> NewSide
     place_marked(old, 1, grown)
 }
 
-// The reply to a patch that can be fitted to the old side with the first count outputs, and its netlist, or number 9.
+// How many bytes the netlist takes of a patch that can be fitted to the old side with the first count outputs, or that it has too many gates.
 fn fit_patch(
     old: OldSide,
     outputs: [u16; OUTPUTS],
@@ -91,7 +84,7 @@ fn fit_patch(
     support: Support,
     table: &[u8],
     reply: &mut [u8],
-) -> FitReply
+) -> Result<usize, Refusal>
     requires fittable { Fittable old support table.now × (4075 ≤ length reply.old) }
     requires count_bound { (count ≤ 32) × ((i : ℕ) → i < count → get_or outputs i 0 < old_base old + old.count) }
     ensures { FitGives
@@ -99,43 +92,36 @@ fn fit_patch(
         (take (2 ^ support.len) table.now))
         (fitted_bytes (side_job old (take count outputs)) (take support.len support.nets)
         (take (2 ^ support.len) table.now))
-        reply.old result reply.new }
+        reply.old (fit_told result) reply.new }
 {
     let size = trees_size(table, support.len, old.targets);
     if GATES < old.count + size {
-        return FitReply { number: 9, len: 0 };
+        return Err(Refusal::Size);
     }
     let new = place_gates(old, support, table);
     let numbers = new.numbers;
     let gates = new.gates;
     let mut nets = [0u16; OUTPUTS];
     move_nets(&outputs, count, &numbers, &mut nets);
-    let len = put_netlist(reply, old.inputs, gates, new.count, nets, count);
-    FitReply { number: 0, len }
+    Ok(put_netlist(reply, old.inputs, gates, new.count, nets, count))
 }
 
-// The reply to a sheet's bytes for a job's parts and old side, and its netlist, or number 7, 8 or 9.
-fn fit_sheet(old: OldSide, job: JobParts, sheet: &[u8], reply: &mut [u8]) -> FitReply
+// The same of a sheet's bytes, for a job's parts and old side, or why it is refused.
+fn fit_sheet(old: OldSide, job: JobParts, sheet: &[u8], reply: &mut [u8]) -> Result<usize, Refusal>
     requires { FitReady old job × (4075 ≤ length reply.old) }
     ensures { (j : Job) → PartsOf j job → OldOf j old
         → FitGives (sheet_fit_number j sheet.now)
         (fitted_bytes j (patch_of sheet.now).support (patch_of sheet.now).table)
-        reply.old result reply.new }
+        reply.old (fit_told result) reply.new }
 {
     let counts = job.counts;
     let nets = job.nets;
     let weights = job.weights;
-    let answer = read_sheet(counts.targets, counts.candidates, &nets, &weights, sheet);
-    if answer.number != 0 {
-        return FitReply {
-            number: answer.number,
-            len: 0,
-        };
-    }
+    let patch = read_sheet(counts.targets, counts.candidates, &nets, &weights, sheet)?;
     let outputs = job.outputs;
     let side = counts.old;
-    let support = answer.support;
-    let start = answer.table;
+    let support = patch.support;
+    let start = patch.table;
     let end = start + reading_count(support.len);
     fit_patch(
         old,
@@ -169,25 +155,17 @@ fn old_side(job: JobParts) -> OldSide
     }
 }
 
-// The service fit: the patched netlist of a job's bytes and a sheet's, at the start of the reply buffer. Refused are a buffer
+// The service fit: the patched netlist of a job's bytes and a sheet's, at the start of the reply buffer; how many bytes it takes. Refused are a buffer
 // below 4,075 bytes (1), what read refuses of the job (2 to 6) and read_sheet of the sheet (7, 8), and a patched netlist of more
 // than 400 gates (9). It evaluates no gate: it passes four times over the old gates, once over the golden ones, and at most
 // 6 * (k + 1) times over each target's column of the table, for a support of k nets.
-pub fn fit(job: &[u8], sheet: &[u8], reply: &mut [u8]) -> FitReply
-    ensures reply { result ≡ fit_reply reply.old job.now sheet.now }
+pub fn fit(job: &[u8], sheet: &[u8], reply: &mut [u8]) -> Result<usize, Refusal>
+    ensures reply { fit_told result ≡ fit_reply reply.old job.now sheet.now }
     ensures lent { reply.new ≡ fitted_buffer reply.old job.now sheet.now }
 {
     if reply.len() < LONGEST_FIT {
-        return FitReply { number: 1, len: 0 };
+        return Err(Refusal::Room);
     }
-    let parts = load(job);
-    let check = parts.check;
-    let Check::Passed = check else {
-        return FitReply {
-            number: parts.number,
-            len: 0,
-        };
-    };
-    let old = old_side(parts);
-    fit_sheet(old, parts, sheet, reply)
+    let parts = load(job)?;
+    fit_sheet(old_side(parts), parts, sheet, reply)
 }

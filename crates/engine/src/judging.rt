@@ -4,7 +4,7 @@ ghost use Rattle.records.specs.Job.{Job};
 ghost use Rattle.records.specs.Claims.{Below};
 ghost use Rattle.records.specs.Parts.{PartsOf};
 ghost use Rattle.engine.specs.Verdict.{judged_bytes};
-ghost use Rattle.engine.specs.Reply.{declined_judge, judge_reply};
+ghost use Rattle.engine.specs.Reply.{judge_told, judge_reply};
 ghost use Rattle.engine.specs.Rectify.{vector_loop};
 ghost use Rattle.engine.specs.Inner.List.{listed_of};
 ghost use Rattle.engine.specs.Support.{candidate_nets};
@@ -21,48 +21,35 @@ use super::miter::Miter;
 use super::narrow::list_of_words;
 use super::planning::plan_of;
 use super::sheet::{put_unfixable, put_vectors};
-use records::{Check, JobParts, Support, load};
+use records::{JobParts, Refusal, Support, load};
 
 #[derive(Clone, Copy)]
 pub struct UnfixableInput {
     pub input: u32,
 }
 
-// Every input is fixable, or the smallest that is not; declined where the call is.
+// Every input is fixable, or the smallest that is not.
 #[derive(Clone, Copy)]
 pub enum Judgement {
     Fixable,
     Unfixable(UnfixableInput),
-    Declined,
 }
 
-// The number, how many bytes of the reply buffer the sheet takes, and the judgement; on refusal the length is 0.
+// How many bytes of the reply buffer the sheet takes, and the judgement.
 #[derive(Clone, Copy)]
-pub struct JudgeReply {
-    pub number: u8,
+pub struct JudgedSheet {
     pub len: usize,
     pub verdict: Judgement,
 }
 
-fn declined(number: u8) -> JudgeReply
-    ensures { result ≡ declined_judge number }
-{
-    JudgeReply {
-        number,
-        len: 0,
-        verdict: Judgement::Declined,
-    }
-}
-
 // The judgement that the vector list of all inputs gives, and its sheet: where the list is stuck, that input is unfixable.
-fn rule_list(list: Vectors, reply: &mut [u8]) -> JudgeReply
+fn rule_list(list: Vectors, reply: &mut [u8]) -> JudgedSheet
     requires { IfSome list.stuck (λ x. x < 4294967296) × (26 ≤ length reply.old) }
-    ensures { (j : Job) → listed_of list ≡ vector_loop j → JudgedJob j reply.old result reply.new }
+    ensures { (j : Job) → listed_of list ≡ vector_loop j → JudgedJob j reply.old (judge_told (Ok result)) reply.new }
 {
     if let Some(input) = list.stuck {
         let len = put_unfixable(reply, input, list.list, list.len);
-        return JudgeReply {
-            number: 0,
+        return JudgedSheet {
             len,
             verdict: Judgement::Unfixable(UnfixableInput {
                 input: input as u32,
@@ -70,8 +57,7 @@ fn rule_list(list: Vectors, reply: &mut [u8]) -> JudgeReply
         };
     }
     let len = put_vectors(reply, 0, list.list, list.len);
-    JudgeReply {
-        number: 0,
+    JudgedSheet {
         len,
         verdict: Judgement::Fixable,
     }
@@ -90,9 +76,9 @@ fn vector_list(miter: Miter, reads: Support) -> Vectors
 }
 
 // The judgement on a good job's parts, and its sheet.
-fn judge_job(job: JobParts, reply: &mut [u8]) -> JudgeReply
+fn judge_job(job: JobParts, reply: &mut [u8]) -> JudgedSheet
     requires { SomeParts job × Below 1024 job.nets × (26 ≤ length reply.old) }
-    ensures { (j : Job) → PartsOf j job → JudgedJob j reply.old result reply.new }
+    ensures { (j : Job) → PartsOf j job → JudgedJob j reply.old (judge_told (Ok result)) reply.new }
 {
     let nets = job.nets;
     let candidates = Support {
@@ -112,17 +98,13 @@ fn judge_job(job: JobParts, reply: &mut [u8]) -> JudgeReply
 // both circuits with what leads to them alone (see merge.rt). Partial evaluation is tried on each 2 ^ 15 inputs: one gate evaluation a gate
 // on 0, 1 and not yet known, which may spare all their blocks. It is given up where it settles too little: after eight such ranges where it
 // settles none. A job of at most six inputs costs one gate evaluation a gate for each vector, on one word (see narrow.rt).
-pub fn judge(job: &[u8], reply: &mut [u8]) -> JudgeReply
-    ensures reply { result ≡ judge_reply reply.old job.now }
+pub fn judge(job: &[u8], reply: &mut [u8]) -> Result<JudgedSheet, Refusal>
+    ensures reply { judge_told result ≡ judge_reply reply.old job.now }
     ensures lent { reply.new ≡ judged_bytes reply.old job.now }
 {
     if reply.len() < LONGEST_JUDGE {
-        return declined(1);
+        return Err(Refusal::Room);
     }
-    let parts = load(job);
-    let check = parts.check;
-    let Check::Passed = check else {
-        return declined(parts.number);
-    };
-    judge_job(parts, reply)
+    let parts = load(job)?;
+    Ok(judge_job(parts, reply))
 }

@@ -105,7 +105,7 @@ number_of Refusal.Size = 9
 abbrev pub Numbers : Refusal → ℕ → Type 0
 Numbers e n = n ≡ number_of e
 
-unfoldable pub told_number : {A : Type 0} → Result A Refusal → ℕ
+abbrev pub told_number : {A : Type 0} → Result A Refusal → ℕ
 told_number (Ok _) = 0
 told_number (Err e) = number_of e
 
@@ -164,7 +164,7 @@ no_counts =
       candidates = 0;
     }
 
-unfoldable pub read_told : Result Counts Refusal → ReadReply
+abbrev pub read_told : Result Counts Refusal → ReadReply
 read_told (Ok counts) = record { number = 0; counts = counts }
 read_told (Err e) = record { number = number_of e; counts = no_counts }
 
@@ -201,7 +201,7 @@ parts_in c p =
       weights = p.weights;
     }
 
-unfoldable pub load_told : Result JobParts Refusal → Loaded
+abbrev pub load_told : Result JobParts Refusal → Loaded
 load_told (Ok parts) = record { number = 0; parts = parts }
 load_told (Err e) = record { number = number_of e; parts = parts_in no_counts empty_places }
 
@@ -252,7 +252,7 @@ pub record WriteReply : Type 0 where
   pub number : ℕ
   pub len : ℕ
 
-unfoldable pub write_told : Result ℕ Refusal → WriteReply
+abbrev pub write_told : Result ℕ Refusal → WriteReply
 write_told (Ok len) = record { number = 0; len = len }
 write_told (Err e) = record { number = number_of e; len = 0 }
 
@@ -279,7 +279,7 @@ pub record SheetReply : Type 0 where
   pub table : ℕ
   pub cost : ℕ
 
-unfoldable pub sheet_told : Result PatchSheet Refusal → SheetReply
+abbrev pub sheet_told : Result PatchSheet Refusal → SheetReply
 sheet_told (Ok p) = record { number = 0; support = p.support; table = p.table; cost = p.cost }
 sheet_told (Err e) =
     record { number = number_of e; support = record { nets = replicate max_candidates 0; len = 0 }; table = 0; cost = 0 }

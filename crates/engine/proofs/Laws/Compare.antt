@@ -6,22 +6,24 @@ use mathlib.Core.List.{List, [], ◌∷◌, ◌++◌, append_assoc, append-nil}
 use mathlib.Core.Bool.{Bool, true, false, cond, not}
 use native.Mathlib.Nat.{one-mul, mod-eq_of_lt}
 use native.Mathlib.Omega.{arith}
-use borrow.Author.Tests.{le-leb, ltb-true, ltb-false, eqb-true, eqb-false, eq-eqb, ne_eqb}
-use lib.Dec.{ltb, eqb, lit<}
+use borrow.Author.Tests.{le-leb, ltb-true, ltb-false, eq-eqb, ne_eqb}
+use lib.Dec.{ltb, lit<}
 use lib.ListN.{length, get_or, take, drop, replicate, get_or-eq_default, length-take}
 use lib.Pow.{pow_mono, shl_exact}
 use lib.Seq.{get_or-take, get_or-drop}
 use Rattle.records.specs.Job.{Job, job_of}
 use Rattle.records.specs.Refusal.{Test, first_failing, part_tests, job_tests, job_refusal}
 use Rattle.records.specs.Sheet.{patch_of, sheet_whole, sheet_tests}
-use Rattle.records.specs.Service.{check_of, loaded, sheet_roomy, sheet_number, sheet_reply}
+use Rattle.records.specs.Service.{load_told, loaded, sheet_roomy, sheet_number, sheet_reply}
+use Rattle.records.specs.declared.refusal.Refusal.{Refusal}
+use Rattle.std.specs.Prelude.{Err}
+use mathlib.Core.Option.{Option, none, some}
+use Rattle.engine.specs.Reply.{compare_told}
 use Rattle.records.specs.Parts.{PartsOf}
-use Rattle.records.specs.declared.field.Check.TheVariants as Check
 use Rattle.records.specs.declared.loading.JobParts.{JobParts}
-use Rattle.records.specs.declared.sheet.SheetReply.{SheetReply}
+use Rattle.records.specs.Service.{SheetReply}
 use Rattle.records.proofs.Laws.Accepted.{job-accepts}
-use Rattle.records.proofs.Laws.Counts.{passes, fails}
-use Rattle.records.proofs.Laws.Loading.{loaded-number, loaded-check, loaded-parts}
+use Rattle.engine.proofs.Laws.Loaded.{refused-number, refused-job}
 use Rattle.records.proofs.Laws.Notes.{tests-seven, seven-exactly as sheet-seven}
 use Rattle.engine.specs.Choice.{first}
 use Rattle.engine.specs.Eval.{all_inputs}
@@ -148,7 +150,7 @@ module _ {p : Plan} {table row : List ℕ} {size b count r : ℕ} (s : Scanning 
 
   -- the first difference
   pub scanned-differs : r < count → (j : Job) (is : List ℕ) → PlanReads j is p
-      → Comparison.Differs (record { input = 1024 * b + r }) ≡ comparison_of (difference j is table)
+      → some (Comparison.Differs (record { input = 1024 * b + r })) ≡ comparison_of (difference j is table)
   unfolding comparison_of difference all_inputs
   scanned-differs a j is q =
       let n : size ≡ 2 ^ j.inputs = s.all ∙ ap (λ (k : ℕ). 2 ^ k) q.planned.inputs in
@@ -156,7 +158,7 @@ module _ {p : Plan} {table row : List ℕ} {size b count r : ℕ} (s : Scanning 
 
 -- .. none
 pub scanned-equal : {p : Plan} {table : List ℕ} {size b : ℕ} → Scanning p table size b → size ≤ 1024 * b
-    → (j : Job) (is : List ℕ) → PlanReads j is p → Comparison.Equal ≡ comparison_of (difference j is table)
+    → (j : Job) (is : List ℕ) → PlanReads j is p → some Comparison.Equal ≡ comparison_of (difference j is table)
 unfolding comparison_of difference all_inputs
 scanned-equal {p} {table} {size} {b} s h j is q =
     let n : size ≡ 2 ^ j.inputs = s.all ∙ ap (λ (k : ℕ). 2 ^ k) q.planned.inputs in
@@ -192,17 +194,17 @@ difference-alike j is t u e = λ k. first (λ x. not (rectifies j x (e (reading 
 
 module _ {j : Job} {parts : JobParts} (q : PartsOf j parts) (p : List ℕ) {s : SheetReply}
     (e : s ≡ sheet_reply parts.counts.targets parts.counts.candidates parts.nets parts.weights p) where
-  pub declined-sheet : (s.number ≡ 0 → ⊥) → record { number = s.number; result = Comparison.Declined } ≡ sheet_comparison j p
+  pub declined-sheet : (s.number ≡ 0 → ⊥) → record { number = s.number; result = none } ≡ sheet_comparison j p
   unfolding sheet_comparison declined_comparison
   declined-sheet z = rw (parts-number q p e, ne_eqb s.number 0 z)
 
-  sheet-accepted : s.number ≡ 0 → (o : Comparison) → o ≡ comparison_of (difference j (patch_of p).support (patch_of p).table)
+  sheet-accepted : s.number ≡ 0 → (o : Option Comparison) → o ≡ comparison_of (difference j (patch_of p).support (patch_of p).table)
       → record { number = 0; result = o } ≡ sheet_comparison j p
   unfolding sheet_comparison
   sheet-accepted z o r = rw (parts-number q p e, eq-eqb s.number 0 z, r)
 
   pub compared-sheet : s.number ≡ 0 → (k : ℕ) → k ≡ 2 ^ s.support.len → {table : List ℕ} → TableCopied p s.table k table
-      → {o : Comparison} → o ≡ comparison_of (difference j (patch_of p).support table)
+      → {o : Option Comparison} → o ≡ comparison_of (difference j (patch_of p).support table)
       → record { number = 0; result = o } ≡ sheet_comparison j p
   compared-sheet z k n {table} t {o} r =
       let is = (patch_of p).support in
@@ -233,28 +235,17 @@ passing-append s us n =
     let a = (job-accepts true s).0 n in
     rw (a.1, a.2.counts, a.2.gates, a.2.outputs, a.2.candidates)
 
-module _ (s : List ℕ) {r : JobParts} (e : r ≡ loaded s) where
-  check-job : r.check ≡ check_of (eqb (job_refusal s) 0)
-  check-job = ap (λ (x : JobParts). x.check) e ∙ loaded-check s
-
-  pub declined-job : (q : List ℕ) → r.check ≡ Check.Failed
-      → record { number = r.number; result = Comparison.Declined } ≡ compare_reply s q
+module _ (s : List ℕ) (q : List ℕ) where
+  pub declined-job : (x : Refusal) → load_told (Err x) ≡ loaded s → compare_told (Err x) ≡ compare_reply s q
   unfolding compare_reply compare_number pair_tests job_refusal
-  declined-job q f =
-      let n : r.number ≡ job_refusal s = ap (λ (x : JobParts). x.number) e ∙ loaded-number s in
-      let z = eqb-false (job_refusal s) 0 (fails (eqb (job_refusal s) 0) (sym check-job ∙ f)) in
-      rw (n, failing-append (job_tests s) (sheet_tests (job_of s).targets (job_of s).candidates q) z, ne_eqb (job_refusal s) 0 z)
+  declined-job x e =
+      let n = refused-number s x e in
+      let z = refused-job s x e in
+      rw (← n, failing-append (job_tests s) (sheet_tests (job_of s).targets (job_of s).candidates q) z, ne_eqb (job_refusal s) 0 z)
 
-  module _ (f : r.check ≡ Check.Passed) where
-    accepted-number : job_refusal s ≡ 0
-    accepted-number = eqb-true (job_refusal s) 0 (passes (eqb (job_refusal s) 0) (sym check-job ∙ f))
-
-    pub accepted-job : PartsOf (job_of s) r
-    accepted-job = rw e (loaded-parts s accepted-number)
-
-    pub compared-job : (q : List ℕ) → sheet_comparison (job_of s) q ≡ compare_reply s q
-    unfolding compare_reply compare_number pair_tests sheet_comparison declined_comparison
-    compared-job q = rw (passing-append s (sheet_tests (job_of s).targets (job_of s).candidates q) accepted-number)
+  pub compared-job : job_refusal s ≡ 0 → sheet_comparison (job_of s) q ≡ compare_reply s q
+  unfolding compare_reply compare_number pair_tests sheet_comparison declined_comparison
+  compared-job z = rw (passing-append s (sheet_tests (job_of s).targets (job_of s).candidates q) z)
 
 -- ---- sheets that get 7
 

@@ -14,15 +14,18 @@ use Rattle.records.specs.Netlist.{net_at}
 use Rattle.records.specs.Job.{Job, Candidate, job_of}
 use Rattle.records.specs.Refusal.{old_nets, first_failing, part_tests, job_tests, job_refusal}
 use Rattle.records.specs.Sheet.{patch_of, sheet_whole, patch_good, sheet_tests}
-use Rattle.records.specs.Service.{loaded, counts_of, side_counts_of, sheet_reply}
+use Rattle.records.specs.Service.{number_of, load_told, loaded, counts_of, side_counts_of, sheet_reply}
+use Rattle.records.specs.declared.refusal.Refusal.{Refusal}
+use Rattle.std.specs.Prelude.{Err}
+use Rattle.records.proofs.Laws.Reply.{refusal-number}
+use Rattle.engine.specs.Reply.{fit_told}
 use Rattle.records.specs.Claims.{PartsGood}
 use Rattle.records.specs.Parts.{PartsOf}
 use Rattle.records.specs.Inner.{Within}
-use Rattle.records.specs.declared.field.Check.TheVariants as Check
 use Rattle.records.specs.declared.job.Counts.{Counts}
 use Rattle.records.specs.declared.loading.JobParts.{JobParts}
 use Rattle.records.specs.declared.sheet.Support.{Support}
-use Rattle.records.specs.declared.sheet.SheetReply.{SheetReply}
+use Rattle.records.specs.Service.{SheetReply}
 use Rattle.records.proofs.Laws.Accepted.{passes-of-none, job-accepts}
 use Rattle.engine.specs.Inner.Sheet.{BytesPut}
 use Rattle.engine.specs.Fit.{led, gate_indices, new_free_gate, new_free_net, trees, new_gate, new_nets, moved_gates, fitted, fitted_bytes, fits, longest_fit}
@@ -31,7 +34,7 @@ use Rattle.engine.specs.Reply.{fit_tests, fit_number, fit_reply, fitted_buffer}
 use Rattle.engine.specs.Inner.Renumber.{gate_in, old_gates, old_base, OldHeld, unpacked}
 use Rattle.engine.specs.Inner.Fitting.{old_job, side_job, GatesPlaced, Fittable, patched_count, FitGives, patch_number, sheet_fit_number, OldOf}
 use Rattle.engine.specs.Inner.Netlist.{netlist_bytes}
-use Rattle.engine.specs.declared.fitting.FitReply.{FitReply}
+use Rattle.engine.specs.Reply.{FitReply}
 use Rattle.engine.specs.declared.renumber.NewSide.{NewSide}
 use Rattle.engine.specs.declared.renumber.OldSide.{OldSide}
 use Rattle.engine.proofs.Laws.Choice.{map-agree, all_true}
@@ -39,7 +42,7 @@ use Rattle.engine.proofs.Laws.Compare.{failing-append}
 use Rattle.engine.proofs.Laws.FitNets.{old-good, length-fitted, fitted-good, place_of, mem-at}
 use Rattle.engine.proofs.Laws.FitPlaced.{indices-all, gate-count, net-count, side-good, trees-count}
 use Rattle.engine.proofs.Laws.Fitted.{support-free}
-use Rattle.engine.proofs.Laws.Loaded.{refused-number, refused-job, accepted-job}
+use Rattle.engine.proofs.Laws.Loaded.{refused-number, refused-job}
 use Rattle.engine.proofs.Laws.Miter.{job-within, old-outputs-below}
 use Rattle.engine.proofs.Laws.PartsSheet.{parts-number, parts-sheet, parts-few}
 use Rattle.engine.proofs.Laws.SheetRead.{ReadSheet}
@@ -328,12 +331,9 @@ module _ (d s p : List ℕ) where
         let q : first_failing (js ++ ps) ≡ first_failing js = failing-append js ps z in
         rw (le-leb longest_fit (length d) l) (failing-append (js ++ ps) _ (λ y. z (sym q ∙ y)) ∙ q)
 
-    pub fit_refused : {r : JobParts} → r ≡ loaded s → r.check ≡ Check.Failed
-        → FitGives (fit_number d s p) bytes d (record { number = r.number; len = 0 }) d
-    fit_refused {r} e f =
-        let n = refused-number s e in
-        let z = refused-job s e f in
-        fit-declined r.number (failed-number (λ y. z (sym n ∙ y)) ∙ n) z
+    pub fit_refused : (x : Refusal) → load_told (Err x) ≡ loaded s → FitGives (fit_number d s p) bytes d (fit_told (Err x)) d
+    fit_refused x e =
+        fit-declined (number_of x) (failed-number (refused-job s x e) ∙ refused-number s x e) (refusal-number x)
 
     passed-number : job_refusal s ≡ 0 → fit_number d s p ≡ sheet_fit_number (job_of s) p
     unfolding fit_number fit_tests first_failing pair_tests job_tests part_tests sheet_fit_number job_refusal
@@ -341,6 +341,6 @@ module _ (d s p : List ℕ) where
         let a = (job-accepts true s).0 z in
         rw (le-leb longest_fit (length d) l, a.1, a.2.counts, a.2.gates, a.2.outputs, a.2.candidates)
 
-    pub fit-accepted : {r : JobParts} → r ≡ loaded s → r.check ≡ Check.Passed → {v : FitReply} {u : List ℕ}
+    pub fit-accepted : job_refusal s ≡ 0 → {v : FitReply} {u : List ℕ}
         → FitGives (sheet_fit_number (job_of s) p) bytes d v u → FitGives (fit_number d s p) bytes d v u
-    fit-accepted e f g = rw (passed-number (accepted-job s e f)) g
+    fit-accepted z g = rw (passed-number z) g

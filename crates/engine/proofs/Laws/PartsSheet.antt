@@ -17,7 +17,7 @@ use Rattle.records.specs.Parts.{PartsOf}
 use Rattle.records.specs.Inner.{Within}
 use Rattle.records.specs.declared.job.Counts.{Counts}
 use Rattle.records.specs.declared.loading.JobParts.{JobParts}
-use Rattle.records.specs.declared.sheet.SheetReply.{SheetReply}
+use Rattle.records.specs.Service.{SheetReply}
 use Rattle.records.proofs.Laws.Accepted.{below-of-all}
 use Rattle.records.proofs.Laws.Bytes.{and_left, and_both}
 use Rattle.engine.specs.Support.{candidate_nets}

@@ -5,7 +5,7 @@ use mathlib.Core.Path.{◌≡◌, refl, sym, ◌∙◌, ap, subst, fun_ext}
 use mathlib.Core.Logic.{◌↔◌, ⊎_elim}
 use mathlib.Core.List.{List, [], ◌∷◌, ◌++◌, map, map-map}
 use mathlib.Core.Bool.{Bool, true, false, cond, not}
-use mathlib.Core.Option.{Option}
+use mathlib.Core.Option.{Option, some}
 use native.Mathlib.Omega.{arith}
 use borrow.Author.Tests.{eq-eqb}
 use lib.Dec.{ltb, eqb}
@@ -278,10 +278,10 @@ module _ (ps : List ℕ) (j : Job) (g : PartsGood j) (w : Rearranges (length j.o
       ⊎_elim
       (λ e.
       (chosen-patch k (all-sound-same ∙ e)).0
-      ∙ ap (λ (is : List ℕ). Choice.Patch (record { cost = cost j is })) chosen-same
+      ∙ ap (λ (is : List ℕ). some (Choice.Patch (record { cost = cost j is }))) chosen-same
       ∙ sym (chosen-patch j e).0)
       (λ e.
       (chosen-blind k (all-sound-same ∙ e)).0
-      ∙ ap (λ (r : ℕ). Choice.Blind (record { reading = r })) blind-same
+      ∙ ap (λ (r : ℕ). some (Choice.Blind (record { reading = r }))) blind-same
       ∙ sym (chosen-blind j e).0)
       (true-or-false (sound j (candidate_nets j)))

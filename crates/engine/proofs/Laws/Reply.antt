@@ -18,8 +18,8 @@ use Rattle.engine.specs.Verdict.{judge_sheet, longest_judge, choose_sheet, longe
 use Rattle.engine.specs.Reply.{judgement_of, declined_judge, judge_reply, choice_of, declined_choose, choose_reply}
 use Rattle.engine.specs.Inner.Judging.{JudgedJob}
 use Rattle.engine.specs.Inner.Choosing.{ChosenJob}
-use Rattle.engine.specs.declared.judging.JudgeReply.{JudgeReply}
-use Rattle.engine.specs.declared.choosing.ChooseReply.{ChooseReply}
+use Rattle.engine.specs.Reply.{JudgeReply}
+use Rattle.engine.specs.Reply.{ChooseReply}
 
 -- ---- numbers
 

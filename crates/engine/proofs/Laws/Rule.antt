@@ -35,10 +35,11 @@ use Rattle.engine.specs.Inner.Table.{TableFilled, NotesFilled}
 use Rattle.engine.specs.Inner.Judging.{JudgedJob}
 use Rattle.engine.specs.Inner.Choosing.{ChosenJob}
 use Rattle.engine.specs.declared.list.Vectors.{Vectors}
+use mathlib.Core.Option.{Option as Maybe, some}
 use Rattle.engine.specs.declared.judging.Judgement.{Judgement}
-use Rattle.engine.specs.declared.judging.JudgeReply.{JudgeReply}
+use Rattle.engine.specs.Reply.{JudgeReply}
 use Rattle.engine.specs.declared.choosing.Choice.{Choice}
-use Rattle.engine.specs.declared.choosing.ChooseReply.{ChooseReply}
+use Rattle.engine.specs.Reply.{ChooseReply}
 use Rattle.engine.proofs.Laws.Loop.{stuck-iff}
 use Rattle.engine.proofs.Laws.Best.{chosen-sound}
 use Rattle.engine.proofs.Laws.Choice.{all_true, all-of-members}
@@ -62,10 +63,10 @@ module _ {R A : Type 0} (r : ℕ → A → R) {u v : A} {xs bs d e : List ℕ} {
 
 -- ---- judge
 
-abbrev judgement : ℕ → Judgement → JudgeReply
+abbrev judgement : ℕ → Maybe Judgement → JudgeReply
 judgement n v = record { number = 0; len = n; verdict = v }
 
-judged-put : (j : Job) {v : Judgement} {bs d e : List ℕ} {n : ℕ} → (judgement_of j ≡ v) × (judge_sheet j ≡ bs) → BytesPut d 0 bs e n
+judged-put : (j : Job) {v : Maybe Judgement} {bs d e : List ℕ} {n : ℕ} → (judgement_of j ≡ v) × (judge_sheet j ≡ bs) → BytesPut d 0 bs e n
     → JudgedJob j d (judgement n v) e
 judged-put j h w = record { reply = reply-put judgement h w; bytes = bytes-put judgement h w }
 
@@ -78,33 +79,33 @@ module _ (j : Job) (v : Vectors) (h : listed_of v ≡ vector_loop j) where
   vectors-of = ap (λ (l : Listed). l.vectors) (sym h)
 
   pub unfixable-judged : {d e : List ℕ} {n x : ℕ} → v.stuck ≡ Some x → BytesPut d 0 (field 20 (four_bytes x) ++ field 19 vectors) e n
-      → JudgedJob j d (judgement n (Judgement.Unfixable (record { input = x }))) e
+      → JudgedJob j d (judgement n (some (Judgement.Unfixable (record { input = x })))) e
   unfixable-judged {x = x} s =
       let f = judged-unfixable j (ap (λ (l : Listed). l.stuck) (sym h) ∙ listed-at v x s) in
       judged-put j (f.0, f.1 ∙ rw vectors-of)
 
   pub fixable-judged : {d e : List ℕ} {n : ℕ} → v.stuck ≡ None → BytesPut d 0 (field 19 vectors) e n
-      → JudgedJob j d (judgement n Judgement.Fixable) e
+      → JudgedJob j d (judgement n (some Judgement.Fixable)) e
   fixable-judged s =
       let f = judged-fixable j (ap (λ (l : Listed). l.stuck) (sym h) ∙ listed-going v s) in
       judged-put j (f.0, f.1 ∙ ap (field 19) vectors-of)
 
 -- ---- choose
 
-abbrev choice : ℕ → Choice → ChooseReply
+abbrev choice : ℕ → Maybe Choice → ChooseReply
 choice n v = record { number = 0; len = n; verdict = v }
 
-chosen-put : (j : Job) {v : Choice} {bs d e : List ℕ} {n : ℕ} → (choice_of j ≡ v) × (choose_sheet j ≡ bs) → BytesPut d 0 bs e n
+chosen-put : (j : Job) {v : Maybe Choice} {bs d e : List ℕ} {n : ℕ} → (choice_of j ≡ v) × (choose_sheet j ≡ bs) → BytesPut d 0 bs e n
     → ChosenJob j d (choice n v) e
 chosen-put j h w = record { reply = reply-put choice h w; bytes = bytes-put choice h w }
 
 module _ (j : Job) {d e : List ℕ} {n : ℕ} where
   pub blind-choice : {r : ℕ} → sound j (candidate_nets j) ≡ false → r ≡ blind_reading j → BytesPut d 0 (field 21 (byte_pair r)) e n
-      → ChosenJob j d (choice n (Choice.Blind (record { reading = r }))) e
+      → ChosenJob j d (choice n (some (Choice.Blind (record { reading = r })))) e
   blind-choice s q = let f = chosen-blind j s in chosen-put j (f.0 ∙ rw q, f.1 ∙ rw q)
 
   pub patch-choice : {is t ns : List ℕ} {c : ℕ} → sound j (candidate_nets j) ≡ true → is ≡ chosen j → t ≡ table_of j is → c ≡ cost j is
-      → ns ≡ notes_of j is → BytesPut d 0 (patch_bytes is t c ns) e n → ChosenJob j d (choice n (Choice.Patch (record { cost = c }))) e
+      → ns ≡ notes_of j is → BytesPut d 0 (patch_bytes is t c ns) e n → ChosenJob j d (choice n (some (Choice.Patch (record { cost = c })))) e
   patch-choice {is} s q a b g =
       let f = chosen-patch j s in
       chosen-put j (f.0 ∙ rw (b, q), f.1 ∙ sym (patch_bytes-sheet j is a b g ∙ rw q))

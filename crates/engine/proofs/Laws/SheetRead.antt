@@ -13,7 +13,7 @@ use Rattle.records.specs.Job.{Candidate, nets_of}
 use Rattle.records.specs.Refusal.{ascending}
 use Rattle.records.specs.Sheet.{Patch, patch_of, cost_of, is_candidate, patch_good}
 use Rattle.records.specs.Service.{candidates_from, sheet_number, sheet_reply}
-use Rattle.records.specs.declared.sheet.SheetReply.{SheetReply}
+use Rattle.records.specs.Service.{SheetReply}
 use Rattle.records.proofs.Laws.Bytes.{row_at}
 use Rattle.records.proofs.Laws.Accepted.{sheet-accepts}
 use Rattle.records.proofs.Laws.Sheet.{support-length}

@@ -91,21 +91,21 @@ module _ (j : Job) where
   vectors = (vector_loop j).vectors
 
   pub judged-unfixable : {x : ℕ} → (vector_loop j).stuck ≡ some x
-      → (judgement_of j ≡ Judgement.Unfixable (record { input = x })) × (judge_sheet j ≡ field 20 (four_bytes x) ++ field 19 vectors)
+      → (judgement_of j ≡ some (Judgement.Unfixable (record { input = x }))) × (judge_sheet j ≡ field 20 (four_bytes x) ++ field 19 vectors)
   unfolding judgement_of judge_sheet
   judged-unfixable e = (rw (judgement_of, e), rw (judge_sheet, e))
 
-  pub judged-fixable : (vector_loop j).stuck ≡ none → (judgement_of j ≡ Judgement.Fixable) × (judge_sheet j ≡ field 19 vectors)
+  pub judged-fixable : (vector_loop j).stuck ≡ none → (judgement_of j ≡ some Judgement.Fixable) × (judge_sheet j ≡ field 19 vectors)
   unfolding judgement_of judge_sheet
   judged-fixable e = (rw (judgement_of, e), rw (judge_sheet, e))
 
   pub chosen-patch : sound j (candidate_nets j) ≡ true
-      → (choice_of j ≡ Choice.Patch (record { cost = cost j (chosen j) })) × (choose_sheet j ≡ patch_sheet j (chosen j))
+      → (choice_of j ≡ some (Choice.Patch (record { cost = cost j (chosen j) }))) × (choose_sheet j ≡ patch_sheet j (chosen j))
   unfolding choice_of choose_sheet
   chosen-patch s = (rw (choice_of, s), rw (choose_sheet, s))
 
   pub chosen-blind : sound j (candidate_nets j) ≡ false
-      → (choice_of j ≡ Choice.Blind (record { reading = blind_reading j })) × (choose_sheet j ≡ field 21 (byte_pair (blind_reading j)))
+      → (choice_of j ≡ some (Choice.Blind (record { reading = blind_reading j }))) × (choose_sheet j ≡ field 21 (byte_pair (blind_reading j)))
   unfolding choice_of choose_sheet
   chosen-blind s = (rw (choice_of, s), rw (choose_sheet, s))
 

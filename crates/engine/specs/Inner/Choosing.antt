@@ -5,8 +5,7 @@ use Rattle.std.specs.Prelude.{ℕ, ◌≡◌, List, length}
 use Rattle.records.specs.Bytes.{placed}
 use Rattle.records.specs.Job.{Job}
 use Rattle.engine.specs.Verdict.{choose_sheet}
-use Rattle.engine.specs.Reply.{choice_of}
-use Rattle.engine.specs.declared.choosing.ChooseReply.{ChooseReply}
+use Rattle.engine.specs.Reply.{choice_of, ChooseReply}
 
 pub record ChosenJob (j : Job) (before : List ℕ) (r : ChooseReply) (after : List ℕ) : Type 0 where
   pub reply : r ≡ record { number = 0; len = length (choose_sheet j); verdict = choice_of j }

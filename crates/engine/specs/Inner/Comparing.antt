@@ -12,10 +12,9 @@ use Rattle.records.specs.Sheet.{patch_of, sheet_tests}
 use Rattle.engine.specs.Rectify.{rectifies}
 use Rattle.engine.specs.Support.{driven_by}
 use Rattle.engine.specs.Compare.{difference}
-use Rattle.engine.specs.Reply.{comparison_of}
+use Rattle.std.proofs.Math.Option.{none}
+use Rattle.engine.specs.Reply.{comparison_of, CompareReply}
 use Rattle.engine.specs.Inner.Plan.{PlannedOf}
-use Rattle.engine.specs.declared.comparing.Comparison.TheVariants as Comparison
-use Rattle.engine.specs.declared.comparing.CompareReply.{CompareReply}
 use Rattle.engine.specs.declared.plan.Plan.{Plan}
 
 abbrev pub differing : Job → List ℕ → List ℕ → ℕ → Bool
@@ -32,7 +31,7 @@ pub record TableCopied (sheet : List ℕ) (start count : ℕ) (table : List ℕ)
 -- ---- replies
 
 unfoldable pub declined_comparison : ℕ → CompareReply
-declined_comparison number = record { number = number; result = Comparison.Declined }
+declined_comparison number = record { number = number; result = none }
 
 unfoldable pub sheet_comparison : Job → List ℕ → CompareReply
 sheet_comparison j p =

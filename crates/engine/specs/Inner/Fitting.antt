@@ -21,7 +21,7 @@ use Rattle.records.specs.declared.sheet.Support.{Support}
 use Rattle.engine.specs.Fit.{led, Trees, trees_from, new_nets, fitted, fits}
 use Rattle.engine.specs.Inner.Packed.{packed_from, formed}
 use Rattle.engine.specs.Inner.Tree.{GatesPut, trees_size}
-use Rattle.engine.specs.declared.fitting.FitReply.{FitReply}
+use Rattle.engine.specs.Reply.{FitReply}
 use Rattle.engine.specs.declared.renumber.OldSide.{OldSide}
 use Rattle.engine.specs.declared.renumber.NewSide.{NewSide}
 use Rattle.engine.specs.Inner.Renumber.{OldHeld, old_gates}

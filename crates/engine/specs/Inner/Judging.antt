@@ -5,8 +5,7 @@ use Rattle.std.specs.Prelude.{ℕ, ◌≡◌, List, length}
 use Rattle.records.specs.Bytes.{placed}
 use Rattle.records.specs.Job.{Job}
 use Rattle.engine.specs.Verdict.{judge_sheet}
-use Rattle.engine.specs.Reply.{judgement_of}
-use Rattle.engine.specs.declared.judging.JudgeReply.{JudgeReply}
+use Rattle.engine.specs.Reply.{judgement_of, JudgeReply}
 
 pub record JudgedJob (j : Job) (before : List ℕ) (r : JudgeReply) (after : List ℕ) : Type 0 where
   pub reply : r ≡ record { number = 0; len = length (judge_sheet j); verdict = judgement_of j }

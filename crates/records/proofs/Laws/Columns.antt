@@ -111,7 +111,7 @@ module _ (p : Columns) where
 
   module _ (s : List ℕ) where
     columns-small : columns_roomy p ≡ false → (read_told (Err Refusal.Room) ≡ columns_reply p s) × (p ≡ columns_after p s)
-    unfolding read_told number_of columns_reply columns_after columns_number first_failing
+    unfolding number_of columns_reply columns_after columns_number first_failing
     columns-small e = (rw e, rw e)
 
     pub small-old : side_holds p.old 400 ≡ false → (read_told (Err Refusal.Room) ≡ columns_reply p s) × (p ≡ columns_after p s)
@@ -149,7 +149,7 @@ module _ (p : Columns) (s : List ℕ) {gs hs : List GateStruct} {b d n w : List 
       → side_holds p.old 400 ≡ true → side_holds p.golden 400 ≡ true
       → let q = columns (side_columns p.old.kinds p.old.counts p.old.slots b) (side_columns p.golden.kinds p.golden.counts p.golden.slots d) n w in
       (read_told (Err x) ≡ columns_reply p s) × (q ≡ columns_after p s)
-  unfolding read_told read_reply columns_reply columns_after
+  unfolding read_reply columns_reply columns_after
   read-columns-refused x e h g =
       let m : read_number (read_into p) s ≡ number_of x = err-number _ x e in
       let u : read_number (read_into p) s ≡ 0 → ⊥ = λ z. refusal-number x (sym m ∙ z) in
@@ -298,7 +298,7 @@ module _ (c : Counts) (p : Columns) where
         let w = written-columns h g in (e.0 ∙ rw (x, y) (sym w.0), e.1 ∙ rw (x, y) (sym w.1))
 
     put_other : (e : Refusal) → columns_write_number c p d ≡ number_of e → ColumnsWritten (Err e) d
-    unfolding write_told columns_write_reply columns_written
+    unfolding columns_write_reply columns_written
     put_other e h = (rw (h, ne_eqb (number_of e) 0 (refusal-number e)), rw (h, ne_eqb (number_of e) 0 (refusal-number e)))
 
     pub put-short : length d < 8188 → ColumnsWritten (Err Refusal.Room) d

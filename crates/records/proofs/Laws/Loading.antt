@@ -28,14 +28,14 @@ use Rattle.records.proofs.Laws.Columns.{length-no_gates}
 
 module _ (s : List ℕ) where
   pub load-refused : (e : Refusal) → read_told (Err e) ≡ read_reply empty_places s → load_told (Err e) ≡ loaded s
-  unfolding load_told loaded read_told read_reply read_places
+  unfolding loaded read_reply read_places
   load-refused e f =
       let n : read_number empty_places s ≡ number_of e = err-number _ e f in
       rw (n, ne_eqb (number_of e) 0 (refusal-number e))
 
   pub load-accepted : (c : Counts) (p : Places) → read_told (Ok c) ≡ read_reply empty_places s → p ≡ read_places empty_places s
       → load_told (Ok (parts_in c p)) ≡ loaded s
-  unfolding load_told loaded
+  unfolding loaded
   load-accepted c p e f = rw (f, ok-counts _ c e, ok-number _ c e)
 
 -- ---- its number
@@ -54,11 +54,9 @@ loaded-number s = number-empty s
 
 -- what load answers, by the check of the job's bytes
 pub loaded-refused : (s : List ℕ) (e : Refusal) → load_told (Err e) ≡ loaded s → job_refusal s ≡ number_of e
-unfolding load_told
 loaded-refused s e f = sym (loaded-number s) ∙ sym (ap (λ (x : Loaded). x.number) f)
 
 pub loaded-accepted : (s : List ℕ) (p : JobParts) → load_told (Ok p) ≡ loaded s → (job_refusal s ≡ 0) × (p ≡ (loaded s).parts)
-unfolding load_told
 loaded-accepted s p f = (sym (loaded-number s) ∙ sym (ap (λ (x : Loaded). x.number) f), ap (λ (x : Loaded). x.parts) f)
 
 -- ---- the parts of a good job

@@ -36,15 +36,12 @@ refusal-number Refusal.Size z = omega (arith, z)
 
 module _ (r : ReadReply) where
   pub ok-number : (c : Counts) → read_told (Ok c) ≡ r → r.number ≡ 0
-  unfolding read_told
   ok-number c e = sym (ap (λ (x : ReadReply). x.number) e)
 
   pub ok-counts : (c : Counts) → read_told (Ok c) ≡ r → c ≡ r.counts
-  unfolding read_told
   ok-counts c e = ap (λ (x : ReadReply). x.counts) e
 
   pub err-number : (x : Refusal) → read_told (Err x) ≡ r → r.number ≡ number_of x
-  unfolding read_told
   err-number x e = sym (ap (λ (y : ReadReply). y.number) e)
 
 module _ (s : List ℕ) where
@@ -74,7 +71,7 @@ read_reply-reply_in p s = refl
 
 module _ (b : Bool) (s : List ℕ) where
   pub reply-small : b ≡ false → read_told (Err Refusal.Room) ≡ reply_in b s
-  unfolding read_told number_of reply_in first_failing
+  unfolding number_of reply_in first_failing
   reply-small e = rw e
 
   pub reply-checked : b ≡ true → checked_of s ≡ reply_in b s
@@ -96,7 +93,7 @@ Written c p d r d' = (write_told r ≡ write_reply c p d) × (d' ≡ written_byt
 
 module _ (c : Counts) (p : Places) (d : List ℕ) where
   pub write-other : (e : Refusal) → write_number c p d ≡ number_of e → Written c p d (Err e) d
-  unfolding write_told write_reply written_bytes
+  unfolding write_reply written_bytes
   write-other e h = (rw (h, ne_eqb (number_of e) 0 (refusal-number e)), rw (h, ne_eqb (number_of e) 0 (refusal-number e)))
 
   pub write-short : length d < 8188 → Written c p d (Err Refusal.Room) d
@@ -133,7 +130,7 @@ module _ (c : Counts) (p : Places) (d : List ℕ) where
       pub write-accepted : (x : Counts) → read_told (Ok x) ≡ checked_of (job_bytes (job_from c p))
           → (r : ℕ) → r ≡ length (job_bytes (job_from c p))
           → Written c p d (Ok r) (placed d 0 (job_bytes (job_from c p)))
-      unfolding checked_of write_told write_reply written_bytes
+      unfolding checked_of write_reply written_bytes
       write-accepted x q r l =
           let n : write_number c p d ≡ 0 = write-tested ∙ sym (written-refusal c p) ∙ ok-number _ x q in
           (rw (l, n), rw n)

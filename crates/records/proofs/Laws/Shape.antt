@@ -321,31 +321,31 @@ module _ (s : List ℕ) where
   shape-whole c e = pick-some (job_whole s) (counts_of (job_of s)) c e
 
   pub refused-two : shape_of s ≡ None → read_told (Err Refusal.Fields) ≡ checked_of s
-  unfolding shape_of read_told number_of checked_of job_refusal job_tests part_tests first_failing
+  unfolding shape_of number_of checked_of job_refusal job_tests part_tests first_failing
   refused-two e = rw (pick-none (job_whole s) (counts_of (job_of s)) e)
 
   module _ (w : job_whole s ≡ true) where
     pub refused-three : counts_good (job_of s) ≡ false → read_told (Err Refusal.Counts) ≡ checked_of s
-    unfolding read_told number_of checked_of job_refusal job_tests part_tests first_failing
+    unfolding number_of checked_of job_refusal job_tests part_tests first_failing
     refused-three e = rw (w, e)
 
     module _ (c : counts_good (job_of s) ≡ true) where
       pub refused-four : netlists_good (job_of s) ≡ false → read_told (Err Refusal.Gates) ≡ checked_of s
-      unfolding read_told number_of checked_of job_refusal job_tests part_tests first_failing
+      unfolding number_of checked_of job_refusal job_tests part_tests first_failing
       refused-four e = rw (w, c, e)
 
       module _ (g : netlists_good (job_of s) ≡ true) where
         pub refused-five : outputs_good (job_of s) ≡ false → read_told (Err Refusal.Outputs) ≡ checked_of s
-        unfolding read_told number_of checked_of job_refusal job_tests part_tests first_failing
+        unfolding number_of checked_of job_refusal job_tests part_tests first_failing
         refused-five e = rw (w, c, g, e)
 
         module _ (o : outputs_good (job_of s) ≡ true) where
           pub refused-six : candidates_good (job_of s) ≡ false → read_told (Err Refusal.Candidates) ≡ checked_of s
-          unfolding read_told number_of checked_of job_refusal job_tests part_tests first_failing
+          unfolding number_of checked_of job_refusal job_tests part_tests first_failing
           refused-six e = rw (w, c, g, o, e)
 
           pub accepted : candidates_good (job_of s) ≡ true → read_told (Ok (counts_of (job_of s))) ≡ checked_of s
-          unfolding read_told number_of checked_of job_refusal job_tests part_tests first_failing
+          unfolding number_of checked_of job_refusal job_tests part_tests first_failing
           accepted e = rw (w, c, g, o, e)
 
 -- ---- the parts of a job between its starts

@@ -47,24 +47,24 @@ room-facts m k n w h =
 
 module _ (m k : ℕ) (nets weights s : List ℕ) where
   pub reply-room : sheet_room m k (length nets) (length weights) ≡ false → sheet_told (Err Refusal.Counts) ≡ sheet_reply m k nets weights s
-  unfolding sheet_reply sheet_number first_failing sheet_roomy sheet_room sheet_told number_of
+  unfolding sheet_reply sheet_number first_failing sheet_roomy sheet_room number_of
   reply-room e = rw e
 
   module _ (r : sheet_room m k (length nets) (length weights) ≡ true) where
     pub reply-whole : sheet_whole s ≡ false → sheet_told (Err Refusal.Sheet) ≡ sheet_reply m k nets weights s
-    unfolding sheet_reply sheet_number sheet_tests first_failing sheet_roomy sheet_room sheet_told number_of
+    unfolding sheet_reply sheet_number sheet_tests first_failing sheet_roomy sheet_room number_of
     reply-whole e = rw (r, e)
 
     module _ (w : sheet_whole s ≡ true) where
       pub reply-good : patch_good m (candidates_from k nets weights) (patch_of s) ≡ false
           → sheet_told (Err Refusal.Patch) ≡ sheet_reply m k nets weights s
-      unfolding sheet_reply sheet_number sheet_tests first_failing sheet_roomy sheet_room sheet_told number_of
+      unfolding sheet_reply sheet_number sheet_tests first_failing sheet_roomy sheet_room number_of
       reply-good e = rw (r, w, e)
 
       pub reply-accepted : patch_good m (candidates_from k nets weights) (patch_of s) ≡ true → (is : Support) (at v : ℕ)
           → is ≡ ten_places (nets_of (nth 0 s)) → at ≡ 3 + length (nth 0 s) + 3 → v ≡ quad (nth 2 s)
           → sheet_told (Ok (record { support = is; table = at; cost = v })) ≡ sheet_reply m k nets weights s
-      unfolding sheet_reply sheet_number sheet_tests first_failing sheet_roomy sheet_room sheet_told ten_places patch_of
+      unfolding sheet_reply sheet_number sheet_tests first_failing sheet_roomy sheet_room ten_places patch_of
       reply-accepted e is at v p q c = rw (r, w, e, p, q, c)
 
 -- what is replied of an accepted sheet

@@ -44,7 +44,7 @@ module _ (c : Counts) (p : Places) (d : List ℕ) where
       (holds c (length p.old.gates) (length p.old.outputs) (length p.golden.gates) (length p.golden.outputs) (length p.nets) (length p.weights))
 
   written-number : (e : Refusal) {d' : List ℕ} → Written c p d (Err e) d' → write_number c p d ≡ number_of e
-  unfolding write_told write_reply
+  unfolding write_reply
   written-number e w = sym (ap (λ (r : WriteReply). r.number) w.0)
 
   abbrev Cases : ℕ → Type 0

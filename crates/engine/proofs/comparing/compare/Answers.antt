@@ -1,23 +1,21 @@
 -- `engine::comparing::compare` meets its contract: the job is loaded, and the sheet compared with it. Assumes nothing.
 use mathlib.Core.Path.{◌∙◌}
 use Rattle.records.specs.Job.{job_of}
-use Rattle.engine.proofs.Laws.Compare.{declined-job, accepted-job, compared-job}
+use Rattle.records.proofs.Laws.Option.{err-is}
+use Rattle.engine.proofs.Laws.Compare.{declined-job, compared-job}
+use Rattle.engine.proofs.Laws.Loaded.{accepted-job, accepted-parts, some-parts}
 use Rattle.engine.proofs.comparing.compare.Goals as goal
 
-pub returns-in_default : goal.returns-in_default
-returns-in_default c =
+pub returns-in_err-load : goal.returns-in_err-load
+returns-in_err-load c =
     let a = c.args in
-    declined-job a.job.now c.load-parts.ensures a.sheet.now c.in_default.is
+    rw (err-is _ _ c.from_residual.ensures.1) (declined-job a.job.now a.sheet.now _ c.in_err-load.ensures)
 
 pub compare_sheet-requires : goal.compare_sheet-requires
-compare_sheet-requires c =
-    let s = c.args.job.now in
-    record { job = job_of s; parts = accepted-job s c.load-parts.ensures c.in-Passed.is }
+compare_sheet-requires c = some-parts c.args.job.now c.in_ok-load.ensures
 
 pub returns : goal.returns
 returns c =
     let a = c.args in
-    let s = a.job.now in
-    let f = c.in-Passed.is in
-    c.compare_sheet.ensures (job_of s) (accepted-job s c.load-parts.ensures f)
-    ∙ compared-job s c.load-parts.ensures f a.sheet.now
+    let e = c.in_ok-load.ensures in
+    c.compare_sheet.ensures (job_of a.job.now) (accepted-parts a.job.now e) ∙ compared-job a.job.now a.sheet.now (accepted-job a.job.now e)

@@ -2,6 +2,7 @@
 use Prim.Native.Nat.{◌≤◌}
 use native.Mathlib.Omega.{arith}
 use lib.ListN.{length, take}
+use Rattle.records.specs.Service.{number_of}
 use Rattle.engine.specs.Inner.Fitting.{patched_count}
 use Rattle.engine.proofs.Laws.FitSheet.{gates-few, patch-refused, patch-accepted}
 use Rattle.engine.proofs.Laws.Tree.{trees_size-le}
@@ -20,13 +21,14 @@ overflow_add-old c =
     )
 
 pub returns-then-old-size-gt-GATES : goal.returns-then-old-size-gt-GATES
+unfolding number_of
 returns-then-old-size-gt-GATES c =
     let a = c.args in
     patch-refused c.requires.fittable.0 (take a.count a.outputs) a.reply.now
     (omega (arith, c.if-old-size-gt-GATES.true, c.trees_size-size.ensures))
 
-pub put_netlist-len-requires : goal.put_netlist-len-requires
-put_netlist-len-requires c =
+pub put_netlist-requires : goal.put_netlist-requires
+put_netlist-requires c =
     let fitting : patched_count c.args.old c.args.support c.args.table.now ≤ 400 = omega (arith, c.trees_size-size.ensures) in
     let h = c.requires.fittable.0 in
     (c.requires.fittable.1, omega (arith, h.held.inputs), gates-few h fitting c.place_gates-new.ensures, c.requires.count_bound.0)
@@ -39,4 +41,4 @@ returns c =
     patch-accepted c.requires.fittable.0 fitting c.place_gates-new.ensures a.outputs _ a.reply.now a.count _ held
     c.requires.count_bound.1
     c.move_nets.ensures
-    c.put_netlist-len.ensures
+    c.put_netlist.ensures

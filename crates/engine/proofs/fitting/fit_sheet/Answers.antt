@@ -1,29 +1,33 @@
 -- `engine::fitting::fit_sheet` meets its contract. Assumes nothing.
 use Prim.Native.Nat.{◌+◌, ◌≤◌}
+use mathlib.Core.Path.{refl}
 use native.Mathlib.Omega.{arith}
 use lib.ListN.{length}
+use Rattle.records.proofs.Laws.Option.{err-is}
+use Rattle.records.proofs.Laws.Reply.{refusal-number}
 use Rattle.engine.proofs.Laws.FitSheet.{outputs-count, outputs-most, outputs-old}
 use Rattle.engine.proofs.Laws.FitSheet.{sheet-refused, sheet-fittable, sheet-accepted}
 use Rattle.engine.proofs.Laws.PartsSheet.{parts-sheet, parts-few}
 use Rattle.engine.proofs.fitting.fit_sheet.Goals as goal
 use Rattle.engine.proofs.fitting.fit_sheet.Goals.{After-reading_count}
 
-pub returns-then-answer-ne0 : goal.returns-then-answer-ne0
-returns-then-answer-ne0 c j q w =
+pub returns-in_err-patch : goal.returns-in_err-patch
+returns-in_err-patch c j q w =
     let a = c.args in
-    sheet-refused q a.sheet.now c.read_sheet-answer.ensures a.reply.now c.if-answer-ne0.true
+    let x = c.in_err-patch.field-0.0 in
+    rw (err-is _ _ c.from_residual.ensures.1) (sheet-refused q a.sheet.now c.in_err-patch.ensures a.reply.now (refusal-number x))
 
 pub reading_count-requires : goal.reading_count-requires
 reading_count-requires c =
-    parts-few c.requires.0.parts c.args.sheet.now c.read_sheet-answer.ensures c.if-answer-ne0.false
+    parts-few c.requires.0.parts c.args.sheet.now c.in_ok-patch.ensures refl
 
 -- where the table ends
-ended : (c : After-reading_count) → c.read_sheet-answer.result.table + c.reading_count.result ≤ length c.args.sheet.now
+ended : (c : After-reading_count) → c.in_ok-patch.patch.table + c.reading_count.result ≤ length c.args.sheet.now
 ended c =
     omega (
       arith,
       c.reading_count.ensures,
-      (parts-sheet c.requires.0.parts c.args.sheet.now c.read_sheet-answer.ensures c.if-answer-ne0.false).end,
+      (parts-sheet c.requires.0.parts c.args.sheet.now c.in_ok-patch.ensures refl).end,
     )
 
 pub overflow_add-end : goal.overflow_add-end
@@ -38,7 +42,7 @@ fit_patch-requires c =
     let q = c.requires.0.parts in
     let w = c.requires.0.old in record {
       fittable = (
-        sheet-fittable q a.sheet.now c.read_sheet-answer.ensures c.if-answer-ne0.false w _ c.reading_count.ensures,
+        sheet-fittable q a.sheet.now c.in_ok-patch.ensures refl w _ c.reading_count.ensures,
         c.requires.1,
       );
       count_bound = (outputs-most q, outputs-old q.good w a.job.outputs (outputs-count q) q.outputs);
@@ -47,7 +51,7 @@ fit_patch-requires c =
 pub returns : goal.returns
 returns c j q w =
     let a = c.args in
-    sheet-accepted q a.sheet.now c.read_sheet-answer.ensures c.if-answer-ne0.false w _ c.reading_count.ensures a.job.outputs
+    sheet-accepted q a.sheet.now c.in_ok-patch.ensures refl w _ c.reading_count.ensures a.job.outputs
     (outputs-count q)
     q.outputs
     c.fit_patch.ensures

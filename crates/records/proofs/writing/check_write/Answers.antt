@@ -8,24 +8,24 @@ use Rattle.records.proofs.Laws.Counts.{passes, fails}
 use Rattle.records.proofs.writing.check_write.Goals as goal
 
 pub returns-then-size-lt-LONGEST_JOB : goal.returns-then-size-lt-LONGEST_JOB
-unfolding told_number number_of write_tests_number first_failing
+unfolding number_of write_tests_number first_failing
 returns-then-size-lt-LONGEST_JOB c = rw (lt-leb _ _ c.if-size-lt-LONGEST_JOB.true)
 
 pub returns-in_default : goal.returns-in_default
-unfolding told_number number_of write_tests_number first_failing
+unfolding number_of write_tests_number first_failing
 returns-in_default c =
     let f = fails _ (sym c.check_counts.ensures ∙ c.in_default.is) in
     rw (le-leb _ _ c.if-size-lt-LONGEST_JOB.false, f)
 
 pub returns-in_default-held : goal.returns-in_default-held
-unfolding told_number number_of write_tests_number first_failing
+unfolding number_of write_tests_number first_failing
 returns-in_default-held c =
     let p = passes _ (sym c.check_counts.ensures ∙ c.in-Passed.is) in
     let f = fails _ (sym c.check_held-held.ensures ∙ c.in_default-held.is) in
     rw (le-leb _ _ c.if-size-lt-LONGEST_JOB.false, p, f)
 
 pub returns : goal.returns
-unfolding told_number write_tests_number first_failing
+unfolding write_tests_number first_failing
 returns c =
     let p = passes _ (sym c.check_counts.ensures ∙ c.in-Passed.is) in
     let q = passes _ (sym c.check_held-held.ensures ∙ c.in-Passed-held.is) in

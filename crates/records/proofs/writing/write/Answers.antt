@@ -15,11 +15,9 @@ lent c =
     places (side_places a.old.now a.old_outputs.now) (side_places a.golden.now a.golden_outputs.now) a.nets.now a.weights.now
 
 passed : (c : In_ok-check_write) → Passed c.args.counts (lent c) c.args.buf.now
-unfolding told_number
 passed c = tests-pass _ (lent c) _ c.in_ok-check_write.ensures
 
 pub returns-in_err-check_write : goal.returns-in_err-check_write
-unfolding told_number
 returns-in_err-check_write c =
     let a = c.args in
     let p = places (side_places a.old.now a.old_outputs.now) (side_places a.golden.now a.golden_outputs.now) a.nets.now a.weights.now in
