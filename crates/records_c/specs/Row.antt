@@ -1,7 +1,7 @@
 -- The counts of a job as seven numbers in a row: what a C program passes and gets. Assumes nothing.
 use Rattle.std.specs.Prelude.{ℕ, List, [], ◌∷◌, cond, eqb, get_or}
 use Rattle.records.specs.declared.job.Counts.{Counts}
-use Rattle.records.specs.declared.reading.ReadReply.{ReadReply}
+use Rattle.records.specs.Service.{ReadReply}
 
 -- the counts in a row: inputs, targets, old gates and outputs, golden gates and outputs, candidates
 unfoldable pub row_of : Counts → List ℕ

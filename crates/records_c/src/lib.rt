@@ -48,7 +48,7 @@ pub extern "C" fn records_read(
         nets.old weights.old)
         job.now }
 {
-    let reply = records::read_columns(
+    let read = records::read_columns(
         job,
         old_kinds,
         old_counts,
@@ -61,20 +61,21 @@ pub extern "C" fn records_read(
         nets,
         weights,
     );
-    if reply.number != 0 {
-        return reply.number;
+    match read {
+        Ok(c) => {
+            *counts = [
+                c.inputs,
+                c.targets,
+                c.old.gates,
+                c.old.outputs,
+                c.golden.gates,
+                c.golden.outputs,
+                c.candidates,
+            ];
+            0
+        }
+        Err(refusal) => refusal.into(),
     }
-    let c = reply.counts;
-    *counts = [
-        c.inputs,
-        c.targets,
-        c.old.gates,
-        c.old.outputs,
-        c.golden.gates,
-        c.golden.outputs,
-        c.candidates,
-    ];
-    reply.number
 }
 
 // records::write_columns of as many parts as counts says: the length of the job is returned, 0 on refusal, and the reply's number is left
@@ -127,7 +128,7 @@ pub extern "C" fn records_write(
         },
         candidates: counts[6],
     };
-    let reply = records::write_columns(
+    let written = records::write_columns(
         all,
         old_kinds,
         old_counts,
@@ -141,6 +142,14 @@ pub extern "C" fn records_write(
         weights,
         buf,
     );
-    *number = reply.number as u32;
-    reply.len
+    match written {
+        Ok(len) => {
+            *number = 0;
+            len
+        }
+        Err(refusal) => {
+            *number = u32::from(u8::from(refusal));
+            0
+        }
+    }
 }
