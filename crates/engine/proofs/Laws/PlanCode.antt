@@ -10,6 +10,7 @@ use borrow.Author.Tests.{ltb-true, ltb-false, eqb-true, eqb-false, ne_eqb}
 use lib.Dec.{ltb, eqb}
 use lib.ListN.{length, get_or, take, drop, set, replicate, length-set, length-append, length-take, length-replicate, get_or-replicate, drop_of_length-le}
 use lib.Seq.{take-suc, drop-cons, take_all, take-append-le, take-take, take_at, take-suc-set, get_or-take, get_or-set_same, get_or-set_other, length-take-le, ext_get_or}
+use Rattle.std.specs.List.{push}
 use Rattle.std.proofs.lemmas.List.{drop_more}
 use Rattle.records.specs.Gate.{disj}
 use Rattle.records.specs.Netlist.{net_at}
@@ -187,32 +188,25 @@ module _ (ms : List ℕ) (c : ℕ) (cs : List ℕ) where
   unfolding live_from
   live_from-unmarked e = rw e
 
-pub live-none : (ms cs : List ℕ) (n : ℕ) → n ≤ length cs → ms ≡ live_from ms (drop n (take n cs))
+-- a turn of the loop, which goes down: gate c is the last of those that are left
+pub live-last : (ms : List ℕ) (c : ℕ) (cs : List ℕ) → live_from ms (push cs c) ≡ live_from (live_from ms (c ∷ [])) cs
 unfolding live_from
-live-none ms cs n h = sym (ap (live_from ms) (left-none n cs h n (omega arith)))
+live-last ms c [] = refl
+live-last ms c (x ∷ cs) = rw (live-last ms c cs)
 
--- a turn of the loop that goes down: gate k - 1, with the marks that the gates from k on give
-module _ (ms cs ls : List ℕ) (n k : ℕ) (h : n ≤ length cs) (l : 0 < k) (g : k ≤ n) (e : ls ≡ live_from ms (drop k (take n cs))) where
-  down-cons : drop (k - 1) (take n cs) ≡ get_or cs (k - 1) 0 ∷ drop k (take n cs)
-  down-cons = let m : k - 1 + 1 ≡ k = omega arith in rw m at (left-cons n cs h (k - 1) (omega arith))
+module _ (ms : List ℕ) (c : ℕ) (cs : List ℕ) where
+  pub live-marked : (get_or ms (own c) 0 ≡ 0 → ⊥) → live_from (marked_all ms (operands_of c)) cs ≡ live_from ms (push cs c)
+  unfolding live_from
+  live-marked h = sym (live-last ms c cs ∙ ap (λ (x : List ℕ). live_from x cs) (live_from-marked ms c [] (marked-of ms (own c) h)))
 
-  pub live-marked : (get_or ls (own (get_or cs (k - 1) 0)) 0 ≡ 0 → ⊥)
-      → marked_all ls (operands_of (get_or cs (k - 1) 0)) ≡ live_from ms (drop (k - 1) (take n cs))
-  live-marked m =
-      let c = get_or cs (k - 1) 0 in
-      ap (λ (x : List ℕ). marked_all x (operands_of c)) e
-      ∙ sym
-      (ap (live_from ms) down-cons
-      ∙ live_from-marked ms c (drop k (take n cs)) (rw e at (marked-of ls (own c) m)))
+  pub live-unmarked : get_or ms (own c) 0 ≡ 0 → live_from ms cs ≡ live_from ms (push cs c)
+  unfolding live_from net_at
+  live-unmarked h = sym (live-last ms c cs ∙ ap (λ (x : List ℕ). live_from x cs) (live_from-unmarked ms c [] (unmarked-of ms (own c) h)))
 
-  pub live-unmarked : get_or ls (own (get_or cs (k - 1) 0)) 0 ≡ 0 → ls ≡ live_from ms (drop (k - 1) (take n cs))
-  unfolding net_at
-  live-unmarked m =
-      let c = get_or cs (k - 1) 0 in
-      e
-      ∙ sym
-      (ap (live_from ms) down-cons
-      ∙ live_from-unmarked ms c (drop k (take n cs)) (rw e at (unmarked-of ls (own c) m)))
+pub live-none : (ms cs : List ℕ) → length cs ≡ 0 → live_from ms cs ≡ ms
+unfolding live_from
+live-none ms [] h = refl
+live-none ms (c ∷ cs) h = let f : ⊥ = omega arith in absurd f
 
 -- ---- gates picked
 

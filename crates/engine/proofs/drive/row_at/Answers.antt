@@ -14,8 +14,7 @@ loop-w-preserved c =
     let a = c.args in
     let l = c.loop-w in
     let v = get_or a.rows.now (16 * a.i + l.w) 0 in (
-      omega arith,
-      length-set l.r l.w v ∙ l.invariant.1,
-      row_next (λ y. value_in a.rows.now y a.i) l.r l.w v (omega arith) l.invariant.2
+      length-set l.r l.w v ∙ l.invariant.0,
+      row_next (λ y. value_in a.rows.now y a.i) l.r l.w v (omega arith) l.invariant.1
           (λ y q. ap (λ (w : ℕ). bit (y % 64) (get_or a.rows.now (16 * a.i + w) 0)) (sym q)),
     )

@@ -1,5 +1,5 @@
 -- `engine::drive::row_at` meets its contract. The invariant: the first w words are those of the row. Assumes nothing.
-use Prim.Native.Nat.{ℕ, ◌*◌, ◌≤◌, ◌<◌}
+use Prim.Native.Nat.{ℕ, ◌*◌, ◌<◌}
 use mathlib.Core.Path.{◌≡◌}
 use lib.ListN.{length}
 use Rattle.engine.specs.Inner.Kernel.{row_value, value_in}
@@ -7,4 +7,4 @@ use Rattle.engine.proofs.drive.row_at.Given as goal
 
 abbrev pub invariant-loop-w : goal.invariant-loop-w
 invariant-loop-w l =
-    (l.w ≤ 16) × (length l.r ≡ 16) × ((y : ℕ) → y < 64 * l.w → row_value l.r y ≡ value_in l.rows y l.i)
+    (length l.r ≡ 16) × ((y : ℕ) → y < 64 * l.w → row_value l.r y ≡ value_in l.rows y l.i)
