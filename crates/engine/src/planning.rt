@@ -11,29 +11,19 @@ ghost use Rattle.engine.specs.Inner.Plan.{ListPut, ListsUpTo, NetsRead, ReadsOf,
 
 use super::limits::{LISTED, LISTS, NETS};
 use super::miter::Miter;
-use super::packed::{COUNT_AT, COUNTS, NET, NET_AT, SLOTS_AT};
+use super::packed::{NET, NET_AT, operands_of};
 use super::plan::Plan;
-use records::{OUTPUTS, Support};
-
-fn greater(a: u8, b: u8) -> u8
-    ensures { result ≡ max a b }
-{
-    if a < b { b } else { a }
-}
+use records::Support;
 
 // The mark of a gate: the greatest of its operands' marks.
 fn gate_mark(c: u64, marks: &[u8; NETS]) -> u8
     ensures { result ≡ code_mark marks.now c }
 {
-    let mut r = 0u8;
-    let mut rest = c / SLOTS_AT;
-    let mut i = c / COUNT_AT % COUNTS;
-    while 0 < i {
-        r = greater(r, marks[(rest % NET) as usize]);
-        rest = rest / NET;
-        i -= 1;
+    let mut mark = 0u8;
+    for net in operands_of(c) {
+        mark = mark.max(marks[net]);
     }
-    r
+    mark
 }
 
 // A mark for each of the k nets from from on.
@@ -76,12 +66,8 @@ fn mark_nets(nets: &[u16], mut marks: [u8; NETS]) -> [u8; NETS]
 fn mark_operands(c: u64, marks: &mut [u8; NETS])
     ensures { marks.new ≡ marked_all marks.old (operands_of c) }
 {
-    let mut rest = c / SLOTS_AT;
-    let mut i = c / COUNT_AT % COUNTS;
-    while 0 < i {
-        marks[(rest % NET) as usize] = 1;
-        rest = rest / NET;
-        i -= 1;
+    for net in operands_of(c) {
+        marks[net] = 1;
     }
 }
 

@@ -1,5 +1,5 @@
 -- Laws of the loops that mark nets and pick gates (src/planning.rt), a turn each. Assumes nothing.
-use Prim.Native.Nat.{ℕ, zero, suc, ◌+◌, ◌-◌, ◌/◌, ◌%◌, ◌≤◌, ◌<◌, min, max}
+use Prim.Native.Nat.{ℕ, zero, suc, ◌+◌, ◌≤◌, ◌<◌, min, max}
 use mathlib.Core.Path.{◌≡◌, refl, sym, ◌∙◌, ap}
 use mathlib.Core.Logic.{◌⊎◌, inl, inr, ⊎_elim}
 use mathlib.Core.List.{List, [], ◌∷◌, ◌++◌, map, append_assoc, append-nil}
@@ -16,7 +16,7 @@ use Rattle.records.specs.Gate.{disj}
 use Rattle.records.specs.Netlist.{net_at}
 use Rattle.records.proofs.Laws.Bytes.{and_both, and-false-left, and-false-right, length-tabulate, get_d_tabulate}
 use Rattle.engine.specs.Choice.{keep}
-use Rattle.engine.specs.Inner.Packed.{fields, own, operands_of, evaluated}
+use Rattle.engine.specs.Inner.Packed.{own, operands_of, evaluated}
 use Rattle.engine.specs.Inner.Plan.{code_mark, marked, marked_all, live_from, leaves_from, marks_from, picked, list_at, lists_to, ListPut, ListsUpTo}
 use Rattle.engine.proofs.Laws.Choice.{true-or-false}
 use Rattle.engine.proofs.Laws.FitCode.{keep_append, keep_one, keep-none}
@@ -24,36 +24,27 @@ use Rattle.engine.proofs.Laws.Marks.{leaf_mark, leaf_mark-in, leaf_mark-out, unm
 
 -- ---- the operands of a gate, first to last
 
-pub fields-next : (n x : ℕ) → 0 < n → fields n x ≡ x % 1024 ∷ fields (n - 1) (x / 1024)
-unfolding fields
-fields-next zero x h = let f : ⊥ = omega arith in absurd f
-fields-next (suc n) x h = let e : suc n - 1 ≡ n = omega arith in rw e
-
-pub fields-none : (n x : ℕ) → n ≡ 0 → fields n x ≡ []
-unfolding fields
-fields-none n x e = rw e
-
 -- the greatest mark so far, and those of the operands left
 module _ (vs : List ℕ) where
-  abbrev pub MarkLeft : ℕ → ℕ → ℕ → ℕ → Type 0
-  MarkLeft c r n x = max r (disj (map (net_at vs) (fields n x))) ≡ code_mark vs c
+  abbrev pub MarkLeft : ℕ → ℕ → List ℕ → Type 0
+  MarkLeft c r is = max r (disj (map (net_at vs) is)) ≡ code_mark vs c
 
-  pub mark-all : (c : ℕ) → MarkLeft c 0 (c / 16 % 8) (c / 131072)
+  pub mark-all : (c : ℕ) → MarkLeft c 0 (operands_of c)
   unfolding code_mark
   mark-all c = omega arith
 
-  pub mark-next : (c r n x w : ℕ) → 0 < n → w ≡ max r (get_or vs (x % 1024) 0) → MarkLeft c r n x → MarkLeft c w (n - 1) (x / 1024)
+  pub mark-next : (c r x w : ℕ) {is js : List ℕ} → is ≡ x ∷ js → w ≡ max r (get_or vs x 0) → MarkLeft c r is → MarkLeft c w js
   unfolding disj net_at
-  mark-next c r n x w h e m =
-      let d = disj (map (net_at vs) (fields (n - 1) (x / 1024))) in
-      let s : max w d ≡ max r (max (get_or vs (x % 1024) 0) d) = omega arith in
-      s ∙ sym (ap (λ (l : List ℕ). max r (disj (map (net_at vs) l))) (fields-next n x h)) ∙ m
+  mark-next c r x w {is} {js} s e m =
+      let d = disj (map (net_at vs) js) in
+      let n : max w d ≡ max r (max (get_or vs x 0) d) = omega arith in
+      n ∙ sym (ap (λ (l : List ℕ). max r (disj (map (net_at vs) l))) s) ∙ m
 
-  pub mark-none : (c r n x : ℕ) → n ≡ 0 → MarkLeft c r n x → r ≡ code_mark vs c
+  pub mark-none : (c r : ℕ) {is : List ℕ} → is ≡ [] → MarkLeft c r is → r ≡ code_mark vs c
   unfolding disj
-  mark-none c r n x e m =
+  mark-none c r s m =
       let z : max r 0 ≡ r = omega arith in
-      sym (ap (λ (l : List ℕ). max r (disj (map (net_at vs) l))) (fields-none n x e) ∙ z) ∙ m
+      sym (ap (λ (l : List ℕ). max r (disj (map (net_at vs) l))) s ∙ z) ∙ m
 
 -- ---- leaves with a mark
 
@@ -157,15 +148,6 @@ module _ (ms is : List ℕ) (i : ℕ) where
   pub marked_all-end : length is ≤ i → marked_all ms (drop i is) ≡ ms
   unfolding marked_all
   marked_all-end h = ap (marked_all ms) (drop_of_length-le is {i = i} h)
-
-module _ (ms : List ℕ) (n x : ℕ) where
-  pub marked_all-fields : 0 < n → marked_all (set ms (x % 1024) 1) (fields (n - 1) (x / 1024)) ≡ marked_all ms (fields n x)
-  unfolding marked_all
-  marked_all-fields h = sym (ap (marked_all ms) (fields-next n x h))
-
-  pub marked_all-none : n ≡ 0 → marked_all ms (fields n x) ≡ ms
-  unfolding marked_all
-  marked_all-none e = ap (marked_all ms) (fields-none n x e)
 
 -- ---- live gates, last to first
 
