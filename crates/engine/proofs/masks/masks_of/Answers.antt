@@ -73,5 +73,5 @@ returns c =
     let l = c.loop-step in
     let u = c.shortest_list-u in
     let e : l.step ≡ 2 ^ p.targets = omega (arith, l.invariant.2, pow_pos p.targets) in
-    masks-all p u.result u.ensures.0 p.few_targets u.ensures.1 l.invariant.0
+    masks-all p u.result u.ensures.0 p.few_targets u.ensures.1
     (subst (λ (k : ℕ). MasksDone p u.result c.args.words.now k l.words l.masks) e l.invariant.3)
