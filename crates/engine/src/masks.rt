@@ -6,7 +6,7 @@ ghost use Rattle.engine.specs.Inner.Plan.{PlanHeld};
 ghost use Rattle.engine.specs.Inner.Search.{TargetTurned, BlockMasks};
 
 use super::kernel::run;
-use super::leaves::{equal_row, put_row, set_net};
+use super::leaves::{equal_row, set_net, set_row};
 use super::limits::{LISTS, ROWS, VECTORS, WORDS};
 use super::plan::Plan;
 
@@ -76,12 +76,12 @@ pub(super) fn masks_of(gates: &[u64], plan: Plan, words: &mut [u64; WORDS]) -> [
     let ends = plan.ends;
     let u = shortest_list(ends, plan.targets);
     let mut masks = [0u64; ROWS];
-    put_row(0, equal_row(outputs, goldens, plan.outs, words), &mut masks);
+    set_row(0, equal_row(outputs, goldens, plan.outs, words), &mut masks);
     for step in 1..vectors {
         let v = vector_at(u, step);
         let t = turned_at(u, step);
         turn_target(gates, plan, t, v >> t, words);
-        put_row(v, equal_row(outputs, goldens, plan.outs, words), &mut masks);
+        set_row(v, equal_row(outputs, goldens, plan.outs, words), &mut masks);
     }
     masks
 }
