@@ -1,4 +1,5 @@
--- Laws of arrays that `array::from_fn` makes by a closure that keeps its captures. Assumes nothing.
+-- Laws of arrays that are made element by element: one element more, and those that `array::from_fn` makes by a closure that keeps its
+-- captures. Assumes nothing.
 use Prim.Native.Nat.{ℕ, zero, suc, ◌+◌, ◌-◌, ◌≤◌, ◌<◌}
 use mathlib.Core.Path.{◌≡◌}
 use mathlib.Core.List.{List}
@@ -6,9 +7,19 @@ use mathlib.Core.Logic.{⊎_elim}
 use native.Mathlib.Nat.{eq-zero-or-pos}
 use native.Mathlib.Omega.{arith}
 use denote.Param.Members.{Mut}
-use lib.ListN.{get_or}
+use lib.ListN.{length, get_or, set}
+use lib.Seq.{get_or-set_same, get_or-set_other}
 use Rattle.std.specs.Array.{IsFromFnResult, IsFromFnResultFrom}
 use Rattle.std.specs.Fn.{Called}
+
+-- what holds of the elements before n holds of one more
+pub set_next : (P : ℕ → ℕ → Type 0) (xs : List ℕ) (n x : ℕ) → n < length xs → ((k : ℕ) → k < n → P k (get_or xs k 0)) → P n x
+    → (k : ℕ) → k < n + 1 → P k (get_or (set xs n x) k 0)
+set_next P xs n x l h p k b =
+    ⊎_elim
+    (λ (e : n - k ≡ 0). let s : n ≡ k = omega arith in rw (← s, get_or-set_same xs n x 0 l) p)
+    (λ (e : 0 < n - k). rw (get_or-set_other xs n k x 0 (λ q. omega arith)) (h k (omega arith)))
+    (eq-zero-or-pos (n - k))
 
 module _ {F : Type 0} {g : Mut F (ℕ × Unit {0}) ℕ} (P : ℕ → ℕ → Type 0) (f : F) where
   made_from : (ys : List ℕ) (i n : ℕ) → ((k y : ℕ) (q : F) → k < i + n → Called g f (k, tt) y q → (q ≡ f) × P k y)
