@@ -7,7 +7,7 @@ ghost use Rattle.engine.specs.Inner.Search.{RowsSay, DrivenRow};
 ghost use Rattle.engine.specs.Inner.Turn.{Looked};
 
 use super::kernel::run;
-use super::leaves::{equal_row, set_row};
+use super::leaves::{equal_row, row_of, set_row};
 use super::limits::{READING, READINGS, ROW, ROWS, WORDS};
 use super::plan::Plan;
 use super::turn::transpose;
@@ -43,25 +43,13 @@ pub(super) fn table_rows(mut readings: [u64; ROWS], table: &[u16; READINGS]) -> 
     found
 }
 
-// Row i of 16 rows.
-pub(super) fn row_at(rows: &[u64; ROWS], i: usize) -> [u64; ROW]
-    requires { i < 16 }
-    ensures { (y : ℕ) → y < 1024 → row_value result y ≡ value_in rows.now y i }
-{
-    let mut r = [0u64; ROW];
-    for w in 0..ROW {
-        r[w] = rows[ROW * i + w];
-    }
-    r
-}
-
 // The rows from row first on become those of the targets.
 fn set_targets(plan: &Plan, rows: &[u64; ROWS], first: usize, words: &mut [u64; WORDS])
     requires { first ≤ 12 }
     ensures { NetsSet plan.now.inputs plan.now.targets (λ y k. value_in rows.now y (first + k)) words.old words.new }
 {
     for i in 0..plan.targets {
-        set_row(plan.inputs + i, row_at(rows, first + i), words);
+        set_row(plan.inputs + i, row_of(first + i, rows), words);
     }
 }
 
