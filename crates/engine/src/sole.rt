@@ -3,7 +3,8 @@
 ghost use Rattle.std.specs.Prelude.{◌≡◌, true, List, ℕ};
 ghost use Rattle.engine.specs.Inner.Search.{FreeKept, sole_of, SoleTable, BlockKept};
 
-use super::drive::{driven_row, row_at, table_rows};
+use super::drive::{driven_row, table_rows};
+use super::leaves::row_of;
 use super::limits::{BLOCK, READINGS, ROWS, UNSEEN, WORDS};
 use super::plan::Plan;
 use super::word::{first_zero, join_rows, lowest_of, zero_row};
@@ -53,9 +54,9 @@ pub(super) fn keep_block(
         → BlockKept plan.now readings words.old ss }
 {
     let vectors = table_rows(readings, table);
-    if !zero_row(row_at(&vectors, 5)) {
+    if !zero_row(row_of(5, &vectors)) {
         return false;
     }
     let row = driven_row(plan, &vectors, 0, words);
-    BLOCK <= first_zero(join_rows(row, row_at(&vectors, 4)))
+    BLOCK <= first_zero(join_rows(row, row_of(4, &vectors)))
 }

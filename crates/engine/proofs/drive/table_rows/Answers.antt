@@ -7,5 +7,5 @@ pub returns : goal.returns
 returns c =
     let l = c.loop-i in
     let a = c.args in
-    looked-rows a.table.now a.readings c.transpose.new.x l.found c.transpose-2.new.x c.transpose.ensures.1 c.transpose-2.ensures.1
-    (λ k h. l.invariant.2 k (omega arith))
+    looked-rows a.table.now a.readings c.transpose.new.x l.found c.transpose-2.new.x c.transpose.ensures c.transpose-2.ensures
+    (λ k h. l.invariant.1 k (omega arith))

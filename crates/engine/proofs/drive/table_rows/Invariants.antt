@@ -1,5 +1,5 @@
 -- `engine::drive::table_rows` meets its contract. The invariant: the entries are found for the words below i. Assumes nothing.
-use Prim.Native.Nat.{ℕ, ◌≤◌, ◌<◌}
+use Prim.Native.Nat.{ℕ, ◌<◌}
 use mathlib.Core.Path.{◌≡◌}
 use lib.ListN.{length, get_or}
 use Rattle.engine.specs.Inner.Turn.{Looked}
@@ -7,4 +7,4 @@ use Rattle.engine.proofs.drive.table_rows.Given as goal
 
 abbrev pub invariant-loop-i : goal.invariant-loop-i
 invariant-loop-i l =
-    (l.i ≤ 256) × (length l.found ≡ 256) × ((k : ℕ) → k < l.i → Looked l.table (get_or l.readings k 0) (get_or l.found k 0))
+    (length l.found ≡ 256) × ((k : ℕ) → k < l.i → Looked l.table (get_or l.readings k 0) (get_or l.found k 0))
