@@ -1,6 +1,5 @@
 -- Laws of the definitions, a file for each notion.
 pub mod AnyOrder
-pub mod Arena
 pub mod Best
 pub mod Block
 pub mod Choice
