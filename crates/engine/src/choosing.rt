@@ -15,16 +15,16 @@ ghost use Rattle.engine.specs.Inner.Choosing.{ChosenJob};
 
 use super::best::first_empty;
 use super::given::see_skipped;
-use super::limits::{LISTED, LONGEST_CHOOSE, READINGS, WORD_INPUTS};
+use super::limits::{LONGEST_CHOOSE, READINGS, WORD_INPUTS};
 use super::merge::merged_miter;
 use super::miter::Miter;
 use super::narrow::sets_of_words;
 use super::pick::Priced;
-use super::plan::plan_of;
+use super::planning::plan_of;
 use super::search::{Met, sets_of_inputs};
 use super::sheet::{put_blind, put_patch};
 use super::table::{fill_notes, fill_table, reading_count};
-use records::{CANDIDATES, Check, JobParts, Support, load};
+use records::{Check, JobParts, Support, load};
 
 #[derive(Clone, Copy)]
 pub struct PatchCost {
@@ -94,17 +94,17 @@ fn rule_patch(support: Support, cost: u32, sets: &[u32; READINGS], reply: &mut [
     }
 }
 
-// The sets of all readings of the first reads nets, over all inputs of a miter.
-fn reading_sets(miter: Miter, nets: [u16; CANDIDATES], reads: usize) -> Met
-    requires { MiterRoom miter × NetsRead nets reads }
-    ensures { (j : Job) → MergedOf j miter → take reads nets ≡ candidate_nets j → SetsTo j (2 ^ j.inputs) result.skipped result.sets }
+// The sets of all readings of these nets, over all inputs of a miter.
+fn reading_sets(miter: Miter, reads: Support) -> Met
+    requires { MiterRoom miter × NetsRead reads.nets reads.len }
+    ensures { (j : Job) → MergedOf j miter → take reads.len reads.nets ≡ candidate_nets j
+        → SetsTo j (2 ^ j.inputs) result.skipped result.sets }
 {
     if miter.inputs <= WORD_INPUTS {
-        return sets_of_words(miter, nets, reads);
+        return sets_of_words(miter, reads.nets, reads.len);
     }
-    let mut gates = [0u64; LISTED];
-    let plan = plan_of(miter, nets, reads, miter.targets, &mut gates);
-    sets_of_inputs(&gates, plan)
+    let targets = miter.targets;
+    sets_of_inputs(&plan_of(miter, reads, targets))
 }
 
 // The choice on a good job's parts, and its sheet.
@@ -116,7 +116,11 @@ fn choose_job(job: JobParts, reply: &mut [u8]) -> ChooseReply
     let nets = job.nets;
     let weights = job.weights;
     let miter = merged_miter(job);
-    let met = reading_sets(miter, nets, candidates);
+    let reads = Support {
+        nets,
+        len: candidates,
+    };
+    let met = reading_sets(miter, reads);
     if let Some(reading) = first_empty(&met.sets[..reading_count(candidates)]) {
         return rule_blind(reading, reply);
     }

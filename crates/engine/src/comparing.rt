@@ -5,14 +5,14 @@ ghost use Rattle.records.specs.Parts.{PartsOf};
 ghost use Rattle.engine.specs.Compare.{difference};
 ghost use Rattle.engine.specs.Reply.{comparison_of, compare_reply};
 ghost use Rattle.engine.specs.Inner.Miter.{SomeParts};
-ghost use Rattle.engine.specs.Inner.Plan.{PlanHeld};
 ghost use Rattle.engine.specs.Inner.Comparing.{PlanReads, TableCopied, sheet_comparison};
 
 use super::drive::{driven_row, table_rows};
 use super::leaves::block_inputs;
-use super::limits::{BLOCK, LISTED, READINGS, WORDS};
+use super::limits::{BLOCK, READINGS, WORDS};
 use super::merge::merged_miter;
-use super::plan::{Plan, plan_of};
+use super::plan::Plan;
+use super::planning::plan_of;
 use super::search::read_block;
 use super::table::reading_count;
 use super::word::first_zero;
@@ -39,18 +39,17 @@ pub struct CompareReply {
 
 // The smallest input at which the old outputs driven by the table differ from the golden ones. It costs, for each block of 1,024
 // inputs up to the one with the difference, one gate evaluation a gate of both netlists.
-fn first_difference(gates: &[u64], plan: Plan, table: &[u16; READINGS]) -> Comparison
-    requires { PlanHeld plan gates.now }
-    ensures { (j : Job) (is : List ℕ) → PlanReads j is plan gates.now
+fn first_difference(plan: &Plan, table: &[u16; READINGS]) -> Comparison
+    ensures { (j : Job) (is : List ℕ) → PlanReads j is plan.now
         → result ≡ comparison_of (difference j is table.now) }
 {
     let size = 1usize << plan.inputs;
     let mut words = [0u64; WORDS];
     let mut b = 0usize;
     while BLOCK * b < size {
-        let readings = read_block(gates, plan, b, &mut words);
+        let readings = read_block(plan, b, &mut words);
         let vectors = table_rows(readings, table);
-        let row = driven_row(gates, plan, &vectors, 0, &mut words);
+        let row = driven_row(plan, &vectors, 0, &mut words);
         let count = block_inputs(size - BLOCK * b);
         let y = first_zero(row);
         if y < count {
@@ -92,12 +91,10 @@ fn compare_sheet(job: JobParts, sheet: &[u8]) -> CompareReply
     }
     let support = answer.support;
     let table = table_of(sheet, answer.table, reading_count(support.len));
-    let picks = support.nets;
-    let mut gates = [0u64; LISTED];
-    let plan = plan_of(merged_miter(job), picks, support.len, 0, &mut gates);
+    let plan = plan_of(merged_miter(job), support, 0);
     CompareReply {
         number: 0,
-        result: first_difference(&gates, plan, &table),
+        result: first_difference(&plan, &table),
     }
 }
 

@@ -1,9 +1,8 @@
 // The targets of a block driven by a table: each scenario's reading gives the vector to which its targets are set. Transposed, a word
 // of the readings' rows has four readings, and the entries at them are the word of four vectors.
-ghost use Rattle.std.specs.Prelude.{◌≡◌, ℕ, ◌+◌, ◌%◌, ◌≤◌, ◌<◌, length, get_or};
+ghost use Rattle.std.specs.Prelude.{◌≡◌, ℕ, ◌+◌, ◌%◌, ◌≤◌, ◌<◌, get_or};
 ghost use Rattle.engine.specs.Inner.Kernel.{row_value, value_in, NetsSet};
 ghost use Rattle.engine.specs.Inner.Note.{gathered};
-ghost use Rattle.engine.specs.Inner.Plan.{PlanHeld};
 ghost use Rattle.engine.specs.Inner.Search.{RowsSay, DrivenRow};
 ghost use Rattle.engine.specs.Inner.Turn.{Looked};
 
@@ -40,9 +39,7 @@ fn look_four(readings: u64, table: &[u16; READINGS]) -> u64
 
 // The rows of the vectors that a table gives for the readings of a block's inputs.
 pub(super) fn table_rows(mut readings: [u64; ROWS], table: &[u16; READINGS]) -> [u64; ROWS]
-    requires { length readings ≡ 256 }
-    ensures { (length result ≡ 256)
-        × ((y : ℕ) → y < 1024 → gathered result y ≡ get_or table.now (gathered readings y % 1024) 0) }
+    ensures { (y : ℕ) → y < 1024 → gathered result y ≡ get_or table.now (gathered readings y % 1024) 0 }
 {
     transpose(&mut readings, ROW);
     let mut found = [0u64; ROWS];
@@ -73,7 +70,7 @@ fn set_targets(
     first: usize,
     words: &mut [u64; WORDS],
 )
-    requires { (at + targets ≤ 1024) × (first + targets ≤ 16) × (length words.old ≡ 16384) }
+    requires { (at + targets ≤ 1024) × (first + targets ≤ 16) }
     ensures { NetsSet at targets (λ y k. value_in rows.now y (first + k)) words.old words.new }
 {
     for i in 0..targets {
@@ -85,20 +82,16 @@ fn set_targets(
 // vector y rectifies the block's input y. Nets that no target leads to have their values already, and keep them. It costs one gate
 // evaluation a gate that a target leads to.
 pub(super) fn driven_row(
-    gates: &[u64],
-    plan: Plan,
+    plan: &Plan,
     rows: &[u64; ROWS],
     first: usize,
     words: &mut [u64; WORDS],
 ) -> [u64; ROW]
-    requires { PlanHeld plan gates.now × (first ≤ 12) × (length words.old ≡ 16384) }
-    ensures { (u : ℕ → ℕ) → RowsSay rows.now first plan.targets u
-        → DrivenRow plan gates.now u words.old result words.new }
+    requires { first ≤ 12 }
+    ensures { (u : ℕ → ℕ) → RowsSay rows.now first plan.now.targets u
+        → DrivenRow plan.now u words.old result words.new }
 {
     set_targets(plan.inputs, plan.targets, rows, first, words);
-    let ends = plan.ends;
-    run(gates, ends[0], ends[1], words);
-    let outputs = plan.outputs;
-    let goldens = plan.goldens;
-    equal_row(outputs, goldens, plan.outs, words)
+    run(&plan.gates, plan.ends[0], plan.ends[1], words);
+    equal_row(plan, words)
 }

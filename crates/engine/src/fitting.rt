@@ -13,7 +13,7 @@ ghost use Rattle.engine.specs.Inner.Renumber.{old_base};
 use super::limits::LONGEST_FIT;
 use super::miter::miter_of;
 use super::netlist::put_netlist;
-use super::plan::mark_from;
+use super::planning::mark_from;
 use super::renumber::{NewSide, OldSide, move_nets, number_inputs, place_marked};
 use super::table::reading_count;
 use super::tree::{put_trees, trees_size};

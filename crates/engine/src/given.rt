@@ -4,7 +4,7 @@ ghost use Rattle.records.specs.Bytes.{all as all'};
 ghost use Rattle.records.specs.Job.{Job};
 ghost use Rattle.records.specs.Refusal.{candidate_good};
 ghost use Rattle.engine.specs.Inner.Miter.{MiterRoom, MergedOf};
-ghost use Rattle.engine.specs.Inner.Plan.{NetsRead, PlanHeld};
+ghost use Rattle.engine.specs.Inner.Plan.{NetsRead};
 ghost use Rattle.engine.specs.Inner.Search.{BlockRange};
 ghost use Rattle.engine.specs.Inner.Best.{GivenBits};
 ghost use Rattle.engine.specs.Inner.Imply.{NoneGives};
@@ -15,10 +15,11 @@ use super::cover::{
 };
 use super::imply::{Sorted, sort_cubes};
 use super::leaves::{block_inputs, read_rows};
-use super::limits::{BLOCK, LISTED, RANGE, READINGS, RENEWALS, ROWS, SPLITS, TESTED, WORDS};
+use super::limits::{BLOCK, RANGE, READINGS, RENEWALS, ROWS, SPLITS, TESTED, WORDS};
 use super::miter::Miter;
 use super::note::meet_block;
-use super::plan::{Plan, reads_of};
+use super::plan::Plan;
+use super::planning::reads_of;
 use super::search::free_block;
 use super::table::reading_count;
 use records::Support;
@@ -27,36 +28,32 @@ use records::Support;
 // gives a reading of the cover they stay as they are. It costs one gate evaluation a gate of the plan, one a net of each cube of the cover, and,
 // where one is given, some 1,000 steps.
 fn see_block(
-    gates: &[u64],
-    plan: Plan,
+    plan: &Plan,
     b: usize,
     count: usize,
     cover: Cover,
     words: &mut [u64; WORDS],
     sets: &mut [u32; READINGS],
 )
-    requires plan_held { PlanHeld plan gates.now × BlockRange plan.inputs b count × GivenCover plan gates.now sets.old cover }
-    requires words_len { (length words.old ≡ 16384) × (length sets.old ≡ 1024) }
-    ensures block_seen { BlockSeen plan gates.now b count sets.old sets.new }
-    ensures words_len_2 { length words.new ≡ 16384 }
+    requires { BlockRange plan.now.inputs b count × GivenCover plan.now sets.old cover }
+    ensures { BlockSeen plan.now b count sets.old sets.new }
 {
-    free_block(gates, plan, b, words);
-    let nets = plan.nets;
-    if !gives_cover(nets, plan.reads, cover, words) {
+    free_block(plan, b, words);
+    if !gives_cover(plan.reads.nets, plan.reads.len, cover, words) {
         return;
     }
-    let readings = read_rows(nets, plan.reads, words);
+    let readings = read_rows(plan, words);
     meet_block([!0u64; ROWS], readings, (count + 63) / 64, sets);
 }
 
 // A cover of the unseen readings that an input may still give, and cubes that none gives: those of never, and those that are refuted here. Few
 // cubes that are not refuted at once are worth a longer look.
-fn given_cover(gates: &[u64], plan: Plan, sets: &[u32; READINGS], never: Cover) -> Sorted
-    requires { PlanHeld plan gates.now × NoneGives plan gates.now never }
-    ensures { GivenCover plan gates.now sets.now result.left × NoneGives plan gates.now result.never }
+fn given_cover(plan: &Plan, sets: &[u32; READINGS], never: Cover) -> Sorted
+    requires { NoneGives plan.now never }
+    ensures { GivenCover plan.now sets.now result.left × NoneGives plan.now result.never }
 {
-    let cover = cover_of(sets, plan.reads, never);
-    let first = sort_cubes(gates, plan, cover, never, 1);
+    let cover = cover_of(sets, plan.reads.len, never);
+    let first = sort_cubes(plan, cover, never, 1);
     let left = first.left;
     let refuted = first.never;
     if TESTED < left.count {
@@ -65,7 +62,7 @@ fn given_cover(gates: &[u64], plan: Plan, sets: &[u32; READINGS], never: Cover) 
             never: refuted,
         };
     }
-    sort_cubes(gates, plan, left, refuted, SPLITS)
+    sort_cubes(plan, left, refuted, SPLITS)
 }
 
 // Such a cover, how many readings were unseen when it was made, and how often it may be made anew.
@@ -77,17 +74,11 @@ struct Covering {
     renewals: usize,
 }
 
-fn covering_of(
-    gates: &[u64],
-    plan: Plan,
-    sets: &[u32; READINGS],
-    never: Cover,
-    renewals: usize,
-) -> Covering
-    requires { PlanHeld plan gates.now × NoneGives plan gates.now never }
-    ensures { GivenCover plan gates.now sets.now result.left × NoneGives plan gates.now result.never }
+fn covering_of(plan: &Plan, sets: &[u32; READINGS], never: Cover, renewals: usize) -> Covering
+    requires { NoneGives plan.now never }
+    ensures { GivenCover plan.now sets.now result.left × NoneGives plan.now result.never }
 {
-    let cubes = given_cover(gates, plan, sets, never);
+    let cubes = given_cover(plan, sets, never);
     let left = cubes.left;
     let never = cubes.never;
     Covering {
@@ -99,9 +90,9 @@ fn covering_of(
 }
 
 // .. made anew, where fewer readings are unseen than when it was made
-fn renewed(gates: &[u64], plan: Plan, sets: &[u32; READINGS], old: Covering) -> Covering
-    requires { PlanHeld plan gates.now × GivenCover plan gates.now sets.now old.left × NoneGives plan gates.now old.never }
-    ensures { GivenCover plan gates.now sets.now result.left × NoneGives plan gates.now result.never }
+fn renewed(plan: &Plan, sets: &[u32; READINGS], old: Covering) -> Covering
+    requires { GivenCover plan.now sets.now old.left × NoneGives plan.now old.never }
+    ensures { GivenCover plan.now sets.now result.left × NoneGives plan.now result.never }
 {
     if old.renewals == 0 {
         return old;
@@ -109,7 +100,7 @@ fn renewed(gates: &[u64], plan: Plan, sets: &[u32; READINGS], old: Covering) -> 
     if unseen_count(sets) == old.unseen {
         return old;
     }
-    covering_of(gates, plan, sets, old.never, old.renewals - 1)
+    covering_of(plan, sets, old.never, old.renewals - 1)
 }
 
 // Whether it is time for that: before block 0, 1, 2, 4, 8 or 16 of a range that was skipped.
@@ -121,15 +112,14 @@ fn is_due(skipped: usize, b: usize) -> bool
 }
 
 // The sets after the inputs of the ranges that were skipped. It ends where no reading is unseen, or none of those that are can be given.
-fn see_inputs(gates: &[u64], plan: Plan, skipped: usize, sets: &mut [u32; READINGS])
-    requires { PlanHeld plan gates.now × (length sets.old ≡ 1024) }
-    ensures { AllSeen plan gates.now skipped sets.old sets.new
+fn see_inputs(plan: &Plan, skipped: usize, sets: &mut [u32; READINGS])
+    ensures { AllSeen plan.now skipped sets.old sets.new
         × SameVectors sets.old sets.new }
 {
-    let count = reading_count(plan.reads);
+    let count = reading_count(plan.reads.len);
     let size = 1usize << plan.inputs;
     let mut words = [0u64; WORDS];
-    let mut covering = covering_of(gates, plan, sets, no_cubes(), RENEWALS);
+    let mut covering = covering_of(plan, sets, no_cubes(), RENEWALS);
     let mut next = next_unseen(sets, 0, count);
     let mut b = 0usize;
     while BLOCK * b < size {
@@ -137,14 +127,13 @@ fn see_inputs(gates: &[u64], plan: Plan, skipped: usize, sets: &mut [u32; READIN
             return;
         }
         if is_due(skipped, b) {
-            covering = renewed(gates, plan, sets, covering);
+            covering = renewed(plan, sets, covering);
         }
         if covering.left.count == 0 {
             return;
         }
         if (skipped >> (b / RANGE)) % 2 == 1 {
             see_block(
-                gates,
                 plan,
                 b,
                 block_inputs(size - BLOCK * b),
@@ -179,8 +168,6 @@ pub(super) fn see_skipped(
     if next_unseen(sets, 0, count) == count {
         return;
     }
-    let mut gates = [0u64; LISTED];
-    let nets = support.nets;
-    let plan = reads_of(miter, nets, support.len, &mut gates);
-    see_inputs(&gates, plan, skipped, sets);
+    let plan = reads_of(miter, support);
+    see_inputs(&plan, skipped, sets);
 }

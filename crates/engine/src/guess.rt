@@ -3,26 +3,25 @@
 // one or two vectors: two tables of listed vectors drive the old circuit, one after the other. At each reading of the candidates the first
 // has one that rectified the inputs looked at which give it, up to one for which there was none, and the second one that rectified those
 // from there on which the first did not. Where an input is left, all vectors are evaluated, and the tables learn.
-ghost use Rattle.std.specs.Prelude.{◌≡◌, true, false, ℕ, ◌*◌, ◌^◌, ◌≤◌, ◌<◌, eqb, length, get_or, take};
+ghost use Rattle.std.specs.Prelude.{◌≡◌, true, false, ℕ, ◌*◌, ◌^◌, ◌≤◌, ◌<◌, eqb, get_or, take};
 ghost use Rattle.records.specs.Job.{Job};
 ghost use Rattle.engine.specs.Choice.{any};
 ghost use Rattle.engine.specs.Eval.{bit};
 ghost use Rattle.engine.specs.Support.{candidate_nets};
-ghost use Rattle.engine.specs.Inner.List.{Held, listed_of, start_list};
 ghost use Rattle.engine.specs.Inner.Search.{FreeKept};
-ghost use Rattle.engine.specs.Inner.Plan.{PlanHeld, TurnsOf};
+ghost use Rattle.engine.specs.Inner.Plan.{TurnsOf};
 ghost use Rattle.engine.specs.Inner.Guess.{ListTo, OfListed, BlockGuessed, BlockShown, BlockListed};
 
 use super::drive::{driven_row, table_rows};
 use super::leaves::{block_inputs, equal_row};
 use super::limits::{BLOCK, READINGS, ROW, ROWS, VECTORS, WORDS};
-use super::list::{Vectors, lowest_of};
+use super::list::Vectors;
 use super::masks::masks_of;
 use super::note::{list_block, sort_block};
 use super::plan::Plan;
 use super::search::{first_tries, read_block, settled_from, vector_block};
 use super::trust::{first_trust, more, next_tries, next_trust};
-use super::word::{first_zero, join_rows};
+use super::word::{first_zero, join_rows, lowest_of};
 
 // The vector list after a block, how far the tables are trusted then, and whether they are to be made anew.
 #[derive(Drop)]
@@ -54,7 +53,6 @@ fn listed_set(list: [u8; VECTORS], len: usize) -> u16
 
 // The two tables: at each reading the smallest listed vector of its first set and, 16 times, that of its second, 0 where there is none.
 fn listed_table(sets: [u32; READINGS], list: Vectors) -> [u16; READINGS]
-    requires { Held list }
     ensures { OfListed list result }
 {
     let vectors = list.list;
@@ -72,46 +70,35 @@ fn listed_table(sets: [u32; READINGS], list: Vectors) -> [u16; READINGS]
 // Whether each of the first count inputs of a block is rectified by one of the two tables' vectors. It costs one gate evaluation a gate that a
 // target leads to, for each table that is tried, and some 1,000 steps.
 fn guess_block(
-    gates: &[u64],
-    plan: Plan,
+    plan: &Plan,
     readings: [u64; ROWS],
     table: &[u16; READINGS],
     count: usize,
     words: &mut [u64; WORDS],
 ) -> bool
-    requires { PlanHeld plan gates.now × (length readings ≡ 256) × (length words.old ≡ 16384) }
-    ensures free_kept { FreeKept plan gates.now words.old words.new × (length words.new ≡ 16384) }
-    ensures block_guessed { result ≡ true → BlockGuessed plan gates.now words.old readings table.now count }
+    ensures free_kept { FreeKept plan.now words.old words.new }
+    ensures block_guessed { result ≡ true → BlockGuessed plan.now words.old readings table.now count }
 {
     let vectors = table_rows(readings, table);
-    let one = driven_row(gates, plan, &vectors, 0, words);
+    let one = driven_row(plan, &vectors, 0, words);
     if count <= first_zero(one) {
         return true;
     }
-    let two = driven_row(gates, plan, &vectors, 4, words);
+    let two = driven_row(plan, &vectors, 4, words);
     count <= first_zero(join_rows(one, two))
 }
 
 // Whether listed vectors rectify each of the first count inputs of a block. It costs, for each listed vector up to the one with which they
 // do, one gate evaluation a gate that a target leads to.
-fn try_listed(
-    gates: &[u64],
-    plan: Plan,
-    list: Vectors,
-    count: usize,
-    words: &mut [u64; WORDS],
-) -> bool
-    requires { PlanHeld plan gates.now × Held list × (length words.old ≡ 16384) }
-    ensures free_kept { FreeKept plan gates.now words.old words.new × (length words.new ≡ 16384) }
-    ensures block_shown { result ≡ true → BlockShown plan gates.now words.old list count }
+fn try_listed(plan: &Plan, list: Vectors, count: usize, words: &mut [u64; WORDS]) -> bool
+    ensures free_kept { FreeKept plan.now words.old words.new }
+    ensures block_shown { result ≡ true → BlockShown plan.now words.old list count }
 {
     let vectors = list.list;
-    let outputs = plan.outputs;
-    let goldens = plan.goldens;
     let mut row = [0u64; ROW];
     for i in 0..list.len {
-        vector_block(gates, plan, vectors[i] as usize, words);
-        let next = join_rows(row, equal_row(outputs, goldens, plan.outs, words));
+        vector_block(plan, vectors[i] as usize, words);
+        let next = join_rows(row, equal_row(plan, words));
         row = next;
         if count <= first_zero(row) {
             return true;
@@ -122,15 +109,12 @@ fn try_listed(
 
 // Whether evaluating so many listed vectors costs less than what else there is: where the tables are not trusted all vectors, and else looking
 // a block up in them, which takes as long as one vector more with some 200 gates in the fanout.
-fn few_listed(plan: Plan, len: usize, trust: usize) -> bool
-    requires { (plan.targets ≤ 4) × (plan.outs ≤ 32) × (get_or plan.ends 0 0 ≤ 2400) × (get_or plan.ends 1 0 ≤ 2400) }
-{
+fn few_listed(plan: &Plan, len: usize, trust: usize) -> bool {
     if trust == 0 {
         return len < 1usize << plan.targets;
     }
-    let ends = plan.ends;
-    let vector = 2 * ends[1] + 3 * plan.outs;
-    let free = 2 * ends[0];
+    let vector = 2 * plan.ends[1] + 3 * plan.outs;
+    let free = 2 * plan.ends[0];
     if len == 2 {
         return vector < free + 450;
     }
@@ -145,8 +129,7 @@ fn few_listed(plan: Plan, len: usize, trust: usize) -> bool
 
 // How it is shown that a block leaves the list as it is: that way is tried which costs less.
 fn shown_by(
-    gates: &[u64],
-    plan: Plan,
+    plan: &Plan,
     readings: [u64; ROWS],
     list: Vectors,
     trust: usize,
@@ -154,14 +137,13 @@ fn shown_by(
     count: usize,
     words: &mut [u64; WORDS],
 ) -> Shown
-    requires { PlanHeld plan gates.now × (length readings ≡ 256) × Held list × (length words.old ≡ 16384) }
-    ensures free_kept { FreeKept plan gates.now words.old words.new × (length words.new ≡ 16384) }
-    ensures block_shown { (result ≡ Shown.Listed → BlockShown plan gates.now words.old list count)
+    ensures free_kept { FreeKept plan.now words.old words.new }
+    ensures block_shown { (result ≡ Shown.Listed → BlockShown plan.now words.old list count)
         × (result ≡ Shown.Tables → (0 < trust)
-        × BlockGuessed plan gates.now words.old readings table.now count) }
+        × BlockGuessed plan.now words.old readings table.now count) }
 {
     if few_listed(plan, list.len, trust) {
-        if try_listed(gates, plan, list, count, words) {
+        if try_listed(plan, list, count, words) {
             return Shown::Listed;
         }
         return Shown::Not;
@@ -169,7 +151,7 @@ fn shown_by(
     if trust == 0 {
         return Shown::Not;
     }
-    if guess_block(gates, plan, readings, table, count, words) {
+    if guess_block(plan, readings, table, count, words) {
         return Shown::Tables;
     }
     Shown::Not
@@ -179,8 +161,7 @@ fn shown_by(
 // block. Where listed vectors or the tables show that it stays, it costs one gate evaluation a gate of both netlists, and one more for each
 // gate that a target leads to and each vector more that is tried; else that, those of the masks, and some 2,000 steps.
 fn list_inputs(
-    gates: &[u64],
-    plan: Plan,
+    plan: &Plan,
     b: usize,
     list: Vectors,
     trust: usize,
@@ -188,16 +169,14 @@ fn list_inputs(
     sets: &mut [u32; READINGS],
     words: &mut [u64; WORDS],
 ) -> Listing
-    requires plan_held { PlanHeld plan gates.now × (1024 * b < 2 ^ plan.inputs) × Held list }
-    requires of_listed { (0 < trust → OfListed list table.now) × (length sets.old ≡ 1024) × (length words.old ≡ 16384) × (trust ≤ 64) }
-    ensures block_listed { BlockListed plan gates.now b list result.list × (result.trust ≤ 64)
+    requires { (1024 * b < 2 ^ plan.now.inputs) × (0 < trust → OfListed list table.now) × (trust ≤ 64) }
+    ensures { BlockListed plan.now b list result.list × (result.trust ≤ 64)
         × (result.anew ≡ false → 0 < result.trust → OfListed result.list table.now) }
-    ensures sets_len { (length sets.new ≡ 1024) × (length words.new ≡ 16384) }
 {
     let count = block_inputs((1usize << plan.inputs) - BLOCK * b);
-    let readings = read_block(gates, plan, b, words);
+    let readings = read_block(plan, b, words);
     if 0 < b {
-        let by = shown_by(gates, plan, readings, list, trust, table, count, words);
+        let by = shown_by(plan, readings, list, trust, table, count, words);
         match by {
             Shown::Listed => {
                 return Listing {
@@ -216,8 +195,8 @@ fn list_inputs(
             Shown::Not => {}
         }
     }
-    vector_block(gates, plan, 0, words);
-    let masks = masks_of(gates, plan, words);
+    vector_block(plan, 0, words);
+    let masks = masks_of(plan, words);
     let next = next_trust(trust, b);
     if 0 < next {
         sort_block(masks, readings, (count + 63) / 64, sets);
@@ -231,26 +210,24 @@ fn list_inputs(
 
 // The vector list over all inputs. It ends at the first block with an input that no vector rectifies. Blocks that partial evaluation settles
 // are skipped; that is given up where it settles too little.
-pub(super) fn list_of_inputs(gates: &[u64], plan: Plan) -> Vectors
-    requires { PlanHeld plan gates.now }
-    ensures held { Held result }
-    ensures list_to { (j : Job) → TurnsOf j (candidate_nets j) plan gates.now → ListTo j (2 ^ j.inputs) result }
+pub(super) fn list_of_inputs(plan: &Plan) -> Vectors
+    ensures { (j : Job) → TurnsOf j (candidate_nets j) plan.now → ListTo j (2 ^ j.inputs) result }
 {
     let size = 1usize << plan.inputs;
     let mut words = [0u64; WORDS];
     let mut sets = [!0u32; READINGS];
     let mut table = [0u16; READINGS];
-    let mut list = first_list();
+    let mut list = Vectors::start();
     let mut trust = first_trust(plan.inputs, 14);
-    let mut tries = first_tries(gates, plan);
+    let mut tries = first_tries(plan);
     let mut b = 0usize;
     while BLOCK * b < size {
-        let skip = settled_from(gates, plan, b, tries);
+        let skip = settled_from(plan, b, tries);
         tries = next_tries(tries, b, skip);
         if skip == 0 {
-            let next = list_inputs(gates, plan, b, list, trust, &table, &mut sets, &mut words);
+            let next = list_inputs(plan, b, list, trust, &table, &mut sets, &mut words);
             list = next.list;
-            if list.stuck {
+            if list.stuck.is_some() {
                 return list;
             }
             trust = next.trust;
@@ -263,16 +240,4 @@ pub(super) fn list_of_inputs(gates: &[u64], plan: Plan) -> Vectors
         }
     }
     list
-}
-
-// Vector 0 alone, with which the loop begins.
-pub(super) fn first_list() -> Vectors
-    ensures { Held result × (listed_of result ≡ start_list) × (result.stuck ≡ false) }
-{
-    Vectors {
-        list: [0u8; VECTORS],
-        len: 1,
-        stuck: false,
-        input: 0,
-    }
 }

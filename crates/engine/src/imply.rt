@@ -7,7 +7,6 @@ ghost use Rattle.records.specs.Netlist.{net_at};
 ghost use Rattle.engine.specs.Inner.Cover.{CoverHeld};
 ghost use Rattle.engine.specs.Inner.Imply.{Implied, Learns, AllHave, Forces, GateHas, ValuesOf, CubeHas, NoneGives, CubeSorted, Unrefuted};
 ghost use Rattle.engine.specs.Inner.Packed.{operands_of};
-ghost use Rattle.engine.specs.Inner.Plan.{PlanHeld};
 
 use super::cover::{Cover, no_cubes, with_cube};
 use super::limits::{CUBES, NETS};
@@ -205,18 +204,15 @@ fn contradicts(gates: &[u64], count: usize, known: [u8; NETS], splits: usize) ->
 }
 
 // Whether a cube's values contradict each other.
-fn refuted(gates: &[u64], plan: Plan, value: usize, care: usize, splits: usize) -> bool
-    requires { PlanHeld plan gates.now }
-    ensures { result ≡ true → (vs : List ℕ) → ValuesOf gates.now (get_or plan.ends 0 0) vs
-        → CubeHas plan.nets plan.reads value care vs → ⊥ }
+fn refuted(plan: &Plan, value: usize, care: usize, splits: usize) -> bool
+    ensures { result ≡ true → (vs : List ℕ) → ValuesOf plan.now.gates (get_or plan.now.ends 0 0) vs
+        → CubeHas plan.now.reads.nets plan.now.reads.len value care vs → ⊥ }
 {
     let mut known = [UNKNOWN; NETS];
-    let nets = plan.nets;
-    let ends = plan.ends;
-    if !learn_cube(nets, plan.reads, value, care, &mut known) {
+    if !learn_cube(plan.reads.nets, plan.reads.len, value, care, &mut known) {
         return true;
     }
-    contradicts(gates, ends[0], known, splits)
+    contradicts(&plan.gates, plan.ends[0], known, splits)
 }
 
 // Cubes that an input may give, and cubes that none gives.
@@ -228,21 +224,14 @@ pub struct Sorted {
 
 // .. with one cube more: it is left, or, where it is refuted, put to never, unless that has 64 already. It costs two steps a gate of the plan, and
 // as many for each case tried.
-fn sort_cube(
-    gates: &[u64],
-    plan: Plan,
-    value: usize,
-    care: usize,
-    splits: usize,
-    sorted: Sorted,
-) -> Sorted
-    requires plan_held { PlanHeld plan gates.now × (value < 1024) × (care < 1024) }
-    requires cover_held { CoverHeld sorted.left × (sorted.left.count < 64) × NoneGives plan gates.now sorted.never }
-    ensures { CubeSorted plan gates.now value care sorted.left result.left × NoneGives plan gates.now result.never }
+fn sort_cube(plan: &Plan, value: usize, care: usize, splits: usize, sorted: Sorted) -> Sorted
+    requires in_range { (value < 1024) × (care < 1024) }
+    requires cover_held { CoverHeld sorted.left × (sorted.left.count < 64) × NoneGives plan.now sorted.never }
+    ensures { CubeSorted plan.now value care sorted.left result.left × NoneGives plan.now result.never }
 {
     let left = sorted.left;
     let never = sorted.never;
-    if !refuted(gates, plan, value, care, splits) {
+    if !refuted(plan, value, care, splits) {
         return Sorted {
             left: with_cube(left, value, care),
             never,
@@ -258,15 +247,9 @@ fn sort_cube(
 }
 
 // The cubes of a cover, sorted: those that are refuted, with so many nets split for each, are put to never, the others are left.
-pub(super) fn sort_cubes(
-    gates: &[u64],
-    plan: Plan,
-    cover: Cover,
-    never: Cover,
-    splits: usize,
-) -> Sorted
-    requires { PlanHeld plan gates.now × CoverHeld cover × NoneGives plan gates.now never }
-    ensures { Unrefuted plan gates.now cover result.left × NoneGives plan gates.now result.never }
+pub(super) fn sort_cubes(plan: &Plan, cover: Cover, never: Cover, splits: usize) -> Sorted
+    requires { CoverHeld cover × NoneGives plan.now never }
+    ensures { Unrefuted plan.now cover result.left × NoneGives plan.now result.never }
 {
     let values = cover.values;
     let cares = cover.cares;
@@ -275,14 +258,7 @@ pub(super) fn sort_cubes(
         never,
     };
     for i in 0..cover.count {
-        sorted = sort_cube(
-            gates,
-            plan,
-            values[i] as usize,
-            cares[i] as usize,
-            splits,
-            sorted,
-        );
+        sorted = sort_cube(plan, values[i] as usize, cares[i] as usize, splits, sorted);
     }
     sorted
 }

@@ -1,12 +1,12 @@
 // The service judge.
-ghost use Rattle.std.specs.Prelude.{◌≡◌, true, ◌^◌, ◌≤◌, ◌<◌, length, take};
+ghost use Rattle.std.specs.Prelude.{IfSome, ◌≡◌, ◌^◌, ◌≤◌, ◌<◌, length, take};
 ghost use Rattle.records.specs.Job.{Job};
 ghost use Rattle.records.specs.Claims.{Below};
 ghost use Rattle.records.specs.Parts.{PartsOf};
 ghost use Rattle.engine.specs.Verdict.{judged_bytes};
 ghost use Rattle.engine.specs.Reply.{declined_judge, judge_reply};
 ghost use Rattle.engine.specs.Rectify.{vector_loop};
-ghost use Rattle.engine.specs.Inner.List.{Held, listed_of};
+ghost use Rattle.engine.specs.Inner.List.{listed_of};
 ghost use Rattle.engine.specs.Support.{candidate_nets};
 ghost use Rattle.engine.specs.Inner.Guess.{ListTo};
 ghost use Rattle.engine.specs.Inner.Miter.{SomeParts, MiterRoom, MergedOf};
@@ -14,14 +14,14 @@ ghost use Rattle.engine.specs.Inner.Plan.{NetsRead};
 ghost use Rattle.engine.specs.Inner.Judging.{JudgedJob};
 
 use super::guess::list_of_inputs;
-use super::limits::{LISTED, LONGEST_JUDGE, WORD_INPUTS};
+use super::limits::{LONGEST_JUDGE, WORD_INPUTS};
 use super::list::Vectors;
 use super::merge::merged_miter;
 use super::miter::Miter;
 use super::narrow::list_of_words;
-use super::plan::plan_of;
+use super::planning::plan_of;
 use super::sheet::{put_unfixable, put_vectors};
-use records::{CANDIDATES, Check, JobParts, load};
+use records::{Check, JobParts, Support, load};
 
 #[derive(Clone, Copy)]
 pub struct UnfixableInput {
@@ -56,21 +56,20 @@ fn declined(number: u8) -> JudgeReply
 
 // The judgement that the vector list of all inputs gives, and its sheet: where the list is stuck, that input is unfixable.
 fn rule_list(list: Vectors, reply: &mut [u8]) -> JudgeReply
-    requires { Held list × (list.stuck ≡ true → list.input < 4294967296) × (26 ≤ length reply.old) }
+    requires { IfSome list.stuck (λ x. x < 4294967296) × (26 ≤ length reply.old) }
     ensures { (j : Job) → listed_of list ≡ vector_loop j → JudgedJob j reply.old result reply.new }
 {
-    let vectors = list.list;
-    if list.stuck {
-        let len = put_unfixable(reply, list.input, vectors, list.len);
+    if let Some(input) = list.stuck {
+        let len = put_unfixable(reply, input, list.list, list.len);
         return JudgeReply {
             number: 0,
             len,
             verdict: Judgement::Unfixable(UnfixableInput {
-                input: list.input as u32,
+                input: input as u32,
             }),
         };
     }
-    let len = put_vectors(reply, 0, vectors, list.len);
+    let len = put_vectors(reply, 0, list.list, list.len);
     JudgeReply {
         number: 0,
         len,
@@ -78,17 +77,16 @@ fn rule_list(list: Vectors, reply: &mut [u8]) -> JudgeReply
     }
 }
 
-// The vector list over all inputs of a miter; of the first reads nets the tables are made (see guess.rt).
-fn vector_list(miter: Miter, nets: [u16; CANDIDATES], reads: usize) -> Vectors
-    requires { MiterRoom miter × NetsRead nets reads }
-    ensures { Held result × ((j : Job) → MergedOf j miter → take reads nets ≡ candidate_nets j → ListTo j (2 ^ j.inputs) result) }
+// The vector list over all inputs of a miter; of the nets read the tables are made (see guess.rt).
+fn vector_list(miter: Miter, reads: Support) -> Vectors
+    requires { MiterRoom miter × NetsRead reads.nets reads.len }
+    ensures { (j : Job) → MergedOf j miter → take reads.len reads.nets ≡ candidate_nets j → ListTo j (2 ^ j.inputs) result }
 {
     if miter.inputs <= WORD_INPUTS {
         return list_of_words(miter);
     }
-    let mut gates = [0u64; LISTED];
-    let plan = plan_of(miter, nets, reads, miter.targets, &mut gates);
-    list_of_inputs(&gates, plan)
+    let targets = miter.targets;
+    list_of_inputs(&plan_of(miter, reads, targets))
 }
 
 // The judgement on a good job's parts, and its sheet.
@@ -96,9 +94,12 @@ fn judge_job(job: JobParts, reply: &mut [u8]) -> JudgeReply
     requires { SomeParts job × Below 1024 job.nets × (26 ≤ length reply.old) }
     ensures { (j : Job) → PartsOf j job → JudgedJob j reply.old result reply.new }
 {
-    let candidates = job.counts.candidates;
     let nets = job.nets;
-    let list = vector_list(merged_miter(job), nets, candidates);
+    let candidates = Support {
+        nets,
+        len: job.counts.candidates,
+    };
+    let list = vector_list(merged_miter(job), candidates);
     rule_list(list, reply)
 }
 

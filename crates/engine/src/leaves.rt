@@ -1,13 +1,14 @@
 // Single nets and rows of a block of 1,024 inputs: scenario y of block b is input 1,024 * b + y. A row is the 16 words of a net.
-ghost use Rattle.std.specs.Prelude.{◌≡◌, map, cond, ℕ, ◌+◌, ◌*◌, ◌≤◌, ◌<◌, min, eqb, length, get_or, take};
-ghost use Rattle.engine.specs.Choice.{same};
-ghost use Rattle.engine.specs.Eval.{bit, number_of};
+ghost use Rattle.std.specs.Prelude.{◌≡◌, cond, ℕ, ◌+◌, ◌*◌, ◌≤◌, ◌<◌, min, eqb, length, take};
+ghost use Rattle.engine.specs.Eval.{bit};
+ghost use Rattle.engine.specs.Inner.Cover.{reading_in};
 ghost use Rattle.engine.specs.Inner.Kernel.{row_value, value_in, NetSet, NetsSet};
 ghost use Rattle.engine.specs.Inner.Note.{gathered};
+ghost use Rattle.engine.specs.Inner.Search.{RowEqual};
 
 use super::limits::{BLOCK, ROW, ROWS, WORDS};
+use super::plan::Plan;
 use super::word::{broadcast, input_word};
-use records::{CANDIDATES, OUTPUTS};
 
 // How many of the inputs left are in one block.
 pub(super) fn block_inputs(left: usize) -> usize
@@ -94,15 +95,13 @@ pub(super) fn put_row(i: usize, r: [u64; ROW], rows: &mut [u64; ROWS])
     }
 }
 
-// The rows of the first count of the nets; the others of the 16 rows are 0.
-pub(super) fn read_rows(nets: [u16; CANDIDATES], count: usize, words: &[u64; WORDS]) -> [u64; ROWS]
-    requires { (count ≤ 10) × (length nets ≡ 10) × ((i : ℕ) → get_or nets i 0 < 1024) }
-    ensures { (length result ≡ 256) × ((y : ℕ) → y < 1024
-        → gathered result y ≡ number_of (map (value_in words.now y) (take count nets))) }
+// The rows of the nets that a plan reads; the others of the 16 rows are 0.
+pub(super) fn read_rows(plan: &Plan, words: &[u64; WORDS]) -> [u64; ROWS]
+    ensures { (y : ℕ) → y < 1024 → gathered result y ≡ reading_in words.now (take plan.now.reads.len plan.now.reads.nets) y }
 {
     let mut rows = [0u64; ROWS];
-    for k in 0..count {
-        let r = row_of(nets[k] as usize, words);
+    for k in 0..plan.reads.len {
+        let r = row_of(plan.reads.nets[k] as usize, words);
         put_row(k, r, &mut rows);
     }
     rows
@@ -119,21 +118,18 @@ fn keep_equal(a: usize, b: usize, r: &mut [u64; ROW], words: &[u64; WORDS])
     }
 }
 
-// 1 where the first count outputs have the values of the goldens.
-pub(super) fn equal_row(
-    outputs: [u16; OUTPUTS],
-    goldens: [u16; OUTPUTS],
-    count: usize,
-    words: &[u64; WORDS],
-) -> [u64; ROW]
-    requires count_bound { (count ≤ 32) × (length outputs ≡ 32) × (length goldens ≡ 32) }
-    requires by_index { ((i : ℕ) → get_or outputs i 0 < 1024) × ((i : ℕ) → get_or goldens i 0 < 1024) }
-    ensures { (length result ≡ 16) × ((y : ℕ) → y < 1024 → row_value result y
-        ≡ cond (same (map (value_in words.now y) (take count outputs)) (map (value_in words.now y) (take count goldens))) 1 0) }
+// 1 where a plan's outputs have the values of the goldens.
+pub(super) fn equal_row(plan: &Plan, words: &[u64; WORDS]) -> [u64; ROW]
+    ensures { RowEqual plan.now words.now result }
 {
     let mut r = [!0u64; ROW];
-    for k in 0..count {
-        keep_equal(outputs[k] as usize, goldens[k] as usize, &mut r, words);
+    for k in 0..plan.outs {
+        keep_equal(
+            plan.outputs[k] as usize,
+            plan.goldens[k] as usize,
+            &mut r,
+            words,
+        );
     }
     r
 }

@@ -27,6 +27,7 @@ mod note;
 mod packed;
 mod pick;
 mod plan;
+mod planning;
 mod ranges;
 mod renumber;
 mod search;

@@ -1,13 +1,12 @@
 // Where vectors rectify the inputs of a block: a row a vector. The vectors are taken in an order in which each differs from the one
 // before in one target, so that only the gates which that target leads to are evaluated again.
-ghost use Rattle.std.specs.Prelude.{◌≡◌, ℕ, ◌≤◌, ◌<◌, length, get_or};
+ghost use Rattle.std.specs.Prelude.{◌≡◌, ◌<◌};
 ghost use Rattle.engine.specs.Inner.Masks.{ordered, turns, Among};
-ghost use Rattle.engine.specs.Inner.Plan.{PlanHeld};
 ghost use Rattle.engine.specs.Inner.Search.{TargetTurned, BlockMasks};
 
 use super::kernel::run;
 use super::leaves::{equal_row, put_row, set_net};
-use super::limits::{LISTS, ROWS, VECTORS, WORDS};
+use super::limits::{ROWS, VECTORS, WORDS};
 use super::plan::Plan;
 
 // The target that each step of a Gray code sets anew, from step 1 on.
@@ -39,12 +38,12 @@ pub(super) fn vector_at(u: usize, step: usize) -> usize
 }
 
 // A target whose list of gates is the shortest; 0 where there is no target.
-fn shortest_list(ends: [usize; LISTS], targets: usize) -> usize
-    requires { (targets ≤ 4) × (length ends ≡ 6) × ((t : ℕ) → get_or ends t 0 ≤ 2400) }
-    ensures { (result < 4) × Among targets result }
+fn shortest_list(plan: &Plan) -> usize
+    ensures { (result < 4) × Among plan.now.targets result }
 {
+    let ends = &plan.ends;
     let mut best = 0usize;
-    for t in 1..targets {
+    for t in 1..plan.targets {
         if ends[t + 2] + ends[best + 1] < ends[best + 2] + ends[t + 1] {
             best = t;
         }
@@ -53,35 +52,29 @@ fn shortest_list(ends: [usize; LISTS], targets: usize) -> usize
 }
 
 // Target t set to the lowest bit of x, and the gates that it leads to evaluated again.
-fn turn_target(gates: &[u64], plan: Plan, t: usize, x: usize, words: &mut [u64; WORDS])
-    requires { PlanHeld plan gates.now × (t < 4) × (length words.old ≡ 16384) }
-    ensures { TargetTurned plan gates.now t x words.old words.new }
+fn turn_target(plan: &Plan, t: usize, x: usize, words: &mut [u64; WORDS])
+    requires { t < 4 }
+    ensures { TargetTurned plan.now t x words.old words.new }
 {
     set_net(plan.inputs + t, x, words);
-    let ends = plan.ends;
-    run(gates, ends[t + 1], ends[t + 2], words);
+    run(&plan.gates, plan.ends[t + 1], plan.ends[t + 2], words);
 }
 
 // The rows of all vectors in the block whose words, at vector 0, are given: bit y of row v is 1 where vector v rectifies the block's
 // input y. It costs, for every second vector, one gate evaluation a gate that the target with the fewest leads to, for every fourth one a
 // gate that another leads to, and so on.
-pub(super) fn masks_of(gates: &[u64], plan: Plan, words: &mut [u64; WORDS]) -> [u64; ROWS]
-    requires { PlanHeld plan gates.now × (length words.old ≡ 16384) }
-    ensures block_masks { BlockMasks plan gates.now words.old result }
-    ensures words_len { length words.new ≡ 16384 }
+pub(super) fn masks_of(plan: &Plan, words: &mut [u64; WORDS]) -> [u64; ROWS]
+    ensures { BlockMasks plan.now words.old result }
 {
-    let outputs = plan.outputs;
-    let goldens = plan.goldens;
     let vectors = 1usize << plan.targets;
-    let ends = plan.ends;
-    let u = shortest_list(ends, plan.targets);
+    let u = shortest_list(plan);
     let mut masks = [0u64; ROWS];
-    put_row(0, equal_row(outputs, goldens, plan.outs, words), &mut masks);
+    put_row(0, equal_row(plan, words), &mut masks);
     for step in 1..vectors {
         let v = vector_at(u, step);
         let t = turned_at(u, step);
-        turn_target(gates, plan, t, v >> t, words);
-        put_row(v, equal_row(outputs, goldens, plan.outs, words), &mut masks);
+        turn_target(plan, t, v >> t, words);
+        put_row(v, equal_row(plan, words), &mut masks);
     }
     masks
 }

@@ -7,7 +7,6 @@ ghost use Rattle.engine.specs.Choice.{same};
 ghost use Rattle.engine.specs.Eval.{bit, number_of};
 ghost use Rattle.engine.specs.Support.{candidate_nets};
 ghost use Rattle.engine.specs.Inner.Guess.{ListTo};
-ghost use Rattle.engine.specs.Inner.List.{Held};
 ghost use Rattle.engine.specs.Inner.Miter.{MiterRoom, MergedOf};
 ghost use Rattle.engine.specs.Inner.Narrow.{values_at, leaf_at, LeavesLoaded, WordsRan, NarrowOf, ValuesOf, MasksOf};
 ghost use Rattle.engine.specs.Inner.Note.{gathered};
@@ -15,7 +14,6 @@ ghost use Rattle.engine.specs.Inner.Packed.{code_value};
 ghost use Rattle.engine.specs.Inner.Plan.{NetsRead};
 ghost use Rattle.engine.specs.Inner.Search.{SetsTo};
 
-use super::guess::first_list;
 use super::kernel::apply;
 use super::leaves::put_row;
 use super::limits::{MITER_GATES, NETS, READINGS, ROW, ROWS, UNSEEN};
@@ -160,11 +158,11 @@ fn read_words(nets: [u16; CANDIDATES], count: usize, words: &[u64; NETS]) -> [u6
 // The vector list over all inputs of a miter with six at most.
 pub(super) fn list_of_words(miter: Miter) -> Vectors
     requires { MiterRoom miter × (miter.inputs ≤ 6) }
-    ensures { Held result × ((j : Job) → MergedOf j miter → ListTo j (2 ^ j.inputs) result) }
+    ensures { (j : Job) → MergedOf j miter → ListTo j (2 ^ j.inputs) result }
 {
     let mut words = [0u64; NETS];
     let masks = word_masks(miter, &mut words);
-    list_block(masks, 0, 1usize << miter.inputs, first_list())
+    list_block(masks, 0, 1usize << miter.inputs, Vectors::start())
 }
 
 // The sets of all readings of the first reads nets, over all inputs of a miter with six at most.

@@ -1,13 +1,13 @@
 // What a block of 1,024 inputs adds to the search: its rows of masks say which vectors rectify each input, its rows of readings what the
 // candidates give there. The sets of vectors are narrowed by all of its inputs; the vector list is stepped only at inputs that no listed
 // vector rectifies.
-ghost use Rattle.std.specs.Prelude.{◌≡◌, ℕ, ◌+◌, ◌*◌, ◌/◌, ◌%◌, ◌^◌, ◌≤◌, ◌<◌, length, get_or, take};
+ghost use Rattle.std.specs.Prelude.{◌≡◌, ℕ, ◌+◌, ◌*◌, ◌/◌, ◌%◌, ◌^◌, ◌≤◌, ◌<◌, length, get_or};
 ghost use Rattle.std.specs.Int.Bits.{bit_or};
+ghost use Rattle.engine.specs.Inner.List.{listed_of};
 ghost use Rattle.engine.specs.Inner.Note.{narrowed, sets_from, gathered, ColumnMet, Joined, CoveredTo, ListNoted};
-ghost use Rattle.engine.specs.Inner.List.{Held};
 
 use super::limits::{READING, READINGS, ROW, ROWS, SET, VECTORS, WORD};
-use super::list::{Vectors, list_step};
+use super::list::Vectors;
 use super::turn::transpose;
 use super::word::first_zero;
 
@@ -133,46 +133,44 @@ fn join_row(v: usize, masks: &[u64; ROWS], words: [u64; ROW]) -> [u64; ROW]
 }
 
 // The row that has a 1 where a listed vector rectifies the input.
-fn listed_row(masks: &[u64; ROWS], list: [u8; VECTORS], len: usize) -> [u64; ROW]
-    requires { (len ≤ 16) × ((i : ℕ) → get_or list i 0 < 16) }
-    ensures { Joined masks.now (take len list) result }
+fn listed_row(masks: &[u64; ROWS], list: &Vectors) -> [u64; ROW]
+    ensures { Joined masks.now (listed_of list.now).vectors result }
 {
     let mut words = [0u64; ROW];
-    for i in 0..len {
-        let next = join_row(list[i] as usize, masks, words);
+    for v in list.listed() {
+        let next = join_row(usize::from(*v), masks, words);
         words = next;
     }
     words
 }
 
 // The first input from y on that no listed vector rectifies, at least 1,024 where there is none.
-fn next_uncovered(masks: &[u64; ROWS], list: Vectors, y: usize) -> usize
-    requires { Held list }
-    ensures { CoveredTo masks.now list y result }
+fn next_uncovered(masks: &[u64; ROWS], list: &Vectors, y: usize) -> usize
+    ensures { CoveredTo masks.now list.now y result }
 {
-    let vectors = list.list;
-    let next = first_zero(listed_row(masks, vectors, list.len));
-    if next < y {
-        return y;
-    }
-    next
+    let next = first_zero(listed_row(masks, list));
+    next.max(y)
 }
 
 // The list after the first count inputs of a block. Those that a listed vector rectifies leave it as it is, so it goes from one that
 // none rectifies to the next: at most 16 steps in the whole search, one for each vector.
-pub(super) fn list_block(masks: [u64; ROWS], first: usize, count: usize, list: Vectors) -> Vectors
-    requires { (count ≤ 1024) × (first < 2 ^ 32) × Held list }
+pub(super) fn list_block(
+    masks: [u64; ROWS],
+    first: usize,
+    count: usize,
+    mut list: Vectors,
+) -> Vectors
+    requires { (count ≤ 1024) × (first < 2 ^ 32) }
     ensures { ListNoted masks first count list result }
 {
-    let mut list = list;
-    let mut y = next_uncovered(&masks, list, 0);
+    let mut y = next_uncovered(&masks, &list, 0);
     while y < count {
         let set = gather_rows(&masks, y);
-        list = list_step(list, set, first + y);
-        if list.stuck {
+        list.step(set, first + y);
+        if list.stuck.is_some() {
             return list;
         }
-        y = next_uncovered(&masks, list, y + 1);
+        y = next_uncovered(&masks, &list, y + 1);
     }
     list
 }

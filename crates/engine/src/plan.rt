@@ -1,268 +1,30 @@
-// The gates of a miter in the lists that the search over a job's inputs evaluates.
-ghost use Rattle.std.specs.Prelude.{◌≡◌, true, List, ℕ, ◌+◌, ◌≤◌, ◌<◌, max, length, take};
-ghost use Rattle.records.specs.Bytes.{all};
-ghost use Rattle.records.specs.Job.{Job};
-ghost use Rattle.records.specs.Refusal.{candidate_good};
+// The gates of a miter in the lists that the search over a job's inputs evaluates (src/planning.rt makes them).
+ghost use Rattle.std.specs.Prelude.{◌≡◌, ℕ, ◌≤◌, length, get_or};
 ghost use Rattle.records.specs.Claims.{Below};
-ghost use Rattle.engine.specs.Inner.Packed.{operands_of};
-ghost use Rattle.engine.specs.Inner.Miter.{MiterRoom, MergedOf};
-ghost use Rattle.engine.specs.Inner.Plan.{code_mark, marked_all, live_from, live_marks, leaves_from, marks_from, picked};
-ghost use Rattle.engine.specs.Inner.Plan.{ListPut, ListsUpTo, NetsRead, PlanHeld, ReadsOf, PlannedOf, TurnsOf};
 
-use super::limits::{LISTED, LISTS, NETS};
-use super::miter::Miter;
-use super::packed::{COUNT_AT, COUNTS, NET, NET_AT, SLOTS_AT};
-use records::{CANDIDATES, OUTPUTS};
+use super::limits::{LISTED, LISTS};
+use records::{OUTPUTS, Support};
 
-// What the search needs: counts, the nets of the outputs in both circuits, the nets that are read, and where the lists of gates end.
+// What the search needs: counts, the nets of the outputs in both circuits, the nets that are read, and the lists of gates with their ends.
 // Before ends[0] stand the live gates that no target leads to, from there to ends[1] the others; those that target t leads to are
 // gates[ends[t + 1]..ends[t + 2]].
-#[derive(Clone, Copy)]
+#[derive(Drop)]
 pub struct Plan {
     pub inputs: usize,
     pub targets: usize,
     pub outs: usize,
     pub outputs: [u16; OUTPUTS],
     pub goldens: [u16; OUTPUTS],
-    pub reads: usize,
-    pub nets: [u16; CANDIDATES],
+    pub reads: Support,
     pub ends: [usize; LISTS],
-}
-
-fn greater(a: u8, b: u8) -> u8
-    ensures { result ≡ max a b }
-{
-    if a < b { b } else { a }
-}
-
-// The mark of a gate: the greatest of its operands' marks.
-fn gate_mark(c: u64, marks: &[u8; NETS]) -> u8
-    ensures { result ≡ code_mark marks.now c }
-{
-    let mut r = 0u8;
-    let mut rest = c / SLOTS_AT;
-    let mut i = c / COUNT_AT % COUNTS;
-    while 0 < i {
-        r = greater(r, marks[(rest % NET) as usize]);
-        rest = rest / NET;
-        i -= 1;
-    }
-    r
-}
-
-// A mark for each of the k nets from from on.
-fn leaf_marks(from: usize, k: usize) -> [u8; NETS]
-    requires { from + k ≤ 1024 }
-    ensures { result ≡ leaves_from from k }
-{
-    let mut marks = [0u8; NETS];
-    for i in 0..k {
-        marks[from + i] = 1;
-    }
-    marks
-}
-
-// The marks of all nets where the k leaves from from on have one: each gate's, in turn.
-pub(super) fn mark_from(gates: &[u64], count: usize, from: usize, k: usize) -> [u8; NETS]
-    requires { (count ≤ length gates.now) × (from + k ≤ 1024) }
-    ensures { result ≡ marks_from (take count gates.now) from k }
-{
-    let mut marks = leaf_marks(from, k);
-    for i in 0..count {
-        let c = gates[i];
-        let m = gate_mark(c, &marks);
-        marks[(c / NET_AT % NET) as usize] = m;
-    }
-    marks
-}
-
-// The marks, and one for each of the first count nets.
-fn mark_nets(nets: &[u16], count: usize, mut marks: [u8; NETS]) -> [u8; NETS]
-    requires { (count ≤ length nets.now) × Below 1024 nets.now }
-    ensures { result ≡ marked_all marks (take count nets.now) }
-{
-    for i in 0..count {
-        let net = nets[i] as usize;
-        marks[net] = 1;
-    }
-    marks
-}
-
-// Marks the operands of a gate.
-fn mark_operands(c: u64, marks: &mut [u8; NETS])
-    ensures { marks.new ≡ marked_all marks.old (operands_of c) }
-{
-    let mut rest = c / SLOTS_AT;
-    let mut i = c / COUNT_AT % COUNTS;
-    while 0 < i {
-        marks[(rest % NET) as usize] = 1;
-        rest = rest / NET;
-        i -= 1;
-    }
-}
-
-// The marks, and from the last gate to the first those of the operands of each gate with a mark.
-fn mark_live(gates: &[u64], count: usize, mut marks: [u8; NETS]) -> [u8; NETS]
-    requires { count ≤ length gates.now }
-    ensures { result ≡ live_from marks (take count gates.now) }
-{
-    for i in (0..count).rev() {
-        let c = gates[i];
-        if marks[(c / NET_AT % NET) as usize] != 0 {
-            mark_operands(c, &mut marks);
-        }
-    }
-    marks
-}
-
-// The gates that have a mark in live, and one in marks, where led, or none there, put from place at on; the end is behind them. Where there
-// is no room, the rest is left out.
-fn pick(
-    gates: &[u64],
-    count: usize,
-    live: &[u8; NETS],
-    marks: &[u8; NETS],
-    led: bool,
-    at: usize,
-    out: &mut [u64; LISTED],
-) -> usize
-    requires { (count ≤ length gates.now) × (at ≤ 2400) × (length out.old ≡ 2400) }
-    ensures { ListPut (picked live.now marks.now led (take count gates.now)) at
-        out.old result out.new }
-{
-    let mut end = at;
-    for i in 0..count {
-        let c = gates[i];
-        let net = (c / NET_AT % NET) as usize;
-        if live[net] != 0 {
-            if (marks[net] != 0) == led {
-                if end < LISTED {
-                    out[end] = c;
-                    end += 1;
-                }
-            }
-        }
-    }
-    end
-}
-
-// The live gates that no target leads to, the others, and those that each of the first turns targets leads to: one list behind the other,
-// and the end of each.
-fn lists_of(
-    gates: &[u64],
-    count: usize,
-    live: [u8; NETS],
-    inputs: usize,
-    targets: usize,
-    turns: usize,
-    out: &mut [u64; LISTED],
-) -> [usize; LISTS]
-    requires { (count ≤ length gates.now) × (inputs ≤ 20) × (targets ≤ 4) × (turns ≤ targets) × (length out.old ≡ 2400) }
-    ensures { ListsUpTo (turns + 2) inputs targets live (take count gates.now) result out.new }
-{
-    let fan = mark_from(gates, count, inputs, targets);
-    let mut ends = [0usize; LISTS];
-    ends[0] = pick(gates, count, &live, &fan, false, 0, out);
-    ends[1] = pick(gates, count, &live, &fan, true, ends[0], out);
-    for t in 0..turns {
-        let marks = mark_from(gates, count, inputs + t, 1);
-        ends[t + 2] = pick(gates, count, &live, &marks, true, ends[t + 1], out);
-    }
-    ends
-}
-
-// The marks of the live nets: outputs of both circuits, nets that are read, and what leads to them.
-fn live_marks(
-    gates: &[u64],
-    count: usize,
-    outputs: [u16; OUTPUTS],
-    goldens: [u16; OUTPUTS],
-    outs: usize,
-    nets: [u16; CANDIDATES],
-    reads: usize,
-) -> [u8; NETS]
-    requires count_in_bounds { (count ≤ length gates.now) × (outs ≤ 32) × NetsRead nets reads }
-    requires outputs_len { (length outputs ≡ 32) × Below 1024 outputs × (length goldens ≡ 32) × Below 1024 goldens }
-    ensures { result ≡ live_marks (take outs outputs) (take outs goldens) (take reads nets) (take count gates.now) }
-{
-    let one = mark_nets(&outputs, outs, [0; NETS]);
-    let two = mark_nets(&goldens, outs, one);
-    let three = mark_nets(&nets, reads, two);
-    mark_live(gates, count, three)
-}
-
-// The plan of a search over a miter's inputs where the first reads nets are read, and its gates, with lists for so many targets: all of them,
-// or none where no target is set by itself.
-pub(super) fn plan_of(
-    miter: Miter,
-    nets: [u16; CANDIDATES],
-    reads: usize,
-    turns: usize,
-    gates: &mut [u64; LISTED],
-) -> Plan
-    requires { MiterRoom miter × NetsRead nets reads × (turns ≤ miter.targets) × (length gates.old ≡ 2400) }
-    ensures plan_held { PlanHeld result gates.new }
-    ensures planned_of { (j : Job) (is : List ℕ) → MergedOf j miter → take reads nets ≡ is → all (candidate_good j) is ≡ true
-        → PlannedOf j is result gates.new × (turns ≡ miter.targets → TurnsOf j is result gates.new) }
-{
-    let outputs = miter.outputs;
-    let goldens = miter.goldens;
-    let live = live_marks(
-        &miter.gates,
-        miter.count,
-        outputs,
-        goldens,
-        miter.outs,
-        nets,
-        reads,
-    );
-    let ends = lists_of(
-        &miter.gates,
-        miter.count,
-        live,
-        miter.inputs,
-        miter.targets,
-        turns,
-        gates,
-    );
-    Plan {
-        inputs: miter.inputs,
-        targets: miter.targets,
-        outs: miter.outs,
-        outputs,
-        goldens,
-        reads,
-        nets,
-        ends,
-    }
-}
-
-// The plan of a walk over a miter's inputs that reads the first reads nets and compares no outputs, and its gates: those that lead to
-// these nets, and that no target leads to.
-pub(super) fn reads_of(
-    miter: Miter,
-    nets: [u16; CANDIDATES],
-    reads: usize,
-    gates: &mut [u64; LISTED],
-) -> Plan
-    requires { MiterRoom miter × NetsRead nets reads × (length gates.old ≡ 2400) }
-    ensures plan_held { PlanHeld result gates.new }
-    ensures reads_of { (j : Job) (is : List ℕ) → MergedOf j miter → take reads nets ≡ is
-        → all (candidate_good j) is ≡ true → ReadsOf j is result gates.new }
-{
-    let outputs = miter.outputs;
-    let goldens = miter.goldens;
-    let live = live_marks(&miter.gates, miter.count, outputs, goldens, 0, nets, reads);
-    let fan = mark_from(&miter.gates, miter.count, miter.inputs, miter.targets);
-    let end = pick(&miter.gates, miter.count, &live, &fan, false, 0, gates);
-    Plan {
-        inputs: miter.inputs,
-        targets: miter.targets,
-        outs: 0,
-        outputs,
-        goldens,
-        reads,
-        nets,
-        ends: [end; LISTS],
-    }
+    pub gates: [u64; LISTED],
+    ghost few_inputs: { inputs ≤ 20 },
+    ghost few_targets: { targets ≤ 4 },
+    ghost few_outs: { outs ≤ 32 },
+    ghost few_reads: { reads.len ≤ 10 },
+    ghost reads_long: { length reads.nets ≡ 10 },
+    ghost outputs_below: { Below 1024 outputs },
+    ghost goldens_below: { Below 1024 goldens },
+    ghost reads_below: { Below 1024 reads.nets },
+    ghost within: { (t : ℕ) → get_or ends t 0 ≤ 2400 },
 }

@@ -3,20 +3,19 @@
 ghost use Rattle.std.specs.Prelude.{◌≡◌, ◌↔◌, true, List, map, ℕ, ◌+◌, ◌≤◌, ◌<◌, min, length, get_or, take};
 ghost use Rattle.std.proofs.Math.Seq.{slice};
 ghost use Rattle.records.specs.Bytes.{tabulate, placed};
-ghost use Rattle.records.specs.Claims.{Below};
 ghost use Rattle.records.specs.Netlist.{net_at};
 ghost use Rattle.records.specs.Job.{Job};
 ghost use Rattle.engine.specs.Rectify.{rectifies};
 ghost use Rattle.engine.specs.Ternary.{unknown};
 ghost use Rattle.engine.specs.Inner.Packed.{count_of, operands_of, evaluated};
-ghost use Rattle.engine.specs.Inner.Plan.{PlanHeld, PlannedOf};
+ghost use Rattle.engine.specs.Inner.Plan.{PlannedOf};
 ghost use Rattle.engine.specs.Inner.Ranges.{code_ternary, partial_input, InRange, Known};
 
 use super::limits::NETS;
 use super::packed::{COUNT_AT, COUNTS, NET, NET_AT, SLOTS_AT};
 use super::plan::Plan;
 use super::ternary::{ternary_entry, ternary_table, ternary_value};
-use records::{OUTPUTS, SLOTS, wide};
+use records::{SLOTS, wide};
 
 // What is known of the operands of a packed gate, which has four at most; 0 behind them.
 fn known_operands(c: u64, known: &[u8; NETS]) -> [u8; SLOTS]
@@ -52,7 +51,7 @@ pub(super) fn ternary_gate(c: u64, known: &[u8; NETS]) -> u8
 
 // Each of the first count gates, one after the other, sets what is known of its own net.
 fn eval_partial(gates: &[u64], count: usize, known: &mut [u8; NETS])
-    requires { (count ≤ length gates.now) × (length known.old ≡ 1024) }
+    requires { (count ≤ length gates.now) }
     ensures { known.new ≡ evaluated code_ternary known.old (slice 0 count gates.now) }
 {
     for i in 0..count {
@@ -74,7 +73,7 @@ fn partial_input(i: usize, low: usize, prefix: usize) -> u8
 
 // What is known of the inputs, from net 0 on: those from low on are the bits of prefix, the others not yet known.
 fn load_partial(inputs: usize, low: usize, prefix: usize, known: &mut [u8; NETS])
-    requires { (inputs < 64) × (length known.old ≡ 1024) }
+    requires { (inputs < 64) }
     ensures { known.new ≡ placed known.old 0 (tabulate inputs (partial_input low prefix)) }
 {
     for i in 0..inputs {
@@ -84,7 +83,7 @@ fn load_partial(inputs: usize, low: usize, prefix: usize, known: &mut [u8; NETS]
 
 // Not yet known, on count known from net at on: the targets.
 fn load_unknown(at: usize, count: usize, known: &mut [u8; NETS])
-    requires { (at + count ≤ 1024) × (length known.old ≡ 1024) }
+    requires { (at + count ≤ 1024) }
     ensures { known.new ≡ placed known.old at (tabulate count (λ i. unknown)) }
 {
     for i in 0..count {
@@ -92,25 +91,17 @@ fn load_unknown(at: usize, count: usize, known: &mut [u8; NETS])
     }
 }
 
-// Whether each of the first count outputs has one known value in both circuits.
-fn known_equal(
-    known: &[u8; NETS],
-    outputs: [u16; OUTPUTS],
-    goldens: [u16; OUTPUTS],
-    count: usize,
-) -> bool
-    requires { (count ≤ 32) × Below 1024 outputs × Below 1024 goldens }
-    ensures { (result ≡ true) ↔ ((i : ℕ) → i < count → Known
-        (get_or known.now (get_or outputs i 0) 0) (get_or known.now (get_or goldens i 0) 0)) }
+// Whether each output has one known value in both circuits.
+fn known_equal(plan: &Plan, known: &[u8; NETS]) -> bool
+    ensures { (result ≡ true) ↔ ((i : ℕ) → i < plan.now.outs → Known
+        (get_or known.now (get_or plan.now.outputs i 0) 0) (get_or known.now (get_or plan.now.goldens i 0) 0)) }
 {
-    for i in 0..count {
-        let a = outputs[i] as usize;
-        let b = goldens[i] as usize;
-        let x = known[a];
+    for i in 0..plan.outs {
+        let x = known[plan.outputs[i] as usize];
         if 2 <= x {
             return false;
         }
-        if x != known[b] {
+        if x != known[plan.goldens[i] as usize] {
             return false;
         }
     }
@@ -119,17 +110,13 @@ fn known_equal(
 
 // Whether it is settled that every vector rectifies every input whose bits from bit low on are prefix: each output has one known
 // value in both circuits. It costs one gate evaluation a live gate for the whole range.
-pub(super) fn settled(gates: &[u64], plan: Plan, low: usize, prefix: usize) -> bool
-    requires { PlanHeld plan gates.now }
-    ensures { result ≡ true → (j : Job) (is : List ℕ) → PlannedOf j is plan gates.now
+pub(super) fn settled(plan: &Plan, low: usize, prefix: usize) -> bool
+    ensures { result ≡ true → (j : Job) (is : List ℕ) → PlannedOf j is plan.now
         → (x v : ℕ) → InRange low prefix x → rectifies j x v ≡ true }
 {
     let mut known = [0u8; NETS];
-    let ends = plan.ends;
-    let outputs = plan.outputs;
-    let goldens = plan.goldens;
     load_partial(plan.inputs, low, prefix, &mut known);
     load_unknown(plan.inputs, plan.targets, &mut known);
-    eval_partial(gates, ends[1], &mut known);
-    known_equal(&known, outputs, goldens, plan.outs)
+    eval_partial(&plan.gates, plan.ends[1], &mut known);
+    known_equal(plan, &known)
 }

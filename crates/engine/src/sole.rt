@@ -1,14 +1,12 @@
 // The readings that an input gave and whose sets have one vector, or none: a block whose inputs give only such readings leaves the sets as they
 // are where each reading's vector rectifies its inputs, and that is shown at the cost of one vector.
-ghost use Rattle.std.specs.Prelude.{◌≡◌, true, List, ℕ, length};
-ghost use Rattle.engine.specs.Inner.Plan.{PlanHeld};
+ghost use Rattle.std.specs.Prelude.{◌≡◌, true, List, ℕ};
 ghost use Rattle.engine.specs.Inner.Search.{FreeKept, sole_of, SoleTable, BlockKept};
 
 use super::drive::{driven_row, row_at, table_rows};
 use super::limits::{BLOCK, READINGS, ROWS, UNSEEN, WORDS};
-use super::list::lowest_of;
 use super::plan::Plan;
-use super::word::{first_zero, join_rows, zero_row};
+use super::word::{first_zero, join_rows, lowest_of, zero_row};
 
 // What the table has where there is no only vector: the set is empty; it has several, or no input gave its reading.
 const NO_VECTOR: u16 = 16;
@@ -45,21 +43,19 @@ pub(super) fn sole_table(sets: [u32; READINGS]) -> [u16; READINGS]
 // Whether no input of a block gives a reading that none gave before, or whose set has several vectors, and each set's vector rectifies the
 // inputs that give its reading. It costs one gate evaluation a gate that a target leads to, and some 1,000 steps.
 pub(super) fn keep_block(
-    gates: &[u64],
-    plan: Plan,
+    plan: &Plan,
     readings: [u64; ROWS],
     table: &[u16; READINGS],
     words: &mut [u64; WORDS],
 ) -> bool
-    requires { PlanHeld plan gates.now × (length readings ≡ 256) × (length words.old ≡ 16384) }
-    ensures free_kept { FreeKept plan gates.now words.old words.new × (length words.new ≡ 16384) }
+    ensures free_kept { FreeKept plan.now words.old words.new }
     ensures block_kept { result ≡ true → (ss : List ℕ) → SoleTable ss table.now
-        → BlockKept plan gates.now readings words.old ss }
+        → BlockKept plan.now readings words.old ss }
 {
     let vectors = table_rows(readings, table);
     if !zero_row(row_at(&vectors, 5)) {
         return false;
     }
-    let row = driven_row(gates, plan, &vectors, 0, words);
+    let row = driven_row(plan, &vectors, 0, words);
     BLOCK <= first_zero(join_rows(row, row_at(&vectors, 4)))
 }

@@ -5,7 +5,7 @@ ghost use Rattle.engine.specs.Inner.List.{lowest};
 ghost use Rattle.engine.specs.Inner.Table.{TableFilled, note_from, NotesFilled};
 
 use super::limits::{READINGS, UNSEEN};
-use super::list::lowest_of;
+use super::word::lowest_of;
 
 // How many readings k nets have.
 pub(super) fn reading_count(k: usize) -> usize

@@ -1,9 +1,11 @@
 // Words: a bit a scenario. Scenario j of word b is input 64 * b + j. A row has the 16 words of 1,024 scenarios.
 ghost use Rattle.std.specs.Prelude.{◌≡◌, ℕ, ◌+◌, ◌*◌, ◌≤◌, ◌<◌, max, true};
 ghost use Rattle.engine.specs.Eval.{bit};
+ghost use Rattle.engine.specs.Choice.{or_zero};
+ghost use Rattle.engine.specs.Inner.List.{lowest};
 ghost use Rattle.engine.specs.Inner.Kernel.{row_value, LowestBit, FirstZero};
 
-use super::limits::{BLOCK, ROW, WORD};
+use super::limits::{BLOCK, ROW, VECTORS, WORD};
 
 // The word of a value that is the same in every scenario: the lowest bit of x.
 pub(super) fn broadcast(x: usize) -> u64
@@ -44,6 +46,18 @@ fn lowest_bit(word: u64, count: usize) -> usize
         }
     }
     count
+}
+
+// The smallest vector of a set, 0 where it is empty.
+pub(super) fn lowest_of(set: usize) -> usize
+    ensures { result ≡ or_zero (lowest set) }
+{
+    for v in 0..VECTORS {
+        if (set >> v) % 2 == 1 {
+            return v;
+        }
+    }
+    0
 }
 
 // The first scenario of which the row says 0, 1,024 where there is none.

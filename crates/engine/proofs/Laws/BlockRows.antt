@@ -90,9 +90,9 @@ module _ (j : Job) (good : PartsGood j) where
         (all-of-members (free_of j live) is (λ i m. zero-free j live i (all_true live is l i m) (free i m).1)))
         ∙ sym (reading-miter j is x olds)
 
-module _ {j : Job} {is : List ℕ} {plan : Plan} {gates : List ℕ} where
+module _ {j : Job} {is : List ℕ} {plan : Plan} where
   -- equal outputs say that the vector rectifies the input
-  pub equal-rectifies : (p : PlannedOf j is plan gates) {b : ℕ} {v : ℕ → ℕ} {words : List ℕ} → BlockAt j p.live b v words
+  pub equal-rectifies : (p : PlannedOf j is plan) {b : ℕ} {v : ℕ → ℕ} {words : List ℕ} → BlockAt j p.live b v words
       → (y : ℕ) → y < 1024
       → same (map (value_in words y) (take plan.outs plan.outputs)) (map (value_in words y) (take plan.outs plan.goldens))
       ≡ rectifies j (1024 * b + y) (v y)
@@ -110,7 +110,7 @@ module _ {j : Job} {is : List ℕ} {plan : Plan} {gates : List ℕ} where
       (pairs.equal x (v y))
 
   -- read nets that no target leads to are the reading
-  pub read-values : (p : ReadsOf j is plan gates) {b : ℕ} {words : List ℕ} → BlockFree j p.live b words
+  pub read-values : (p : ReadsOf j is plan) {b : ℕ} {words : List ℕ} → BlockFree j p.live b words
       → all (candidate_good j) is ≡ true → (y : ℕ) → y < 1024
       → number_of (map (value_in words y) is) ≡ reading j is (1024 * b + y)
   read-values p {b} {words} at f y h =

@@ -33,7 +33,6 @@ use Rattle.engine.specs.Reply.{comparison_of, compare_number, compare_reply, fit
 use Rattle.engine.specs.Claims.{SevenExactly}
 use Rattle.engine.specs.Inner.Kernel.{Filled, row_value, FirstZero}
 use Rattle.engine.specs.Inner.Note.{gathered}
-use Rattle.engine.specs.Inner.Plan.{PlanHeld}
 use Rattle.engine.specs.Inner.Search.{BlockRead, DrivenRow}
 use Rattle.engine.specs.Inner.Comparing.{differing, PlanReads, TableCopied, declined_comparison, sheet_comparison}
 use Rattle.engine.specs.declared.comparing.Comparison.{Comparison}
@@ -64,42 +63,42 @@ not-of-true : (b : Bool) → b ≡ true → not b ≡ false
 not-of-true b e = rw e
 
 -- the row says of each input of block b whether the table rectifies it
-abbrev pub RowCompared : Plan → List ℕ → List ℕ → ℕ → List ℕ → Type 0
-RowCompared p gates table b row =
-    (j : Job) (is : List ℕ) → PlanReads j is p gates → (y : ℕ) → y < 1024
+abbrev pub RowCompared : Plan → List ℕ → ℕ → List ℕ → Type 0
+RowCompared p table b row =
+    (j : Job) (is : List ℕ) → PlanReads j is p → (y : ℕ) → y < 1024
     → row_value row y ≡ cond (rectifies j (1024 * b + y) (driven_by j is table (1024 * b + y))) 1 0
 
-module _ {p : Plan} {gates : List ℕ} (table vectors : List ℕ) {b : ℕ} {words readings row after : List ℕ} (held : PlanHeld p gates)
-    (read : BlockRead p gates b words readings) (looked : LookedUp readings table vectors) (driven : DrivenRow p gates (gathered vectors) words row after) where
+module _ {p : Plan} (table vectors : List ℕ) {b : ℕ} {words readings row after : List ℕ}
+    (read : BlockRead p b words readings) (looked : LookedUp readings table vectors) (driven : DrivenRow p (gathered vectors) words row after) where
   -- the vector of scenario y
-  vector-driven : (j : Job) (is : List ℕ) → PlanReads j is p gates → (y : ℕ) → y < 1024
+  vector-driven : (j : Job) (is : List ℕ) → PlanReads j is p → (y : ℕ) → y < 1024
       → gathered vectors y ≡ driven_by j is table (1024 * b + y)
   unfolding driven_by
   vector-driven j is q y h =
-      let n : length is ≤ 10 = omega (arith, ap length q.planned.nets, length-take p.reads p.nets, held.reads) in
+      let n : length is ≤ 10 = omega (arith, ap length q.planned.nets, length-take p.reads.len p.reads.nets, p.few_reads) in
       let few : 2 ^ length is ≤ 1024 = pow_mono {j = 10} n in
       let small : reading j is (1024 * b + y) < 1024 = omega (arith, reading-lt j is (1024 * b + y)) in
       looked y h
       ∙ ap (λ (k : ℕ). get_or table (k % 1024) 0) (read.readings j is (reads_of q.planned) q.free y h)
       ∙ ap (λ (k : ℕ). get_or table k 0) (mod-eq_of_lt small)
 
-  pub row-compared : RowCompared p gates table b row
+  pub row-compared : RowCompared p table b row
   row-compared j is q y h =
       rw (← vector-driven j is q y h) (driven.values j is q.planned b (read.free j is (reads_of q.planned)) y h)
 
 -- ---- block after block
 
 -- how far the scan over a plan's blocks has come, before block b: no input of those passed differs
-pub record Scanning (p : Plan) (gates table : List ℕ) (size b : ℕ) : Type 0 where
+pub record Scanning (p : Plan) (table : List ℕ) (size b : ℕ) : Type 0 where
   pub all : size ≡ 2 ^ p.inputs
   pub few : size ≤ 1048576
   pub reached : 1024 * b < size + 1024
-  pub passed : (j : Job) (is : List ℕ) → PlanReads j is p gates → (y : ℕ) → y < 1024 * b → y < size
+  pub passed : (j : Job) (is : List ℕ) → PlanReads j is p → (y : ℕ) → y < 1024 * b → y < size
       → rectifies j y (driven_by j is table y) ≡ true
 
-pub scanning-none : (p : Plan) (gates table : List ℕ) → p.inputs ≤ 20
-    → Scanning p gates table (1 * 2 ^ p.inputs % 2 ^ 64) 0
-scanning-none p gates table h =
+pub scanning-none : (p : Plan) (table : List ℕ) → p.inputs ≤ 20
+    → Scanning p table (1 * 2 ^ p.inputs % 2 ^ 64) 0
+scanning-none p table h =
     let k = p.inputs in
     let e : 1 * 2 ^ k % 2 ^ 64 ≡ 2 ^ k = shl_exact 1 k 64 (lit< tt) (omega arith) ∙ one-mul (2 ^ k) in
     let l : 2 ^ k ≤ 1048576 = pow_mono {j = 20} h in
@@ -110,10 +109,10 @@ scanning-none p gates table h =
       passed = λ j is q y l m. let f : ⊥ = omega arith in absurd f;
     }
 
-module _ {p : Plan} {gates table row : List ℕ} {size b count r : ℕ} (s : Scanning p gates table size b)
-    (w : RowCompared p gates table b row) (f : FirstZero row r) (h : 1024 * b < size) (e : count ≡ min (size - 1024 * b) 1024) where
+module _ {p : Plan} {table row : List ℕ} {size b count r : ℕ} (s : Scanning p table size b)
+    (w : RowCompared p table b row) (f : FirstZero row r) (h : 1024 * b < size) (e : count ≡ min (size - 1024 * b) 1024) where
   -- no input before the block's first of which the row says 0 differs
-  passed-block : (j : Job) (is : List ℕ) → PlanReads j is p gates → (y : ℕ) → y < 1024 * b + r → y < size
+  passed-block : (j : Job) (is : List ℕ) → PlanReads j is p → (y : ℕ) → y < 1024 * b + r → y < size
       → rectifies j y (driven_by j is table y) ≡ true
   passed-block j is q y i m =
       ⊎_elim
@@ -128,7 +127,7 @@ module _ {p : Plan} {gates table row : List ℕ} {size b count r : ℕ} (s : Sca
       (sym (w j is q k (omega arith)) ∙ f.ones k (omega arith))))
       (true-or-false (ltb y (1024 * b)))
 
-  pub scanning-next : count ≤ r → Scanning p gates table size (b + 1)
+  pub scanning-next : count ≤ r → Scanning p table size (b + 1)
   scanning-next a =
       record {
         all = s.all;
@@ -137,7 +136,7 @@ module _ {p : Plan} {gates table row : List ℕ} {size b count r : ℕ} (s : Sca
         passed = λ j is q y i m. passed-block j is q y (omega arith) m;
       }
 
-  scanned-least : r < count → (j : Job) (is : List ℕ) → PlanReads j is p gates → Least (differing j is table) size (1024 * b + r)
+  scanned-least : r < count → (j : Job) (is : List ℕ) → PlanReads j is p → Least (differing j is table) size (1024 * b + r)
   scanned-least a j is q =
       record {
         below = omega arith;
@@ -148,7 +147,7 @@ module _ {p : Plan} {gates table row : List ℕ} {size b count r : ℕ} (s : Sca
       }
 
   -- the first difference
-  pub scanned-differs : r < count → (j : Job) (is : List ℕ) → PlanReads j is p gates
+  pub scanned-differs : r < count → (j : Job) (is : List ℕ) → PlanReads j is p
       → Comparison.Differs (record { input = 1024 * b + r }) ≡ comparison_of (difference j is table)
   unfolding comparison_of difference all_inputs
   scanned-differs a j is q =
@@ -156,10 +155,10 @@ module _ {p : Plan} {gates table row : List ℕ} {size b count r : ℕ} (s : Sca
       rw (first-of-least (differing j is table) (2 ^ j.inputs) (1024 * b + r) (rw n at (scanned-least a j is q)))
 
 -- .. none
-pub scanned-equal : {p : Plan} {gates table : List ℕ} {size b : ℕ} → Scanning p gates table size b → size ≤ 1024 * b
-    → (j : Job) (is : List ℕ) → PlanReads j is p gates → Comparison.Equal ≡ comparison_of (difference j is table)
+pub scanned-equal : {p : Plan} {table : List ℕ} {size b : ℕ} → Scanning p table size b → size ≤ 1024 * b
+    → (j : Job) (is : List ℕ) → PlanReads j is p → Comparison.Equal ≡ comparison_of (difference j is table)
 unfolding comparison_of difference all_inputs
-scanned-equal {p} {gates} {table} {size} {b} s h j is q =
+scanned-equal {p} {table} {size} {b} s h j is q =
     let n : size ≡ 2 ^ j.inputs = s.all ∙ ap (λ (k : ℕ). 2 ^ k) q.planned.inputs in
     rw (first-of-none (differing j is table) (2 ^ j.inputs)
     (λ y l. not-of-true (rectifies j y (driven_by j is table y)) (s.passed j is q y (omega arith) (omega arith))))

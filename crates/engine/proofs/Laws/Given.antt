@@ -136,10 +136,10 @@ gathered-ones y h =
     ap (bit (y % 64)) (get_or-replicate {A = ℕ} 256 (16 * i + y / 64) 18446744073709551615 0 (omega arith)) ∙ word_ones (y % 64) (omega arith)))
     ∙ ones-number
 
-pub block-seen : {p : Plan} {gates : List ℕ} (b count : ℕ) (readings words before after : List ℕ) → p.reads ≤ 10
-    → BlockRange p.inputs b count → BlockRead p gates b words readings
+pub block-seen : {p : Plan} (b count : ℕ) (readings words before after : List ℕ) → p.reads.len ≤ 10
+    → BlockRange p.inputs b count → BlockRead p b words readings
     → after ≡ sets_from (gathered ones_rows) (λ y. gathered readings y % 1024) before 0 (filled count)
-    → BlockSeen p gates b count before after
+    → BlockSeen p b count before after
 block-seen b count readings words before after k r e n =
     let ones = n ∙ sets_from-agree (gathered ones_rows) (λ y. gathered readings y % 1024) (λ y. all_ones) (λ y. gathered readings y % 1024) before 0 0
     (filled count) (λ i u. (gathered-ones (0 + i) (omega (arith, r.few)), refl)) in
@@ -158,10 +158,10 @@ block-seen b count readings words before after k r e n =
     }
 
 -- where no input gives a reading of the cover, none gives one that is unseen
-pub block-passed : {p : Plan} {gates : List ℕ} {c : Cover} {words sets : List ℕ} (b count : ℕ) → BlockRange p.inputs b count
-    → BlockLoaded p gates b words → GivenCover p gates sets c → GivesNone c words (take p.reads p.nets)
-    → BlockSeen p gates b count sets sets
-block-passed {p} {gates} {c} {words} {sets} b count range l o none =
+pub block-passed : {p : Plan} {c : Cover} {words sets : List ℕ} (b count : ℕ) → BlockRange p.inputs b count
+    → BlockLoaded p b words → GivenCover p sets c → GivesNone c words (take p.reads.len p.reads.nets)
+    → BlockSeen p b count sets sets
+block-passed {p} {c} {words} {sets} b count range l o none =
     record {
       long = refl;
       seen =
@@ -173,7 +173,7 @@ block-passed {p} {gates} {c} {words} {sets} b count range l o none =
                 let y : ℕ = g.0 - 1024 * b in
                 let i : y < 1024 = omega (arith, g.1, g.2, range.few) in
                 let x : 1024 * b + y ≡ g.0 = omega (arith, g.1) in
-                let e : reading_in words (take p.reads p.nets) y ≡ reading j is g.0 =
+                let e : reading_in words (take p.reads.len p.reads.nets) y ≡ reading j is g.0 =
                 l.readings j is q good y i ∙ ap (reading j is) x in
                 let z : bit 16 (get_or sets r 0) ≡ 1 → ⊥ =
                 λ u. none y i (rw e (o.covers j is q good g.0 (rw g.3 u))) in
@@ -182,13 +182,13 @@ block-passed {p} {gates} {c} {words} {sets} b count range l o none =
       same = λ r v h. refl;
     }
 
-module _ {p : Plan} {gates ss : List ℕ} {c : Cover} where
-  pub all-given : CoverHeld c → ((q : ℕ) → InCover c q) → GivenCover p gates ss c
+module _ {p : Plan} {ss : List ℕ} {c : Cover} where
+  pub all-given : CoverHeld c → ((q : ℕ) → InCover c q) → GivenCover p ss c
   all-given h a = record { held = h; covers = λ j is q good x u. a (reading j is x) }
 
   -- a cover stays one after a block, since no more readings are unseen
-  pub given-kept : {b count : ℕ} {ts : List ℕ} → GivenCover p gates ss c → p.reads ≤ 10 → length ss ≡ 1024 → BlockSeen p gates b count ss ts
-      → GivenCover p gates ts c
+  pub given-kept : {b count : ℕ} {ts : List ℕ} → GivenCover p ss c → p.reads.len ≤ 10 → length ss ≡ 1024 → BlockSeen p b count ss ts
+      → GivenCover p ts c
   given-kept {b} {count} {ts} g k l t =
       record {
         held = g.held;
@@ -212,24 +212,24 @@ BitsTo j is k x before after =
 
 -- how far the look at a plan's inputs has come, before block b: the sets after those passed, from the sets before; of the count readings
 -- those before next are seen
-pub record Seeing (p : Plan) (gates : List ℕ) (k : ℕ) (before : List ℕ) (count size b next : ℕ) (after : List ℕ) : Type 0 where
+pub record Seeing (p : Plan) (k : ℕ) (before : List ℕ) (count size b next : ℕ) (after : List ℕ) : Type 0 where
   pub inputs : size ≡ 2 ^ p.inputs
   pub few : size ≤ 1048576
   pub reached : 1024 * b < size + 1024
-  pub readings : count ≡ 2 ^ p.reads
+  pub readings : count ≡ 2 ^ p.reads.len
   pub places : count ≤ 1024
   pub most : next ≤ count
   pub long : length after ≡ 1024
-  pub seen : (j : Job) (is : List ℕ) → ReadsOf j is p gates → all (candidate_good j) is ≡ true
+  pub seen : (j : Job) (is : List ℕ) → ReadsOf j is p → all (candidate_good j) is ≡ true
       → BitsTo j is k (min (1024 * b) size) before after × ((q : ℕ) → q < next → bit 16 (get_or after q 0) ≡ 0)
   pub same : SameVectors before after
 
-pub seeing-none : (p : Plan) (gates : List ℕ) (k : ℕ) {before : List ℕ} {count next : ℕ} → p.inputs ≤ 20 → p.reads ≤ 10
-    → length before ≡ 1024 → count ≡ 2 ^ p.reads → NextUnseen before 0 count next
-    → Seeing p gates k before count (1 * 2 ^ p.inputs % 18446744073709551616) 0 next before
-seeing-none p gates k {before} {count} {next} a b l c o =
+pub seeing-none : (p : Plan) (k : ℕ) {before : List ℕ} {count next : ℕ} → p.inputs ≤ 20 → p.reads.len ≤ 10
+    → length before ≡ 1024 → count ≡ 2 ^ p.reads.len → NextUnseen before 0 count next
+    → Seeing p k before count (1 * 2 ^ p.inputs % 18446744073709551616) 0 next before
+seeing-none p k {before} {count} {next} a b l c o =
     let n : 2 ^ p.inputs ≤ 1048576 = pow_mono {j = 20} a in
-    let m : 2 ^ p.reads ≤ 1024 = pow_mono {j = 10} b in
+    let m : 2 ^ p.reads.len ≤ 1024 = pow_mono {j = 10} b in
     let size = 1 * 2 ^ p.inputs % 18446744073709551616 in
     record {
       inputs = omega arith;
@@ -255,7 +255,7 @@ range-of : (b y : ℕ) → 1024 * b ≤ y → y < 1024 * b + 1024 → y / 32768 
 range-of b y h l = omega arith
 
 -- block b, with n inputs
-module _ {p : Plan} {gates before mid : List ℕ} {k count size b next n : ℕ} (s : Seeing p gates k before count size b next mid)
+module _ {p : Plan} {before mid : List ℕ} {k count size b next n : ℕ} (s : Seeing p k before count size b next mid)
     (h : 1024 * b < size) (e : n ≡ min (size - 1024 * b) 1024) where
   pub seeing-range : BlockRange p.inputs b n
   seeing-range = rw (e, s.inputs) (block-range p.inputs b (omega (arith, s.inputs)))
@@ -283,9 +283,9 @@ module _ {p : Plan} {gates before mid : List ℕ} {k count size b next n : ℕ} 
   )
 
   seeing-more : {after : List ℕ} {later : ℕ} → length after ≡ length mid → SameVectors mid after → NextUnseen after next count later
-      → ((j : Job) (is : List ℕ) → ReadsOf j is p gates → all (candidate_good j) is ≡ true → (r : ℕ) → r < 1024
+      → ((j : Job) (is : List ℕ) → ReadsOf j is p → all (candidate_good j) is ≡ true → (r : ℕ) → r < 1024
       → (bit 16 (get_or after r 0) ≡ 0) ↔ ((bit 16 (get_or mid r 0) ≡ 0) ⊎ SkippedHere j is r))
-      → Seeing p gates k before count size (b + 1) later after
+      → Seeing p k before count size (b + 1) later after
   seeing-more {after} {later} g same o t =
       record {
         inputs = s.inputs;
@@ -324,8 +324,8 @@ module _ {p : Plan} {gates before mid : List ℕ} {k count size b next n : ℕ} 
       }
 
   -- it is looked at
-  pub seeing-next : {after : List ℕ} {later : ℕ} → bit (b / 32) k ≡ 1 → BlockSeen p gates b n mid after
-      → NextUnseen after next count later → Seeing p gates k before count size (b + 1) later after
+  pub seeing-next : {after : List ℕ} {later : ℕ} → bit (b / 32) k ≡ 1 → BlockSeen p b n mid after
+      → NextUnseen after next count later → Seeing p k before count size (b + 1) later after
   seeing-next i t o =
       seeing-more t.long t.same o
       (λ j is q good r l.
@@ -333,17 +333,17 @@ module _ {p : Plan} {gates before mid : List ℕ} {k count size b next n : ℕ} 
       (λ z. ⊎_elim inl (λ y. inr (i, y)) (g.0 z), λ z. g.1 (⊎_elim inl (λ y. inr y.1) z)))
 
   -- .. or passed, since its range was not skipped
-  pub seeing-pass : (bit (b / 32) k ≡ 1 → ⊥) → Seeing p gates k before count size (b + 1) next mid
+  pub seeing-pass : (bit (b / 32) k ≡ 1 → ⊥) → Seeing p k before count size (b + 1) next mid
   seeing-pass i =
       seeing-more refl (λ r v u. refl)
       record { past = omega arith; most = s.most; seen = λ q u v. let f : ⊥ = omega arith in absurd f }
       (λ j is q good r l. (inl, ⊎_elim (λ z. z) (λ y. absurd (i y.0))))
 
 -- .. after all inputs, once all readings are seen, or where the cover has no cube
-pub seeing-all : {p : Plan} {gates before after : List ℕ} {k count size b next : ℕ} {c : Cover} → Seeing p gates k before count size b next after
-    → GivenCover p gates after c → (size ≤ 1024 * b) ⊎ (next ≡ count) ⊎ (c.count ≡ 0) → AllSeen p gates k before after
-seeing-all {p} {gates} {before} {after} {k} {count} {size} {b} {next} {c} s o d j is q good g r h =
-    let n = first-few p.reads p.nets q.nets in
+pub seeing-all : {p : Plan} {before after : List ℕ} {k count size b next : ℕ} {c : Cover} → Seeing p k before count size b next after
+    → GivenCover p after c → (size ≤ 1024 * b) ⊎ (next ≡ count) ⊎ (c.count ≡ 0) → AllSeen p k before after
+seeing-all {p} {before} {after} {k} {count} {size} {b} {next} {c} s o d j is q good g r h =
+    let n = first-few p.reads.len p.reads.nets q.nets in
     let m : 2 ^ length is ≤ count = rw s.readings (pow_mono n) in
     let i : size ≡ 2 ^ j.inputs = s.inputs ∙ ap (λ (t : ℕ). 2 ^ t) q.inputs in
     let w = s.seen j is q good in

@@ -20,11 +20,11 @@ use Rattle.engine.specs.Rectify.{rectifies, Listed}
 use Rattle.engine.specs.Support.{candidate_nets}
 use Rattle.engine.specs.Inner.Guess.{ListTo, OfListed, BlockGuessed, BlockShown, BlockListed}
 use Rattle.engine.specs.Inner.Kernel.{row_value, FirstZero}
-use Rattle.engine.specs.Inner.List.{Held, lowest, listed_from, listed_of, start_list}
+use Rattle.engine.specs.Inner.List.{lowest, listed_from, listed_of, start_list}
 use Rattle.engine.specs.Inner.Masks.{rectifiers}
 use Rattle.engine.specs.Inner.Note.{gathered, ListNoted}
 use Rattle.engine.specs.Inner.Plan.{BlockFree, PlannedOf, TurnsOf}
-use Rattle.engine.specs.Inner.Search.{BlockRead, BlockVector, FreeKept, DrivenRow, BlockMasks, SettledFrom}
+use Rattle.engine.specs.Inner.Search.{RowEqual, BlockRead, BlockVector, FreeKept, DrivenRow, BlockMasks, SettledFrom}
 use Rattle.engine.specs.declared.list.Vectors.{Vectors}
 use Rattle.engine.specs.declared.plan.Plan.{Plan}
 use Rattle.engine.proofs.Laws.Choice.{or_left, or_right, any-true, any-of-member, none_or_some}
@@ -36,8 +36,9 @@ use Rattle.engine.proofs.Laws.List.{set_holds, zero-listed, listed-cases, listed
 use Rattle.engine.proofs.Laws.Note.{any_next, either-one, row_value-lt}
 use Rattle.engine.proofs.Laws.Plan.{reads_of, block-free}
 use Rattle.engine.proofs.Laws.Rows.{bit-pow}
+use Rattle.std.specs.Option.{is_some}
 use Rattle.engine.proofs.Laws.Search.{list-noted, list-stuck, list-skip}
-use Rattle.engine.proofs.Laws.Searching.{RowEqual, row-rectifies}
+use Rattle.engine.proofs.Laws.Searching.{row-rectifies}
 use Rattle.engine.proofs.Laws.VectorSets.{in_set, bit-rectifiers, lowest-lt, lowest-bit}
 use Rattle.engine.proofs.Laws.Word.{bit-or, bit-and, bit-zero}
 
@@ -162,8 +163,8 @@ list-rectified j v x k r e =
     (eq-eqb (bit u (rectifiers j z)) 1 ((bit-rectifiers j z u).1 (listed_small j x u m, subst (λ (n : ℕ). rectifies j n u ≡ true) d g.2)))))
 
 -- a block whose inputs are rectified by one of the two vectors of a table's entries leaves the list
-list-guessed : {p : Plan} {gates words : List ℕ} (readings : List ℕ) {table : List ℕ} (b count : ℕ) {j : Job} {is : List ℕ} {v : Vectors}
-    → BlockGuessed p gates words readings table count → (q : PlannedOf j is p gates) → BlockFree j q.live b words
+list-guessed : {p : Plan} {words : List ℕ} (readings : List ℕ) {table : List ℕ} (b count : ℕ) {j : Job} {is : List ℕ} {v : Vectors}
+    → BlockGuessed p words readings table count → (q : PlannedOf j is p) → BlockFree j q.live b words
     → OfListed v table → ListTo j (1024 * b) v → ListTo j (1024 * b + count) v
 list-guessed readings {table} b count {j} {is} {v} g q f o =
     list-rectified j v (1024 * b) count
@@ -178,8 +179,8 @@ list-guessed readings {table} b count {j} {is} {v} g q f o =
 -- ---- a block driven by a table
 
 -- where the driven row says 1, the vector rectifies the input
-one-rectifies : {p : Plan} {gates : List ℕ} {u : ℕ → ℕ} {words row after : List ℕ} → DrivenRow p gates u words row after
-    → {j : Job} {is : List ℕ} (q : PlannedOf j is p gates) {b : ℕ} → BlockFree j q.live b words → (y : ℕ) → y < 1024 → row_value row y ≡ 1
+one-rectifies : {p : Plan} {u : ℕ → ℕ} {words row after : List ℕ} → DrivenRow p u words row after
+    → {j : Job} {is : List ℕ} (q : PlannedOf j is p) {b : ℕ} → BlockFree j q.live b words → (y : ℕ) → y < 1024 → row_value row y ≡ 1
     → {v : ℕ} → u y ≡ v → rectifies j (1024 * b + y) v ≡ true
 one-rectifies d {j} {is} q {b} f y h e {v} l =
     one-true (rectifies j (1024 * b + y) v) (rw (← l) (sym (d.values j is q b f y h) ∙ e))
@@ -188,22 +189,22 @@ one-rectifies d {j} {is} q {b} f y h e {v} l =
 abbrev pub vectors_at : List ℕ → ℕ → ℕ → ℕ
 vectors_at entries at y = gathered entries y / 2 ^ at % 16
 
-module _ {p : Plan} {gates : List ℕ} (readings table entries : List ℕ) (l : LookedUp readings table entries)
-    {words row after : List ℕ} (d : DrivenRow p gates (vectors_at entries 0) words row after) where
-  first-rectifies : {j : Job} {is : List ℕ} (q : PlannedOf j is p gates) {b : ℕ} → BlockFree j q.live b words → (y : ℕ) → y < 1024
+module _ {p : Plan} (readings table entries : List ℕ) (l : LookedUp readings table entries)
+    {words row after : List ℕ} (d : DrivenRow p (vectors_at entries 0) words row after) where
+  first-rectifies : {j : Job} {is : List ℕ} (q : PlannedOf j is p) {b : ℕ} → BlockFree j q.live b words → (y : ℕ) → y < 1024
       → row_value row y ≡ 1 → rectifies j (1024 * b + y) (get_or table (gathered readings y % 1024) 0 % 16) ≡ true
   first-rectifies q f y h e = one-rectifies d q f y h e (ap (λ (k : ℕ). k % 16) (div-one (gathered entries y) ∙ l y h))
 
   -- the first vectors do
-  pub guessed-first : {count r : ℕ} → FirstZero row r → count ≤ r → BlockGuessed p gates words readings table count
+  pub guessed-first : {count r : ℕ} → FirstZero row r → count ≤ r → BlockGuessed p words readings table count
   guessed-first z h j is q b f y k =
       let m = z.most in
       inl (first-rectifies q f y (omega arith) (z.ones y (omega arith)))
 
   -- .. or the second do where they do not
-  pub guessed-either : {row₂ after₂ both : List ℕ} {count r : ℕ} → DrivenRow p gates (vectors_at entries 4) after row₂ after₂
+  pub guessed-either : {row₂ after₂ both : List ℕ} {count r : ℕ} → DrivenRow p (vectors_at entries 4) after row₂ after₂
       → ((y : ℕ) → y < 1024 → row_value both y ≡ max (row_value row y) (row_value row₂ y)) → FirstZero both r → count ≤ r
-      → BlockGuessed p gates words readings table count
+      → BlockGuessed p words readings table count
   guessed-either {row₂ = row₂} d₂ e z h j is q b f y k =
       let m = z.most in
       let u : y < 1024 = omega arith in
@@ -225,11 +226,11 @@ any_at (x ∷ xs) (suc n) (suc i) h l =
     let u = get_or xs i 0 in
     or_right (eqb u x) (any (eqb u) (take n xs)) (any_at xs n i (omega arith) (omega arith))
 
-module _ (p : Plan) (gates before vs : List ℕ) where
+module _ (p : Plan) (before vs : List ℕ) where
   -- the row says 1 only of inputs that one of the vectors vs rectifies
   abbrev pub RowShown : List ℕ → Type 0
   RowShown row =
-      (j : Job) (is : List ℕ) (q : PlannedOf j is p gates) (b : ℕ) → BlockFree j q.live b before
+      (j : Job) (is : List ℕ) (q : PlannedOf j is p) (b : ℕ) → BlockFree j q.live b before
       → (y : ℕ) → y < 1024 → row_value row y ≡ 1
       → (u : ℕ) × (any (eqb u) vs ≡ true) × (rectifies j (1024 * b + y) u ≡ true)
 
@@ -237,40 +238,36 @@ module _ (p : Plan) (gates before vs : List ℕ) where
   shown-none j is q b f y h e = let z : ⊥ = omega (arith, row-replicate 0 y h, bit-zero (y % 64)) in absurd z
 
   -- one vector more
-  pub shown-next : (row r row' : List ℕ) {words words' : List ℕ} (v : ℕ) → any (eqb v) vs ≡ true → RowShown row → FreeKept p gates before words
-      → BlockVector p gates v words words' → RowEqual p words' r
+  pub shown-next : (row r row' : List ℕ) {words words' : List ℕ} (v : ℕ) → any (eqb v) vs ≡ true → RowShown row → FreeKept p before words
+      → BlockVector p v words words' → RowEqual p words' r
       → ((y : ℕ) → y < 1024 → row_value row' y ≡ max (row_value row y) (row_value r y)) → RowShown row'
   shown-next row r row' v m s k w e d j is q b f y h o =
       ⊎_elim
       (λ (t : row_value row y ≡ 1). s j is q b f y h t)
       (λ (t : row_value r y ≡ 1).
-      (v, m, one-true (rectifies j (1024 * b + y) v) (sym (row-rectifies p gates q b (λ y. v) r (w.values j is q b (k j is q b f)) e y h) ∙ t)))
+      (v, m, one-true (rectifies j (1024 * b + y) v) (sym (row-rectifies p q b (λ y. v) r (w.values j is q b (k j is q b f)) e y h) ∙ t)))
       (either-one (row_value row y) (row_value r y) (row_value-lt row y) (row_value-lt r y) (sym (d y h) ∙ o))
 
 -- a block evaluated at a vector keeps what no target leads to
-pub vector-free : {p : Plan} {gates before words words' : List ℕ} {v : ℕ} → FreeKept p gates before words → BlockVector p gates v words words'
-    → FreeKept p gates before words'
+pub vector-free : {p : Plan} {before words words' : List ℕ} {v : ℕ} → FreeKept p before words → BlockVector p v words words'
+    → FreeKept p before words'
 vector-free k w j is q b f = block-free (w.values j is q b (k j is q b f))
 
 -- ---- a block, and block after block
 
-module _ {p : Plan} {gates : List ℕ} {b count : ℕ} {words readings : List ℕ} (r : BlockRead p gates b words readings)
+module _ {p : Plan} {b count : ℕ} {words readings : List ℕ} (r : BlockRead p b words readings)
     (e : count ≡ min (2 ^ p.inputs - 1024 * b) 1024) where
   -- a block on which the table does
-  pub block-guessed : {table : List ℕ} {v : Vectors} → Held v → OfListed v table → BlockGuessed p gates words readings table count
-      → BlockListed p gates b v v
-  block-guessed h o g =
+  pub block-guessed : {table : List ℕ} {v : Vectors} → OfListed v table → BlockGuessed p words readings table count → BlockListed p b v v
+  block-guessed o g =
       record {
-        held = h;
         listed = λ j t l. let q = t.planned in rw (← e) (list-guessed readings b count g q (r.free j (candidate_nets j) (reads_of q)) o l);
       }
 
   -- a block on which the listed vectors themselves do
-  pub block-shown : {v : Vectors} → Held v → BlockShown p gates words v count
-      → BlockListed p gates b v v
-  block-shown {v} h s =
+  pub block-shown : {v : Vectors} → BlockShown p words v count → BlockListed p b v v
+  block-shown {v} s =
       record {
-        held = h;
         listed = λ j t l.
             let is = candidate_nets j in
             let q = t.planned in
@@ -281,12 +278,11 @@ module _ {p : Plan} {gates : List ℕ} {b count : ℕ} {words readings : List �
       }
 
   -- a block where all vectors were evaluated
-  pub block_noted : {words₁ words₂ masks : List ℕ} {v w : Vectors} → FreeKept p gates words words₁ → BlockVector p gates 0 words₁ words₂
-      → BlockMasks p gates words₂ masks → ListNoted masks (1024 * b) count v w
-      → BlockListed p gates b v w
+  pub block_noted : {words₁ words₂ masks : List ℕ} {v w : Vectors} → FreeKept p words words₁ → BlockVector p 0 words₁ words₂
+      → BlockMasks p words₂ masks → ListNoted masks (1024 * b) count v w
+      → BlockListed p b v w
   block_noted k z m n =
       record {
-        held = n.held;
         listed = λ j t.
             let is = candidate_nets j in
             let q = t.planned in
@@ -295,22 +291,22 @@ module _ {p : Plan} {gates : List ℕ} {b count : ℕ} {words readings : List �
       }
 
 -- the list after the inputs below x, of every job with this plan
-abbrev pub ListsTo : Plan → List ℕ → Vectors → ℕ → Type 0
-ListsTo p gates v x = (j : Job) → TurnsOf j (candidate_nets j) p gates → ListTo j x v
+abbrev pub ListsTo : Plan → Vectors → ℕ → Type 0
+ListsTo p v x = (j : Job) → TurnsOf j (candidate_nets j) p → ListTo j x v
 
-module _ {p : Plan} {gates : List ℕ} (v : Vectors) where
-  pub lists-start : listed_of v ≡ start_list → ListsTo p gates v 0
+module _ {p : Plan} (v : Vectors) where
+  pub lists-start : listed_of v ≡ start_list → ListsTo p v 0
   unfolding listed_from
   lists-start e j q = e
 
   -- blocks in which every vector rectifies every input leave the list
-  pub lists-skip : {b r : ℕ} → SettledFrom p gates b r → ListsTo p gates v (1024 * b) → ListsTo p gates v (1024 * (b + r))
+  pub lists-skip : {b r : ℕ} → SettledFrom p b r → ListsTo p v (1024 * b) → ListsTo p v (1024 * (b + r))
   lists-skip {b} {r} s l j q =
       list-skip j (1024 * b) (1024 * (b + r)) v (omega arith) (s.settled j (candidate_nets j) q.planned) (l j q)
 
   -- once stuck, it is the list of all inputs
-  pub lists-stuck : {x : ℕ} → x ≤ 2 ^ p.inputs → v.stuck ≡ true → ListsTo p gates v x → ListsTo p gates v (2 ^ p.inputs)
+  pub lists-stuck : {x : ℕ} → x ≤ 2 ^ p.inputs → is_some v.stuck ≡ true → ListsTo p v x → ListsTo p v (2 ^ p.inputs)
   lists-stuck {x} h s l j q = list-stuck j x (2 ^ p.inputs) v h s (l j q)
 
-  pub lists-all : ListsTo p gates v (2 ^ p.inputs) → (j : Job) → TurnsOf j (candidate_nets j) p gates → ListTo j (2 ^ j.inputs) v
+  pub lists-all : ListsTo p v (2 ^ p.inputs) → (j : Job) → TurnsOf j (candidate_nets j) p → ListTo j (2 ^ j.inputs) v
   lists-all l j q = rw q.planned.inputs at (l j q)

@@ -27,7 +27,7 @@ use Rattle.engine.specs.Inner.Given.{GivenCover}
 use Rattle.engine.specs.Inner.Imply.{Binary, Implied, Learns, AllHave, Forces, GateHas, ValuesOf, CubeHas, NoneGives, CubeSorted, Unrefuted}
 use Rattle.engine.specs.Inner.Miter.{miter_gates, miter_nets, miter_values}
 use Rattle.engine.specs.Inner.Packed.{own, packed, packed_from, formed, joined, folded, folded_from, operation, count_of, operands_of, fields, code_value}
-use Rattle.engine.specs.Inner.Plan.{fanned, PlanHeld, ReadsOf}
+use Rattle.engine.specs.Inner.Plan.{fanned, ReadsOf}
 use Rattle.engine.specs.Inner.Ranges.{Completed}
 use Rattle.engine.specs.declared.cover.Cover.{Cover}
 use Rattle.engine.specs.declared.plan.Plan.{Plan}
@@ -218,7 +218,7 @@ packed-gates d (g ∷ gs) ws a f h b k c m =
     n)
     (cases_cons m)
 
-module _ {j : Job} {is : List ℕ} {p : Plan} {gates : List ℕ} (h : PlanHeld p gates) (q : ReadsOf j is p gates) (x : ℕ) where
+module _ {j : Job} {is : List ℕ} {p : Plan} (long : length p.gates ≡ 2400) (q : ReadsOf j is p) (x : ℕ) where
   binary : Binary (miter_values j x 0)
   unfolding miter_values
   binary i = get_d_bits (values-bits (leaves_of j x 0) (bits-append (bits-bits j.inputs x) (bits-bits j.targets 0)) (miter_gates j)) i
@@ -229,26 +229,26 @@ module _ {j : Job} {is : List ℕ} {p : Plan} {gates : List ℕ} (h : PlanHeld p
       subst (λ (ws : List ℕ). Consistent value_of ws (base j) q.merged) (same-values q.same (leaves_of j x 0) (length-leaves j x 0))
       (consistent-extended value_of value_of-local (leaves_of j x 0) q.merged (base j) (length-leaves j x 0) q.same.good)
 
-  pub job-values : ValuesOf gates (get_or p.ends 0 0) (miter_values j x 0)
+  pub job-values : ValuesOf p.gates (get_or p.ends 0 0) (miter_values j x 0)
   unfolding miter_nets
   job-values = (
     binary,
     λ i l.
         let n : ℕ = get_or p.ends 0 0 in
-        let e : get_or (slice 0 n gates) i 0 ≡ get_or gates i 0 = get_or-take n gates i 0 l in
-        let t : length (slice 0 n gates) ≡ n = length-take-le n gates (omega (arith, h.within 0, h.long)) in
-        let m : Mem (get_or gates i 0) (slice 0 n gates) = rw e at (mem-at (slice 0 n gates) i (omega arith)) in
+        let e : get_or (slice 0 n p.gates) i 0 ≡ get_or p.gates i 0 = get_or-take n p.gates i 0 l in
+        let t : length (slice 0 n p.gates) ≡ n = length-take-le n p.gates (omega (arith, p.within 0)) in
+        let m : Mem (get_or p.gates i 0) (slice 0 n p.gates) = rw e at (mem-at (slice 0 n p.gates) i (omega arith)) in
         packed-gates (j.inputs + j.targets) q.merged (miter_values j x 0) q.same.good q.same.forms
         (omega (arith, miter-nets j q.good, q.same.long))
         binary
         consistent
-        (get_or gates i 0)
-        ((mem-keep (λ c. q.live (own c) && not (fanned j (own c))) (packed_from (j.inputs + j.targets) q.merged) (get_or gates i 0)).0
+        (get_or p.gates i 0)
+        ((mem-keep (λ c. q.live (own c) && not (fanned j (own c))) (packed_from (j.inputs + j.targets) q.merged) (get_or p.gates i 0)).0
         (rw q.free at m)).0,
   )
 
   -- the nets read have in them the reading
-  pub job-reading : all (candidate_good j) is ≡ true → number_of (map (net_at (miter_values j x 0)) (take p.reads p.nets)) ≡ reading j is x
+  pub job-reading : all (candidate_good j) is ≡ true → number_of (map (net_at (miter_values j x 0)) (take p.reads.len p.reads.nets)) ≡ reading j is x
   job-reading f =
       ap (λ (os : List ℕ). number_of (map (net_at (miter_values j x 0)) os)) q.nets
       ∙ agree-reading j q.good is f q.live x (miter_values j x 0) (λ i l o. refl) q.live-nets
@@ -261,41 +261,23 @@ pub cube-has : (nets : List ℕ) (reads value care : ℕ) (vs : List ℕ) → re
 unfolding net_at
 cube-has nets reads value care vs h b m k l c = sym (number_bit (net_at vs) b nets reads k h l) ∙ m k c
 
-module _ {p : Plan} {gates : List ℕ} where
+module _ {p : Plan} where
   -- .. of those that are left
-  pub unrefuted-then : {c d e : Cover} → Unrefuted p gates c d → Unrefuted p gates d e → Unrefuted p gates c e
+  pub unrefuted-then : {c d e : Cover} → Unrefuted p c d → Unrefuted p d e → Unrefuted p c e
   unrefuted-then f g = record { held = g.held; left = λ vs v m. g.left vs v (f.left vs v m) }
 
   -- no cubes: no values give one
-  pub no-cubes-given : {c : Cover} → CoverHeld c → c.count ≡ 0 → NoneGives p gates c
+  pub no-cubes-given : {c : Cover} → CoverHeld c → c.count ≡ 0 → NoneGives p c
   no-cubes-given h e = record { held = h; none = λ vs v m. omega (arith, m.within) }
 
-  module _ (value care : ℕ) where
-    -- a cube is left
-    pub cube-left : {c d : Cover} → CubeAdded c value care d → CubeSorted p gates value care c d
-    cube-left a = record { held = a.held; count = omega (arith, a.count); kept = a.kept; left = λ vs v m. a.added _ m }
-
-    -- .. or refuted
-    module _ (h : PlanHeld p gates)
-        (f : (vs : List ℕ) → ValuesOf gates (get_or p.ends 0 0) vs → CubeHas p.nets p.reads value care vs → ⊥) where
-      none_in : (vs : List ℕ) → ValuesOf gates (get_or p.ends 0 0) vs
-          → InCube value care (number_of (map (net_at vs) (take p.reads p.nets))) → ⊥
-      none_in vs v m = f vs v (cube-has p.nets p.reads value care vs (omega (arith, h.reads, h.nets)) v.0 m)
-
-      pub cube-refuted : {c : Cover} → CoverHeld c → CubeSorted p gates value care c c
-      cube-refuted l = record { held = l; count = omega arith; kept = λ r m. m; left = λ vs v m. absurd (none_in vs v m) }
-
-      pub none-added : {c d : Cover} → NoneGives p gates c → CubeAdded c value care d → NoneGives p gates d
-      none-added n a = record { held = a.held; none = λ vs v m. ⊎_elim (n.none vs v) (none_in vs v) (a.only _ m) }
-
-  pub cover-given : {ss : List ℕ} {e c d : Cover} → PlanHeld p gates → CoverOf ss p.reads e c → NoneGives p gates e → Unrefuted p gates c d
-      → GivenCover p gates ss d
+  pub cover-given : {ss : List ℕ} {e c d : Cover} → length p.gates ≡ 2400 → CoverOf ss p.reads.len e c → NoneGives p e → Unrefuted p c d
+      → GivenCover p ss d
   cover-given h o n m =
       record {
         held = m.held;
         covers = λ j is q good x u.
-            let k = first-few p.reads p.nets q.nets in
-            let few : reading j is x < 2 ^ p.reads = omega (arith, reading-lt j is x, pow_mono k) in
+            let k = first-few p.reads.len p.reads.nets q.nets in
+            let few : reading j is x < 2 ^ p.reads.len = omega (arith, reading-lt j is x, pow_mono k) in
             let e = job-reading h q x good in
             let v = job-values h q x in
             ⊎_elim
@@ -303,3 +285,16 @@ module _ {p : Plan} {gates : List ℕ} where
             (λ i. rw e at (m.left (miter_values j x 0) v (rw e i)))
             (o.covers (reading j is x) few u);
       }
+
+-- .. or refuted
+module _ (p : Plan) (value care : ℕ)
+    (f : (vs : List ℕ) → ValuesOf p.gates (get_or p.ends 0 0) vs → CubeHas p.reads.nets p.reads.len value care vs → ⊥) where
+  none_in : (vs : List ℕ) → ValuesOf p.gates (get_or p.ends 0 0) vs
+      → InCube value care (number_of (map (net_at vs) (take p.reads.len p.reads.nets))) → ⊥
+  none_in vs v m = f vs v (cube-has p.reads.nets p.reads.len value care vs (omega (arith, p.few_reads, p.reads_long)) v.0 m)
+
+  pub cube-refuted : {c : Cover} → CoverHeld c → CubeSorted p value care c c
+  cube-refuted l = record { held = l; count = omega arith; kept = λ r m. m; left = λ vs v m. absurd (none_in vs v m) }
+
+  pub none-added : {c d : Cover} → NoneGives p c → CubeAdded c value care d → NoneGives p d
+  none-added n a = record { held = a.held; none = λ vs v m. ⊎_elim (n.none vs v) (none_in vs v) (a.only _ m) }

@@ -19,7 +19,7 @@ use Rattle.records.proofs.Laws.Bytes.{drop-tabulate, drop-tabulate-end}
 use Rattle.engine.specs.Choice.{any}
 use Rattle.engine.specs.Eval.{bit, number_of}
 use Rattle.engine.specs.Rectify.{Listed}
-use Rattle.engine.specs.Inner.List.{list_step, listed_from, listed_of, Held, Stepped}
+use Rattle.engine.specs.Inner.List.{list_step, listed_from, listed_of}
 use Rattle.engine.specs.Inner.Note.{narrowed, gathered, Joined, CoveredTo, ListNoted}
 use Rattle.engine.specs.Inner.Kernel.{value_in, row_value, FirstZero}
 use Rattle.engine.specs.declared.list.Vectors.{Vectors}
@@ -27,7 +27,9 @@ use Rattle.engine.proofs.Laws.Choice.{any-true, any-of-member}
 use Rattle.engine.proofs.Laws.Eval.{bit-lt}
 use Rattle.engine.proofs.Laws.Rows.{bit-gathered, gathered-lt, value_in-lt}
 use Rattle.engine.proofs.Laws.VectorSets.{in_set}
-use Rattle.engine.proofs.Laws.List.{listing, walked-still, listed_from-walked, listed_from-append, listed_from-snoc, list_step-listed, list_step-stuck}
+use Rattle.std.specs.Option.{is_some}
+use Rattle.engine.proofs.Laws.Stream.{step-stuck}
+use Rattle.engine.proofs.Laws.List.{listing, walked-still, listed_from-walked, listed_from-append, listed_from-snoc, list_step-listed}
 use Rattle.engine.proofs.Laws.Word.{bit-or, bit-zero}
 
 -- ---- sets that a reading does not change
@@ -124,31 +126,26 @@ joined-next masks list words next i l h j p y k e =
 
 -- ---- the next scenario that no listed vector covers
 
-pub covered_none : (masks : List ℕ) (v : Vectors) (y : ℕ) → CoveredTo masks v y y
-covered_none masks v y = record { past = omega arith; covered = λ k a b. let f : ⊥ = omega arith in absurd f }
-
-pub covered_next : (masks row : List ℕ) (v : Vectors) (y r : ℕ) → Joined masks (take v.len v.list) row → FirstZero row r
-    → y ≤ r → CoveredTo masks v y r
-unfolding listed_of
-covered_next masks row v y r p f h =
+pub covered_next : (masks row : List ℕ) (v : Vectors) (y z : ℕ) → Joined masks (listed_of v).vectors row → FirstZero row z
+    → CoveredTo masks v y (max z y)
+covered_next masks row v y z p f =
     let m = f.most in
-    record { past = h; covered = λ k a b. p k (omega arith) (f.ones k b) }
+    record { past = omega arith; covered = λ k a b. p k (omega arith) (f.ones k (omega arith)) }
 
 -- ---- the list
 
 module _ (masks : List ℕ) (first : ℕ) (v : Vectors) where
-  pub list-none : Held v → ListNoted masks first 0 v v
+  pub list-none : ListNoted masks first 0 v v
   unfolding listed_from
-  list-none h = record { held = h; listed = λ f g. refl }
+  list-none = record { listed = λ f g. refl }
 
   pub list-next : (i : ℕ) (u : Vectors) (s : ℕ) (u' : Vectors) → ListNoted masks first i v u → s ≡ gathered masks i
-      → Stepped u s (first + i) u' → ListNoted masks first (i + 1) v u'
+      → listed_of u' ≡ list_step (listed_of u) s (first + i) → ListNoted masks first (i + 1) v u'
   list-next i u s u' p m t =
       record {
-        held = t.held;
         listed = λ f a.
             let e : s ≡ f (first + i) = m ∙ a i (omega arith) in
-            t.listed
+            t
             ∙ ap (λ (k : ℕ). list_step (listed_of u) k (first + i)) e
             ∙ ap (λ (l : Listed). list_step l (f (first + i)) (first + i)) (p.listed f (λ k l. a k (omega arith)))
             ∙ sym (listed_from-snoc f (listed_of v) first i);
@@ -159,7 +156,6 @@ module _ (masks : List ℕ) (first : ℕ) (v : Vectors) where
       → ((y : ℕ) → i ≤ y → y < n → list_step (listed_of u) (gathered masks y) (first + y) ≡ listed_of u) → ListNoted masks first n v u
   list-still i n u l p h =
       record {
-        held = p.held;
         listed = λ f g.
             let k : ℕ = n - i in
             let e : i + k ≡ n = omega arith in
@@ -185,7 +181,5 @@ module _ (masks : List ℕ) (first : ℕ) (v : Vectors) where
       (λ y k l. list_step-listed (listed_of u) (gathered masks y) (first + y) (c.covered y k (omega arith)))
 
   -- .. as an input before had no vector
-  pub list-stuck : (i n : ℕ) (u : Vectors) → ListNoted masks first i v u → u.stuck ≡ true → i ≤ n → ListNoted masks first n v u
-  unfolding listed_of
-  list-stuck i n u p e a =
-      list-still i n u a p (λ y k l. list_step-stuck (listed_of u) (gathered masks y) (first + y) u.input (rw e))
+  pub list-stuck : (i n : ℕ) (u : Vectors) → ListNoted masks first i v u → is_some u.stuck ≡ true → i ≤ n → ListNoted masks first n v u
+  list-stuck i n u p e a = list-still i n u a p (λ y k l. sym (step-stuck u (gathered masks y) (first + y) e))

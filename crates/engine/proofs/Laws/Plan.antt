@@ -178,10 +178,10 @@ module _ {j : Job} {merged : List Gate} (good : PartsGood j) (s : SameGates (bas
       (r.values y h ∙ ap (evaluated code_value (column w y)) e) x v k
 
 -- a block whose inputs are loaded
-module _ {j : Job} {is : List ℕ} {p : Plan} {gates : List ℕ} (q : ReadsOf j is p gates) where
+module _ {j : Job} {is : List ℕ} {p : Plan} (q : ReadsOf j is p) where
   pub block_read : (b : ℕ) (w w' : List ℕ)
       → ((y k : ℕ) → y < 1024 → k < j.inputs → value_in w y k ≡ bit k (1024 * b + y))
-      → Ran (slice 0 (get_or p.ends 0 0) gates) w w' → BlockFree j q.live b w'
+      → Ran (slice 0 (get_or p.ends 0 0) p.gates) w w' → BlockFree j q.live b w'
   block_read b w w' loaded r =
       let free = free_of j q.live in
       record {
@@ -207,7 +207,7 @@ module _ {j : Job} {is : List ℕ} {p : Plan} {gates : List ℕ} (q : ReadsOf j 
 -- ---- leaves set anew
 
 -- a plan reads its nets
-abbrev pub reads_of : {j : Job} {is : List ℕ} {p : Plan} {gates : List ℕ} → PlannedOf j is p gates → ReadsOf j is p gates
+abbrev pub reads_of : {j : Job} {is : List ℕ} {p : Plan} → PlannedOf j is p → ReadsOf j is p
 reads_of q =
     record {
       good = q.good;
@@ -222,7 +222,7 @@ reads_of q =
       free = q.lists.free;
     }
 
-module _ {j : Job} {is : List ℕ} {p : Plan} {gates : List ℕ} (q : PlannedOf j is p gates) where
+module _ {j : Job} {is : List ℕ} {p : Plan} (q : PlannedOf j is p) where
   -- k leaves from from on set to their bits of the vectors u, in a block where the nets that they do not lead to have their values
   module _ (from k b : ℕ) (u : ℕ → ℕ) (w w₁ : List ℕ) (f : from + k ≤ base j)
       (put : (y i : ℕ) → y < 1024 → from ≤ i → i < from + k → value_in w₁ y i ≡ get_or (leaves_of j (1024 * b + y) (u y)) i 0)
@@ -269,7 +269,7 @@ module _ {j : Job} {is : List ℕ} {p : Plan} {gates : List ℕ} (q : PlannedOf 
   -- all targets set
   pub block-driven : (b : ℕ) (u : ℕ → ℕ) (w w₁ w₂ : List ℕ) → BlockFree j q.live b w
       → NetsSet j.inputs j.targets (λ y k. bit k (u y)) w w₁
-      → Ran (slice (get_or p.ends 0 0) (get_or p.ends 1 0) gates) w₁ w₂ → BlockAt j q.live b u w₂
+      → Ran (slice (get_or p.ends 0 0) (get_or p.ends 1 0) p.gates) w₁ w₂ → BlockAt j q.live b u w₂
   block-driven b u w w₁ w₂ a s r =
       block-changed j.inputs j.targets b u w w₁ (omega arith)
       (λ y i l n o.
@@ -286,12 +286,12 @@ module _ {j : Job} {is : List ℕ} {p : Plan} {gates : List ℕ} (q : PlannedOf 
 
   -- target t set anew, from the values at the vectors v
   pub block-target : (b t : ℕ) (u v : ℕ → ℕ) (w w₁ w₂ : List ℕ) → t < j.targets
-      → slice (get_or p.ends (t + 1) 0) (get_or p.ends (t + 2) 0) gates
+      → slice (get_or p.ends (t + 1) 0) (get_or p.ends (t + 2) 0) p.gates
       ≡ part_of q.live (led_by j t) (base j) q.merged
       → BlockAt j q.live b v w
       → NetSet (j.inputs + t) (λ y. bit t (u y)) w w₁
       → ((y k : ℕ) → y < 1024 → k < j.targets → (k < t) ⊎ (t < k) → bit k (u y) ≡ bit k (v y))
-      → Ran (slice (get_or p.ends (t + 1) 0) (get_or p.ends (t + 2) 0) gates) w₁ w₂ → BlockAt j q.live b u w₂
+      → Ran (slice (get_or p.ends (t + 1) 0) (get_or p.ends (t + 2) 0) p.gates) w₁ w₂ → BlockAt j q.live b u w₂
   unfolding miter_values
   block-target b t u v w w₁ w₂ h l a s d r =
       block-changed (j.inputs + t) 1 b u w w₁ (omega arith)

@@ -1,4 +1,4 @@
--- Laws of the loops that mark nets and pick gates (src/plan.rt), a turn each. Assumes nothing.
+-- Laws of the loops that mark nets and pick gates (src/planning.rt), a turn each. Assumes nothing.
 use Prim.Native.Nat.{ℕ, zero, suc, ◌+◌, ◌-◌, ◌/◌, ◌%◌, ◌≤◌, ◌<◌, min, max}
 use mathlib.Core.Path.{◌≡◌, refl, sym, ◌∙◌, ap}
 use mathlib.Core.Logic.{◌⊎◌, inl, inr, ⊎_elim}
@@ -10,6 +10,7 @@ use borrow.Author.Tests.{ltb-true, ltb-false, eqb-true, eqb-false, ne_eqb}
 use lib.Dec.{ltb, eqb}
 use lib.ListN.{length, get_or, take, drop, set, replicate, length-set, length-append, length-take, length-replicate, get_or-replicate, drop_of_length-le}
 use lib.Seq.{take-suc, drop-cons, take_all, take-append-le, take-take, take_at, take-suc-set, get_or-take, get_or-set_same, get_or-set_other, length-take-le, ext_get_or}
+use Rattle.std.proofs.lemmas.List.{drop_more}
 use Rattle.records.specs.Gate.{disj}
 use Rattle.records.specs.Netlist.{net_at}
 use Rattle.records.proofs.Laws.Bytes.{and_both, and-false-left, and-false-right, length-tabulate, get_d_tabulate}
@@ -147,14 +148,14 @@ unfolding marked_all
 length-marked_all ms [] = refl
 length-marked_all ms (i ∷ is) = length-marked_all (set ms i 1) is ∙ length-set ms i 1
 
-module _ (ms is : List ℕ) (n i : ℕ) (h : n ≤ length is) where
-  pub marked_all-next : i < n → marked_all (set ms (get_or is i 0) 1) (drop (i + 1) (take n is)) ≡ marked_all ms (drop i (take n is))
+module _ (ms is : List ℕ) (i : ℕ) where
+  pub marked_all-next : i < length is → marked_all (set ms (get_or is i 0) 1) (drop (i + 1) is) ≡ marked_all ms (drop i is)
   unfolding marked_all
-  marked_all-next l = sym (ap (marked_all ms) (left-cons n is h i l))
+  marked_all-next h = sym (ap (marked_all ms) (drop_more is i 0 h))
 
-  pub marked_all-end : n ≤ i → marked_all ms (drop i (take n is)) ≡ ms
+  pub marked_all-end : length is ≤ i → marked_all ms (drop i is) ≡ ms
   unfolding marked_all
-  marked_all-end l = ap (marked_all ms) (left-none n is h i l)
+  marked_all-end h = ap (marked_all ms) (drop_of_length-le is {i = i} h)
 
 module _ (ms : List ℕ) (n x : ℕ) where
   pub marked_all-fields : 0 < n → marked_all (set ms (x % 1024) 1) (fields (n - 1) (x / 1024)) ≡ marked_all ms (fields n x)

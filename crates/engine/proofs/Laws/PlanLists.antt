@@ -11,7 +11,7 @@ use mathlib.Core.Bool.{Bool, true, false, cond, not, ◌&&◌, and-true}
 use native.Mathlib.Omega.{arith}
 use borrow.Author.Tests.{ltb-true, ltb-false, not-true}
 use lib.Dec.{ltb, eqb}
-use lib.ListN.{length, get_or, take, drop, replicate, length-append, get_or-eq_default}
+use lib.ListN.{length, get_or, take, drop, length-append, get_or-eq_default}
 use lib.Seq.{slice, take_all, drop_at}
 use Rattle.records.specs.Bytes.{all, tabulate}
 use Rattle.records.specs.Gate.{Gate, operands, disj}
@@ -23,8 +23,9 @@ use Rattle.records.specs.Claims.{PartsGood}
 use Rattle.records.proofs.Laws.Bytes.{and_right, and-false-right, false_of, all_cons, length-tabulate}
 use Rattle.engine.specs.Choice.{keep}
 use Rattle.engine.specs.Inner.Packed.{own, packed, packed_from, formed, evaluated}
-use Rattle.engine.specs.Inner.Miter.{shifted_net, shifted, shift_of, miter_gates, miter_nets, SameGates, MiterRoom, MergedOf}
-use Rattle.engine.specs.Inner.Plan.{code_mark, marks_of, marked, Closed, leaves_from, marks_from, picked, list_at, lists_to, live_marks, ListPut, ListsUpTo, NetsRead, PlanHeld, PlanLists, ReadsOf, PlannedOf, TurnsOf}
+use Rattle.engine.specs.Inner.Miter.{shifted_net, shifted, shift_of, miter_gates, miter_nets, SameGates, MergedOf}
+use Rattle.engine.specs.Inner.Plan.{code_mark, marks_of, marked, Closed, leaves_from, marks_from, picked, list_at, lists_to, live_marks, ListPut, ListsUpTo, PlanLists, ReadsOf, PlannedOf, TurnsOf}
+use Rattle.records.specs.declared.sheet.Support.{Support}
 use Rattle.engine.specs.declared.miter.Miter.{Miter}
 use Rattle.engine.specs.declared.plan.Plan.{Plan}
 use Rattle.engine.proofs.Laws.Choice.{true-or-false, not-both, all_true, all-of-members}
@@ -322,38 +323,14 @@ module _ (j : Job) (good : PartsGood j) {merged : List Gate} (s : SameGates (j.i
 
 -- ---- a plan
 
--- the struct that is made of a miter, the nets read, and the lists
-abbrev pub plan_of : Miter → List ℕ → ℕ → ℕ → List ℕ → Plan
-plan_of m nets reads outs ends =
-    record {
-      inputs = m.inputs;
-      targets = m.targets;
-      outs = outs;
-      outputs = m.outputs;
-      goldens = m.goldens;
-      reads = reads;
-      nets = nets;
-      ends = ends;
-    }
-
-pub plan-held : (m : Miter) (nets : List ℕ) (reads outs : ℕ) (ends gates : List ℕ) → MiterRoom m → NetsRead nets reads → outs ≤ 32
-    → length ends ≡ 6 → ((t : ℕ) → get_or ends t 0 ≤ 2400) → length gates ≡ 2400 → PlanHeld (plan_of m nets reads outs ends) gates
-plan-held m nets reads outs ends gates room read few six within long =
-    record {
-      long = long;
-      ends = six;
-      outputs = room.outputs;
-      goldens = room.goldens;
-      nets = read.long;
-      within = within;
-      outputs-below = λ i. (room.below i).0;
-      goldens-below = λ i. (room.below i).1;
-      nets-below = read.below;
-      inputs = room.inputs;
-      targets = room.targets;
-      outs = few;
-      reads = read.few;
-    }
+-- the plan p of a miter, which reads the nets of a support and compares the first few outputs
+pub record PlanFrom (m : Miter) (support : Support) (few : ℕ) (p : Plan) : Type 0 where
+  pub inputs : p.inputs ≡ m.inputs
+  pub targets : p.targets ≡ m.targets
+  pub outs : p.outs ≡ few
+  pub outputs : p.outputs ≡ m.outputs
+  pub goldens : p.goldens ≡ m.goldens
+  pub reads : p.reads ≡ support
 
 -- the nets that outputs os and gs and the read nets is need
 module _ (j : Job) (is : List ℕ) (good : PartsGood j) {merged : List Gate} (s : SameGates (j.inputs + j.targets) (miter_gates j) merged)
@@ -377,16 +354,16 @@ module _ (j : Job) (is : List ℕ) (good : PartsGood j) {merged : List Gate} (s 
       subst (λ (x : List ℕ). Closed (marked x) from merged) (sym e)
       (live_marks-closed os gs is (packed_from from merged) from merged refl s.good s.forms (fits j good s live))
 
-module _ (j : Job) (is : List ℕ) (m : Miter) (o : MergedOf j m) (nets : List ℕ) (reads : ℕ) (e : take reads nets ≡ is)
-    (c : all (candidate_good j) is ≡ true) (live : List ℕ) where
-  module _ (le : live
-      ≡ live_marks (take m.outs m.outputs) (take m.outs m.goldens) (take reads nets) (take m.count m.gates))
-      (ends gates : List ℕ) (n : ℕ) (few : n ≤ m.targets)
-      (u : ListsUpTo (n + 2) m.inputs m.targets live (take m.count m.gates) ends gates) where
-    lists_of : ListsUpTo (n + 2) j.inputs j.targets live (packed_from (j.inputs + j.targets) o.merged) ends gates
+module _ {j : Job} {is : List ℕ} {m : Miter} (o : MergedOf j m) (reads : Support) (e : take reads.len reads.nets ≡ is)
+    (c : all (candidate_good j) is ≡ true) {live : List ℕ} {p : Plan} where
+  module _ (f : PlanFrom m reads m.outs p) (le : live
+      ≡ live_marks (take m.outs m.outputs) (take m.outs m.goldens) (take reads.len reads.nets) (take m.count m.gates))
+      (n : ℕ) (few : n ≤ m.targets)
+      (u : ListsUpTo (n + 2) m.inputs m.targets live (take m.count m.gates) p.ends p.gates) where
+    lists_of : ListsUpTo (n + 2) j.inputs j.targets live (packed_from (j.inputs + j.targets) o.merged) p.ends p.gates
     lists_of = rw (o.gates, o.inputs, o.targets) at u
 
-    abbrev plan : PlannedOf j is (plan_of m nets reads m.outs ends) gates
+    abbrev plan : PlannedOf j is p
     plan =
         let os = take m.outs m.outputs in
         let gs = take m.outs m.goldens in
@@ -397,48 +374,47 @@ module _ (j : Job) (is : List ℕ) (m : Miter) (o : MergedOf j m) (nets : List �
         λ xs h i n. omega (arith, ltb-true i (miter_nets j) (all_true (λ k. ltb k (miter_nets j)) xs h i n), miter-nets j o.good) in
         record {
           good = o.good;
-          inputs = o.inputs;
-          targets = o.targets;
-          pairs = o.pairs;
-          nets = e;
+          inputs = f.inputs ∙ o.inputs;
+          targets = f.targets ∙ o.targets;
+          pairs = rw (f.outs, f.outputs, f.goldens) o.pairs;
+          nets = rw f.reads e;
           merged = o.merged;
           same = o.same;
           live = marked live;
           closed = closed-live j is o.good o.same c os gs live l;
-          live-outputs = members os (λ i n. live-os os gs is cs i n (below os o.pairs.olds i n));
-          live-goldens = members gs (λ i n. live-gs os gs is cs i n (below gs o.pairs.goldens i n));
+          live-outputs = rw (f.outs, f.outputs) (members os (λ i n. live-os os gs is cs i n (below os o.pairs.olds i n)));
+          live-goldens = rw (f.outs, f.goldens) (members gs (λ i n. live-gs os gs is cs i n (below gs o.pairs.goldens i n)));
           live-nets = live-read j is o.good o.same c os gs live l;
-          lists = plan-lists j o.good o.same live ends gates n (omega (arith, o.targets)) lists_of;
+          lists = plan-lists j o.good o.same live p.ends p.gates n (omega (arith, o.targets)) lists_of;
         }
 
-    pub planned : PlannedOf j is (plan_of m nets reads m.outs ends) gates
+    pub planned : PlannedOf j is p
     planned = plan
 
     -- .. with the lists of all targets
-    pub turned : n ≡ m.targets → TurnsOf j is (plan_of m nets reads m.outs ends) gates
+    pub turned : n ≡ m.targets → TurnsOf j is p
     turned all =
         record {
           planned = plan;
-          lists = λ t h. turn-list j o.good o.same live ends gates n (omega (arith, o.targets)) lists_of t (omega (arith, o.targets));
+          lists = λ t h. turn-list j o.good o.same live p.ends p.gates n (omega (arith, o.targets)) lists_of t (omega (arith, o.targets));
         }
 
   -- .. that reads alone: every end is that of the live gates that no target leads to
-  pub planned-reads : live ≡ live_marks [] [] (take reads nets) (take m.count m.gates) → (ms : List ℕ)
-      → ms ≡ marks_from (take m.count m.gates) m.inputs m.targets → (before : List ℕ) (end : ℕ) (gates : List ℕ)
-      → ListPut (picked live ms false (take m.count m.gates)) 0 before end gates
-      → ReadsOf j is (plan_of m nets reads 0 (replicate 6 end)) gates
-  planned-reads le ms me before end gates p =
+  pub planned-reads : PlanFrom m reads 0 p → live ≡ live_marks [] [] (take reads.len reads.nets) (take m.count m.gates) → {ms : List ℕ}
+      → ms ≡ marks_from (take m.count m.gates) m.inputs m.targets → {before : List ℕ}
+      → ListPut (picked live ms false (take m.count m.gates)) 0 before (get_or p.ends 0 0) p.gates → ReadsOf j is p
+  planned-reads f le {ms} me {before} g =
       let l : live ≡ live_marks [] [] is (packed_from (j.inputs + j.targets) o.merged) = rw (o.gates, e) at le in
       record {
         good = o.good;
-        inputs = o.inputs;
-        targets = o.targets;
-        nets = e;
+        inputs = f.inputs ∙ o.inputs;
+        targets = f.targets ∙ o.targets;
+        nets = rw f.reads e;
         merged = o.merged;
         same = o.same;
         live = marked live;
         closed = closed-live j is o.good o.same c [] [] live l;
         live-nets = live-read j is o.good o.same c [] [] live l;
         free =
-            list_put j o.good o.same live ms before end gates (rw (o.gates, o.inputs, o.targets) at me) (rw o.gates at p);
+            list_put j o.good o.same live ms before (get_or p.ends 0 0) p.gates (rw (o.gates, o.inputs, o.targets) at me) (rw o.gates at g);
       }

@@ -22,7 +22,7 @@ use Rattle.records.proofs.Laws.Bytes.{and_both, all_cons, length-tabulate, lengt
 use Rattle.records.proofs.Laws.Gate.{gate_good-count}
 use Rattle.engine.specs.Inner.Packed.{own, packed, packed_from, formed, evaluated}
 use Rattle.engine.specs.Inner.Miter.{miter_gates, miter_nets, miter_values}
-use Rattle.engine.specs.Inner.Plan.{fanned, PlanHeld, PlannedOf}
+use Rattle.engine.specs.Inner.Plan.{fanned, PlannedOf}
 use Rattle.engine.specs.declared.plan.Plan.{Plan}
 use Rattle.engine.specs.Eval.{bits}
 use Rattle.engine.specs.Rectify.{rectifies}
@@ -128,27 +128,27 @@ all-take-at q (suc k) [] l e i h = let z : ⊥ = omega arith in absurd z
 all-take-at q (suc k) (x ∷ xs) l e zero h = (all_cons q x (take k xs) e).0
 all-take-at q (suc k) (x ∷ xs) l e (suc i) h = all-take-at q k xs (omega arith) (all_cons q x (take k xs) e).1 i (omega arith)
 
-module _ (j : Job) (is : List ℕ) (p : Plan) (gates : List ℕ) (o : PlannedOf j is p gates) where
+module _ (j : Job) (is : List ℕ) (p : Plan) (o : PlannedOf j is p) where
   abbrev leaf_count : ℕ
   leaf_count = j.inputs + j.targets
 
   -- the gates that no target leads to
   abbrev free_gates : List ℕ
-  free_gates = slice 0 (get_or p.ends 0 0) gates
+  free_gates = slice 0 (get_or p.ends 0 0) p.gates
 
   -- .. and the others
   abbrev live_gates : List ℕ
-  live_gates = slice 0 (get_or p.ends 1 0) gates
+  live_gates = slice 0 (get_or p.ends 1 0) p.gates
 
   fits : leaf_count + length o.merged ≤ 1024
   unfolding miter_nets
   fits = omega (arith, miter-nets j o.good, o.same.long)
 
-  both-lists : live_gates ≡ free_gates ++ slice (get_or p.ends 0 0) (get_or p.ends 1 0) gates
+  both-lists : live_gates ≡ free_gates ++ slice (get_or p.ends 0 0) (get_or p.ends 1 0) p.gates
   both-lists =
       let a = get_or p.ends 0 0 in
       let b = get_or p.ends 1 0 in
-      sym (take-append-drop a (take b gates)) ∙ ap (λ (l : List ℕ). l ++ slice a b gates) (take-take a b gates o.lists.order)
+      sym (take-append-drop a (take b p.gates)) ∙ ap (λ (l : List ℕ). l ++ slice a b p.gates) (take-take a b p.gates o.lists.order)
 
   module _ (nets : List ℕ) (long : length nets ≡ 1024) where
     -- what is known of each net
@@ -233,18 +233,16 @@ module _ (j : Job) (is : List ℕ) (p : Plan) (gates : List ℕ) (o : PlannedOf 
 
   -- outputs that are known, and equal, in the places of all live nets are equal in the values that complete the leaves
   outputs-settled : (leaves nets : List ℕ) → length leaves ≡ leaf_count → length nets ≡ 1024
-      → Completed leaf_count leaves nets → PlanHeld p gates
+      → Completed leaf_count leaves nets → p.outs ≤ length p.outputs → p.outs ≤ length p.goldens
       → let after = evaluated code_ternary nets live_gates in
       ((i : ℕ) → i < p.outs → Known (get_or after (get_or p.outputs i 0) 0) (get_or after (get_or p.goldens i 0) 0))
       → map (net_at (values leaves (miter_gates j))) (take p.outs p.outputs)
       ≡ map (net_at (values leaves (miter_gates j))) (take p.outs p.goldens)
   unfolding net_at
-  outputs-settled leaves nets e f c q k =
+  outputs-settled leaves nets e f c a b k =
       let vs = values leaves (miter_gates j) in
       let after = evaluated code_ternary nets live_gates in
       let below : ℕ → Bool = λ i. ltb i (miter_nets j) in
-      let a : p.outs ≤ length p.outputs = omega (arith, q.outs, q.outputs) in
-      let b : p.outs ≤ length p.goldens = omega (arith, q.outs, q.goldens) in
       map-take-agree (net_at vs) (net_at vs) p.outs p.outputs p.goldens a b
       (λ i l.
       let u = get_or p.outputs i 0 in
@@ -268,15 +266,15 @@ module _ (j : Job) (is : List ℕ) (p : Plan) (gates : List ℕ) (o : PlannedOf 
   pub rectifies-range : (low prefix : ℕ) (nets : List ℕ) → length nets ≡ 1024
       → ((x v : ℕ) → InRange low prefix x
       → Completed (p.inputs + p.targets) (bits p.inputs x ++ bits p.targets v) nets)
-      → PlanHeld p gates
+      → p.outs ≤ length p.outputs → p.outs ≤ length p.goldens
       → let after = evaluated code_ternary nets live_gates in
       ((i : ℕ) → i < p.outs → Known (get_or after (get_or p.outputs i 0) 0) (get_or after (get_or p.goldens i 0) 0))
       → (x v : ℕ) → InRange low prefix x → rectifies j x v ≡ true
   unfolding miter_values
-  rectifies-range low prefix nets f c q k x v r =
+  rectifies-range low prefix nets f c a b k x v r =
       let n = j.inputs in
       let m = j.targets in
       let leaves = bits n x ++ bits m v in
       let l : length leaves ≡ n + m = omega (arith, length-append (bits n x) (bits m v), length-bits n x, length-bits m v) in
-      let s = outputs-settled leaves nets l f (rw (o.inputs, o.targets) at (c x v r)) q k in
+      let s = outputs-settled leaves nets l f (rw (o.inputs, o.targets) at (c x v r)) a b k in
       sym (o.pairs.equal x v) ∙ rw s (same_refl (map (net_at (values leaves (miter_gates j))) (take p.outs p.goldens)))

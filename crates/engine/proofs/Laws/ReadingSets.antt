@@ -169,8 +169,8 @@ sets-stay {j} {x} {y} {k} {k'} {ss} h m q p =
     }
 
 -- the inputs of blocks that need no look are a range
-pub sets-skip : {p : Plan} {gates : List ℕ} {b r k : ℕ} {j : Job} {ss : List ℕ} → SettledFrom p gates b r → 0 < r
-    → PlannedOf j (candidate_nets j) p gates → SetsTo j (1024 * b) k ss → SetsTo j (1024 * (b + r)) (bit_or k (2 ^ (b / 32))) ss
+pub sets-skip : {p : Plan} {b r k : ℕ} {j : Job} {ss : List ℕ} → SettledFrom p b r → 0 < r
+    → PlannedOf j (candidate_nets j) p → SetsTo j (1024 * b) k ss → SetsTo j (1024 * (b + r)) (bit_or k (2 ^ (b / 32))) ss
 sets-skip {b = b} {r = r} {k = k} {j = j} f h q =
     let e = f.range h in
     let n : ℕ = 2 ^ (b / 32) in

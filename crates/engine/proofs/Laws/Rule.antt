@@ -23,7 +23,7 @@ use Rattle.records.specs.declared.loading.JobParts.{JobParts}
 use Rattle.records.specs.declared.job.Counts.{Counts}
 use Rattle.records.specs.declared.sheet.Support.{Support}
 use Rattle.records.proofs.Laws.Bytes.{and_left, tabulate-ext}
-use Rattle.std.proofs.Common.{Some, None, ◌==◌}
+use Rattle.std.specs.Prelude.{Option, Some, None, IfSome, ◌==◌}
 use Rattle.std.specs.Option.{is_some}
 use Rattle.std.specs.List.{position, position_or_len}
 use Rattle.std.proofs.lemmas.List.Quantifiers.{position-Some}
@@ -55,7 +55,7 @@ use Rattle.engine.proofs.Laws.Picked.{nets-from}
 use Rattle.engine.proofs.Laws.Sets.{sound-of-filled, blind-of-empty, holds-some}
 use Rattle.engine.proofs.Laws.Miter.{job-within, candidates-good}
 use Rattle.engine.proofs.Laws.ListLoop.{walk-list}
-use Rattle.engine.proofs.Laws.Search.{listed-stuck, listed_free}
+use Rattle.engine.proofs.Laws.Stream.{listed-at, listed-going}
 use Rattle.engine.proofs.Laws.Sheet.{patch_bytes-sheet}
 use Rattle.engine.proofs.Laws.Verdict.{judged-unfixable, judged-fixable, chosen-patch, chosen-blind}
 
@@ -85,16 +85,16 @@ module _ (j : Job) (v : Vectors) (h : listed_of v ≡ vector_loop j) where
   unfolding listed_of
   vectors-of = ap (λ (l : Listed). l.vectors) (sym h)
 
-  pub unfixable-judged : {d e : List ℕ} {n : ℕ} → v.stuck ≡ true → BytesPut d 0 (field 20 (four_bytes v.input) ++ field 19 vectors) e n
-      → JudgedJob j d (judgement n (Judgement.Unfixable (record { input = v.input }))) e
-  unfixable-judged s =
-      let f = judged-unfixable j (ap (λ (l : Listed). l.stuck) (sym h) ∙ listed-stuck v s) in
+  pub unfixable-judged : {d e : List ℕ} {n x : ℕ} → v.stuck ≡ Some x → BytesPut d 0 (field 20 (four_bytes x) ++ field 19 vectors) e n
+      → JudgedJob j d (judgement n (Judgement.Unfixable (record { input = x }))) e
+  unfixable-judged {x = x} s =
+      let f = judged-unfixable j (ap (λ (l : Listed). l.stuck) (sym h) ∙ listed-at v x s) in
       judged-put j (f.0, f.1 ∙ rw vectors-of)
 
-  pub fixable-judged : {d e : List ℕ} {n : ℕ} → v.stuck ≡ false → BytesPut d 0 (field 19 vectors) e n
+  pub fixable-judged : {d e : List ℕ} {n : ℕ} → v.stuck ≡ None → BytesPut d 0 (field 19 vectors) e n
       → JudgedJob j d (judgement n Judgement.Fixable) e
   fixable-judged s =
-      let f = judged-fixable j (ap (λ (l : Listed). l.stuck) (sym h) ∙ listed_free v s) in
+      let f = judged-fixable j (ap (λ (l : Listed). l.stuck) (sym h) ∙ listed-going v s) in
       judged-put j (f.0, f.1 ∙ ap (field 19) vectors-of)
 
 -- ---- choose
@@ -205,6 +205,10 @@ chosen-good {j} g s =
 
 -- ---- after the walk over all inputs
 
+pub if_some : {P : ℕ → Type 0} (o : Option ℕ) → ((x : ℕ) → o ≡ Some x → P x) → IfSome o P
+if_some None h = tt
+if_some (Some x) h = h x refl
+
 module _ {j : Job} {p : JobParts} (r : PartsOf j p) where
   few : Within (counts_of j)
   few = job-within j r.good
@@ -216,10 +220,10 @@ module _ {j : Job} {p : JobParts} (r : PartsOf j p) where
     list-loop = g ∙ walk-list j few.targets
 
     -- where it is stuck, it is at an input
-    pub stuck-small : v.stuck ≡ true → v.input < 4294967296
+    pub stuck-small : (x : ℕ) → v.stuck ≡ Some x → x < 4294967296
     unfolding counts_of
-    stuck-small s =
-        let l = ((stuck-iff j v.input).0 (ap (λ (k : Listed). k.stuck) (sym list-loop) ∙ listed-stuck v s)).0 in
+    stuck-small x s =
+        let l = ((stuck-iff j x).0 (ap (λ (k : Listed). k.stuck) (sym list-loop) ∙ listed-at v x s)).0 in
         let m : 2 ^ j.inputs ≤ 1048576 = pow_mono {j = 20} few.inputs in
         omega arith
 

@@ -3,8 +3,8 @@
 use Prim.Native.Nat.{ℕ, ◌+◌, ◌-◌, ◌*◌, ◌%◌, ◌^◌, min, ◌≤◌, ◌<◌}
 use mathlib.Core.Path.{◌≡◌, refl, sym, ◌∙◌, ap, subst}
 use mathlib.Core.List.{List}
-use mathlib.Core.Bool.{Bool, true, false, cond}
-use mathlib.Core.Option.{none, some}
+use mathlib.Core.Bool.{true, false}
+use mathlib.Core.Option.{some}
 use native.Mathlib.Omega.{arith}
 use mathlib.Core.Logic.{inl, inr, ⊎_elim}
 use native.Mathlib.Nat.{zero-add, mod-eq_of_lt}
@@ -19,9 +19,9 @@ use Rattle.engine.specs.Rectify.{rectifies, Listed}
 use Rattle.engine.specs.Support.{reading, candidate_nets}
 use Rattle.engine.specs.Inner.Guess.{ListTo}
 use Rattle.engine.specs.Inner.Masks.{rectifiers}
-use Rattle.engine.specs.Inner.List.{listed_of, listed_from, start_list}
+use Rattle.engine.specs.Inner.List.{listed_from, start_list}
 use Rattle.engine.specs.Inner.Note.{sets_from, gathered, filled, ListNoted}
-use Rattle.engine.specs.Inner.Plan.{PlanHeld, ReadsOf}
+use Rattle.engine.specs.Inner.Plan.{ReadsOf}
 use Rattle.engine.specs.Inner.Search.{BlockRange, BlockRead, BlockVector, FreeKept, BlockKept, BlockMasks, BlockMet}
 use Rattle.engine.proofs.Laws.Choice.{true-or-false}
 use Rattle.engine.proofs.Laws.Miter.{candidates-good}
@@ -29,6 +29,8 @@ use Rattle.engine.proofs.Laws.Plan.{reads_of}
 use Rattle.engine.proofs.Laws.ReadingSets.{sets_more, sets-stay}
 use Rattle.engine.proofs.Laws.Shift.{bit-mod}
 use Rattle.engine.proofs.Laws.Rows.{sets_from-agree, sets_from-repeats, block-sets, sets_from-length}
+use Rattle.std.specs.Option.{is_some}
+use Rattle.engine.proofs.Laws.Stream.{listed-stuck}
 use Rattle.engine.proofs.Laws.List.{listed_from-append, stuck-stays, walk-skip-list}
 use Rattle.engine.proofs.Laws.Support.{reading-lt}
 use Rattle.engine.specs.declared.list.Vectors.{Vectors}
@@ -83,14 +85,6 @@ module _ (j : Job) (is : List ℕ) (f : ℕ → ℕ) (low : (x : ℕ) → f x �
 
 -- ---- the list
 
-pub listed-stuck : (v : Vectors) → v.stuck ≡ true → (listed_of v).stuck ≡ some v.input
-unfolding listed_of
-listed-stuck v e = ap (λ (b : Bool). cond b (some v.input) none) e
-
-pub listed_free : (v : Vectors) → v.stuck ≡ false → (listed_of v).stuck ≡ none
-unfolding listed_of
-listed_free v e = ap (λ (b : Bool). cond b (some v.input) none) e
-
 -- the inputs from x up to y
 up_to : {x y : ℕ} → x ≤ y → x + (y - x) ≡ y
 up_to h = omega arith
@@ -113,11 +107,12 @@ module _ (j : Job) where
 
   module _ (x y : ℕ) (v : Vectors) (h : x ≤ y) where
     -- once stuck, it stays
-    pub list-stuck : v.stuck ≡ true → ListTo j x v → ListTo j y v
+    pub list-stuck : is_some v.stuck ≡ true → ListTo j x v → ListTo j y v
     list-stuck s p =
         let f = rectifiers j in
-        let e : (listed_from f start_list 0 x).stuck ≡ some v.input = ap (λ (l : Listed). l.stuck) (sym p) ∙ listed-stuck v s in
-        list_at_lem (x + (y - x)) y v (up_to h) (p ∙ sym (stuck-stays f start_list x (y - x) v.input e))
+        let i = listed-stuck v s in
+        let e : (listed_from f start_list 0 x).stuck ≡ some i.0 = ap (λ (l : Listed). l.stuck) (sym p) ∙ i.1 in
+        list_at_lem (x + (y - x)) y v (up_to h) (p ∙ sym (stuck-stays f start_list x (y - x) i.0 e))
 
     -- inputs that every vector rectifies leave it
     pub list-skip : ((z u : ℕ) → x ≤ z → z < y → rectifies j z u ≡ true) → ListTo j x v → ListTo j y v
@@ -132,10 +127,10 @@ pub first-few : (n : ℕ) (nets : List ℕ) {is : List ℕ} → take n nets ≡ 
 first-few n nets e = omega (arith, ap length (sym e), length-take n nets)
 
 -- readings of at most ten nets
-pub reading_small : {j : Job} {is : List ℕ} {p : Plan} {gates : List ℕ} → p.reads ≤ 10 → ReadsOf j is p gates
+pub reading_small : {j : Job} {is : List ℕ} {p : Plan} → p.reads.len ≤ 10 → ReadsOf j is p
     → (x : ℕ) → reading j is x < 1024
 reading_small {j} {is} {p} h q x =
-    let few : length is ≤ 10 = omega (arith, first-few p.reads p.nets q.nets) in
+    let few : length is ≤ 10 = omega (arith, first-few p.reads.len p.reads.nets q.nets) in
     omega (arith, reading-lt j is x, pow_mono {j = 10} few)
 
 -- ---- the sets after a block
@@ -144,28 +139,28 @@ pub met-long : (masks readings ss : List ℕ) (count : ℕ) {ts : List ℕ}
     → ts ≡ sets_from (gathered masks) (λ y. gathered readings y % 1024) ss 0 (filled count) → length ts ≡ length ss
 met-long masks readings ss count e = ap length e ∙ sets_from-length (gathered masks) (λ y. gathered readings y % 1024) ss 0 (filled count)
 
-module _ {p : Plan} {gates : List ℕ} (h : PlanHeld p gates) (b count : ℕ) {words readings : List ℕ} (e : BlockRead p gates b words readings) where
+module _ {p : Plan} (b count : ℕ) {words readings : List ℕ} (e : BlockRead p b words readings) where
   -- from the masks of its inputs
-  pub block-met : {w₁ w₂ masks ss ts : List ℕ} → BlockRange p.inputs b count → FreeKept p gates words w₁ → BlockVector p gates 0 w₁ w₂
-      → BlockMasks p gates w₂ masks → ts ≡ sets_from (gathered masks) (λ y. gathered readings y % 1024) ss 0 (filled count)
-      → BlockMet p gates b count ss ts
+  pub block-met : {w₁ w₂ masks ss ts : List ℕ} → BlockRange p.inputs b count → FreeKept p words w₁ → BlockVector p 0 w₁ w₂
+      → BlockMasks p w₂ masks → ts ≡ sets_from (gathered masks) (λ y. gathered readings y % 1024) ss 0 (filled count)
+      → BlockMet p b count ss ts
   block-met {masks = masks} {ss = ss} r k z m n =
       record {
         long = met-long masks readings ss count n;
         sets = λ j s t.
             let is = candidate_nets j in
             let q = t.planned in
-            sets_more j (omega (arith, h.targets, q.targets)) (1024 * b) count
+            sets_more j (omega (arith, p.few_targets, q.targets)) (1024 * b) count
             (n
             ∙ noted-sets j is (rectifiers j) (λ x. rectifiers-low j j.inputs x (omega arith)) b count masks readings ss
             (subst (λ (i : ℕ). BlockRange i b count) q.inputs r)
             (m.sets j is t b (z.values j is q b (k j is q b (e.free j is (reads_of q)))))
             (e.readings j is (reads_of q) (candidates-good j q.good))
-            (reading_small h.reads (reads_of q)));
+            (reading_small p.few_reads (reads_of q)));
       }
 
   -- where it leaves them
-  pub block-kept : {ss : List ℕ} → count ≤ 1024 → BlockKept p gates readings words ss → BlockMet p gates b count ss ss
+  pub block-kept : {ss : List ℕ} → count ≤ 1024 → BlockKept p readings words ss → BlockMet p b count ss ss
   block-kept {ss} few k =
       record {
         long = refl;
@@ -178,7 +173,7 @@ module _ {p : Plan} {gates : List ℕ} (h : PlanHeld p gates) (b count : ℕ) {w
             let i : 1024 * b + y ≡ z = omega arith in
             let g : gathered readings y % 1024 ≡ reading j is z =
             ap (λ (r : ℕ). r % 1024) (e.readings j is (reads_of q) (candidates-good j q.good) y (omega arith) ∙ ap (reading j is) i)
-            ∙ mod-eq_of_lt (reading_small h.reads (reads_of q) z) in
+            ∙ mod-eq_of_lt (reading_small p.few_reads (reads_of q) z) in
             let t = rw (g, i) at (k j is q b (e.free j is (reads_of q)) y (omega arith)) in
             (λ c. t.0, t.1));
       }

@@ -2,7 +2,7 @@
 use Prim.Native.Nat.{ℕ, ◌+◌, ◌-◌, ◌*◌, ◌/◌, ◌%◌, ◌^◌, ◌≤◌, ◌<◌}
 use mathlib.Core.Path.{◌≡◌, refl, sym, ◌∙◌, ap, subst}
 use mathlib.Core.Logic.{⊎_elim}
-use mathlib.Core.List.{List, map}
+use mathlib.Core.List.{List}
 use mathlib.Core.Bool.{Bool, true, cond}
 use native.Mathlib.Nat.{zero-add}
 use native.Mathlib.Omega.{arith}
@@ -11,13 +11,12 @@ use lib.Pow.{pow-add, pow_mono}
 use lib.Seq.{slice}
 use Rattle.records.specs.Job.{Job}
 use Rattle.engine.specs.Eval.{bit}
-use Rattle.engine.specs.Choice.{same}
 use Rattle.engine.specs.Rectify.{rectifies}
 use Rattle.engine.specs.Inner.Kernel.{Ran, NetSet, NetsSet, value_in, row_value}
 use Rattle.engine.specs.Inner.Masks.{ordered, turns, Among}
 use Rattle.engine.specs.Inner.Plan.{BlockAt, BlockFree, ReadsOf, PlannedOf, TurnsOf}
 use Rattle.engine.specs.Inner.Cover.{reading_in}
-use Rattle.engine.specs.Inner.Search.{BlockLoaded, BlockRead, BlockVector, RowsSay, DrivenRow, TargetTurned, BlockMasks, BlockRange, SettledFrom}
+use Rattle.engine.specs.Inner.Search.{BlockLoaded, BlockRead, BlockVector, RowEqual, RowsSay, DrivenRow, TargetTurned, BlockMasks, BlockRange, SettledFrom}
 use Rattle.engine.specs.Inner.Note.{gathered}
 use Rattle.engine.specs.Inner.Ranges.{InRange}
 use Rattle.engine.specs.declared.plan.Plan.{Plan}
@@ -32,25 +31,18 @@ nets-alike : {at n : ℕ} {f g : ℕ → ℕ → ℕ} {before after : List ℕ} 
     → ((y k : ℕ) → y < 1024 → k < n → f y k ≡ g y k) → NetsSet at n g before after
 nets-alike s e = record { long = s.long; put = λ y k h l. s.put y k h l ∙ e y k h l; kept = s.kept }
 
--- a row says where the outputs of both circuits have the same values
-abbrev pub RowEqual : Plan → List ℕ → List ℕ → Type 0
-RowEqual p words r =
-    (y : ℕ) → y < 1024
-    → row_value r y
-    ≡ cond (same (map (value_in words y) (take p.outs p.outputs)) (map (value_in words y) (take p.outs p.goldens))) 1 0
-
-module _ (p : Plan) (gates : List ℕ) where
-  -- .. which is where the vectors rectify the inputs
-  pub row-rectifies : {j : Job} {is : List ℕ} (q : PlannedOf j is p gates) (b : ℕ) (u : ℕ → ℕ) {w : List ℕ} (r : List ℕ)
+module _ (p : Plan) where
+  -- a row that says where the outputs of both circuits have the same values says where the vectors rectify the inputs
+  pub row-rectifies : {j : Job} {is : List ℕ} (q : PlannedOf j is p) (b : ℕ) (u : ℕ → ℕ) {w : List ℕ} (r : List ℕ)
       → BlockAt j q.live b u w → RowEqual p w r
       → (y : ℕ) → y < 1024 → row_value r y ≡ cond (rectifies j (1024 * b + y) (u y)) 1 0
   row-rectifies q b u r a e y h = e y h ∙ ap (λ (t : Bool). cond t 1 0) (equal-rectifies q a y h)
 
   -- inputs loaded, and the gates run that no target leads to
   pub block-loaded : (b : ℕ) {w₀ w₁ w₂ : List ℕ} → length w₀ ≡ 16384 → NetsSet 0 p.inputs (λ y k. bit k (1024 * b + y)) w₀ w₁
-      → Ran (slice 0 (get_or p.ends 0 0) gates) w₁ w₂ → BlockLoaded p gates b w₂
+      → Ran (slice 0 (get_or p.ends 0 0) p.gates) w₁ w₂ → BlockLoaded p b w₂
   block-loaded b {w₀} {w₁} {w₂} l s r =
-      let read : (j : Job) (is : List ℕ) (q : ReadsOf j is p gates) → BlockFree j q.live b w₂ =
+      let read : (j : Job) (is : List ℕ) (q : ReadsOf j is p) → BlockFree j q.live b w₂ =
       λ j is q. block_read q b w₁ w₂ (λ y k h e. rw zero-add at (s.put y k h (omega (arith, q.inputs)))) r in
       record {
         long = r.long ∙ s.long ∙ l;
@@ -59,8 +51,8 @@ module _ (p : Plan) (gates : List ℕ) where
       }
 
   -- .. and the nets read
-  pub block-rows : {b : ℕ} {words rows : List ℕ} → BlockLoaded p gates b words → length rows ≡ 256
-      → ((y : ℕ) → y < 1024 → gathered rows y ≡ reading_in words (take p.reads p.nets) y) → BlockRead p gates b words rows
+  pub block-rows : {b : ℕ} {words rows : List ℕ} → BlockLoaded p b words → length rows ≡ 256
+      → ((y : ℕ) → y < 1024 → gathered rows y ≡ reading_in words (take p.reads.len p.reads.nets) y) → BlockRead p b words rows
   block-rows l many g =
       record {
         long = l.long;
@@ -71,15 +63,15 @@ module _ (p : Plan) (gates : List ℕ) where
 
   -- all targets set, and the gates run that one leads to
   module _ {w w₁ w₂ : List ℕ} {f : ℕ → ℕ → ℕ} (s : NetsSet p.inputs p.targets f w w₁)
-      (r : Ran (slice (get_or p.ends 0 0) (get_or p.ends 1 0) gates) w₁ w₂) (u : ℕ → ℕ)
+      (r : Ran (slice (get_or p.ends 0 0) (get_or p.ends 1 0) p.gates) w₁ w₂) (u : ℕ → ℕ)
       (e : (y k : ℕ) → y < 1024 → k < p.targets → f y k ≡ bit k (u y)) where
-    block-set : {j : Job} {is : List ℕ} (q : PlannedOf j is p gates) (b : ℕ) → BlockFree j q.live b w → BlockAt j q.live b u w₂
+    block-set : {j : Job} {is : List ℕ} (q : PlannedOf j is p) (b : ℕ) → BlockFree j q.live b w → BlockAt j q.live b u w₂
     block-set q b a =
         block-driven q b u w w₁ w₂ a (rw (q.inputs, q.targets) at (nets-alike {g = λ y k. bit k (u y)} s e)) r
 
   -- .. to one vector
   pub block-vectored : {w w₁ w₂ : List ℕ} (v : ℕ) → NetsSet p.inputs p.targets (λ y k. bit k v) w w₁
-      → Ran (slice (get_or p.ends 0 0) (get_or p.ends 1 0) gates) w₁ w₂ → BlockVector p gates v w w₂
+      → Ran (slice (get_or p.ends 0 0) (get_or p.ends 1 0) p.gates) w₁ w₂ → BlockVector p v w w₂
   block-vectored v s r =
       record {
         long = r.long ∙ s.long;
@@ -89,10 +81,10 @@ module _ (p : Plan) (gates : List ℕ) where
   -- .. to the vectors of the rows
   pub row-driven : {w w₁ w₂ : List ℕ} (rows : List ℕ) (first : ℕ) (row : List ℕ)
       → NetsSet p.inputs p.targets (λ y k. value_in rows y (first + k)) w w₁
-      → Ran (slice (get_or p.ends 0 0) (get_or p.ends 1 0) gates) w₁ w₂ → RowEqual p w₂ row
-      → (u : ℕ → ℕ) → RowsSay rows first p.targets u → DrivenRow p gates u w row w₂
+      → Ran (slice (get_or p.ends 0 0) (get_or p.ends 1 0) p.gates) w₁ w₂ → RowEqual p w₂ row
+      → (u : ℕ → ℕ) → RowsSay rows first p.targets u → DrivenRow p u w row w₂
   row-driven {w} {w₁} {w₂} rows first row s r e u n =
-      let at : (j : Job) (is : List ℕ) (q : PlannedOf j is p gates) (b : ℕ) → BlockFree j q.live b w → BlockAt j q.live b u w₂ =
+      let at : (j : Job) (is : List ℕ) (q : PlannedOf j is p) (b : ℕ) → BlockFree j q.live b w → BlockAt j q.live b u w₂ =
       λ j is q b a. block-set s r u n q b a in
       record {
         long = r.long ∙ s.long;
@@ -102,7 +94,7 @@ module _ (p : Plan) (gates : List ℕ) where
 
   -- one target set, and the gates that it leads to run
   pub target-turned : (t x : ℕ) {w w₁ w₂ : List ℕ} → NetSet (p.inputs + t) (λ y. bit 0 x) w w₁
-      → Ran (slice (get_or p.ends (t + 1) 0) (get_or p.ends (t + 2) 0) gates) w₁ w₂ → TargetTurned p gates t x w w₂
+      → Ran (slice (get_or p.ends (t + 1) 0) (get_or p.ends (t + 2) 0) p.gates) w₁ w₂ → TargetTurned p t x w w₂
   target-turned t x {w} {w₁} {w₂} s r =
       record {
         long = r.long ∙ s.long;
@@ -116,23 +108,23 @@ module _ (p : Plan) (gates : List ℕ) where
 -- ---- the rows of the vectors, one after the other
 
 -- from the words w₀ at vector 0: the words w at the vector of the step before s, and the rows ms of the steps below s
-abbrev pub MasksDone : Plan → List ℕ → ℕ → List ℕ → ℕ → List ℕ → List ℕ → Type 0
-MasksDone p gates u w₀ s w ms =
-    (j : Job) (is : List ℕ) (q : TurnsOf j is p gates) (b : ℕ) → BlockAt j q.planned.live b (λ y. 0) w₀
+abbrev pub MasksDone : Plan → ℕ → List ℕ → ℕ → List ℕ → List ℕ → Type 0
+MasksDone p u w₀ s w ms =
+    (j : Job) (is : List ℕ) (q : TurnsOf j is p) (b : ℕ) → BlockAt j q.planned.live b (λ y. 0) w₀
     → BlockAt j q.planned.live b (λ y. ordered u (s - 1)) w × MasksTo j b u s ms
 
-module _ (p : Plan) (gates : List ℕ) (u : ℕ) (o : u < 4) where
+module _ (p : Plan) (u : ℕ) (o : u < 4) where
   pub masks-first : (w r : List ℕ) {ms : List ℕ} → RowEqual p w r → NetSet 0 (row_value r) (replicate 256 0) ms
-      → MasksDone p gates u w 1 w ms
+      → MasksDone p u w 1 w ms
   masks-first w r {ms} e n j is q b a =
       let z : 0 ≡ ordered u 0 = sym (ordered-none u o) in
       let live = q.planned.live in
       let d : BlockAt j live b (λ y. ordered u 0) w = subst (λ (v : ℕ). BlockAt j live b (λ y. v) w) z a in
-      (d, masks-next j b u o 0 r (masks-none j b u o 0) (omega arith) (subst (λ (v : ℕ). NetSet v (row_value r) (replicate 256 0) ms) z n) (row-rectifies p gates q.planned b (λ y. ordered u 0) r d e))
+      (d, masks-next j b u o 0 r (masks-none j b u o 0) (omega arith) (subst (λ (v : ℕ). NetSet v (row_value r) (replicate 256 0) ms) z n) (row-rectifies p q.planned b (λ y. ordered u 0) r d e))
 
   pub masks-turned : (s : ℕ) {w₀ w w' ms ms' : List ℕ} (r : List ℕ) → p.targets ≤ 4 → Among p.targets u → 0 < s → s < 2 ^ p.targets
-      → MasksDone p gates u w₀ s w ms → TargetTurned p gates (turns u s) (ordered u s / 2 ^ turns u s) w w' → RowEqual p w' r
-      → NetSet (ordered u s) (row_value r) ms ms' → MasksDone p gates u w₀ (s + 1) w' ms'
+      → MasksDone p u w₀ s w ms → TargetTurned p (turns u s) (ordered u s / 2 ^ turns u s) w w' → RowEqual p w' r
+      → NetSet (ordered u s) (row_value r) ms ms' → MasksDone p u w₀ (s + 1) w' ms'
   masks-turned s {w₀} {w} {w'} {ms} {ms'} r m f z l d t e n j is q b a =
       let few : 2 ^ p.targets ≤ 16 = pow_mono {j = 4} m in
       let k : s < 16 = omega arith in
@@ -151,11 +143,11 @@ module _ (p : Plan) (gates : List ℕ) (u : ℕ) (o : u < 4) where
       ⊎_elim (λ (v : i < turns u s). let x : ⊥ = omega arith in x) (λ (v : turns u s < i). let x : ⊥ = omega arith in x) c)))
       g.0 in (
         subst (λ (x : ℕ). BlockAt j q.planned.live b (λ y. ordered u x) w') (sym here) turned,
-        masks-next j b u o s r g.1 k n (row-rectifies p gates q.planned b (λ y. ordered u s) r turned e),
+        masks-next j b u o s r g.1 k n (row-rectifies p q.planned b (λ y. ordered u s) r turned e),
       )
 
   pub masks-all : {w₀ w ms : List ℕ} → p.targets ≤ 4 → Among p.targets u → length ms ≡ 256
-      → MasksDone p gates u w₀ (2 ^ p.targets) w ms → BlockMasks p gates w₀ ms
+      → MasksDone p u w₀ (2 ^ p.targets) w ms → BlockMasks p w₀ ms
   masks-all {w₀} {w} {ms} m f l d =
       record {
         long = l;
@@ -191,8 +183,8 @@ blocks-within n b l e h =
     let c : ℕ = 2 ^ (n - 15) in
     omega arith
 
-module _ {p : Plan} {gates : List ℕ} {b : ℕ} (h : 1024 * b < 2 ^ p.inputs) where
-  pub settled-none : SettledFrom p gates b 0
+module _ {p : Plan} {b : ℕ} (h : 1024 * b < 2 ^ p.inputs) where
+  pub settled-none : SettledFrom p b 0
   settled-none =
       record {
         within = omega arith;
@@ -202,8 +194,8 @@ module _ {p : Plan} {gates : List ℕ} {b : ℕ} (h : 1024 * b < 2 ^ p.inputs) w
       }
 
   pub settled-blocks : 15 ≤ p.inputs → b % 32 ≡ 0
-      → ((j : Job) (is : List ℕ) → PlannedOf j is p gates → (x v : ℕ) → InRange 15 (b / 32) x → rectifies j x v ≡ true)
-      → SettledFrom p gates b 32
+      → ((j : Job) (is : List ℕ) → PlannedOf j is p → (x v : ℕ) → InRange 15 (b / 32) x → rectifies j x v ≡ true)
+      → SettledFrom p b 32
   settled-blocks l e r =
       record {
         within = blocks-within p.inputs b l e h;

@@ -131,10 +131,10 @@ sole-start o r h =
 
 -- no input gives a reading that no input gave before, or whose set has several vectors, and each input is rectified by its set's vector or
 -- its set has none
-pub sole-kept : {p : Plan} {gates : List ℕ} (readings table vectors row : List ℕ) {before after : List ℕ}
+pub sole-kept : {p : Plan} (readings table vectors row : List ℕ) {before after : List ℕ}
     → ((y : ℕ) → y < 1024 → gathered vectors y ≡ get_or table (gathered readings y % 1024) 0)
     → ((y : ℕ) → y < 1024 → value_in vectors y 5 ≡ 0) → ((y : ℕ) → y < 1024 → max (row_value row y) (value_in vectors y 4) ≡ 1)
-    → DrivenRow p gates (gathered vectors) before row after → (ss : List ℕ) → SoleTable ss table → BlockKept p gates readings before ss
+    → DrivenRow p (gathered vectors) before row after → (ss : List ℕ) → SoleTable ss table → BlockKept p readings before ss
 sole-kept readings table vectors row t five four d ss h j is q b f y l =
     let r : ℕ = gathered readings y % 1024 in
     let k : gathered vectors y ≡ sole_of (get_or ss r 0) = t y l ∙ h r (omega arith) in

@@ -21,8 +21,8 @@ use Rattle.engine.specs.declared.plan.Plan.{Plan}
 abbrev pub differing : Job → List ℕ → List ℕ → ℕ → Bool
 differing j is t x = not (rectifies j x (driven_by j is t x))
 
-pub record PlanReads (j : Job) (is : List ℕ) (p : Plan) (gates : List ℕ) : Type 0 where
-  pub planned : PlannedOf j is p gates
+pub record PlanReads (j : Job) (is : List ℕ) (p : Plan) : Type 0 where
+  pub planned : PlannedOf j is p
   pub free : all (candidate_good j) is ≡ true
 
 pub record TableCopied (sheet : List ℕ) (start count : ℕ) (table : List ℕ) : Type 0 where

@@ -24,24 +24,24 @@ use Rattle.engine.specs.declared.plan.Plan.{Plan}
 abbrev pub SameVectors : List ℕ → List ℕ → Type 0
 SameVectors ss ts = (r v : ℕ) → v < max_vectors → bit v (get_or ts r 0) ≡ bit v (get_or ss r 0)
 
-pub record GivenCover (p : Plan) (gates ss : List ℕ) (c : Cover) : Type 0 where
+pub record GivenCover (p : Plan) (ss : List ℕ) (c : Cover) : Type 0 where
   pub held : CoverHeld c
-  pub covers : (j : Job) (is : List ℕ) → ReadsOf j is p gates → all' (candidate_good j) is ≡ true → (x : ℕ)
+  pub covers : (j : Job) (is : List ℕ) → ReadsOf j is p → all' (candidate_good j) is ≡ true → (x : ℕ)
       → bit max_vectors (get_or ss (reading j is x) 0) ≡ 1 → InCover c (reading j is x)
 
 abbrev pub GivenBy : (ℕ → ℕ) → ℕ → ℕ → ℕ → Type 0
 GivenBy g x k r = (y : ℕ) × (x ≤ y) × (y < x + k) × (g y ≡ r)
 
 -- a bit is 0 exactly when it was, or one of the inputs gives its reading
-pub record BlockSeen (p : Plan) (gates : List ℕ) (b count : ℕ) (before after : List ℕ) : Type 0 where
+pub record BlockSeen (p : Plan) (b count : ℕ) (before after : List ℕ) : Type 0 where
   pub long : length after ≡ length before
-  pub seen : (j : Job) (is : List ℕ) → ReadsOf j is p gates → all' (candidate_good j) is ≡ true → (r : ℕ) → r < length before
+  pub seen : (j : Job) (is : List ℕ) → ReadsOf j is p → all' (candidate_good j) is ≡ true → (r : ℕ) → r < length before
       → (bit max_vectors (get_or after r 0) ≡ 0) ↔ ((bit max_vectors (get_or before r 0) ≡ 0) ⊎ GivenBy (reading j is) (1024 * b) count r)
   pub same : SameVectors before after
 
 abbrev pub Unseen : Job → List ℕ → List ℕ → Type 0
 Unseen j is ss = (r : ℕ) → r < 2 ^ length is → (bit max_vectors (get_or ss r 0) ≡ 0) ↔ SomeGives j is r
 
-abbrev pub AllSeen : Plan → List ℕ → ℕ → List ℕ → List ℕ → Type 0
-AllSeen p gates k before after =
-    (j : Job) (is : List ℕ) → ReadsOf j is p gates → all' (candidate_good j) is ≡ true → GivenBits j is before k → Unseen j is after
+abbrev pub AllSeen : Plan → ℕ → List ℕ → List ℕ → Type 0
+AllSeen p k before after =
+    (j : Job) (is : List ℕ) → ReadsOf j is p → all' (candidate_good j) is ≡ true → GivenBits j is before k → Unseen j is after

@@ -11,7 +11,7 @@ use Rattle.engine.specs.Choice.{any}
 use Rattle.engine.specs.Rectify.{rectifies}
 use Rattle.engine.specs.Support.{candidate_nets}
 use Rattle.engine.specs.Inner.Masks.{rectifiers}
-use Rattle.engine.specs.Inner.List.{Held, listed_of, listed_from, start_list}
+use Rattle.engine.specs.Inner.List.{listed_of, listed_from, start_list}
 use Rattle.engine.specs.Inner.Note.{gathered, max_readings}
 use Rattle.engine.specs.Inner.Plan.{BlockFree, PlannedOf, TurnsOf}
 use Rattle.engine.specs.declared.list.Vectors.{Vectors}
@@ -27,21 +27,20 @@ pub record OfListed (v : Vectors) (t : List ℕ) : Type 0 where
   pub second : (r : ℕ) → (get_or t r 0 / 16 % 16 ≡ 0) ⊎ (any (eqb (get_or t r 0 / 16 % 16)) (listed_of v).vectors ≡ true)
 
 -- the block's words before, and the rows of its readings
-abbrev pub BlockGuessed : Plan → List ℕ → List ℕ → List ℕ → List ℕ → ℕ → Type 0
-BlockGuessed p gates before readings table count =
-    (j : Job) (is : List ℕ) (q : PlannedOf j is p gates) (b : ℕ) → BlockFree j q.live b before
+abbrev pub BlockGuessed : Plan → List ℕ → List ℕ → List ℕ → ℕ → Type 0
+BlockGuessed p before readings table count =
+    (j : Job) (is : List ℕ) (q : PlannedOf j is p) (b : ℕ) → BlockFree j q.live b before
     → (y : ℕ) → y < count
     → let e = get_or table (gathered readings y % 1024) 0 in
     (rectifies j (1024 * b + y) (e % 16) ≡ true) ⊎ (rectifies j (1024 * b + y) (e / 16 % 16) ≡ true)
 
 -- the block's words before
-abbrev pub BlockShown : Plan → List ℕ → List ℕ → Vectors → ℕ → Type 0
-BlockShown p gates before v count =
-    (j : Job) (is : List ℕ) (q : PlannedOf j is p gates) (b : ℕ) → BlockFree j q.live b before
+abbrev pub BlockShown : Plan → List ℕ → Vectors → ℕ → Type 0
+BlockShown p before v count =
+    (j : Job) (is : List ℕ) (q : PlannedOf j is p) (b : ℕ) → BlockFree j q.live b before
     → (y : ℕ) → y < count
     → (u : ℕ) × (any (eqb u) (listed_of v).vectors ≡ true) × (rectifies j (1024 * b + y) u ≡ true)
 
-pub record BlockListed (p : Plan) (gates : List ℕ) (b : ℕ) (before after : Vectors) : Type 0 where
-  pub held : Held after
-  pub listed : (j : Job) → TurnsOf j (candidate_nets j) p gates → ListTo j (1024 * b) before
+pub record BlockListed (p : Plan) (b : ℕ) (before after : Vectors) : Type 0 where
+  pub listed : (j : Job) → TurnsOf j (candidate_nets j) p → ListTo j (1024 * b) before
       → ListTo j (1024 * b + min (2 ^ p.inputs - 1024 * b) 1024) after

@@ -9,9 +9,9 @@
 --   GateHas c vs            the net of gate c has the value that its operands give, and that what is known of them gives, if it gives one
 --   ValuesOf cs n vs        .. as those of the first n gates of cs
 --   CubeHas ..              the nets of a cube have its values
---   NoneGives p gates c     no values of the gates give a reading of the cover c
+--   NoneGives p c           no values of the gates give a reading of the cover c
 --   CubeSorted p .. c d     d has the readings of c, those of one cube that values of the gates give, and one cube more at most
---   Unrefuted p gates c d   d has the readings of c that values of the gates give
+--   Unrefuted p c d         d has the readings of c that values of the gates give
 use Rattle.std.specs.Prelude.{ℕ, ◌+◌, ◌≤◌, ◌<◌, ◌≡◌, List, map, Bool, true, eqb, get_or, take}
 use Rattle.records.specs.Bytes.{all}
 use Rattle.records.specs.Netlist.{net_at}
@@ -49,20 +49,20 @@ ValuesOf cs n vs = Binary vs × ((i : ℕ) → i < n → GateHas (get_or cs i 0)
 abbrev pub CubeHas : List ℕ → ℕ → ℕ → ℕ → List ℕ → Type 0
 CubeHas nets reads value care vs = (k : ℕ) → k < reads → bit k care ≡ 1 → net_at vs (get_or nets k 0) ≡ bit k value
 
-pub record NoneGives (p : Plan) (gates : List ℕ) (c : Cover) : Type 0 where
+pub record NoneGives (p : Plan) (c : Cover) : Type 0 where
   pub held : CoverHeld c
-  pub none : (vs : List ℕ) → ValuesOf gates (get_or p.ends 0 0) vs
-      → InCover c (number_of (map (net_at vs) (take p.reads p.nets))) → ⊥
+  pub none : (vs : List ℕ) → ValuesOf p.gates (get_or p.ends 0 0) vs
+      → InCover c (number_of (map (net_at vs) (take p.reads.len p.reads.nets))) → ⊥
 
-pub record CubeSorted (p : Plan) (gates : List ℕ) (value care : ℕ) (c d : Cover) : Type 0 where
+pub record CubeSorted (p : Plan) (value care : ℕ) (c d : Cover) : Type 0 where
   pub held : CoverHeld d
   pub count : d.count ≤ c.count + 1
   pub kept : (r : ℕ) → InCover c r → InCover d r
-  pub left : (vs : List ℕ) → ValuesOf gates (get_or p.ends 0 0) vs
-      → InCube value care (number_of (map (net_at vs) (take p.reads p.nets)))
-      → InCover d (number_of (map (net_at vs) (take p.reads p.nets)))
+  pub left : (vs : List ℕ) → ValuesOf p.gates (get_or p.ends 0 0) vs
+      → InCube value care (number_of (map (net_at vs) (take p.reads.len p.reads.nets)))
+      → InCover d (number_of (map (net_at vs) (take p.reads.len p.reads.nets)))
 
-pub record Unrefuted (p : Plan) (gates : List ℕ) (c d : Cover) : Type 0 where
+pub record Unrefuted (p : Plan) (c d : Cover) : Type 0 where
   pub held : CoverHeld d
-  pub left : (vs : List ℕ) → ValuesOf gates (get_or p.ends 0 0) vs
-      → InCover c (number_of (map (net_at vs) (take p.reads p.nets))) → InCover d (number_of (map (net_at vs) (take p.reads p.nets)))
+  pub left : (vs : List ℕ) → ValuesOf p.gates (get_or p.ends 0 0) vs
+      → InCover c (number_of (map (net_at vs) (take p.reads.len p.reads.nets))) → InCover d (number_of (map (net_at vs) (take p.reads.len p.reads.nets)))

@@ -5,9 +5,10 @@
 --   list_step l s x              the vector list after input x, which the vectors s rectify
 --   listed_from f l x k          .. after the k inputs from x on, where f says what rectifies each
 --   start_list                   what the walk starts from
---   listed_of v, Held v          the vector list that a struct holds; its places hold vectors
---   Appended, Stepped            what the code gives for one vector more, and for one input
-use Rattle.std.specs.Prelude.{ℕ, zero, suc, ◌≤◌, ◌<◌, ◌≡◌, [], ◌∷◌, ◌++◌, true, false, cond, eqb, ltb, length, get_or, take}
+--   stuck_at o                   the input at which a struct's list is stuck
+--   listed_of v                  the vector list that a struct holds
+use Rattle.std.specs.Prelude.{ℕ, zero, suc, [], ◌∷◌, ◌++◌, true, false, eqb, ltb, length, take}
+use Rattle.std.specs.Prelude.{Option as StdOption, Some, None}
 use Rattle.std.proofs.Math.Option.{Option, none, some}
 use Rattle.records.specs.Bytes.{up_from}
 use Rattle.engine.specs.Choice.{any, first}
@@ -50,17 +51,10 @@ listed_from f l x (suc k) = listed_from f (list_step l (f x) x) (suc x) k
 abbrev pub start_list : Listed
 start_list = record { vectors = 0 ∷ []; stuck = none }
 
+-- the input, as the code's Option says it
+unfoldable pub stuck_at : StdOption ℕ → Option ℕ
+stuck_at None = none
+stuck_at (Some x) = some x
+
 unfoldable pub listed_of : Vectors → Listed
-listed_of v = record { vectors = take v.len v.list; stuck = cond v.stuck (some v.input) none }
-
-pub record Held (v : Vectors) : Type 0 where
-  pub long : v.len ≤ max_vectors
-  pub below : (i : ℕ) → get_or v.list i 0 < max_vectors
-
-pub record Appended (v : Vectors) (x : ℕ) (after : Vectors) : Type 0 where
-  pub held : Held after
-  pub listed : listed_of after ≡ record { vectors = (listed_of v).vectors ++ (x ∷ []); stuck = (listed_of v).stuck }
-
-pub record Stepped (v : Vectors) (s x : ℕ) (after : Vectors) : Type 0 where
-  pub held : Held after
-  pub listed : listed_of after ≡ list_step (listed_of v) s x
+listed_of v = record { vectors = take v.len v.list; stuck = stuck_at v.stuck }

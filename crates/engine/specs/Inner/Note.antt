@@ -16,7 +16,7 @@ use Rattle.records.specs.Bytes.{tabulate}
 use Rattle.engine.specs.Choice.{any, first}
 use Rattle.engine.specs.Eval.{bit, number_of}
 use Rattle.engine.specs.declared.list.Vectors.{Vectors}
-use Rattle.engine.specs.Inner.List.{listed_of, listed_from, Held}
+use Rattle.engine.specs.Inner.List.{listed_of, listed_from}
 use Rattle.engine.specs.Inner.Kernel.{row_value, value_in}
 use Rattle.engine.specs.Inner.Turn.{TurnedAt}
 
@@ -63,5 +63,4 @@ Gathers masks first count f = (y : ℕ) → y < count → gathered masks y ≡ f
 
 -- the list w after the count inputs from first on, from the list v
 pub record ListNoted (masks : List ℕ) (first count : ℕ) (v w : Vectors) : Type 0 where
-  pub held : Held w
   pub listed : (f : ℕ → ℕ) → Gathers masks first count f → listed_of w ≡ listed_from f (listed_of v) first count

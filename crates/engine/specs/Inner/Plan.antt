@@ -20,12 +20,11 @@
 --   ListPut list at ..        the places with one list more, from place at on, as far as there is room
 --   ListsUpTo n ..            the ends and the places of the first n lists, as far as there is room
 --   NetsRead nets reads       the first reads of ten nets may be read
---   PlanHeld p gates          the lengths and bounds of a plan's struct and of its gates
 --   PlanLists j hs live ends gates  the first two lists, of the gates hs in place of the miter's
---   ReadsOf j is p gates      before the first end, gates has those of the good job j that lead to the nets is, which p reads, and that no
+--   ReadsOf j is p            before the first end, p has the gates of the good job j that lead to the nets is, which it reads, and that no
 --                             target leads to
---   PlannedOf j is p gates    p and gates are a plan of the good job j where the nets is are read
---   TurnsOf j is p gates      .. with the lists of all targets
+--   PlannedOf j is p          p is a plan of the good job j where the nets is are read
+--   TurnsOf j is p            .. with the lists of all targets
 use Rattle.std.specs.Prelude.{ℕ, zero, suc, ◌+◌, ◌*◌, ◌≤◌, ◌<◌, ◌≡◌, List, [], ◌∷◌, ◌++◌, map, Bool, true, false, cond, not, ◌&&◌, eqb, leb, ltb, length, get_or, take, set, replicate}
 use Rattle.std.proofs.Math.Seq.{slice}
 use Rattle.records.specs.Bytes.{all, tabulate}
@@ -120,21 +119,6 @@ pub record NetsRead (nets : List ℕ) (reads : ℕ) : Type 0 where
   pub below : Below 1024 nets
   pub few : reads ≤ 10
 
-pub record PlanHeld (p : Plan) (gates : List ℕ) : Type 0 where
-  pub long : length gates ≡ 2400
-  pub ends : length p.ends ≡ 6
-  pub outputs : length p.outputs ≡ 32
-  pub goldens : length p.goldens ≡ 32
-  pub nets : length p.nets ≡ 10
-  pub within : (t : ℕ) → get_or p.ends t 0 ≤ 2400
-  pub outputs-below : Below 1024 p.outputs
-  pub goldens-below : Below 1024 p.goldens
-  pub nets-below : Below 1024 p.nets
-  pub inputs : p.inputs ≤ 20
-  pub targets : p.targets ≤ 4
-  pub outs : p.outs ≤ 32
-  pub reads : p.reads ≤ 10
-
 pub record PlanLists (j : Job) (hs : List Gate) (live : ℕ → Bool) (ends gates : List ℕ) : Type 0 where
   pub order : get_or ends 0 0 ≤ get_or ends 1 0
   pub free : slice 0 (get_or ends 0 0) gates
@@ -142,25 +126,25 @@ pub record PlanLists (j : Job) (hs : List Gate) (live : ℕ → Bool) (ends gate
   pub fan : slice (get_or ends 0 0) (get_or ends 1 0) gates
       ≡ keep (λ c. live (own c) && fanned j (own c)) (packed_from (j.inputs + j.targets) hs)
 
-pub record ReadsOf (j : Job) (is : List ℕ) (p : Plan) (gates : List ℕ) : Type 0 where
+pub record ReadsOf (j : Job) (is : List ℕ) (p : Plan) : Type 0 where
   pub good : PartsGood j
   pub inputs : p.inputs ≡ j.inputs
   pub targets : p.targets ≡ j.targets
-  pub nets : take p.reads p.nets ≡ is
+  pub nets : take p.reads.len p.reads.nets ≡ is
   pub merged : List Gate
   pub same : SameGates (j.inputs + j.targets) (miter_gates j) merged
   pub live : ℕ → Bool
   pub closed : Closed live (j.inputs + j.targets) merged
   pub live-nets : all live is ≡ true
-  pub free : slice 0 (get_or p.ends 0 0) gates
+  pub free : slice 0 (get_or p.ends 0 0) p.gates
       ≡ keep (λ c. live (own c) && not (fanned j (own c))) (packed_from (j.inputs + j.targets) merged)
 
-pub record PlannedOf (j : Job) (is : List ℕ) (p : Plan) (gates : List ℕ) : Type 0 where
+pub record PlannedOf (j : Job) (is : List ℕ) (p : Plan) : Type 0 where
   pub good : PartsGood j
   pub inputs : p.inputs ≡ j.inputs
   pub targets : p.targets ≡ j.targets
   pub pairs : PairsOf j (take p.outs p.outputs) (take p.outs p.goldens)
-  pub nets : take p.reads p.nets ≡ is
+  pub nets : take p.reads.len p.reads.nets ≡ is
   pub merged : List Gate
   pub same : SameGates (j.inputs + j.targets) (miter_gates j) merged
   pub live : ℕ → Bool
@@ -168,10 +152,10 @@ pub record PlannedOf (j : Job) (is : List ℕ) (p : Plan) (gates : List ℕ) : T
   pub live-outputs : all live (take p.outs p.outputs) ≡ true
   pub live-goldens : all live (take p.outs p.goldens) ≡ true
   pub live-nets : all live is ≡ true
-  pub lists : PlanLists j merged live p.ends gates
+  pub lists : PlanLists j merged live p.ends p.gates
 
-pub record TurnsOf (j : Job) (is : List ℕ) (p : Plan) (gates : List ℕ) : Type 0 where
-  pub planned : PlannedOf j is p gates
+pub record TurnsOf (j : Job) (is : List ℕ) (p : Plan) : Type 0 where
+  pub planned : PlannedOf j is p
   pub lists : (t : ℕ) → t < j.targets
-      → slice (get_or p.ends (t + 1) 0) (get_or p.ends (t + 2) 0) gates
+      → slice (get_or p.ends (t + 1) 0) (get_or p.ends (t + 2) 0) p.gates
       ≡ keep (λ c. planned.live (own c) && led_by j t (own c)) (packed_from (j.inputs + j.targets) planned.merged)

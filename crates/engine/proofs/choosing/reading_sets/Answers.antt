@@ -8,4 +8,4 @@ use Rattle.engine.proofs.choosing.reading_sets.Goals as goal
 pub returns : goal.returns
 returns c j q e =
     c.sets_of_inputs.ensures j
-    ((c.plan_of-plan.ensures.planned_of j (candidate_nets j) q e (candidates-good j q.good)).1 refl)
+    ((c.plan_of.ensures j (candidate_nets j) q e (candidates-good j q.good)).1 refl)

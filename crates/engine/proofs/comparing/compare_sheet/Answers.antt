@@ -1,7 +1,7 @@
 -- `engine::comparing::compare_sheet` meets its contract: the support of an accepted sheet is of candidates, to which no target leads,
 -- and the table stands where the reply says. Assumes nothing.
 use Prim.Native.Nat.{◌^◌, ◌≤◌}
-use mathlib.Core.Path.{refl, sym}
+use mathlib.Core.Path.{sym}
 use native.Mathlib.Omega.{arith}
 use lib.Pow.{pow_mono}
 use Rattle.engine.proofs.Laws.Compare.{declined-sheet, compared-sheet}
@@ -37,13 +37,7 @@ merged_miter-requires c =
 pub plan_of-plan-requires : goal.plan_of-plan-requires
 plan_of-plan-requires c =
     let z = c.if-answer-ne0.false in
-    (c.merged_miter.ensures.miter_room, parts-read c.requires.parts _ c.read_sheet-answer.ensures z, omega arith, refl)
-
-pub slice_bounds-first_difference-end : goal.slice_bounds-first_difference-end
-slice_bounds-first_difference-end c = sym c.plan_of-plan.ensures.plan_held.long
-
-pub first_difference-requires : goal.first_difference-requires
-first_difference-requires c = c.plan_of-plan.ensures.plan_held
+    (c.merged_miter.ensures.miter_room, parts-read c.requires.parts _ c.read_sheet-answer.ensures z, omega arith)
 
 pub returns : goal.returns
 returns c j q =
@@ -52,6 +46,6 @@ returns c j q =
     compared-sheet q _ e z _ c.reading_count.ensures c.table_of-table.ensures
     (c.first_difference.ensures j _
     (record {
-      planned = (c.plan_of-plan.ensures.planned_of j _ (c.merged_miter.ensures.merged_of j q) (parts-sheet q _ e z).nets (parts-good q _ e z)).0;
+      planned = (c.plan_of-plan.ensures j _ (c.merged_miter.ensures.merged_of j q) (parts-sheet q _ e z).nets (parts-good q _ e z)).0;
       free = parts-good q _ e z;
     }))

@@ -5,6 +5,4 @@ use Rattle.engine.proofs.drive.driven_row.Goals as goal
 
 pub returns : goal.returns
 returns c =
-    row-driven c.args.plan c.args.gates.now c.args.rows.now c.args.first c.equal_row.result c.set_targets.ensures
-    c.run.ensures
-    c.equal_row.ensures.1
+    row-driven c.args.plan.now c.args.rows.now c.args.first c.equal_row.result c.set_targets.ensures c.run.ensures c.equal_row.ensures

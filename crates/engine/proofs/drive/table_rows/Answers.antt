@@ -6,9 +6,6 @@ use Rattle.engine.proofs.drive.table_rows.Goals as goal
 pub returns : goal.returns
 returns c =
     let l = c.loop-i in
-    let a = c.args in (
-      c.transpose-2.ensures.0,
-      looked-rows a.table.now a.readings c.transpose.new.x l.found c.transpose-2.new.x c.transpose.ensures.1
-          c.transpose-2.ensures.1
-          (λ k h. l.invariant.2 k (omega arith)),
-    )
+    let a = c.args in
+    looked-rows a.table.now a.readings c.transpose.new.x l.found c.transpose-2.new.x c.transpose.ensures.1 c.transpose-2.ensures.1
+    (λ k h. l.invariant.2 k (omega arith))

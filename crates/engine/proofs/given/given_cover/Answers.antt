@@ -1,8 +1,9 @@
 -- `engine::given::given_cover` meets its contract: cubes that are refuted at once are left out, and then others. Assumes nothing.
+use native.Mathlib.Omega.{arith}
 use Rattle.engine.proofs.Laws.Imply.{unrefuted-then, cover-given}
 use Rattle.engine.proofs.given.given_cover.Goals as goal
 
 pub returns : goal.returns
 returns c =
     let e = c.sort_cubes.ensures in
-    (cover-given c.requires.0 c.cover_of-cover.ensures c.requires.1 (unrefuted-then c.sort_cubes-first.ensures.0 e.0), e.1)
+    (cover-given (omega arith) c.cover_of-cover.ensures c.requires (unrefuted-then c.sort_cubes-first.ensures.0 e.0), e.1)

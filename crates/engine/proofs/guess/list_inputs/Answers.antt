@@ -15,39 +15,27 @@ few h = pow_mono {j = 20} h
 
 pub read_block-readings-requires : goal.read_block-readings-requires
 read_block-readings-requires c =
-    let p = c.requires in
-    (p.plan_held.0, omega (arith, few p.plan_held.0.inputs), p.of_listed.2)
+    omega (arith, few c.args.plan.now.few_inputs)
 
 -- ---- where listed vectors or the tables are tried
 
 pub returns-in-Listed : goal.returns-in-Listed
 returns-in-Listed c =
-    let p = c.requires in
-    let e = c.shown_by-by.ensures in
-    record {
-      block_listed = (
-        block-shown c.read_block-readings.ensures (omega (arith, few p.plan_held.0.inputs)) p.plan_held.2
-            (e.block_shown.0 c.in-Listed.is),
-        p.of_listed.3,
-        λ k. p.of_listed.0,
-      );
-      sets_len = (p.of_listed.1, e.free_kept.1);
-    }
+    let p = c.requires in (
+      block-shown c.read_block-readings.ensures (omega (arith, few c.args.plan.now.few_inputs)) (c.shown_by-by.ensures.block_shown.0 c.in-Listed.is),
+      p.2,
+      λ k. p.1,
+    )
 
 pub returns-in-Tables : goal.returns-in-Tables
 returns-in-Tables c =
     let p = c.requires in
-    let e = c.shown_by-by.ensures in
-    let z = e.block_shown.1 c.in-Tables.is in
-    record {
-      block_listed = (
-        block-guessed c.read_block-readings.ensures (omega (arith, few p.plan_held.0.inputs)) p.plan_held.2
-            (p.of_listed.0 z.0) z.1,
-        c.more.ensures.1,
-        λ k h. p.of_listed.0 z.0,
-      );
-      sets_len = (p.of_listed.1, e.free_kept.1);
-    }
+    let p = c.requires in
+    let z = c.shown_by-by.ensures.block_shown.1 c.in-Tables.is in (
+      block-guessed c.read_block-readings.ensures (omega (arith, few c.args.plan.now.few_inputs)) (p.1 z.0) z.1,
+      c.more.ensures.1,
+      λ k h. p.1 z.0,
+    )
 
 -- ---- where all vectors are evaluated
 
@@ -56,17 +44,13 @@ returns c =
     let a = c.args in
     let r = c.read_block-readings in
     -- the words have the same values on the nets that no target leads to as those read
-    let kept : FreeKept a.plan a.gates.now r.new.words c.if-b-gt0.words =
+    let kept : FreeKept a.plan.now r.new.words c.if-b-gt0.words =
     elim c.if-b-gt0.branch [
-      | then-b-gt0+in-Not w ↦ rw w.words-is w.shown_by-by.ensures.free_kept.0
+      | then-b-gt0+in-Not w ↦ rw w.words-is w.shown_by-by.ensures.free_kept
       | else-b-gt0 w ↦ rw w.words-is (λ j is q b f. f)
-    ] in
-    record {
-      block_listed = (
-        block_noted r.ensures (omega (arith, few c.requires.plan_held.0.inputs)) kept c.vector_block.ensures
-            c.masks_of-masks.ensures.block_masks c.list_block.ensures,
-        c.next_trust-next.ensures,
-        λ k h. absurd (not-both (lt-ltb 0 c.next_trust-next.result h) k),
-      );
-      sets_len = (omega arith, c.masks_of-masks.ensures.words_len);
-    }
+    ] in (
+      block_noted r.ensures (omega (arith, few a.plan.now.few_inputs)) kept c.vector_block.ensures c.masks_of-masks.ensures
+          c.list_block.ensures,
+      c.next_trust-next.ensures,
+      λ k h. absurd (not-both (lt-ltb 0 c.next_trust-next.result h) k),
+    )

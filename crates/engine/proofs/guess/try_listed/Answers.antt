@@ -1,6 +1,5 @@
 -- `engine::guess::try_listed` meets its contract. The invariant: the row says 1 only of inputs that a listed vector rectifies. Assumes
 -- nothing.
-use mathlib.Core.Path.{◌∙◌}
 use native.Mathlib.Omega.{arith}
 use lib.ListN.{get_or, take}
 use Rattle.engine.specs.Inner.List.{listed_of}
@@ -9,7 +8,7 @@ use Rattle.engine.proofs.guess.try_listed.Goals as goal
 
 pub loop-i-init : goal.loop-i-init
 loop-i-init c =
-    (c.requires.2, λ j is q b f. f, shown-none c.args.plan c.args.gates.now c.args.words.now _)
+    (λ j is q b f. f, shown-none c.args.plan.now c.args.words.now _)
 
 pub returns-then-count-first_zero : goal.returns-then-count-first_zero
 unfolding listed_of
@@ -18,17 +17,17 @@ returns-then-count-first_zero c =
     let l = c.loop-i in
     let w = c.vector_block.ensures in
     let shown =
-    shown-next a.plan a.gates.now a.words.now (take a.list.len a.list.list) l.row c.equal_row.result c.join_rows-next.result
+    shown-next a.plan.now a.words.now (take a.list.len a.list.list) l.row c.equal_row.result c.join_rows-next.result
     (get_or a.list.list l.i 0)
     (any_at a.list.list a.list.len l.i c.loop-i-test.true (omega arith))
-    l.invariant.2
     l.invariant.1
+    l.invariant.0
     w
-    c.equal_row.ensures.1
+    c.equal_row.ensures
     c.join_rows-next.ensures in
     let f = c.first_zero.ensures in
     record {
-      free_kept = (vector-free l.invariant.1 w, w.long ∙ l.invariant.0);
+      free_kept = vector-free l.invariant.0 w;
       block_shown = λ t j is q b g y h. shown j is q b g y (omega (arith, f.most)) (f.ones y (omega arith));
     }
 
@@ -38,12 +37,12 @@ loop-i-preserved c =
     let l = c.loop-i in
     let w = c.vector_block.ensures in
     let shown =
-    shown-next a.plan a.gates.now a.words.now (take a.list.len a.list.list) l.row c.equal_row.result c.join_rows-next.result
+    shown-next a.plan.now a.words.now (take a.list.len a.list.list) l.row c.equal_row.result c.join_rows-next.result
     (get_or a.list.list l.i 0)
     (any_at a.list.list a.list.len l.i c.loop-i-test.true (omega arith))
-    l.invariant.2
     l.invariant.1
+    l.invariant.0
     w
-    c.equal_row.ensures.1
+    c.equal_row.ensures
     c.join_rows-next.ensures in
-    (w.long ∙ l.invariant.0, vector-free l.invariant.1 w, shown)
+    (vector-free l.invariant.0 w, shown)

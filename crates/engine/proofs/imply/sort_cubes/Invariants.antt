@@ -12,7 +12,7 @@ abbrev pub invariant-loop-i : goal.invariant-loop-i
 invariant-loop-i l =
     CoverHeld l.sorted.left
     × (l.sorted.left.count ≤ l.i)
-    × ((vs : List ℕ) → ValuesOf l.gates (get_or l.plan.ends 0 0) vs → (k : ℕ) → k < l.i
-    → InCube (get_or l.fn.cover.values k 0) (get_or l.fn.cover.cares k 0) (number_of (map (net_at vs) (take l.plan.reads l.plan.nets)))
-    → InCover l.sorted.left (number_of (map (net_at vs) (take l.plan.reads l.plan.nets))))
-    × NoneGives l.plan l.gates l.sorted.never
+    × ((vs : List ℕ) → ValuesOf l.plan.gates (get_or l.plan.ends 0 0) vs → (k : ℕ) → k < l.i
+    → InCube (get_or l.fn.cover.values k 0) (get_or l.fn.cover.cares k 0) (number_of (map (net_at vs) (take l.plan.reads.len l.plan.reads.nets)))
+    → InCover l.sorted.left (number_of (map (net_at vs) (take l.plan.reads.len l.plan.reads.nets))))
+    × NoneGives l.plan l.sorted.never

@@ -2,12 +2,12 @@
 use Rattle.engine.proofs.Laws.Rule.{unfixable-judged, fixable-judged}
 use Rattle.engine.proofs.judging.rule_list.Goals as goal
 
-pub returns-then-list : goal.returns-then-list
-returns-then-list c =
+pub returns-in-Some : goal.returns-in-Some
+returns-in-Some c =
     λ j h.
-    unfixable-judged j c.args.list h c.if-list.true c.put_unfixable-len.ensures
+    unfixable-judged j c.args.list h c.in-Some.is c.put_unfixable-len.ensures
 
 pub returns : goal.returns
 returns c =
     λ j h.
-    fixable-judged j c.args.list h c.if-list.false c.put_vectors-len.ensures
+    fixable-judged j c.args.list h c.in_default.is c.put_vectors-len.ensures

@@ -5,10 +5,9 @@ use Rattle.engine.proofs.Laws.Miter.{candidates-good}
 use Rattle.engine.proofs.judging.vector_list.Goals as goal
 
 pub returns-then-miter-le-WORD_INPUTS : goal.returns-then-miter-le-WORD_INPUTS
-returns-then-miter-le-WORD_INPUTS c = let r = c.list_of_words.ensures in (r.0, λ j q e. r.1 j q)
+returns-then-miter-le-WORD_INPUTS c = λ j q e. c.list_of_words.ensures j q
 
 -- the plan is the job's, so the list is of its inputs
 pub returns : goal.returns
 returns c =
-    let r = c.list_of_inputs.ensures in
-    (r.held, λ j q e. r.list_to j ((c.plan_of-plan.ensures.planned_of j (candidate_nets j) q e (candidates-good j q.good)).1 refl))
+    λ j q e. c.list_of_inputs.ensures j ((c.plan_of.ensures j (candidate_nets j) q e (candidates-good j q.good)).1 refl)

@@ -9,12 +9,11 @@ use Rattle.engine.proofs.leaves.equal_row.Goals as goal
 
 pub loop-k-init : goal.loop-k-init
 unfolding same
-loop-k-init c = (omega arith, refl, λ y h. row-replicate _ y h ∙ bit-ones _ (omega arith))
+loop-k-init c = (refl, λ y h. row-replicate _ y h ∙ bit-ones _ (omega arith))
 
 pub loop-k-preserved : goal.loop-k-preserved
 loop-k-preserved c =
     let l = c.loop-k in (
-      omega arith,
       c.keep_equal.ensures.0,
-      λ y h. equal_next _ _ _ l.k _ _ (omega arith) (omega arith) (l.invariant.2 y h) (c.keep_equal.ensures.1 y h),
+      λ y h. equal_next _ _ _ l.k _ _ (omega arith) (omega arith) (l.invariant.1 y h) (c.keep_equal.ensures.1 y h),
     )

@@ -1,5 +1,5 @@
 -- `engine::leaves::equal_row` meets its contract. The invariant: the row says where the first k outputs are equal. Assumes nothing.
-use Prim.Native.Nat.{ℕ, ◌≤◌, ◌<◌}
+use Prim.Native.Nat.{ℕ, ◌<◌}
 use mathlib.Core.Path.{◌≡◌}
 use mathlib.Core.List.{map}
 use mathlib.Core.Bool.{cond}
@@ -10,7 +10,7 @@ use Rattle.engine.proofs.leaves.equal_row.Given as goal
 
 abbrev pub invariant-loop-k : goal.invariant-loop-k
 invariant-loop-k l =
-    (l.k ≤ l.count)
-    × (length l.r ≡ 16)
+    (length l.r ≡ 16)
     × ((y : ℕ) → y < 1024
-    → row_value l.r y ≡ cond (same (map (value_in l.words y) (take l.k l.outputs)) (map (value_in l.words y) (take l.k l.goldens))) 1 0)
+    → row_value l.r y
+    ≡ cond (same (map (value_in l.words y) (take l.k l.plan.outputs)) (map (value_in l.words y) (take l.k l.plan.goldens))) 1 0)

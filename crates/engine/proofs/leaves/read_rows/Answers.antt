@@ -8,6 +8,6 @@ use Rattle.engine.proofs.leaves.read_rows.Goals as goal
 pub returns : goal.returns
 returns c =
     let l = c.loop-k in
-    let a = c.args in
-    let e : l.k ≡ a.count = omega arith in
-    (l.invariant.1.long, gathered-nets _ _ _ _ (omega arith) (omega arith) (rw e at l.invariant.1))
+    let e : l.k ≡ c.args.plan.now.reads.len = omega arith in
+    let p = c.args.plan.now in
+    gathered-nets _ _ _ _ (omega (arith, p.few_reads, p.reads_long)) (omega (arith, p.few_reads)) (rw e at l.invariant)

@@ -15,71 +15,63 @@ use Rattle.engine.proofs.masks.masks_of.Goals as goal
 
 pub loop-step-init : goal.loop-step-init
 loop-step-init c =
-    let h = c.requires.0 in
+    let p = c.args.plan.now in
     let u = c.shortest_list-u in
-    let v = shl_exact 1 c.args.plan.targets 64 (lit< tt) (omega (arith, h.targets)) ∙ one-mul (2 ^ c.args.plan.targets) in (
-      c.requires.1,
+    let v = shl_exact 1 p.targets 64 (lit< tt) (omega (arith, p.few_targets)) ∙ one-mul (2 ^ p.targets) in (
       c.put_row.ensures.long ∙ refl,
-      (lit< tt, omega (arith, v, pow_pos c.args.plan.targets)),
+      lit< tt,
       v,
-      masks-first c.args.plan c.args.gates.now u.result c.shortest_list-u.ensures.0 c.args.words.now c.equal_row.result
-          c.equal_row.ensures.1
-          c.put_row.ensures,
+      masks-first p u.result u.ensures.0 c.args.words.now c.equal_row.result c.equal_row.ensures c.put_row.ensures,
     )
 
 pub vector_at-v-requires : goal.vector_at-v-requires
-vector_at-v-requires c = (c.shortest_list-u.ensures.0, omega (arith, vectors-many c.requires.0.targets))
+vector_at-v-requires c = (c.shortest_list-u.ensures.0, omega (arith, vectors-many c.args.plan.now.few_targets))
 
 pub turned_at-t-requires : goal.turned_at-t-requires
-turned_at-t-requires c = omega (arith, vectors-many c.requires.0.targets)
+turned_at-t-requires c = omega (arith, vectors-many c.args.plan.now.few_targets)
 
 pub overflow_shr-v : goal.overflow_shr-v
 overflow_shr-v c =
-    let s : c.loop-step.step < 16 = omega (arith, vectors-many c.requires.0.targets) in
+    let s : c.loop-step.step < 16 = omega (arith, vectors-many c.args.plan.now.few_targets) in
     omega (arith, turns-lt c.shortest_list-u.result c.shortest_list-u.ensures.0 c.loop-step.step s)
 
 pub turn_target-requires : goal.turn_target-requires
 turn_target-requires c =
-    let s : c.loop-step.step < 16 = omega (arith, vectors-many c.requires.0.targets) in
+    let s : c.loop-step.step < 16 = omega (arith, vectors-many c.args.plan.now.few_targets) in
     let u = c.shortest_list-u in
-    (c.requires.0, omega (arith, turns-lt u.result u.ensures.0 c.loop-step.step s), c.loop-step.invariant.0)
+    omega (arith, turns-lt u.result u.ensures.0 c.loop-step.step s)
 
 pub put_row-requires-in-loop-step : goal.put_row-requires-in-loop-step
 put_row-requires-in-loop-step c =
-    let s : c.loop-step.step < 16 = omega (arith, vectors-many c.requires.0.targets) in
+    let s : c.loop-step.step < 16 = omega (arith, vectors-many c.args.plan.now.few_targets) in
     let u = c.shortest_list-u in
-    (omega (arith, ordered-lt u.result u.ensures.0 c.loop-step.step s), c.loop-step.invariant.1)
+    (omega (arith, ordered-lt u.result u.ensures.0 c.loop-step.step s), c.loop-step.invariant.0)
 
 pub loop-step-preserved : goal.loop-step-preserved
 loop-step-preserved c =
-    let p = c.args.plan in
-    let g = c.args.gates.now in
+    let p = c.args.plan.now in
     let l = c.loop-step in
     let u = c.shortest_list-u in
     let v = c.vector_at-v in
     let t = c.turn_target in
     let e = c.equal_row-in-loop-step in
     let r = c.put_row-in-loop-step in (
-      t.ensures.long ∙ l.invariant.0,
-      r.ensures.long ∙ l.invariant.1,
-      (omega arith, omega arith),
-      l.invariant.3,
-      masks-turned p g u.result u.ensures.0 l.step e.result c.requires.0.targets u.ensures.1
-          l.invariant.2.0
-          (omega (arith, l.invariant.3))
-          l.invariant.4
-          (subst (λ (x : ℕ). TargetTurned p g (turns u.result l.step) (x / 2 ^ turns u.result l.step) l.words t.new.words) v.ensures
-          (subst (λ (x : ℕ). TargetTurned p g x (v.result / 2 ^ x) l.words t.new.words) c.turned_at-t.ensures t.ensures))
-          e.ensures.1
+      r.ensures.long ∙ l.invariant.0,
+      omega arith,
+      l.invariant.2,
+      masks-turned p u.result u.ensures.0 l.step e.result p.few_targets u.ensures.1 l.invariant.1 (omega (arith, l.invariant.2))
+          l.invariant.3
+          (subst (λ (x : ℕ). TargetTurned p (turns u.result l.step) (x / 2 ^ turns u.result l.step) l.words t.new.words) v.ensures
+          (subst (λ (x : ℕ). TargetTurned p x (v.result / 2 ^ x) l.words t.new.words) c.turned_at-t.ensures t.ensures))
+          e.ensures
           (subst (λ (x : ℕ). NetSet x (row_value e.result) l.masks r.new.rows) v.ensures r.ensures),
     )
 
 pub returns : goal.returns
 returns c =
+    let p = c.args.plan.now in
     let l = c.loop-step in
     let u = c.shortest_list-u in
-    let e : l.step ≡ 2 ^ c.args.plan.targets = omega (arith, l.invariant.3, l.invariant.2.1) in record {
-      block_masks = masks-all c.args.plan c.args.gates.now u.result u.ensures.0 c.requires.0.targets u.ensures.1 l.invariant.1
-          (subst (λ (k : ℕ). MasksDone c.args.plan c.args.gates.now u.result c.args.words.now k l.words l.masks) e l.invariant.4);
-      words_len = l.invariant.0;
-    }
+    let e : l.step ≡ 2 ^ p.targets = omega (arith, l.invariant.2, pow_pos p.targets) in
+    masks-all p u.result u.ensures.0 p.few_targets u.ensures.1 l.invariant.0
+    (subst (λ (k : ℕ). MasksDone p u.result c.args.words.now k l.words l.masks) e l.invariant.3)

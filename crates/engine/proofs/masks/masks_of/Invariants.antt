@@ -1,6 +1,6 @@
 -- `engine::masks::masks_of` meets its contract. The invariant: the words are those at the vector of the step before, and the rows of
 -- the steps so far are done. Assumes nothing.
-use Prim.Native.Nat.{◌^◌, ◌≤◌, ◌<◌}
+use Prim.Native.Nat.{◌^◌, ◌<◌}
 use mathlib.Core.Path.{◌≡◌}
 use lib.ListN.{length}
 use Rattle.engine.proofs.Laws.Searching.{MasksDone}
@@ -8,5 +8,5 @@ use Rattle.engine.proofs.masks.masks_of.Given as goal
 
 abbrev pub invariant-loop-step : goal.invariant-loop-step
 invariant-loop-step l =
-    (length l.words ≡ 16384) × (length l.masks ≡ 256) × ((0 < l.step) × (l.step ≤ l.vectors)) × (l.vectors ≡ 2 ^ l.plan.targets)
-    × MasksDone l.plan l.gates l.u l.initial.words l.step l.words l.masks
+    (length l.masks ≡ 256) × (0 < l.step) × (l.vectors ≡ 2 ^ l.plan.targets)
+    × MasksDone l.plan l.u l.initial.words l.step l.words l.masks

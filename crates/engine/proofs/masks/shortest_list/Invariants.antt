@@ -4,4 +4,4 @@ use Rattle.engine.specs.Inner.Masks.{Among}
 use Rattle.engine.proofs.masks.shortest_list.Given as goal
 
 abbrev pub invariant-loop-t : goal.invariant-loop-t
-invariant-loop-t l = (l.best < 4) × Among l.targets l.best
+invariant-loop-t l = (l.best < 4) × Among l.plan.targets l.best

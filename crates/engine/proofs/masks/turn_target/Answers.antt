@@ -5,4 +5,4 @@ use Rattle.engine.proofs.masks.turn_target.Goals as goal
 
 pub returns : goal.returns
 returns c =
-    target-turned c.args.plan c.args.gates.now c.args.t c.args.x c.set_net.ensures c.run.ensures
+    target-turned c.args.plan.now c.args.t c.args.x c.set_net.ensures c.run.ensures

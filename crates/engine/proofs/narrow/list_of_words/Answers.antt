@@ -15,11 +15,9 @@ size_of n h = shl_exact 1 n 64 (lit< tt) (omega arith) ∙ one-mul (2 ^ n)
 
 pub returns : goal.returns
 returns c =
-    let w = c.word_masks-masks in (
-      c.list_block.ensures.held,
-      λ j q.
-          list-of-masks j (omega (arith, c.requires.1, q.inputs)) (c.word_masks-masks.ensures.result_len.1 j q) c.first_list.ensures.1
-          (subst (λ (k : ℕ). ListNoted w.result 0 k c.first_list.result c.list_block.result)
-          (size_of c.args.miter.inputs c.requires.1 ∙ ap (λ (n : ℕ). 2 ^ n) q.inputs)
-          c.list_block.ensures),
-    )
+    let w = c.word_masks-masks in
+    λ j q.
+    list-of-masks j (omega (arith, c.requires.1, q.inputs)) (c.word_masks-masks.ensures.result_len.1 j q) c.start.ensures
+    (subst (λ (k : ℕ). ListNoted w.result 0 k c.start.result c.list_block.result)
+    (size_of c.args.miter.inputs c.requires.1 ∙ ap (λ (n : ℕ). 2 ^ n) q.inputs)
+    c.list_block.ensures)

@@ -9,9 +9,9 @@ use Rattle.engine.proofs.ranges.settled.Goals as goal
 pub returns : goal.returns
 returns c t j is o =
     let a = c.args in
-    let w = leaves-loaded a.plan.inputs a.plan.targets a.low a.prefix (replicate 1024 0) _ _
-    (omega (arith, c.requires.inputs, c.requires.targets))
+    let p = a.plan.now in
+    let w = leaves-loaded p.inputs p.targets a.low a.prefix (replicate 1024 0) _ _ (omega (arith, p.few_inputs, p.few_targets))
     c.load_partial.ensures
     c.load_unknown.ensures in
-    rectifies-range j is a.plan a.gates.now o a.low a.prefix _ w.0 w.1 c.requires
+    rectifies-range j is p o a.low a.prefix _ w.0 w.1 (omega (arith, p.few_outs)) (omega (arith, p.few_outs))
     (rw c.eval_partial.ensures at (c.known_equal.ensures.0 t))

@@ -8,33 +8,24 @@ use Rattle.engine.proofs.search.meet_inputs.Goals as goal
 use Rattle.engine.proofs.search.meet_inputs.Goals.{else-tried, then-tried+else-keep_block}
 
 pub read_block-readings-requires : goal.read_block-readings-requires
-read_block-readings-requires c =
-    let p = c.requires in
-    (p.plan_held.0, block-small p.plan_held.1 p.plan_held.0.inputs, p.sets_len.1)
+read_block-readings-requires c = block-small c.requires.0 c.args.plan.now.few_inputs
 
 -- ---- where the table is tried
 pub returns-then-keep_block : goal.returns-then-keep_block
 returns-then-keep_block c =
-    let p = c.requires.plan_held in
+    let p = c.requires in
     let e = c.keep_block.ensures in record {
-      block_met = (
-        block-kept p.0 c.args.b c.args.count c.read_block-readings.ensures p.1.few
-            (e.block_kept c.if-keep_block.true c.args.sets.now (p.2 c.if-tried.true)),
-        e.free_kept.1,
-      );
+      block_met = block-kept c.args.b c.args.count c.read_block-readings.ensures p.0.few
+          (e.block_kept c.if-keep_block.true c.args.sets.now (p.1 c.if-tried.true));
       tried_value = λ h. (c.if-tried.true, refl);
     }
 
 pub returns : goal.returns
-returns c =
-    let p = c.requires.plan_held in record {
-      block_met = (
-        block-met p.0 c.args.b c.args.count c.read_block-readings.ensures p.1
-            (elim c.if-tried.branch [ then-tried+else-keep_block w ↦ rw w.words-is w.keep_block.ensures.free_kept.0 | else-tried w ↦ rw w.words-is (λ j is q b f. f) ])
-            c.vector_block.ensures
-            c.masks_of-masks.ensures.block_masks
-            c.meet_block.ensures,
-        c.masks_of-masks.ensures.words_len,
-      );
-      tried_value = λ h. absurd (not-both h refl);
-    }
+returns c = record {
+  block_met = block-met c.args.b c.args.count c.read_block-readings.ensures c.requires.0
+      (elim c.if-tried.branch [ then-tried+else-keep_block w ↦ rw w.words-is w.keep_block.ensures.free_kept | else-tried w ↦ rw w.words-is (λ j is q b f. f) ])
+      c.vector_block.ensures
+      c.masks_of-masks.ensures
+      c.meet_block.ensures;
+  tried_value = λ h. absurd (not-both h refl);
+}

@@ -1,11 +1,10 @@
 -- `engine::search::sets_of_inputs` meets its contract. The invariant: the sets after the blocks passed, and, where the table is tried
 -- next, that it is theirs. Assumes nothing.
-use Prim.Native.Nat.{ℕ, ◌+◌, ◌-◌, ◌*◌, ◌/◌, ◌%◌, ◌^◌}
+use Prim.Native.Nat.{ℕ, ◌-◌, ◌*◌, ◌/◌, ◌%◌, ◌^◌}
 use mathlib.Core.Path.{◌≡◌, ◌∙◌, ap, subst}
 use mathlib.Core.Logic.{⊎_elim}
 use native.Mathlib.Omega.{arith}
 use borrow.Author.Tests.{eqb-true, eqb-false, not-false}
-use lib.ListN.{length-replicate}
 use lib.Pow.{pow_mono}
 use Rattle.engine.specs.Inner.Search.{SetsTo}
 use Rattle.engine.proofs.Laws.Choice.{and_cases}
@@ -17,48 +16,36 @@ use Rattle.engine.proofs.search.sets_of_inputs.Goals as goal
 use Rattle.engine.proofs.search.sets_of_inputs.Goals.{else-kept-pace, then-kept-pace}
 
 pub overflow_shl-size : goal.overflow_shl-size
-overflow_shl-size c = omega (arith, c.requires.inputs)
-
-pub all_vectors-requires : goal.all_vectors-requires
-all_vectors-requires c = c.requires.targets
-
-pub first_tries-tries-requires : goal.first_tries-tries-requires
-first_tries-tries-requires c = c.requires
+overflow_shl-size c = omega (arith, c.args.plan.now.few_inputs)
 
 pub loop-b-init : goal.loop-b-init
-loop-b-init c = (
-  length-replicate {A = ℕ} 16384 0,
-  length-replicate 1024 (65536 + c.all_vectors.result),
-  c.first_pace-pace.ensures,
-  λ _. sole-start c.all_vectors.result,
-  walk_start (SetsAfter _ _ _ _) c.requires.inputs
-      (λ j q. sets-start j (omega (arith, c.requires.targets, q.planned.targets)) (c.all_vectors.ensures ∙ ap (λ (m : ℕ). 2 ^ 2 ^ m - 1) q.planned.targets)),
-  c.first_tries-tries.ensures,
-)
+loop-b-init c =
+    let p = c.args.plan.now in (
+      c.first_pace-pace.ensures,
+      λ _. sole-start c.all_vectors.result,
+      walk_start (SetsAfter _ _ _) p.few_inputs
+          (λ j q. sets-start j (omega (arith, p.few_targets, q.planned.targets)) (c.all_vectors.ensures ∙ ap (λ (m : ℕ). 2 ^ 2 ^ m - 1) q.planned.targets)),
+      c.first_tries-tries.ensures,
+    )
 
 pub settled_from-skip-requires : goal.settled_from-skip-requires
-settled_from-skip-requires c =
-    (c.requires, omega (arith, c.loop-b.invariant.4.inputs))
+settled_from-skip-requires c = omega (arith, c.loop-b.invariant.2.inputs)
 
 pub next_tries-tries-requires : goal.next_tries-tries-requires
-next_tries-tries-requires c = c.loop-b.invariant.5
+next_tries-tries-requires c = c.loop-b.invariant.3
 
 pub meet_inputs-kept-requires : goal.meet_inputs-kept-requires
 meet_inputs-kept-requires c =
-    let i = c.loop-b.invariant in record {
-      plan_held = (c.requires, walk-range i.4 (omega arith) c.block_inputs-count.ensures, λ e. i.3 (eqb-true c.loop-b.pace.wait 0 e));
-      sets_len = (i.1, i.0);
-    }
+    let i = c.loop-b.invariant in
+    (walk-range i.2 (omega arith) c.block_inputs-count.ensures, λ e. i.1 (eqb-true c.loop-b.pace.wait 0 e))
 
 pub next_pace-pace-requires : goal.next_pace-pace-requires
-next_pace-pace-requires c = c.loop-b.invariant.2
+next_pace-pace-requires c = c.loop-b.invariant.0
 
 pub loop-b-preserved-then-skip-eq0 : goal.loop-b-preserved-then-skip-eq0
 loop-b-preserved-then-skip-eq0 c =
     let i = c.loop-b.invariant in
     let e = c.meet_inputs-kept.ensures in (
-      e.block_met.1,
-      e.block_met.0.long ∙ i.1,
       c.next_pace-pace.ensures,
       -- the table is made again; or the sets stay; or it is not tried next
       λ o.
@@ -69,17 +56,17 @@ loop-b-preserved-then-skip-eq0 c =
                 (⊎_elim
                 (λ k.
                 let s = e.tried_value (not-false c.meet_inputs-kept.result k) in
-                rw s.1 (i.3 (eqb-true c.loop-b.pace.wait 0 s.0)))
+                rw s.1 (i.1 (eqb-true c.loop-b.pace.wait 0 s.0)))
                 (λ z. absurd (eqb-false c.next_pace-pace.result.wait 0 z o))
                 (and_cases _ _ w.if-kept-pace.false))
           ],
-      walk_block i.4 (omega arith) c.block_inputs-count.ensures (SetsAfter _ _ _ _)
-          (λ j q. e.block_met.0.sets j c.loop-b.skipped q (walk_here i.4 (omega arith) j q)),
+      walk_block i.2 (omega arith) c.block_inputs-count.ensures (SetsAfter _ _ _)
+          (λ j q. e.block_met.sets j c.loop-b.skipped q (walk_here i.2 (omega arith) j q)),
       c.next_tries-tries.ensures,
     )
 
 pub overflow_shl-skipped : goal.overflow_shl-skipped
-overflow_shl-skipped c = omega (arith, c.loop-b.invariant.4.few)
+overflow_shl-skipped c = omega (arith, c.loop-b.invariant.2.few)
 
 pub overflow_add-b-else-skip-eq0 : goal.overflow_add-b-else-skip-eq0
 overflow_add-b-else-skip-eq0 c = omega (arith, c.settled_from-skip.ensures.few)
@@ -89,17 +76,15 @@ loop-b-preserved c =
     let f = c.settled_from-skip in
     let i = c.loop-b.invariant in
     let n = c.loop-b.b / 32 in
-    let e : 1 * 2 ^ n % 18446744073709551616 ≡ 2 ^ n = omega (arith, pow_mono {i = n} {j = 63} (omega (arith, i.4.few))) in (
+    let e : 1 * 2 ^ n % 18446744073709551616 ≡ 2 ^ n = omega (arith, pow_mono {i = n} {j = 63} (omega (arith, i.2.few))) in (
       i.0,
       i.1,
-      i.2,
-      i.3,
-      walk-skip i.4 (omega arith) (SetsAfter _ _ _ _) f.result f.ensures.within
-          (λ j q. rw e (sets-skip f.ensures (omega arith) q.planned (walk_here i.4 (omega arith) j q))),
+      walk-skip i.2 (omega arith) (SetsAfter _ _ _) f.result f.ensures.within
+          (λ j q. rw e (sets-skip f.ensures (omega arith) q.planned (walk_here i.2 (omega arith) j q))),
       c.next_tries-tries.ensures,
     )
 
 pub returns : goal.returns
 returns c =
     let l = c.loop-b in
-    λ j q. subst (λ (n : ℕ). SetsTo j (2 ^ n) l.skipped l.sets) q.planned.inputs (walk_end l.invariant.4 (omega arith) j q)
+    λ j q. subst (λ (n : ℕ). SetsTo j (2 ^ n) l.skipped l.sets) q.planned.inputs (walk_end l.invariant.2 (omega arith) j q)

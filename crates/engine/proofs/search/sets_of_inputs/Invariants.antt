@@ -3,7 +3,6 @@
 use Prim.Native.Nat.{ℕ, ◌-◌, ◌*◌, ◌≤◌}
 use mathlib.Core.Path.{◌≡◌}
 use mathlib.Core.List.{List}
-use lib.ListN.{length}
 use Rattle.records.specs.Job.{Job}
 use Rattle.engine.specs.Support.{candidate_nets}
 use Rattle.engine.specs.Inner.Plan.{TurnsOf}
@@ -13,16 +12,14 @@ use Rattle.engine.proofs.Laws.Search.{WalkTo}
 use Rattle.engine.proofs.search.sets_of_inputs.Given as goal
 
 -- the sets are those after the inputs below x, for every job of the plan
-abbrev pub SetsAfter : Plan → List ℕ → ℕ → List ℕ → ℕ → Type 0
-SetsAfter p gates skipped sets x = (j : Job) → TurnsOf j (candidate_nets j) p gates → SetsTo j x skipped sets
+abbrev pub SetsAfter : Plan → ℕ → List ℕ → ℕ → Type 0
+SetsAfter p skipped sets x = (j : Job) → TurnsOf j (candidate_nets j) p → SetsTo j x skipped sets
 
 abbrev pub invariant-loop-b : goal.invariant-loop-b
 invariant-loop-b l =
-    (length l.words ≡ 16384)
-    × (length l.sets ≡ 1024)
-    × (l.pace.rest ≤ 80)
+    (l.pace.rest ≤ 80)
     × (l.pace.wait ≡ 0 → SoleTable l.sets l.table)
-    × WalkTo (SetsAfter l.plan l.gates l.skipped l.sets) l.plan.inputs l.size l.b
+    × WalkTo (SetsAfter l.plan l.skipped l.sets) l.plan.inputs l.size l.b
     × (l.tries ≤ 64)
 
 abbrev pub decreases-loop-b : goal.decreases-loop-b

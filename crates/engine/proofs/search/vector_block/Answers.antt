@@ -4,4 +4,4 @@ use Rattle.engine.proofs.search.vector_block.Goals as goal
 
 pub returns : goal.returns
 returns c =
-    block-vectored c.args.plan c.args.gates.now c.args.vector c.set_vector.ensures c.run.ensures
+    block-vectored c.args.plan.now c.args.vector c.set_vector.ensures c.run.ensures

@@ -12,10 +12,10 @@ use Rattle.engine.proofs.sole.keep_block.Goals as goal
 pub returns : goal.returns
 returns c =
     let row = c.driven_row-row in
-    let a = row.ensures (gathered c.table_rows-vectors.result) (rows_whole c.table_rows-vectors.result c.args.plan.targets (omega (arith, c.requires.0.targets))) in record {
-      free_kept = (a.free, a.long ∙ c.requires.2);
+    let a = row.ensures (gathered c.table_rows-vectors.result) (rows_whole c.table_rows-vectors.result c.args.plan.now.targets (omega (arith, c.args.plan.now.few_targets))) in record {
+      free_kept = a.free;
       block_kept = λ o.
-          sole-kept c.args.readings c.args.table.now c.table_rows-vectors.result row.result c.table_rows-vectors.ensures.1
+          sole-kept c.args.readings c.args.table.now c.table_rows-vectors.result row.result c.table_rows-vectors.ensures
           (λ y l. sym (c.row_at.ensures y l) ∙ c.zero_row.ensures c.if-not-zero_row.false y l)
           (λ y l.
           ap (λ (n : ℕ). max (row_value row.result y) n) (sym (c.row_at-2.ensures y l))
