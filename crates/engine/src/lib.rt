@@ -25,6 +25,7 @@ mod narrow;
 mod netlist;
 mod note;
 mod packed;
+mod pick;
 mod plan;
 mod planning;
 mod ranges;

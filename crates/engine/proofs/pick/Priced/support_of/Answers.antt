@@ -1,18 +1,19 @@
--- `engine::best::pick_support` meets its contract. The invariant: the first len places hold what is picked before place i.
+-- `engine::pick::Priced::support_of` meets its contract. The invariant: the first len places hold what is picked before place i.
 -- Assumes nothing.
 use Prim.Native.Nat.{ℕ, ◌+◌, ◌<◌}
 use mathlib.Core.Path.{◌≡◌, refl, sym, ◌∙◌, ap}
 use mathlib.Core.List.{List}
 use native.Mathlib.Omega.{arith}
 use lib.ListN.{length, get_or, set, length-set}
+use lib.Seq.{take-length}
 use Rattle.engine.specs.Eval.{bit}
 use Rattle.engine.specs.Inner.Best.{picked}
 use Rattle.engine.proofs.Laws.List.{set_below}
 use Rattle.engine.proofs.Laws.PlanCode.{replicate-le}
 use Rattle.engine.proofs.Laws.Picked.{picks-in, length-picked-in, picked-take-out}
-use Rattle.engine.proofs.best.pick_support.Invariants.{Picking}
-use Rattle.engine.proofs.best.pick_support.Goals as goal
-use Rattle.engine.proofs.best.pick_support.Goals.{then-set-i-eq1, else-set-i-eq1}
+use Rattle.engine.proofs.pick.Priced.support_of.Invariants.{Picking}
+use Rattle.engine.proofs.pick.Priced.support_of.Goals as goal
+use Rattle.engine.proofs.pick.Priced.support_of.Goals.{then-set-i-eq1, else-set-i-eq1}
 
 -- a turn that picks the net, and one that does not
 module _ (is : List ℕ) (s i : ℕ) (ps : List ℕ) (len : ℕ) (ps' : List ℕ) (len' : ℕ) (h : i < length is) (few : i < 10)
@@ -46,21 +47,23 @@ loop-i-init c =
 pub loop-i-preserved : goal.loop-i-preserved
 unfolding bit
 loop-i-preserved c =
-    let a = c.args in
+    let p = c.args.self.now in
+    let is = p.nets.now in
+    let s = c.args.set in
     let l = c.loop-i in
-    let h : l.i < length a.nets = omega arith in
-    let k : l.i < 10 = omega arith in (
+    let k : l.i < 10 = omega (arith, p.few) in (
       omega arith,
       elim c.if-set-i-eq1.branch [
-        | then-set-i-eq1 w ↦ turn_in a.nets a.set l.i l.picks l.len _ _ h k l.invariant.1 w.if-set-i-eq1.true w.picks-is w.len-is
-        | else-set-i-eq1 w ↦ turn-out a.nets a.set l.i l.picks l.len _ _ h k l.invariant.1 w.if-set-i-eq1.false w.picks-is w.len-is
+        | then-set-i-eq1 w ↦ turn_in is s l.i l.picks l.len _ _ (omega arith) k l.invariant.1 w.if-set-i-eq1.true w.picks-is w.len-is
+        | else-set-i-eq1 w ↦ turn-out is s l.i l.picks l.len _ _ (omega arith) k l.invariant.1 w.if-set-i-eq1.false w.picks-is w.len-is
       ],
     )
 
 pub returns : goal.returns
 returns c =
-    let a = c.args in
+    let is = c.args.self.now.nets.now in
     let l = c.loop-i in
-    let e : l.i ≡ a.count = omega arith in
+    let e : l.i ≡ length is = omega arith in
     let p = l.invariant.1 in
-    (record { len = rw e at p.long; nets = rw e at p.nets }, λ b. record { long = p.places; below = p.below b; few = omega (arith, p.most) })
+    let t = take-length is in
+    (record { len = rw (e, t) at p.long; nets = rw (e, t) at p.nets }, λ b. record { long = p.places; below = p.below b; few = omega (arith, p.most) })
