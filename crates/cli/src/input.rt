@@ -1,5 +1,5 @@
 // Arguments, and a file or standard input read into a lent buffer. What fails is told on standard error in one line: the name, and why.
-ghost use Rattle.std.specs.Prelude.{◌≡◌};
+ghost use Rattle.std.specs.Prelude.{◌≡◌, IfOk, IfErr};
 ghost use Rattle.io.specs.Counts.{IsPrefixLen};
 
 use super::output::tell;
@@ -8,86 +8,85 @@ use std::io::{self, Read};
 use std::rt::{Env, Runtime};
 use std::{fs, str};
 
-// How many bytes of a file stand at the start of the buffer, and whether the file was opened and each read of it went well.
-#[derive(Clone, Copy)]
-pub struct Filled {
-    pub failed: bool,
+// An input that cannot be read, or not to its end; why stands on standard error. So many of its bytes stand at the start of the buffer.
+#[derive(Clone, Copy, Debug)]
+pub struct Unread {
     pub len: usize,
 }
 
-// Reads until the buffer is full or the input ends, and tells of a read that fails under this name. The end of the input gives 0 bytes and
-// a read that fails an error, so neither is taken for the other, be it the first read or a later one. A full buffer is read no further: what
-// stands behind it is unknown.
-fn fill<S: Read>(rt: &(impl Eprint + Alloc), name: &str, source: &mut S, buf: &mut [u8]) -> Filled
-    ensures { IsPrefixLen result.len buf.new }
+// Tells of an input of which no more than len bytes can be read.
+fn told(rt: &(impl Eprint + Alloc), name: &str, error: io::Error, len: usize) -> Unread
+    ensures { result.len ≡ len }
+{
+    tell(rt, name, error);
+    Unread { len }
+}
+
+// Reads until the buffer is full or the input ends, and gives the number of bytes; tells of a read that fails under this name. The end of
+// the input gives 0 bytes and a read that fails an error, so neither is taken for the other, be it the first read or a later one. A full
+// buffer is read no further: what stands behind it is unknown.
+fn fill<S: Read>(
+    rt: &(impl Eprint + Alloc),
+    name: &str,
+    source: &mut S,
+    buf: &mut [u8],
+) -> Result<usize, Unread>
+    ensures ok { IfOk result (λ len. IsPrefixLen len buf.new) }
+    ensures err { IfErr result (λ unread. IsPrefixLen unread.len buf.new) }
 {
     let mut len = 0usize;
     while len < buf.len() {
         match source.read(&mut buf[len..]) {
             Ok(0) => break,
             Ok(more) => len += more,
-            Err(error) => {
-                tell(rt, name, error);
-                return Filled { failed: true, len };
-            }
+            Err(error) => return Err(told(rt, name, error, len)),
         }
     }
-    Filled { failed: false, len }
+    Ok(len)
 }
 
-// Tells of a file that cannot be opened; of it stands nothing in the buffer.
-fn refused(rt: &(impl Eprint + Alloc), name: &str, error: io::Error) -> Filled
-    ensures { result.len ≡ 0 }
-{
-    tell(rt, name, error);
-    Filled {
-        failed: true,
-        len: 0,
-    }
-}
-
-// Standard input, at the start of the buffer.
-pub fn read_standard(rt: &(impl Input + Eprint + Alloc), buf: &mut [u8]) -> Filled
-    ensures { IsPrefixLen result.len buf.new }
+// Standard input, at the start of the buffer: its length.
+pub fn read_standard(rt: &(impl Input + Eprint + Alloc), buf: &mut [u8]) -> Result<usize, Unread>
+    ensures ok { IfOk result (λ len. IsPrefixLen len buf.new) }
+    ensures err { IfErr result (λ unread. IsPrefixLen unread.len buf.new) }
 {
     fill(rt, "standard input", &mut rt.reader(), buf)
 }
 
-// The file of this name, at the start of the buffer; `-` names standard input.
-pub fn read_named(rt: &impl Runtime, name: &[u8], buf: &mut [u8]) -> Filled
-    ensures { IsPrefixLen result.len buf.new }
+// The file of this name, at the start of the buffer: its length. `-` names standard input.
+pub fn read_named(rt: &impl Runtime, name: &[u8], buf: &mut [u8]) -> Result<usize, Unread>
+    ensures ok { IfOk result (λ len. IsPrefixLen len buf.new) }
+    ensures err { IfErr result (λ unread. IsPrefixLen unread.len buf.new) }
 {
     match str::from_utf8(name) {
         Ok("-") => read_standard(rt, buf),
         Ok(name) => match fs::open(rt, name) {
             Ok(mut file) => fill(rt, name, &mut file, buf),
-            Err(error) => refused(rt, name, error),
+            Err(error) => Err(told(rt, name, error, 0)),
         },
-        Err(_) => refused(
-            rt,
-            "file name",
-            io::Error::from(io::ErrorKind::InvalidFilename),
-        ),
+        Err(_) => {
+            let why = io::Error::from(io::ErrorKind::InvalidFilename);
+            Err(told(rt, "file name", why, 0))
+        }
     }
 }
 
-// The file that argument i names, at the start of the buffer.
-pub fn read_argument(rt: &impl Runtime, i: usize, buf: &mut [u8]) -> Filled
-    ensures { IsPrefixLen result.len buf.new }
+// The file that argument i names, at the start of the buffer: its length.
+pub fn read_argument(rt: &impl Runtime, i: usize, buf: &mut [u8]) -> Result<usize, Unread>
+    ensures ok { IfOk result (λ len. IsPrefixLen len buf.new) }
+    ensures err { IfErr result (λ unread. IsPrefixLen unread.len buf.new) }
 {
     let mut name = [0u8; 4096];
-    match rt.arg(i, &mut name) {
-        Ok(n) => read_named(rt, &name[..n], buf),
-        Err(FillError::NotPresent) => refused(rt, "file name", io::Error::from_raw_os_error(22)),
-        Err(FillError::TooLong) => refused(rt, "file name", io::Error::from_raw_os_error(36)),
-    }
+    let why = match rt.arg(i, &mut name) {
+        Ok(len) => return read_named(rt, &name[..len], buf),
+        Err(FillError::NotPresent) => io::Error::from_raw_os_error(22),
+        Err(FillError::TooLong) => io::Error::from_raw_os_error(36),
+    };
+    Err(told(rt, "file name", why, 0))
 }
 
-// Whether argument i is this word.
-pub fn is_argument(rt: &impl Env, i: usize, word: &[u8]) -> bool {
-    let mut text = [0u8; 4096];
-    match rt.arg(i, &mut text) {
-        Ok(n) => &text[..n] == word,
-        Err(_) => false,
-    }
+// The text of argument i, in the lent buffer; none where there is no such argument, or one that is longer or no UTF-8.
+pub fn argument<'a>(rt: &impl Env, i: usize, buf: &'a mut [u8]) -> Option<&'a str> {
+    let len = rt.arg(i, buf).ok()?;
+    str::from_utf8(&buf[..len]).ok()
 }

@@ -1,9 +1,9 @@
-// What the programs share: arguments, files by name or standard input, and lines of text. No public function has a `requires`.
+// What the programs share: arguments, files by name or standard input, and replies. No public function has a `requires`.
 // No contract can say which bytes are read or written.
 #![tactic(auto)]
 
 mod input;
 mod output;
 
-pub use input::{Filled, is_argument, read_argument, read_named, read_standard};
-pub use output::{check_written, print_line, print_number, write_reply};
+pub use input::{Unread, argument, read_argument, read_named, read_standard};
+pub use output::{check_written, write_reply};

@@ -1,4 +1,4 @@
-// Lines of text and replies to standard output, and on standard error why something failed.
+// Replies to standard output, and on standard error why something failed.
 use std::io;
 
 // Says on standard error what failed, and why, without the number that the library puts behind the system's words. What standard
@@ -18,17 +18,6 @@ pub fn check_written(rt: &(impl Eprint + Alloc), written: io::Result<()>) {
     if let Err(error) = written {
         tell(rt, "standard output", error);
     }
-}
-
-// A space and a number.
-pub fn print_number(rt: &impl Print, x: u64) -> io::Result<()> {
-    print!(rt; " {x}")
-}
-
-// The line of a word and a number.
-pub fn print_line(rt: &impl Print, word: &[u8], x: u64) -> io::Result<()> {
-    rt.write_all(word)?;
-    println!(rt; " {x}")
 }
 
 // All the bytes, to standard output.

@@ -4,9 +4,7 @@ use std::io;
 fn print_result(rt: &impl Print, res: engine::Comparison) -> io::Result<()> {
     match res {
         engine::Comparison::Equal => println!(rt; "equal"),
-        engine::Comparison::Differs(differs) => {
-            cli::print_line(rt, b"differs", differs.input as u64)
-        }
+        engine::Comparison::Differs(differs) => println!(rt; "differs {}", differs.input),
         engine::Comparison::Declined => Ok(()),
     }
 }

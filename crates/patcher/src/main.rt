@@ -16,6 +16,7 @@ mod fit;
 mod sheets;
 mod show;
 
+ghost use Rattle.std.specs.Prelude.{IfOk};
 ghost use Rattle.io.specs.Counts.{IsPrefixLen};
 
 use std::env::FillError;
@@ -29,7 +30,6 @@ enum Command {
     Fit,
     Compare,
     Show,
-    Unknown,
 }
 
 // Whether there is an argument i.
@@ -38,32 +38,28 @@ fn has_argument(rt: &impl Env, i: usize) -> bool {
     !matches!(rt.arg(i, &mut text), Err(FillError::NotPresent))
 }
 
-// The command on one file.
-fn job_command(rt: &impl Env) -> Command {
-    if cli::is_argument(rt, 1, b"judge") {
-        return Command::Judge;
-    }
-    if cli::is_argument(rt, 1, b"choose") {
-        return Command::Choose;
-    }
-    if cli::is_argument(rt, 1, b"show") {
-        return Command::Show;
-    }
-    Command::Unknown
+// Whether argument i names standard input.
+fn is_standard(rt: &impl Env, i: usize) -> bool {
+    let mut text = [0u8; 4096];
+    cli::argument(rt, i, &mut text) == Some("-")
 }
 
-// The command on two files. Only one of them can be standard input.
-fn pair_command(rt: &impl Env) -> Command {
-    if cli::is_argument(rt, 2, b"-") && cli::is_argument(rt, 3, b"-") {
-        return Command::Unknown;
+// The command that the arguments give: the program's name, the command's word, and its files, of which only one can be standard input.
+fn given_command(rt: &impl Env) -> Option<Command> {
+    if is_standard(rt, 2) && is_standard(rt, 3) {
+        return None;
     }
-    if cli::is_argument(rt, 1, b"fit") {
-        return Command::Fit;
+    let mut text = [0u8; 4096];
+    let word = cli::argument(rt, 1, &mut text)?;
+    let files = (2..5).take_while(|i| has_argument(rt, *i)).count();
+    match (word, files) {
+        ("judge", 1) => Some(Command::Judge),
+        ("choose", 1) => Some(Command::Choose),
+        ("show", 1) => Some(Command::Show),
+        ("fit", 2) => Some(Command::Fit),
+        ("compare", 2) => Some(Command::Compare),
+        _ => None,
     }
-    if cli::is_argument(rt, 1, b"compare") {
-        return Command::Compare;
-    }
-    Command::Unknown
 }
 
 fn print_usage(rt: &impl Eprint) -> io::Result<()> {
@@ -90,29 +86,16 @@ fn answer(rt: &impl Print, command: Command, job: &[u8], sheet: &[u8]) -> io::Re
         Command::Choose => sheets::write_chosen(rt, job),
         Command::Fit => fit::write_netlist(rt, job, sheet),
         Command::Compare => compare::print_comparison(rt, job, sheet),
-        _ => show::print_job(rt, job),
+        Command::Show => show::print_job(rt, job),
     }
 }
 
 // Says that the command refuses, where it says so.
 fn print_refusal(rt: &(impl Print + Eprint), command: Command, number: u8) -> io::Result<()> {
     match command {
-        Command::Compare => cli::print_line(rt, b"refused", number as u64),
+        Command::Compare => println!(rt; "refused {number}"),
         _ => eprintln!(rt; "refused {number}"),
     }
-}
-
-// The sheet that argument 3 names; no bytes where there is no such argument.
-fn read_sheet(rt: &impl Runtime, buf: &mut [u8]) -> cli::Filled
-    ensures { IsPrefixLen result.len buf.new }
-{
-    if !has_argument(rt, 3) {
-        return cli::Filled {
-            failed: false,
-            len: 0,
-        };
-    }
-    cli::read_argument(rt, 3, buf)
 }
 
 // Prints the reply, or the number of the refusal.
@@ -123,39 +106,32 @@ fn reply(rt: &(impl Print + Eprint), command: Command, job: &[u8], sheet: &[u8])
     }
 }
 
-// Reads the command's files and answers.
-fn run(rt: &impl Runtime, command: Command) {
-    let mut job = [0u8; 65536];
-    let mut sheet = [0u8; 65536];
-    let first = cli::read_argument(rt, 2, &mut job);
-    if first.failed {
-        return;
+// The sheet that argument 3 names; no bytes where there is no such argument.
+fn read_sheet(rt: &impl Runtime, buf: &mut [u8]) -> Result<usize, cli::Unread>
+    ensures { IfOk result (λ len. IsPrefixLen len buf.new) }
+{
+    if has_argument(rt, 3) {
+        cli::read_argument(rt, 3, buf)
+    } else {
+        Ok(0)
     }
-    let second = read_sheet(rt, &mut sheet);
-    if second.failed {
-        return;
-    }
-    let m = first.len;
-    let n = second.len;
-    cli::check_written(rt, reply(rt, command, &job[..m], &sheet[..n]));
 }
 
-// The command, of which the first word is the program's name.
-fn given_command(rt: &impl Env) -> Command {
-    if has_argument(rt, 4) || !has_argument(rt, 2) {
-        return Command::Unknown;
-    }
-    if has_argument(rt, 3) {
-        pair_command(rt)
-    } else {
-        job_command(rt)
-    }
+// Reads the command's files and answers.
+fn run(rt: &impl Runtime, command: Command) -> Result<(), cli::Unread> {
+    let mut job = [0u8; 65536];
+    let mut sheet = [0u8; 65536];
+    let m = cli::read_argument(rt, 2, &mut job)?;
+    let n = read_sheet(rt, &mut sheet)?;
+    cli::check_written(rt, reply(rt, command, &job[..m], &sheet[..n]));
+    Ok(())
 }
 
 fn main(rt: HostRuntime) -> io::Result<()> {
-    match given_command(&rt) {
-        Command::Unknown => print_usage(&rt)?,
-        command => run(&rt, command),
-    }
+    let Some(command) = given_command(&rt) else {
+        return print_usage(&rt);
+    };
+    // Standard error has told what could not be read.
+    let _ = run(&rt, command);
     Ok(())
 }

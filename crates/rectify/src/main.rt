@@ -6,16 +6,13 @@
 // The text of the job's bytes, to standard output.
 fn print_verdict(rt: &(impl Print + Eprint + Alloc), job: &[u8]) {
     let mut text = [0u8; report::LONGEST_TEXT];
-    let n = report::rectify_text(job, &mut text);
-    cli::write_reply(rt, &text[..n]);
+    let len = report::rectify_text(job, &mut text);
+    cli::write_reply(rt, &text[..len]);
 }
 
 fn main(rt: HostRuntime) {
     let mut job = [0u8; 65536];
-    let input = cli::read_standard(&rt, &mut job);
-    if input.failed {
-        return;
+    if let Ok(len) = cli::read_standard(&rt, &mut job) {
+        print_verdict(&rt, &job[..len]);
     }
-    let n = input.len;
-    print_verdict(&rt, &job[..n]);
 }

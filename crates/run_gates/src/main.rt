@@ -5,51 +5,83 @@
 
 use std::io;
 
-// The kind that document 01 gives the primitive of this name; 0 for any other name.
-fn kind_of(name: &[u8]) -> u8 {
-    match name {
-        b"buf" => 2,
-        b"not" => 3,
-        b"and" => 4,
-        b"nand" => 5,
-        b"or" => 6,
-        b"nor" => 7,
-        b"xor" => 8,
-        b"xnor" => 9,
-        _ => 0,
+// The primitives, with the numbers that the libraries have for their kinds.
+#[derive(Clone, Copy)]
+enum Kind {
+    Buf = 2,
+    Not = 3,
+    And = 4,
+    Nand = 5,
+    Or = 6,
+    Nor = 7,
+    Xor = 8,
+    Xnor = 9,
+}
+
+impl Kind {
+    // The primitive of this name.
+    fn named(name: &[u8]) -> Option<Kind> {
+        match name {
+            b"buf" => Some(Kind::Buf),
+            b"not" => Some(Kind::Not),
+            b"and" => Some(Kind::And),
+            b"nand" => Some(Kind::Nand),
+            b"or" => Some(Kind::Or),
+            b"nor" => Some(Kind::Nor),
+            b"xor" => Some(Kind::Xor),
+            b"xnor" => Some(Kind::Xnor),
+            _ => None,
+        }
     }
 }
 
-// How many operands stand in so many characters, each behind a space; 0 where they are not one to four.
-fn count_of(len: usize) -> u8 {
-    match len {
-        2 => 1,
-        4 => 2,
-        6 => 3,
-        8 => 4,
-        _ => 0,
-    }
+// A gate with its operands as the libraries take them: 2, not yet known, for x, and 0 where there is none.
+#[derive(Clone, Copy)]
+struct Gate {
+    kind: Kind,
+    count: u8,
+    operands: [u8; 4],
+    has_x: bool,
 }
 
-// The operand at a position: 2, not yet known, for x; 0 where there is none.
-fn operand_at(operands: &[u8], at: usize) -> u8 {
-    if operands.len() <= at {
-        return 0;
-    }
-    match operands[at] {
-        b'1' => 1,
-        b'x' => 2,
-        _ => 0,
+impl Gate {
+    // The gate of a row: a name, one to four operands, the equals sign and the value, with a space before each but the name.
+    fn parse(row: &[u8]) -> Option<Gate> {
+        let end = row.iter().position(|b| *b == b' ')?;
+        let kind = Kind::named(&row[..end])?;
+        let [text @ .., _, _, _, _] = &row[end..] else {
+            return None;
+        };
+        let count = match text.len() {
+            2 => 1,
+            4 => 2,
+            6 => 3,
+            8 => 4,
+            _ => return None,
+        };
+        let mut operands = [0u8; 4];
+        for (operand, pair) in operands.iter_mut().zip(text.chunks_exact(2)) {
+            *operand = match pair {
+                [_, b'1'] => 1,
+                [_, b'x'] => 2,
+                _ => 0,
+            };
+        }
+        Some(Gate {
+            kind,
+            count,
+            operands,
+            has_x: text.contains(&b'x'),
+        })
     }
 }
 
 // The row up to its value, and this one.
 fn print_value(rt: &impl Print, row: &[u8], value: u8) -> io::Result<()> {
-    if row.len() == 0 {
+    let [front @ .., _] = row else {
         return Ok(());
-    }
-    let end = row.len() - 1;
-    rt.write_all(&row[0..end])?;
+    };
+    rt.write_all(front)?;
     match value {
         0 => println!(rt; "0"),
         1 => println!(rt; "1"),
@@ -57,52 +89,35 @@ fn print_value(rt: &impl Print, row: &[u8], value: u8) -> io::Result<()> {
     }
 }
 
-// A row with these operands, each behind a space: with the library's value where none is x, and with the engine's.
-fn print_values(rt: &impl Print, row: &[u8], kind: u8, operands: &[u8]) -> io::Result<()> {
-    let count = count_of(operands.len());
-    if count == 0 {
-        return Ok(());
-    }
-    let all = [
-        operand_at(operands, 1),
-        operand_at(operands, 3),
-        operand_at(operands, 5),
-        operand_at(operands, 7),
-    ];
-    if !operands.contains(&b'x') {
-        print_value(rt, row, records::value(kind, count, all))?;
-    }
-    print_value(rt, row, engine::ternary_value(kind, count, all))
-}
-
-// A row is a name, its operands, the equals sign and the value, with a space before each but the name.
+// A row with the library's value where no operand is x, and with the engine's.
 fn print_row(rt: &impl Print, row: &[u8]) -> io::Result<()> {
-    let p = row.iter().position(|b| *b == b' ').unwrap_or(row.len());
-    let kind = kind_of(&row[0..p]);
-    if kind == 0 {
+    let Some(gate) = Gate::parse(row) else {
         return Ok(());
+    };
+    let kind = gate.kind as u8;
+    if !gate.has_x {
+        print_value(rt, row, records::value(kind, gate.count, gate.operands))?;
     }
-    if row.len() - p < 4 {
-        return Ok(());
-    }
-    let end = row.len() - 4;
-    print_values(rt, row, kind, &row[p..end])
+    print_value(
+        rt,
+        row,
+        engine::ternary_value(kind, gate.count, gate.operands),
+    )
 }
 
+// The rows of a table, each with a line feed behind.
 fn print_rows(rt: &impl Print, table: &[u8]) -> io::Result<()> {
-    let mut start = 0usize;
-    for i in 0..table.len() {
-        if table[i] == b'\n' {
-            print_row(rt, &table[start..i])?;
-            start = i + 1;
+    for line in table.split_inclusive(|b| *b == b'\n') {
+        if let Some(row) = line.strip_suffix(b"\n") {
+            print_row(rt, row)?;
         }
     }
     Ok(())
 }
 
+// Where standard input cannot be read to its end, the rows up to there.
 fn main(rt: HostRuntime) -> io::Result<()> {
     let mut table = [0u8; 65536];
-    let input = cli::read_standard(&rt, &mut table);
-    let n = input.len;
-    print_rows(&rt, &table[..n])
+    let (Ok(len) | Err(cli::Unread { len })) = cli::read_standard(&rt, &mut table);
+    print_rows(&rt, &table[..len])
 }

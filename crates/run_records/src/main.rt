@@ -3,44 +3,22 @@
 // whole call ends the run.
 #![tactic(auto)]
 
-mod lending;
+mod answer;
 mod lists;
-mod reading;
-mod sheet;
-mod stream;
-mod writing;
+mod request;
 
+use answer::answer;
+use request::Request;
+use samples::read_call;
 use std::io;
-use std::rt::Runtime;
-
-// One call with these bytes; whether it was a whole one.
-fn answered(rt: &impl Print, service: u8, s: &[u8]) -> io::Result<bool> {
-    match service {
-        1 => reading::read_call(rt, s),
-        2 => writing::write_call(rt, s),
-        3 => sheet::sheet_call(rt, s),
-        4 => writing::again_call(rt, s),
-        5 => reading::after_call(rt, s),
-        _ => Ok(false),
-    }
-}
-
-// The next call of the input; whether there was one.
-fn next_call(rt: &impl Runtime) -> io::Result<bool> {
-    let mut body = [0u8; 65536];
-    let call = samples::read_call(rt, &mut body);
-    if !call.whole {
-        return Ok(false);
-    }
-    let n = call.len;
-    answered(rt, call.service, &body[..n])
-}
 
 fn main(rt: HostRuntime) -> io::Result<()> {
+    let mut bytes = [0u8; 65536];
     for _ in 0..100000000u64 {
-        if !next_call(&rt)? {
+        let Some(request) = read_call(&rt, &mut bytes).and_then(Request::parse) else {
             break;
-        }
+        };
+        answer(&rt, request)?;
     }
     Ok(())
 }

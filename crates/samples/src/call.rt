@@ -1,35 +1,55 @@
-// The next call of standard input: one byte, which service, a two-byte length, and that many bytes.
-ghost use Rattle.io.specs.Counts.{IsPrefixLen};
+// The next call of standard input: one byte, which service, a two-byte length, and that many bytes. These are read from the front on.
+ghost use Rattle.std.specs.Prelude.{◌≡◌, ◌<◌, ◌≤◌, ◌↔◌, length, take, drop, IfSome, IsNone};
+ghost use Rattle.samples.specs.Sample.{word_at};
 
-use super::number::{least, wide};
-
-// Whether there was a whole call, its service, and how many bytes it has, which stand at the start of the buffer.
+// A call: its service, and its bytes that are not read yet.
 #[derive(Clone, Copy)]
-pub struct Call {
-    pub whole: bool,
+pub struct Call<'a> {
     pub service: u8,
-    pub len: usize,
+    pub bytes: &'a [u8],
 }
 
-// Reads the next call. It is not whole where the input ends before it does, cannot be read, or has more bytes than the buffer.
-pub fn read_call(rt: &(impl Input + Eprint + Alloc), buf: &mut [u8]) -> Call
-    ensures { IsPrefixLen result.len buf.new }
+// The next call, whose bytes stand at the start of the buffer. There is none where the input ends before it does, cannot be read, or has
+// more bytes than the buffer.
+pub fn read_call<'a>(rt: &(impl Input + Eprint + Alloc), buf: &'a mut [u8]) -> Option<Call<'a>>
+    ensures { IfSome result (λ call. length call.bytes.now ≤ length buf.old) }
 {
     let mut head = [0u8; 3];
-    let start = cli::read_standard(rt, &mut head);
-    if start.len != 3 {
-        return Call {
-            whole: false,
-            service: 0,
-            len: 0,
-        };
+    let Ok(3) = cli::read_standard(rt, &mut head) else {
+        return None;
+    };
+    let [service, high, low] = head;
+    let len = usize::from(u16::from_be_bytes([high, low]));
+    let room = len.min(buf.len());
+    match cli::read_standard(rt, &mut buf[..room]) {
+        Ok(read) if read == len => Some(Call {
+            service,
+            bytes: &buf[..len],
+        }),
+        _ => None,
     }
-    let len = 256 * wide(head[1]) + wide(head[2]);
-    let room = least(len, buf.len());
-    let rest = cli::read_standard(rt, &mut buf[..room]);
-    Call {
-        whole: rest.len == len,
-        service: head[0],
-        len: rest.len,
+}
+
+impl<'a> Call<'a> {
+    // The two-byte number at the front; none where there are fewer bytes, of which then none is left.
+    pub fn word(&mut self) -> Option<usize>
+        ensures some { IfSome result (λ word. word ≡ word_at self.old.bytes.now 0) }
+        ensures none { IsNone result ↔ (length self.old.bytes.now < 2) }
+        ensures rest { self.new.bytes.now ≡ drop 2 self.old.bytes.now }
+    {
+        let [high, low] = self.part(2) else {
+            return None;
+        };
+        Some(usize::from(u16::from_be_bytes([*high, *low])))
+    }
+
+    // The first n bytes; all where there are fewer.
+    pub fn part(&mut self, n: usize) -> &'a [u8]
+        ensures part { result.now ≡ take n self.old.bytes.now }
+        ensures rest { self.new.bytes.now ≡ drop n self.old.bytes.now }
+    {
+        let (part, rest) = self.bytes.split_at(n.min(self.bytes.len()));
+        self.bytes = rest;
+        part
     }
 }
