@@ -3,10 +3,7 @@ use Rattle.std.proofs.Common.{◌≡◌, ℕ, ◌≤◌, Bool, true, false, cond
 use Rattle.records.specs.Job.{job_of}
 use Rattle.records.specs.Sheet.{patch_of}
 use Rattle.engine.specs.Fit.{fitted_bytes, longest_fit}
-use Rattle.engine.specs.Reply.{judge_reply, choose_reply, fit_number, fit_reply}
-use Rattle.engine.specs.declared.judging.JudgeReply.{JudgeReply}
-use Rattle.engine.specs.declared.choosing.ChooseReply.{ChooseReply}
-use Rattle.engine.specs.declared.fitting.FitReply.{FitReply}
+use Rattle.engine.specs.Reply.{JudgeReply, judge_reply, ChooseReply, choose_reply, fit_number, FitReply, fit_reply}
 use Rattle.engine.proofs.Replies.{reply-keeps, judge-replies, choose-replies, longest-judged, longest-chosen, compare-accepts}
 use Rattle.engine.proofs.FitReplies.{fit-accepts, longest-fit}
 

@@ -12,6 +12,7 @@
 #![tactic(auto)]
 
 mod compare;
+mod failure;
 mod fit;
 mod sheets;
 mod show;
@@ -19,6 +20,8 @@ mod show;
 ghost use Rattle.std.specs.Prelude.{IfOk};
 ghost use Rattle.io.specs.Counts.{IsPrefixLen};
 
+use failure::Failure;
+use records::Refusal;
 use std::env::FillError;
 use std::io;
 use std::rt::{Env, Runtime};
@@ -73,13 +76,12 @@ One of the files can be -, standard input.",
     )
 }
 
-// Prints the reply and gives 0, or gives the number of the refusal. A job that fills the buffer is refused with 2, as 01 has it for
-// `rectify`, since what stands behind is not known; read whole it might have its fields in order and get 3, for a count. A sheet
-// that fills the buffer is cut short, so the service refuses it with 7. Of the right shape only one over fifteen nets, with notes, is as
-// long; read whole it would get 8, as no job has so many candidates.
-fn answer(rt: &impl Print, command: Command, job: &[u8], sheet: &[u8]) -> io::Result<u8> {
+// Prints the reply. A job that fills the buffer is refused with 2, as 01 has it for `rectify`, since what stands behind is not known; read
+// whole it might have its fields in order and get 3, for a count. A sheet that fills the buffer is cut short, so the service refuses it
+// with 7. Of the right shape only one over fifteen nets, with notes, is as long; read whole it would get 8, as no job has so many candidates.
+fn answer(rt: &impl Print, command: Command, job: &[u8], sheet: &[u8]) -> Result<(), Failure> {
     if 65535 < job.len() {
-        return Ok(2);
+        return Err(Failure::Refused(Refusal::Fields));
     }
     match command {
         Command::Judge => sheets::write_judged(rt, job),
@@ -91,18 +93,19 @@ fn answer(rt: &impl Print, command: Command, job: &[u8], sheet: &[u8]) -> io::Re
 }
 
 // Says that the command refuses, where it says so.
-fn print_refusal(rt: &(impl Print + Eprint), command: Command, number: u8) -> io::Result<()> {
+fn print_refusal(rt: &(impl Print + Eprint), command: Command, refusal: Refusal) -> io::Result<()> {
     match command {
-        Command::Compare => println!(rt; "refused {number}"),
-        _ => eprintln!(rt; "refused {number}"),
+        Command::Compare => println!(rt; "{refusal}"),
+        _ => eprintln!(rt; "{refusal}"),
     }
 }
 
-// Prints the reply, or the number of the refusal.
+// Prints the reply, or that the command refuses.
 fn reply(rt: &(impl Print + Eprint), command: Command, job: &[u8], sheet: &[u8]) -> io::Result<()> {
-    match answer(rt, command, job, sheet)? {
-        0 => Ok(()),
-        number => print_refusal(rt, command, number),
+    match answer(rt, command, job, sheet) {
+        Ok(()) => Ok(()),
+        Err(Failure::Refused(refusal)) => print_refusal(rt, command, refusal),
+        Err(Failure::Unwritten(error)) => Err(error),
     }
 }
 

@@ -1,4 +1,5 @@
 // What a job has, in lines: its counts, and under each the gates, nets or candidates.
+use super::failure::Failure;
 use records::{CANDIDATES, GATES, OUTPUTS};
 use std::io;
 
@@ -45,11 +46,8 @@ fn print_candidates(rt: &impl Print, nets: &[u16], weights: &[u16]) -> io::Resul
 }
 
 // The job's lines, and 0; or the number of the refusal.
-pub(super) fn print_job(rt: &impl Print, job: &[u8]) -> io::Result<u8> {
-    let parts = records::load(job);
-    if parts.number != 0 {
-        return Ok(parts.number);
-    }
+pub(super) fn print_job(rt: &impl Print, job: &[u8]) -> Result<(), Failure> {
+    let parts = records::load(job)?;
     let counts = parts.counts;
     println!(rt; "inputs {}", counts.inputs)?;
     println!(rt; "targets {}", counts.targets)?;
@@ -62,5 +60,5 @@ pub(super) fn print_job(rt: &impl Print, job: &[u8]) -> io::Result<u8> {
     print_side(rt, "golden", counts.inputs, gates, outputs)?;
     let count = counts.candidates.min(CANDIDATES);
     print_candidates(rt, &parts.nets[..count], &parts.weights[..count])?;
-    Ok(0)
+    Ok(())
 }

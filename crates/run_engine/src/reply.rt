@@ -1,29 +1,49 @@
 // Each service called and its reply printed: the number, the length of what it wrote, and what it found.
+use records::Refusal;
 use std::io;
+
+// The number of a refusal, and that nothing was written.
+fn print_refusal(rt: &impl Print, refusal: Refusal) -> io::Result<()> {
+    print!(rt; " {} 0", u8::from(refusal))
+}
 
 // Judges with these bytes lent.
 pub(super) fn print_judged(rt: &impl Print, job: &[u8], lent: &mut [u8]) -> io::Result<()> {
-    let r = engine::judge(job, lent);
-    let verdict = r.verdict;
-    print!(rt; " {} {}", r.number, r.len)?;
-    match verdict {
-        engine::Judgement::Fixable => print!(rt; " fixable"),
-        engine::Judgement::Unfixable(unfixable) => print!(rt; " unfixable {}", unfixable.input),
-        engine::Judgement::Declined => print!(rt; " declined"),
+    match engine::judge(job, lent) {
+        Ok(sheet) => match sheet.verdict {
+            engine::Judgement::Fixable => print!(rt; " 0 {} fixable", sheet.len),
+            engine::Judgement::Unfixable(unfixable) => {
+                print!(rt; " 0 {} unfixable {}", sheet.len, unfixable.input)
+            }
+        },
+        Err(refusal) => {
+            print_refusal(rt, refusal)?;
+            print!(rt; " declined")
+        }
     }
 }
 
 // Chooses with these bytes lent; the sheet's length.
 pub(super) fn print_chosen(rt: &impl Print, job: &[u8], lent: &mut [u8]) -> io::Result<usize> {
-    let r = engine::choose(job, lent);
-    let verdict = r.verdict;
-    print!(rt; " {} {}", r.number, r.len)?;
-    match verdict {
-        engine::Choice::Patch(patch) => print!(rt; " patch {}", patch.cost)?,
-        engine::Choice::Blind(blind) => print!(rt; " blind {}", blind.reading)?,
-        engine::Choice::Declined => print!(rt; " declined")?,
+    match engine::choose(job, lent) {
+        Ok(sheet) => {
+            match sheet.verdict {
+                engine::Choice::Patch(patch) => print!(rt;
+                    " 0 {} patch {}",
+                    sheet.len, patch.cost
+                )?,
+                engine::Choice::Blind(blind) => {
+                    print!(rt; " 0 {} blind {}", sheet.len, blind.reading)?;
+                }
+            }
+            Ok(sheet.len)
+        }
+        Err(refusal) => {
+            print_refusal(rt, refusal)?;
+            print!(rt; " declined")?;
+            Ok(0)
+        }
     }
-    Ok(r.len)
 }
 
 // Fits with these bytes lent.
@@ -33,17 +53,16 @@ pub(super) fn print_fitted(
     sheet: &[u8],
     lent: &mut [u8],
 ) -> io::Result<()> {
-    let r = engine::fit(job, sheet, lent);
-    print!(rt; " {} {}", r.number, r.len)
+    match engine::fit(job, sheet, lent) {
+        Ok(len) => print!(rt; " 0 {len}"),
+        Err(refusal) => print_refusal(rt, refusal),
+    }
 }
 
 pub(super) fn print_compared(rt: &impl Print, job: &[u8], sheet: &[u8]) -> io::Result<()> {
-    let r = engine::compare(job, sheet);
-    let result = r.result;
-    print!(rt; " {}", r.number)?;
-    match result {
-        engine::Comparison::Equal => print!(rt; " equal"),
-        engine::Comparison::Differs(differs) => print!(rt; " differs {}", differs.input),
-        engine::Comparison::Declined => print!(rt; " declined"),
+    match engine::compare(job, sheet) {
+        Ok(engine::Comparison::Equal) => print!(rt; " 0 equal"),
+        Ok(engine::Comparison::Differs(differs)) => print!(rt; " 0 differs {}", differs.input),
+        Err(refusal) => print!(rt; " {} declined", u8::from(refusal)),
     }
 }

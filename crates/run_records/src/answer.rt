@@ -1,7 +1,7 @@
 // The line that answers a request.
 use super::lists::{List, Lists, Words};
 use super::request::Request;
-use records::{Counts, LONGEST_JOB, SideCounts};
+use records::{Counts, LONGEST_JOB, PatchSheet, Refusal, SideCounts, Support};
 use samples::{Call, hash, new_buffer};
 use std::io;
 
@@ -25,13 +25,44 @@ fn room(asked: usize, k: u8, short: u8) -> usize {
     }
 }
 
-// Reads a job and prints the number, the counts and the hash of the lists.
+// What is printed of a refused job's counts, and of a refused sheet.
+const NO_SIDE: SideCounts = SideCounts {
+    gates: 0,
+    outputs: 0,
+};
+
+const NO_COUNTS: Counts = Counts {
+    inputs: 0,
+    targets: 0,
+    old: NO_SIDE,
+    golden: NO_SIDE,
+    candidates: 0,
+};
+
+const NO_PATCH: PatchSheet = PatchSheet {
+    support: Support {
+        nets: [0; 10],
+        len: 0,
+    },
+    table: 0,
+    cost: 0,
+};
+
+// The number of an answer: 0 where it is accepted.
+fn number<T>(answer: &Result<T, Refusal>) -> u8 {
+    match answer {
+        Ok(_) => 0,
+        Err(refusal) => u8::from(*refusal),
+    }
+}
+
+// Reads a job and prints the number, the counts, 0 of a refused one, and the hash of the lists.
 fn print_read(rt: &impl Print, job: &[u8], lists: &mut Lists) -> io::Result<()> {
-    let reply = lists.read(job);
-    let counts = reply.counts;
+    let read = lists.read(job);
+    let counts = read.unwrap_or(NO_COUNTS);
     let old = counts.old;
     let golden = counts.golden;
-    print!(rt; " {} {} {}", reply.number, counts.inputs, counts.targets)?;
+    print!(rt; " {} {} {}", number(&read), counts.inputs, counts.targets)?;
     print!(rt;
         " {} {} {} {}",
         old.gates, old.outputs, golden.gates, golden.outputs
@@ -58,7 +89,7 @@ fn answer_read(rt: &impl Print, short: u8, job: &[u8]) -> io::Result<()> {
 
 fn answer_after(rt: &impl Print, first: &[u8], second: &[u8]) -> io::Result<()> {
     let mut lists = Lists::whole();
-    lists.read(first);
+    let _ = lists.read(first);
     print!(rt; "after")?;
     print_read(rt, second, &mut lists)
 }
@@ -92,8 +123,13 @@ fn next_counts(call: &mut Call) -> Counts {
 // Writes with so many bytes of the buffer lent and prints the number, the length and the hash of the buffer.
 fn print_written(rt: &impl Print, counts: Counts, lists: &Lists, room: usize) -> io::Result<()> {
     let mut buf = new_buffer();
-    let r = lists.write(counts, &mut buf[..room.min(8200)]);
-    println!(rt; " {} {} {}", r.number, r.len, hash(0, &buf))
+    let written = lists.write(counts, &mut buf[..room.min(8200)]);
+    println!(rt;
+        " {} {} {}",
+        number(&written),
+        written.unwrap_or(0),
+        hash(0, &buf)
+    )
 }
 
 fn answer_write(rt: &impl Print, mut call: Call) -> io::Result<()> {
@@ -107,9 +143,9 @@ fn answer_write(rt: &impl Print, mut call: Call) -> io::Result<()> {
 // A job read and written again, with the least buffer that write asks for.
 fn answer_again(rt: &impl Print, job: &[u8]) -> io::Result<()> {
     let mut lists = Lists::whole();
-    let reply = lists.read(job);
-    print!(rt; "again {}", reply.number)?;
-    print_written(rt, reply.counts, &lists, LONGEST_JOB)
+    let read = lists.read(job);
+    print!(rt; "again {}", number(&read))?;
+    print_written(rt, read.unwrap_or(NO_COUNTS), &lists, LONGEST_JOB)
 }
 
 // The candidates are taken from the call, and the sheet is what stands behind them.
@@ -119,11 +155,11 @@ fn answer_sheet(rt: &impl Print, mut call: Call) -> io::Result<()> {
     let nets: Words = List::next(&mut call);
     let weights: Words = List::next(&mut call);
     let (nets, weights) = (nets.lent(), weights.lent());
-    let r = records::read_sheet(targets, candidates, nets, weights, call.bytes);
-    let support = r.support;
-    print!(rt; "sheet {} {}", r.number, support.len)?;
-    for net in support.nets {
+    let read = records::read_sheet(targets, candidates, nets, weights, call.bytes);
+    let patch = read.unwrap_or(NO_PATCH);
+    print!(rt; "sheet {} {}", number(&read), patch.support.len)?;
+    for net in patch.support.nets {
         print!(rt; " {net}")?;
     }
-    println!(rt; " {} {}", r.table, r.cost)
+    println!(rt; " {} {}", patch.table, patch.cost)
 }

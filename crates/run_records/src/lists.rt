@@ -1,4 +1,5 @@
 // The ten lists of a job in columns, which are lent to read and to write: with a pattern, or as a call has them.
+use records::{Counts, Refusal};
 use samples::{Call, Place, hash, new_list};
 
 // A list's place that a call has.
@@ -141,7 +142,7 @@ impl Lists {
         }
     }
 
-    pub(super) fn read(&mut self, job: &[u8]) -> records::ReadReply {
+    pub(super) fn read(&mut self, job: &[u8]) -> Result<Counts, Refusal> {
         records::read_columns(
             job,
             self.old.kinds.lent_mut(),
@@ -157,7 +158,7 @@ impl Lists {
         )
     }
 
-    pub(super) fn write(&self, counts: records::Counts, buf: &mut [u8]) -> records::WriteReply {
+    pub(super) fn write(&self, counts: Counts, buf: &mut [u8]) -> Result<usize, Refusal> {
         records::write_columns(
             counts,
             self.old.kinds.lent(),

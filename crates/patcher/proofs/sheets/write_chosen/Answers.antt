@@ -4,9 +4,9 @@ use Rattle.patcher.proofs.Lengths.{choose-short}
 use Rattle.patcher.proofs.sheets.write_chosen.Goals as goal
 
 pub slice_bounds-sheet-end : goal.slice_bounds-sheet-end
-slice_bounds-sheet-end g c = let l = choose-short _ _ c.choose-reply.ensures.reply in omega arith
+slice_bounds-sheet-end g c = let l = choose-short _ _ c.in_ok-chosen.ensures.reply in omega arith
 
 pub slice_bounds-write_all-end : goal.slice_bounds-write_all-end
 slice_bounds-write_all-end g c =
-    let l = choose-short _ _ c.choose-reply.ensures.reply in
+    let l = choose-short _ _ c.in_ok-chosen.ensures.reply in
     sym (length-take-le _ _ (omega arith))

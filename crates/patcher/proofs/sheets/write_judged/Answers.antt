@@ -4,9 +4,9 @@ use Rattle.patcher.proofs.Lengths.{judge-short}
 use Rattle.patcher.proofs.sheets.write_judged.Goals as goal
 
 pub slice_bounds-sheet-end : goal.slice_bounds-sheet-end
-slice_bounds-sheet-end g c = let l = judge-short _ _ c.judge-reply.ensures.reply in omega arith
+slice_bounds-sheet-end g c = let l = judge-short _ _ c.in_ok-judged.ensures.reply in omega arith
 
 pub slice_bounds-write_all-end : goal.slice_bounds-write_all-end
 slice_bounds-write_all-end g c =
-    let l = judge-short _ _ c.judge-reply.ensures.reply in
+    let l = judge-short _ _ c.in_ok-judged.ensures.reply in
     sym (length-take-le _ _ (omega arith))
