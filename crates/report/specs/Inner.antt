@@ -5,10 +5,9 @@
 --   ChoiceSheet s          s is a sheet from choose
 --   patch_sheet_text s vs  the lines of the patch sheet s, with the vector list vs
 --   choice_text s vs       .. of a sheet from choose, by its first tag
---   Printed d at xs r d'   d' is d with xs placed from position at on, and r is the position behind
---   Texted d xs r d'       the same at the start of d, which has room for it
-use Rattle.std.specs.Prelude.{ℕ, ◌+◌, ◌≤◌, ◌≡◌, List, [], ◌∷◌, ◌++◌, true, cond, eqb, length, get_or}
-use Rattle.records.specs.Bytes.{word, placed, whole, nth}
+--   pair s                 the two bytes s as the number of a net
+use Rattle.std.specs.Prelude.{ℕ, ◌≤◌, ◌≡◌, List, [], ◌∷◌, ◌++◌, true, cond, eqb, length, get_or}
+use Rattle.records.specs.Bytes.{word, whole, nth}
 use Rattle.records.specs.Sheet.{sheet_tags, notes_tag, patch_of}
 use Rattle.report.specs.Text.{patch_text, value_text, blind_word}
 
@@ -44,13 +43,7 @@ patch_sheet_text s vs =
 unfoldable pub choice_text : List ℕ → List ℕ → List ℕ
 choice_text s vs = cond (eqb (get_or s 0 0) 16) (patch_sheet_text s vs) (value_text blind_word (word (nth 0 s) 0) vs)
 
--- ---- what they give
+-- ---- nets
 
-pub record Printed (d : List ℕ) (at : ℕ) (xs : List ℕ) (r : ℕ) (d' : List ℕ) : Type 0 where
-  pub end : r ≡ at + length xs
-  pub text : d' ≡ placed d at xs
-
-pub record Texted (d xs : List ℕ) (r : ℕ) (d' : List ℕ) : Type 0 where
-  pub room : length xs ≤ length d
-  pub len : r ≡ length xs
-  pub text : d' ≡ placed d 0 xs
+abbrev pub pair : List ℕ → ℕ
+pair s = word s 0

@@ -1,126 +1,101 @@
 // What the program prints, written to a lent buffer.
-ghost use Rattle.std.specs.Prelude.{◌≡◌, [], ◌∷◌, ◌+◌, ◌-◌, ◌<◌, ◌≤◌, length};
+ghost use Rattle.std.specs.Prelude.{◌≡◌, ℕ, [], ◌∷◌, ◌++◌, ◌+◌, ◌-◌, ◌<◌, ◌≤◌, length, map};
+ghost use Rattle.arrayvec.specs.ArrayVec.{array_vec_len};
 ghost use Rattle.records.specs.Bytes.{nth, word as word'};
 ghost use Rattle.records.specs.Job.{nets_of};
 ghost use Rattle.records.specs.Sheet.{quad};
-ghost use Rattle.report.specs.Text.{digits, number, numbers, line, unfixable_word, blind_word, patch_text, value_text, refused_text, longest_text, printed_length, printed_bytes};
-ghost use Rattle.report.specs.Inner.{PatchSheet, BlindSheet, UnfixableSheet, ChoiceSheet, patch_sheet_text, choice_text, Printed, Texted};
+ghost use Rattle.report.specs.Text.{digits, number, line, unfixable_word, blind_word, patch_text, value_text, refused_text, rectify_text, longest_text, printed_length, printed_bytes};
+ghost use Rattle.report.specs.Inner.{PatchSheet, BlindSheet, UnfixableSheet, ChoiceSheet, patch_sheet_text, choice_text, pair};
 
+use arrayvec::ArrayVec;
 use engine::{LONGEST_CHOOSE, LONGEST_JUDGE, choose, judge};
-use records::wide;
 
 // The buffer that rectify_text asks for (specs/Text.antt).
 pub const LONGEST_TEXT: usize = 8366;
+
+// What is written so far.
+type Text = ArrayVec<u8, LONGEST_TEXT>;
+
+// What a line has behind its word: numbers, the numbers of bytes, and nets, two bytes each.
+trait Shown: Copy {
+    ghost shown: { Self → ℕ };
+
+    fn wide(self) -> usize
+        ensures { result ≡ shown self };
+}
+
+impl Shown for usize {
+    ghost shown = { λ x. x };
+
+    fn wide(self) -> usize {
+        self
+    }
+}
+
+impl Shown for u8 {
+    ghost shown = { λ x. x };
+
+    fn wide(self) -> usize {
+        usize::from(self)
+    }
+}
+
+impl Shown for [u8; 2] {
+    ghost shown = { pair };
+
+    fn wide(self) -> usize {
+        usize::from(u16::from_be_bytes(self))
+    }
+}
+
+// The digits of x.
+fn put_digits(text: &mut Text, x: usize)
+    requires { array_vec_len text.old + length (digits x) ≤ longest_text }
+    ensures { text.new.items ≡ text.old.items ++ digits x }
+{
+    if x < 10 {
+        text.push(b'0' + x as u8);
+        return;
+    }
+    put_digits(text, x / 10);
+    text.push(b'0' + (x % 10) as u8);
+}
+
+// A space and the digits of x.
+fn put_number(text: &mut Text, x: usize)
+    requires { array_vec_len text.old + length (number x) ≤ longest_text }
+    ensures { text.new.items ≡ text.old.items ++ number x }
+{
+    text.push(b' ');
+    put_digits(text, x);
+}
+
+// A line: a word and numbers.
+fn put_line<T: Shown>(text: &mut Text, word: &[u8], values: &[T])
+    requires { array_vec_len text.old + length (line word.now (map T.shown values.now)) ≤ longest_text }
+    ensures { text.new.items ≡ text.old.items ++ line word.now (map T.shown values.now) }
+{
+    text.try_extend_from_slice(word).unwrap();
+    for x in values {
+        put_number(text, x.wide());
+    }
+    text.push(b'\n');
+}
+
+// The text of a refusal with this number.
+fn put_refusal(text: &mut Text, number: u8)
+    requires { text.old.items ≡ [] }
+    ensures { text.new.items ≡ refused_text number }
+{
+    put_line(text, b"refused", &[number]);
+}
 
 // The two-byte number at a position.
 fn word_at(s: &[u8], at: usize) -> usize
     requires { at + 1 < length s.now }
     ensures { result ≡ word' s.now at }
 {
-    256 * wide(s[at]) + wide(s[at + 1])
-}
-
-// The digits of x from position at on; the position behind them.
-fn put_digits(text: &mut [u8], at: usize, x: usize) -> usize
-    requires { at + length (digits x) ≤ length text.old }
-    ensures { Printed text.old at (digits x) result text.new }
-{
-    if x < 10 {
-        text[at] = 48 + x as u8;
-        return at + 1;
-    }
-    let end = put_digits(text, at, x / 10);
-    text[end] = 48 + (x % 10) as u8;
-    end + 1
-}
-
-// A space and the digits of x.
-fn put_number(text: &mut [u8], at: usize, x: usize) -> usize
-    requires { at + length (number x) ≤ length text.old }
-    ensures { Printed text.old at (number x) result text.new }
-{
-    text[at] = 32;
-    put_digits(text, at + 1, x)
-}
-
-// A word.
-fn put_word(text: &mut [u8], at: usize, word: &[u8]) -> usize
-    requires { at + length word.now ≤ length text.old }
-    ensures { Printed text.old at word.now result text.new }
-{
-    let mut i = 0usize;
-    while i < word.len() {
-        text[at + i] = word[i];
-        i += 1;
-    }
-    at + i
-}
-
-// The number of each byte.
-fn put_bytes(text: &mut [u8], at: usize, bytes: &[u8]) -> usize
-    requires { at + length (numbers bytes.now) ≤ length text.old }
-    ensures { Printed text.old at (numbers bytes.now) result text.new }
-{
-    let mut end = at;
-    for i in 0..bytes.len() {
-        end = put_number(text, end, wide(bytes[i]));
-    }
-    end
-}
-
-// The number of each net, two bytes each.
-fn put_nets(text: &mut [u8], at: usize, nets: &[u8]) -> usize
-    requires { at + length (numbers (nets_of nets.now)) ≤ length text.old }
-    ensures { Printed text.old at (numbers (nets_of nets.now)) result text.new }
-{
-    let count = nets.len() / 2;
-    let mut end = at;
-    for i in 0..count {
-        end = put_number(text, end, word_at(nets, 2 * i));
-    }
-    end
-}
-
-// A line: a word, a number.
-fn put_number_line(text: &mut [u8], at: usize, word: &[u8], x: usize) -> usize
-    requires { at + length (line word.now (x ∷ [])) ≤ length text.old }
-    ensures { Printed text.old at (line word.now (x ∷ [])) result text.new }
-{
-    let a = put_word(text, at, word);
-    let b = put_number(text, a, x);
-    text[b] = 10;
-    b + 1
-}
-
-// A line: a word, the number of each byte.
-fn put_bytes_line(text: &mut [u8], at: usize, word: &[u8], bytes: &[u8]) -> usize
-    requires { at + length (line word.now bytes.now) ≤ length text.old }
-    ensures { Printed text.old at (line word.now bytes.now) result text.new }
-{
-    let a = put_word(text, at, word);
-    let b = put_bytes(text, a, bytes);
-    text[b] = 10;
-    b + 1
-}
-
-// A line: a word, the number of each net.
-fn put_nets_line(text: &mut [u8], at: usize, word: &[u8], nets: &[u8]) -> usize
-    requires { at + length (line word.now (nets_of nets.now)) ≤ length text.old }
-    ensures { Printed text.old at
-        (line word.now (nets_of nets.now)) result text.new }
-{
-    let a = put_word(text, at, word);
-    let b = put_nets(text, a, nets);
-    text[b] = 10;
-    b + 1
-}
-
-// The text of a refusal with this number.
-fn refused_text(number: u8, text: &mut [u8]) -> usize
-    requires { longest_text ≤ length text.old }
-    ensures { Texted text.old (refused_text number) result text.new }
-{
-    put_number_line(text, 0, b"refused", wide(number))
+    usize::from(u16::from_be_bytes([s[at], s[at + 1]]))
 }
 
 // The four-byte number at the front of s.
@@ -128,7 +103,7 @@ fn quad_at(s: &[u8]) -> usize
     requires { 4 ≤ length s.now }
     ensures { result ≡ quad s.now }
 {
-    65536 * word_at(s, 0) + word_at(s, 2)
+    u32::from_be_bytes([s[0], s[1], s[2], s[3]]) as usize
 }
 
 // Where the field whose bytes start at this position ends.
@@ -140,80 +115,104 @@ fn field_end(s: &[u8], start: usize) -> usize
 }
 
 // The lines of a patch.
-fn patch_lines(
-    text: &mut [u8],
+fn put_patch_lines(
+    text: &mut Text,
     cost: usize,
     support: &[u8],
     table: &[u8],
     vectors: &[u8],
     notes: &[u8],
-) -> usize
-    requires { length (patch_text cost (nets_of support.now) table.now vectors.now notes.now) ≤ length text.old }
-    ensures { Texted text.old (patch_text cost (nets_of support.now) table.now
-        vectors.now notes.now) result text.new }
+)
+    requires empty { text.old.items ≡ [] }
+    requires room { length (patch_text cost (nets_of support.now) table.now vectors.now notes.now) ≤ longest_text }
+    ensures { text.new.items ≡ patch_text cost (nets_of support.now) table.now vectors.now notes.now }
 {
-    let a = put_number_line(text, 0, b"patch cost", cost);
-    let b = put_nets_line(text, a, b"support", support);
-    let c = put_bytes_line(text, b, b"table", table);
-    let d = put_bytes_line(text, c, b"vectors", vectors);
-    put_bytes_line(text, d, b"notes", notes)
+    let (nets, _) = support.as_chunks::<2>();
+    put_line(text, b"patch cost", &[cost]);
+    put_line(text, b"support", nets);
+    put_line(text, b"table", table);
+    put_line(text, b"vectors", vectors);
+    put_line(text, b"notes", notes);
 }
 
 // The text of a patch's sheet, with the vector list.
-fn patch_text(sheet: &[u8], vectors: &[u8], text: &mut [u8]) -> usize
-    requires { (PatchSheet sheet.now) × (length vectors.now ≤ 16) × (longest_text ≤ length text.old) }
-    ensures { Texted text.old (patch_sheet_text sheet.now vectors.now) result text.new }
+fn put_patch(text: &mut Text, sheet: &[u8], vectors: &[u8])
+    requires { (PatchSheet sheet.now) × (length vectors.now ≤ 16) × (text.old.items ≡ []) }
+    ensures { text.new.items ≡ patch_sheet_text sheet.now vectors.now }
 {
     let table = field_end(sheet, 3) + 3;
     let cost = field_end(sheet, table) + 3;
     let notes = cost + 7;
     let paid = quad_at(&sheet[cost..notes - 3]);
-    patch_lines(
+    put_patch_lines(
         text,
         paid,
         &sheet[3..table - 3],
         &sheet[table..cost - 3],
         vectors,
         &sheet[notes..],
-    )
+    );
 }
 
 // The lines of an unfixable input or a blind reading x.
-fn value_lines(text: &mut [u8], word: &[u8], x: usize, vectors: &[u8]) -> usize
-    requires { length (value_text word.now x vectors.now) ≤ length text.old }
-    ensures { Texted text.old (value_text word.now x vectors.now) result text.new }
+fn put_value_lines(text: &mut Text, word: &[u8], x: usize, vectors: &[u8])
+    requires empty { text.old.items ≡ [] }
+    requires room { length (value_text word.now x vectors.now) ≤ longest_text }
+    ensures { text.new.items ≡ value_text word.now x vectors.now }
 {
-    let a = put_number_line(text, 0, word, x);
-    put_bytes_line(text, a, b"vectors", vectors)
+    put_line(text, word, &[x]);
+    put_line(text, b"vectors", vectors);
 }
 
 // The text of an unfixable input's sheet.
-fn unfixable_text(sheet: &[u8], text: &mut [u8]) -> usize
-    requires { (UnfixableSheet sheet.now) × (longest_text ≤ length text.old) }
-    ensures { Texted text.old
-        (value_text unfixable_word (quad (nth 0 sheet.now)) (nth 1 sheet.now)) result text.new }
+fn put_unfixable(text: &mut Text, sheet: &[u8])
+    requires { (UnfixableSheet sheet.now) × (text.old.items ≡ []) }
+    ensures { text.new.items ≡ value_text unfixable_word (quad (nth 0 sheet.now)) (nth 1 sheet.now) }
 {
-    value_lines(text, b"unfixable", quad_at(&sheet[3..7]), &sheet[10..])
+    put_value_lines(text, b"unfixable", quad_at(&sheet[3..7]), &sheet[10..]);
 }
 
 // The text of a blind reading's sheet, with the vector list.
-fn blind_text(sheet: &[u8], vectors: &[u8], text: &mut [u8]) -> usize
-    requires { (BlindSheet sheet.now) × (length vectors.now ≤ 16) × (longest_text ≤ length text.old) }
-    ensures { Texted text.old
-        (value_text blind_word (word' (nth 0 sheet.now) 0) vectors.now) result text.new }
+fn put_blind(text: &mut Text, sheet: &[u8], vectors: &[u8])
+    requires { (BlindSheet sheet.now) × (length vectors.now ≤ 16) × (text.old.items ≡ []) }
+    ensures { text.new.items ≡ value_text blind_word (word' (nth 0 sheet.now) 0) vectors.now }
 {
-    value_lines(text, b"blind", word_at(&sheet[3..5], 0), vectors)
+    put_value_lines(text, b"blind", word_at(&sheet[3..5], 0), vectors);
 }
 
 // The text of choose's sheet, with the vector list.
-fn choice_text(sheet: &[u8], vectors: &[u8], text: &mut [u8]) -> usize
-    requires { (ChoiceSheet sheet.now) × (length vectors.now ≤ 16) × (longest_text ≤ length text.old) }
-    ensures { Texted text.old (choice_text sheet.now vectors.now) result text.new }
+fn put_choice(text: &mut Text, sheet: &[u8], vectors: &[u8])
+    requires { (ChoiceSheet sheet.now) × (length vectors.now ≤ 16) × (text.old.items ≡ []) }
+    ensures { text.new.items ≡ choice_text sheet.now vectors.now }
 {
     if sheet[0] == 16 {
-        return patch_text(sheet, vectors, text);
+        put_patch(text, sheet, vectors);
+        return;
     }
-    blind_text(sheet, vectors, text)
+    put_blind(text, sheet, vectors);
+}
+
+// The text for a job's bytes: judge's verdict where it is unfixable, else choose's with judge's vector list.
+fn put_verdict(text: &mut Text, job: &[u8])
+    requires { text.old.items ≡ [] }
+    ensures { text.new.items ≡ rectify_text job.now }
+{
+    if 65535 < job.len() {
+        return put_refusal(text, 2);
+    }
+    let mut first = [0u8; LONGEST_JUDGE];
+    let judged = judge(job, &mut first);
+    if judged.number != 0 {
+        return put_refusal(text, judged.number);
+    }
+    let m = judged.len;
+    if first[0] == 20 {
+        return put_unfixable(text, &first[..m]);
+    }
+    let mut second = [0u8; LONGEST_CHOOSE];
+    let found = choose(job, &mut second);
+    let n = found.len;
+    put_choice(text, &second[..n], &first[3..m]);
 }
 
 // What the program `rectify` prints for a job's bytes: judge's verdict where it is unfixable, else choose's with judge's vector list. Where
@@ -227,20 +226,9 @@ pub fn rectify_text(job: &[u8], text: &mut [u8]) -> usize
     if text.len() < LONGEST_TEXT {
         return 0;
     }
-    if 65535 < job.len() {
-        return refused_text(2, text);
-    }
-    let mut first = [0u8; LONGEST_JUDGE];
-    let judged = judge(job, &mut first);
-    if judged.number != 0 {
-        return refused_text(judged.number, text);
-    }
-    let m = judged.len;
-    if first[0] == 20 {
-        return unfixable_text(&first[..m], text);
-    }
-    let mut second = [0u8; LONGEST_CHOOSE];
-    let found = choose(job, &mut second);
-    let n = found.len;
-    choice_text(&second[..n], &first[3..m], text)
+    let mut printed = Text::new();
+    put_verdict(&mut printed, job);
+    let len = printed.len();
+    text[..len].copy_from_slice(printed.as_slice());
+    len
 }

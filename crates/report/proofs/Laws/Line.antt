@@ -1,22 +1,19 @@
 -- Laws of numbers and lines: digits, pieces placed one after the other, and how long they are. Assumes nothing.
 use Prim.Native.Nat.{ℕ, zero, suc, ◌+◌, ◌*◌, ◌/◌, ◌%◌, ◌^◌, ◌≤◌, ◌<◌}
 use mathlib.Core.Path.{◌≡◌, refl, sym, ◌∙◌, ap}
-use mathlib.Core.List.{List, [], ◌∷◌, ◌++◌, append-nil}
+use mathlib.Core.List.{List, [], ◌∷◌, ◌++◌, map, append_assoc, map-id}
 use mathlib.Core.Logic.{⊎_elim}
-use native.Mathlib.Nat.{add_assoc, mul-suc, pow-suc}
-use native.Mathlib.Numerals.{add-one}
+use native.Mathlib.Nat.{mul-suc, pow-suc}
 use native.Mathlib.Omega.{arith}
 use borrow.Author.Tests.{lt-ltb, le-ltb, ltb-true, ltb-false}
 use lib.Dec.{ltb}
-use lib.ListN.{length, get_or, take, drop, set, length-append, take-append-drop}
-use lib.Seq.{length-take-le, take_all, take-suc}
+use lib.ListN.{length, get_or, take, drop, length-append, take-append-drop}
+use Rattle.std.proofs.lemmas.List.{map_more, take-map}
 use Rattle.records.specs.Bytes.{flat}
 use Rattle.records.specs.Claims.{Below}
-use Rattle.records.proofs.Laws.Bytes.{placed-nil, length-placed, set-placed}
-use Rattle.records.proofs.Laws.Job.{placed-then, flat_append, flat-snoc}
+use Rattle.records.proofs.Laws.Job.{flat_append, flat-snoc}
 use Rattle.engine.proofs.Laws.Choice.{true-or-false}
 use Rattle.report.specs.Text.{digits_within, digits, number, numbers, line}
-use Rattle.report.specs.Inner.{Printed}
 
 -- ---- digits
 
@@ -83,123 +80,62 @@ length-digits-le (suc k) x h =
     omega (arith, length-digits-more x (ltb-false x 10 m)))
     (true-or-false (ltb x 10))
 
--- ---- what is printed, one piece after the other
+-- ---- pieces, one after the other
 
-pub printed-none : (d : List ℕ) (at : ℕ) → Printed d at [] at d
-printed-none d at = record { end = omega arith; text = sym (placed-nil d at) }
+-- b is a with xs behind, and c is b with ys behind
+pub behind : (a xs ys : List ℕ) {b c : List ℕ} → b ≡ a ++ xs → c ≡ b ++ ys → c ≡ a ++ (xs ++ ys)
+behind a xs ys e f = f ∙ ap (λ (zs : List ℕ). zs ++ ys) e ∙ append_assoc a xs ys
 
-module _ {d d₁ : List ℕ} {at p : ℕ} {xs : List ℕ} (a : Printed d at xs p d₁) where
-  pub printed-length : at + length xs ≤ length d → length d₁ ≡ length d
-  printed-length h = ap length a.text ∙ length-placed d at xs h
+pub length-behind : (a xs : List ℕ) {b : List ℕ} → b ≡ a ++ xs → length b ≡ length a + length xs
+length-behind a xs e = ap length e ∙ length-append a xs
 
-  pub printed-then : {d₂ : List ℕ} {r : ℕ} {ys : List ℕ} → Printed d₁ p ys r d₂ → at + length (xs ++ ys) ≤ length d
-      → Printed d at (xs ++ ys) r d₂
-  printed-then {d₂} {r} {ys} b h =
-      let e = length-append xs ys in
-      let f = a.end in
-      let g = b.end in
-      record { end = omega arith; text = placed-then d at xs ys p f (omega arith) a.text b.text }
+-- ---- the numbers of a list's values, from the first on
 
-  pub printed-set : (x : ℕ) → at + length (xs ++ (x ∷ [])) ≤ length d → Printed d at (xs ++ (x ∷ [])) (p + 1) (set d₁ p x)
-  printed-set x h =
-      let e = length-append xs (x ∷ []) in
-      let f = a.end in
-      record { end = omega arith; text = rw (a.text, a.end) (set-placed d at xs x (omega arith)) }
+module _ {A : Type 0} (f : A → ℕ) (xs : List A) where
+  pub numbers-take : (i : ℕ) (x : A) → i < length xs → x ≡ get_or xs i x
+      → numbers (map f (take (i + 1) xs)) ≡ numbers (map f (take i xs)) ++ number (f x)
+  unfolding numbers
+  numbers-take i x l e =
+      ap (flat number) (map_more f xs i x l)
+      ∙ flat-snoc number (map f (take i xs)) (f (get_or xs i x))
+      ∙ ap (λ (y : A). flat number (map f (take i xs)) ++ number (f y)) (sym e)
 
-module _ (d : List ℕ) (at x : ℕ) (h : at + length (digits x) ≤ length d) where
-  pub printed-digit : x < 10 → Printed d at (digits x) (at + 1) (set d at (48 + x))
-  printed-digit l =
-      let e = digits-small x l in
-      rw e (printed-set (printed-none d at) (48 + x) (rw e at h))
-
-  pub printed-digits : 10 ≤ x → {d₁ : List ℕ} {p : ℕ} → Printed d at (digits (x / 10)) p d₁
-      → Printed d at (digits x) (p + 1) (set d₁ p (48 + x % 10))
-  printed-digits l a =
-      let e = digits_more x l in
-      rw e (printed-set a (48 + x % 10) (rw e at h))
-
--- a word, byte by byte
-pub printed-copy : (d : List ℕ) (at : ℕ) (xs : List ℕ) → at + length xs ≤ length d → {d₁ : List ℕ} (i : ℕ) → i < length xs
-    → Printed d at (take i xs) (at + i) d₁ → Printed d at (take (i + 1) xs) (at + (i + 1)) (set d₁ (at + i) (get_or xs i 0))
-printed-copy d at xs h i l a =
-    let e : take (i + 1) xs ≡ take i xs ++ (get_or xs i 0 ∷ []) = rw add-one (take-suc xs i 0 l) in
-    let n : length (take (i + 1) xs) ≡ i + 1 = length-take-le (i + 1) xs (omega arith) in
-    let m : at + length (take (i + 1) xs) ≤ length d = omega arith in
-    rw (e, ← add_assoc at i 1) (printed-set a (get_or xs i 0) (rw e at m))
-
--- pieces f x for the elements x of a list
-pub record Printing (f : ℕ → List ℕ) (xs : List ℕ) (d : List ℕ) (at i end : ℕ) (d₁ : List ℕ) : Type 0 where
-  pub long : length d₁ ≡ length d
-  pub sofar : Printed d at (flat f (take i xs)) end d₁
-
-module _ (f : ℕ → List ℕ) (xs : List ℕ) where
-  flat-take : (i : ℕ) → i < length xs → flat f (take (i + 1) xs) ≡ flat f (take i xs) ++ f (get_or xs i 0)
-  flat-take i l = rw (add-one, take-suc xs i 0 l) (flat-snoc f (take i xs) (get_or xs i 0))
-
-  flat-take-le : (i : ℕ) → length (flat f (take i xs)) ≤ length (flat f xs)
-  flat-take-le i =
-      let e : flat f xs ≡ flat f (take i xs) ++ flat f (drop i xs) =
-      ap (flat f) (sym (take-append-drop i xs)) ∙ flat_append f (take i xs) (drop i xs) in
-      omega (arith, ap length e, length-append (flat f (take i xs)) (flat f (drop i xs)))
-
-  module _ (d : List ℕ) (at : ℕ) (room : at + length (flat f xs) ≤ length d) where
-    pub printing-none : Printing f xs d at 0 at d
-    unfolding flat
-    printing-none = record { long = refl; sofar = printed-none d at }
-
-    module _ {i end : ℕ} {d₁ : List ℕ} (l : i < length xs) (a : Printing f xs d at i end d₁) where
-      piece-room : at + length (flat f (take i xs) ++ f (get_or xs i 0)) ≤ length d
-      piece-room =
-          let n : at + length (flat f (take (i + 1) xs)) ≤ length d = omega (arith, flat-take-le (i + 1)) in
-          rw (flat-take i l) at n
-
-      pub printing-room : {x : ℕ} → x ≡ get_or xs i 0 → end + length (f x) ≤ length d₁
-      printing-room e =
-          let n = piece-room in
-          let b = a.sofar.end in
-          let m = a.long in
-          rw e (omega (arith, length-append (flat f (take i xs)) (f (get_or xs i 0))))
-
-      pub printing-next : {x r : ℕ} {d₂ : List ℕ} → x ≡ get_or xs i 0 → Printed d₁ end (f x) r d₂
-          → Printing f xs d at (i + 1) r d₂
-      printing-next e b =
-          let m = a.long in
-          record {
-            long = printed-length b (printing-room e) ∙ a.long;
-            sofar = rw (flat-take i l) (printed-then a.sofar (rw e at b) piece-room);
-          }
-
-    pub printing-all : {i end : ℕ} {d₁ : List ℕ} → length xs ≤ i → Printing f xs d at i end d₁ → Printed d at (flat f xs) end d₁
-    printing-all {i} l a = rw (take_all i xs l) at a.sofar
-
--- a number is a space and its digits
-pub number-room : (d : List ℕ) (at x : ℕ) → at + length (number x) ≤ length d
-    → (at < length d) × (at + 1 + length (digits x) ≤ length d)
-unfolding number
-number-room d at x h = (omega arith, omega arith)
-
-pub printed-number : (d : List ℕ) (at x : ℕ) → at + length (number x) ≤ length d → {r : ℕ} {d₁ : List ℕ}
-    → Printed (set d at 32) (at + 1) (digits x) r d₁ → Printed d at (number x) r d₁
-unfolding number
-printed-number d at x h a = printed-then (printed-set (printed-none d at) 32 (omega arith)) a h
+  pub numbers-take-le : (i : ℕ) → length (numbers (map f (take i xs))) ≤ length (numbers (map f xs))
+  unfolding numbers
+  numbers-take-le i =
+      let e : flat number (map f xs) ≡ flat number (take i (map f xs)) ++ flat number (drop i (map f xs)) =
+      ap (flat number) (sym (take-append-drop i (map f xs))) ∙ flat_append number (take i (map f xs)) (drop i (map f xs)) in
+      rw (← take-map f i xs)
+      (omega (arith, ap length e, length-append (flat number (take i (map f xs))) (flat number (drop i (map f xs)))))
 
 -- ---- lines
-
-pub numbers-one : (x : ℕ) → numbers (x ∷ []) ≡ number x
-unfolding numbers flat
-numbers-one x = append-nil (number x)
 
 pub length-line : (w xs : List ℕ) → length (line w xs) ≡ length w + length (numbers xs) + 1
 unfolding line
 length-line w xs =
     length-append (w ++ numbers xs) (10 ∷ []) ∙ ap (λ (k : ℕ). k + 1) (length-append w (numbers xs))
 
-pub printed-line : {d d₁ d₂ : List ℕ} {at p q : ℕ} (w xs : List ℕ) → at + length (line w xs) ≤ length d
-    → Printed d at w p d₁ → Printed d₁ p (numbers xs) q d₂ → Printed d at (line w xs) (q + 1) (set d₂ q 10)
-unfolding line
-printed-line w xs h a b =
-    let e = length-append (w ++ numbers xs) (10 ∷ []) in
-    printed-set (printed-then a b (omega arith)) 10 h
+-- the numbers of a list are its values
+pub line-same : (w xs : List ℕ) → line w (map (λ (x : ℕ). x) xs) ≡ line w xs
+line-same w xs = ap (line w) (map-id xs)
+
+pub line-same_room : (n m : ℕ) (w xs : List ℕ) → n + length (line w xs) ≤ m → n + length (line w (map (λ (x : ℕ). x) xs)) ≤ m
+line-same_room n m w xs h = rw (line-same w xs) h
+
+-- the line of a list's values that are passed up to i
+module _ {A : Type 0} (f : A → ℕ) (w : List ℕ) (xs : List A) (i n : ℕ) (room : n + length (line w (map f xs)) ≤ 8366) where
+  pub line_room : n + length w + length (numbers (map f (take i xs))) + 1 ≤ 8366
+  line_room = omega (arith, length-line w (map f xs), numbers-take-le f xs i)
+
+  pub line_more_room : (x : A) → i < length xs → x ≡ get_or xs i x
+      → n + length w + length (numbers (map f (take i xs))) + length (number (f x)) + 1 ≤ 8366
+  line_more_room x l e =
+      omega (
+        arith,
+        length-line w (map f xs),
+        numbers-take-le f xs (i + 1),
+        length-behind (numbers (map f (take i xs))) (number (f x)) (numbers-take f xs i x l e),
+      )
 
 -- ---- how long numbers and lines are
 

@@ -1,13 +1,13 @@
 -- Laws of what rectify_text prints: by the buffer's length, the job's length and what judge and choose say. Assumes nothing.
 use Prim.Native.Nat.{ℕ, ◌+◌, ◌-◌, ◌≤◌, ◌<◌}
 use mathlib.Core.Path.{◌≡◌, refl, sym, ◌∙◌, ap}
-use mathlib.Core.List.{List}
+use mathlib.Core.List.{List, ◌++◌}
 use mathlib.Core.Option.{none}
 use native.Mathlib.Omega.{arith}
 use borrow.Author.Tests.{lt-ltb, le-ltb}
 use lib.ListN.{length, get_or, take, drop, replicate}
 use lib.Seq.{get_or-take}
-use Rattle.records.specs.Bytes.{nth}
+use Rattle.records.specs.Bytes.{placed, nth}
 use Rattle.records.specs.Job.{job_of}
 use Rattle.records.specs.Refusal.{job_refusal}
 use Rattle.records.specs.Sheet.{quad}
@@ -21,29 +21,25 @@ use Rattle.engine.specs.declared.choosing.ChooseReply.{ChooseReply}
 use Rattle.engine.proofs.Laws.Verdict.{vectors-le}
 use Rattle.engine.proofs.Replies.{judge-replies, choose-replies, sheet-length, sheet-short, sheet-bytes, judge-accepts, refuse-alike, longest-judged, longest-chosen}
 use Rattle.report.specs.Text.{unfixable_word, value_text, refused_text, input_limit, rectify_text, longest_text, printed_length, printed_bytes}
-use Rattle.report.specs.Inner.{UnfixableSheet, ChoiceSheet, choice_text, Texted}
+use Rattle.report.specs.Inner.{UnfixableSheet, ChoiceSheet, choice_text}
 use Rattle.report.proofs.Laws.Sheet.{unfixable-sheet, choice-sheet, judge-some, tag-unfixable, tag-fixable, vectors-behind}
-use Rattle.report.proofs.Laws.Text.{judge-text, choose-text, rectify-long, rectify-accepted, rectify-refused}
+use Rattle.report.proofs.Laws.Text.{judge-text, choose-text, rectify-accepted, rectify-refused}
 
+-- a text at the start of the lent buffer d: the length and the buffer are those of the definition, and the length is within the buffer
 module _ (d s : List ℕ) where
-  -- the length and the buffer are those of the definition, and the length is within the buffer
   abbrev pub Told : ℕ → List ℕ → Type 0
   Told r d' = (r ≡ printed_length d s) × ((d' ≡ printed_bytes d s) × (r ≤ length d))
 
-  pub printed-short : length d < longest_text → Told 0 d
+  pub told-short : length d < longest_text → Told 0 d
   unfolding printed_length printed_bytes
-  printed-short h = let e = lt-ltb (length d) longest_text h in (rw e refl, (rw e refl, omega arith))
+  told-short h = let e = lt-ltb (length d) longest_text h in (rw e refl, (rw e refl, omega arith))
 
-  printed-of : {r : ℕ} {t d' : List ℕ} → longest_text ≤ length d → rectify_text s ≡ t → Texted d t r d'
-      → Told r d'
-  unfolding printed_length printed_bytes
-  printed-of h q w =
-      let e = le-ltb (length d) longest_text h in
-      (rw (e, q) w.len, (rw (e, q) w.text, omega (arith, w.len, w.room)))
-
-  pub printed-long : {r : ℕ} {d' : List ℕ} → longest_text ≤ length d → input_limit < length s → Texted d (refused_text 2) r d'
-      → Told r d'
-  printed-long h l w = printed-of h (rectify-long s l) w
+  pub told : longest_text ≤ length d → {t : List ℕ} → t ≡ rectify_text s → length t ≤ longest_text → Told (length t) (t ++ drop (length t) d)
+  unfolding printed_length printed_bytes placed
+  told h {t} e l =
+      let o = le-ltb (length d) longest_text h in
+      let n : 0 + length t ≡ length t = omega arith in
+      (rw (o, ← e) refl, (rw (o, ← e, n) refl, omega arith))
 
 -- ---- what judge says
 
@@ -64,11 +60,10 @@ module _ (s : List ℕ) {r : JudgeReply} (e : r ≡ judge_reply blank_judge s) w
   judge-number : r.number ≡ job_refusal s
   judge-number = (judge-replies blank_judge s e).number ∙ refuse-alike.2 blank_judge s (omega arith)
 
-  pub printed-refused : (d : List ℕ) {k : ℕ} {d' : List ℕ} → longest_text ≤ length d → length s ≤ input_limit
-      → (r.number ≡ 0 → ⊥) → Texted d (refused_text r.number) k d' → Told d s k d'
-  printed-refused d h l n w =
+  pub refused-text : length s ≤ input_limit → (r.number ≡ 0 → ⊥) → refused_text r.number ≡ rectify_text s
+  refused-text l n =
       let q = judge-number in
-      printed-of d s h (rectify-refused s l (λ z. n (q ∙ z)) ∙ ap refused_text (sym q)) w
+      ap refused_text q ∙ sym (rectify-refused s l (λ z. n (q ∙ z)))
 
   module _ (z : r.number ≡ 0) where
     accepted : job_refusal s ≡ 0
@@ -112,12 +107,11 @@ module _ (s : List ℕ) {r : JudgeReply} (e : r ≡ judge_reply blank_judge s) w
         judge-unfixable =
             rw judged (unfixable-sheet (job_of s) good (tag-unfixable (job_of s) (judge-tag ∙ t)).1)
 
-        pub printed-unfixable : (d : List ℕ) {k : ℕ} {d' : List ℕ} → longest_text ≤ length d → length s ≤ input_limit
-            → let sheet = take r.len b in
-            Texted d (value_text unfixable_word (quad (nth 0 sheet)) (nth 1 sheet)) k d' → Told d s k d'
-        printed-unfixable d h l u =
-            printed-of d s h (rectify-accepted s l accepted)
-            (rw (judged, judge-text (job_of s) (tag-unfixable (job_of s) (judge-tag ∙ t)).1) at u)
+        pub unfixable-text : length s ≤ input_limit
+            → let sheet = take r.len b in value_text unfixable_word (quad (nth 0 sheet)) (nth 1 sheet) ≡ rectify_text s
+        unfixable-text l =
+            rw judged
+            (judge-text (job_of s) (tag-unfixable (job_of s) (judge-tag ∙ t)).1 ∙ sym (rectify-accepted s l accepted))
 
       -- .. or it is not
       module _ (n : get_or b 0 0 ≡ 20 → ⊥) where
@@ -130,9 +124,6 @@ module _ (s : List ℕ) {r : JudgeReply} (e : r ≡ judge_reply blank_judge s) w
         pub vectors-short : length (take (r.len - 3) (drop 3 b)) ≤ 16
         vectors-short = rw vectors-part (vectors-le (job_of s) good)
 
-        pub printed-chosen : {a : ChooseReply} → a ≡ choose_reply blank_choose s → {g : List ℕ} → g ≡ chosen_bytes blank_choose s
-            → (d : List ℕ) {k : ℕ} {d' : List ℕ} → longest_text ≤ length d → length s ≤ input_limit
-            → Texted d (choice_text (take a.len g) (take (r.len - 3) (drop 3 b))) k d' → Told d s k d'
-        printed-chosen f v d h l u =
-            printed-of d s h (rectify-accepted s l accepted)
-            (rw (chose f v, vectors-part, choose-text (job_of s) fixable) at u)
+        pub chosen-text : {a : ChooseReply} → a ≡ choose_reply blank_choose s → {g : List ℕ} → g ≡ chosen_bytes blank_choose s
+            → length s ≤ input_limit → choice_text (take a.len g) (take (r.len - 3) (drop 3 b)) ≡ rectify_text s
+        chosen-text f v l = rw (chose f v, vectors-part) (choose-text (job_of s) fixable ∙ sym (rectify-accepted s l accepted))

@@ -1,7 +1,7 @@
 -- Laws of the texts: lines one after the other, that each has room, and which text is whose. Assumes nothing.
-use Prim.Native.Nat.{ℕ, ◌+◌, ◌*◌, ◌/◌, ◌≤◌, ◌<◌}
+use Prim.Native.Nat.{ℕ, zero, suc, ◌+◌, ◌*◌, ◌/◌, ◌≤◌, ◌<◌}
 use mathlib.Core.Path.{◌≡◌, refl, ◌∙◌, ap}
-use mathlib.Core.List.{List, [], ◌∷◌, ◌++◌}
+use mathlib.Core.List.{List, [], ◌∷◌, ◌++◌, map}
 use mathlib.Core.Logic.{⊎_elim}
 use mathlib.Core.Bool.{true, false}
 use mathlib.Core.Option.{none, some}
@@ -9,8 +9,10 @@ use native.Mathlib.Nat.{div-add-mod}
 use native.Mathlib.Omega.{arith}
 use borrow.Author.Tests.{lt-ltb, le-ltb, ne_eqb, ltb-true, ltb-false}
 use lib.Dec.{ltb}
-use lib.ListN.{length, get_or, length-append, get_or-eq_default}
-use Rattle.records.specs.Bytes.{byte_pair, word, field, nth}
+use lib.ListN.{length, get_or, take, drop, length-append, get_or-eq_default}
+use lib.Seq.{drop-drop, get_or-take, get_or-drop}
+use Rattle.std.specs.Simd.{first_chunks}
+use Rattle.records.specs.Bytes.{up_from, tabulate, byte_pair, word, field, nth}
 use Rattle.records.specs.Job.{Job, job_of, nets_of}
 use Rattle.records.specs.Sheet.{Patch, quad, sheet_tags, notes_tag, patch_of}
 use Rattle.records.specs.Refusal.{job_refusal}
@@ -24,8 +26,8 @@ use Rattle.engine.proofs.Laws.Choice.{true-or-false}
 use Rattle.engine.proofs.Laws.Verdict.{ruling-unfixable, ruling-patch, ruling-blind, judged-unfixable, chosen-patch, chosen-blind}
 use Rattle.engine.proofs.Replies.{patch-read, quad-four_bytes}
 use Rattle.report.specs.Text.{patch_word, support_word, table_word, vectors_word, notes_word, unfixable_word, blind_word, refused_word, line, patch_text, value_text, ruling_text, refused_text, input_limit, rectify_text, longest_text}
-use Rattle.report.specs.Inner.{PatchSheet, patch_sheet_text, choice_text, Printed, Texted}
-use Rattle.report.proofs.Laws.Line.{printed-then, length-number-line, length-nets-line, length-bytes-line}
+use Rattle.report.specs.Inner.{PatchSheet, patch_sheet_text, choice_text, pair}
+use Rattle.report.proofs.Laws.Line.{length-number-line, length-nets-line, length-bytes-line}
 use Rattle.report.proofs.Laws.Sheet.{below_field, field-body, value-fields}
 
 -- ---- numbers of a sheet
@@ -47,27 +49,40 @@ quad-lt s b = omega (arith, word_lt s 0 (b 0) (b 1), word_lt s 2 (b 2) (b 3))
 pub word-quad-lt : (s : List ℕ) → Below 256 s → word s 0 < 4294967296
 word-quad-lt s b = omega (arith, word_lt s 0 (b 0) (b 1))
 
+-- the pairs of bytes from net a on are the nets from there on
+pair-at : (s : List ℕ) (k : ℕ) → pair (take 2 (drop k s)) ≡ word s k
+unfolding word
+pair-at s k =
+    let z : k + 0 ≡ k = omega arith in
+    rw (get_or-take 2 (drop k s) 0 0 (omega arith), get_or-take 2 (drop k s) 1 0 (omega arith), get_or-drop k s 0 0, get_or-drop k s 1 0, z)
+    refl
+
+pairs-from : (s : List ℕ) (k a : ℕ) → map pair (first_chunks 2 k (drop (2 * a) s)) ≡ map (λ (i : ℕ). word s (2 * i)) (up_from a k)
+unfolding up_from
+pairs-from s zero a = refl
+pairs-from s (suc k) a =
+    let e : drop 2 (drop (2 * a) s) ≡ drop (2 * suc a) s = drop-drop 2 (2 * a) s ∙ ap (λ (n : ℕ). drop n s) (omega arith) in
+    rw (pair-at s (2 * a), e, pairs-from s k (suc a)) refl
+
+pub pairs-nets : (s : List ℕ) → map pair (first_chunks 2 (length s / 2) s) ≡ nets_of s
+unfolding nets_of tabulate
+pairs-nets s = pairs-from s (length s / 2) 0
+
 -- ---- texts
 
-texted : {d d' xs : List ℕ} {r : ℕ} → length xs ≤ length d → Printed d 0 xs r d' → Texted d xs r d'
-texted h a = let e = a.end in record { room = h; len = omega arith; text = a.text }
-
-pub refused-texted : {d d' : List ℕ} {x n r : ℕ} → n < 256 → longest_text ≤ length d → x ≡ n
-    → Printed d 0 (line refused_word (x ∷ [])) r d' → Texted d (refused_text n) r d'
-unfolding refused_text
-refused-texted {d} {d'} {x} {n} l h e a =
-    let m : length (line refused_word (n ∷ [])) ≤ length d = omega (arith, length-number-line refused_word n (omega arith)) in
-    texted m (rw e at a)
+pub refused_room : (n : ℕ) → n < 256 → length (line refused_word (n ∷ [])) ≤ longest_text
+refused_room n l = omega (arith, length-number-line refused_word n (omega arith))
 
 module _ (w : List ℕ) (x : ℕ) (vs : List ℕ) where
   pub length-value_text : length (value_text w x vs) ≡ length (line w (x ∷ [])) + length (line vectors_word vs)
   unfolding value_text
   length-value_text = length-append (line w (x ∷ [])) (line vectors_word vs)
 
-  pub value-texted : {d d₁ d₂ : List ℕ} {p r : ℕ} → length (value_text w x vs) ≤ length d
-      → Printed d 0 (line w (x ∷ [])) p d₁ → Printed d₁ p (line vectors_word vs) r d₂ → Texted d (value_text w x vs) r d₂
+  pub value-lines : {t₀ t₁ t₂ : List ℕ} → t₀ ≡ [] → t₁ ≡ t₀ ++ line w (x ∷ []) → t₂ ≡ t₁ ++ line vectors_word vs
+      → t₂ ≡ value_text w x vs
   unfolding value_text
-  value-texted h a b = texted h (printed-then a b (omega arith))
+  value-lines z h i =
+      i ∙ ap (λ (ys : List ℕ). ys ++ line vectors_word vs) (h ∙ ap (λ (ys : List ℕ). ys ++ line w (x ∷ [])) z)
 
 pub value_room : (w : List ℕ) {x y : ℕ} {vs us : List ℕ} → length w ≤ 9 → y < 4294967296 → length us ≤ 16 → Below 256 us
     → x ≡ y → vs ≡ us → length (value_text w x vs) ≤ longest_text
@@ -100,17 +115,15 @@ module _ (c : ℕ) (is es vs ns : List ℕ) where
   unfolding patch_text
   length-patch_text = simp length-append refl
 
-  pub patch-texted : {d d₁ d₂ d₃ d₄ d₅ : List ℕ} {p q o n r : ℕ} → length (patch_text c is es vs ns) ≤ length d
-      → Printed d 0 cost_line p d₁ → Printed d₁ p nets_line q d₂ → Printed d₂ q table_line o d₃ → Printed d₃ o vectors_line n d₄
-      → Printed d₄ n notes_line r d₅ → Texted d (patch_text c is es vs ns) r d₅
+  pub patch-lines : {t₀ t₁ t₂ t₃ t₄ t₅ : List ℕ} → t₀ ≡ [] → t₁ ≡ t₀ ++ cost_line → t₂ ≡ t₁ ++ nets_line → t₃ ≡ t₂ ++ table_line
+      → t₄ ≡ t₃ ++ vectors_line → t₅ ≡ t₄ ++ notes_line → t₅ ≡ patch_text c is es vs ns
   unfolding patch_text
-  patch-texted h i j k l m =
-      let x = length-append cost_line nets_line in
-      let y = length-append (cost_line ++ nets_line) table_line in
-      let z = length-append (cost_line ++ nets_line ++ table_line) vectors_line in
-      let w = length-append (cost_line ++ nets_line ++ table_line ++ vectors_line) notes_line in
-      let three = printed-then (printed-then i j (omega arith)) k (omega arith) in
-      texted h (printed-then (printed-then three l (omega arith)) m (omega arith))
+  patch-lines z h i j k l =
+      let next = λ (xs : List ℕ) (ys : List ℕ). ys ++ xs in
+      l
+      ∙ ap (next notes_line)
+      (k
+      ∙ ap (next vectors_line) (j ∙ ap (next table_line) (i ∙ ap (next nets_line) (h ∙ ap (next cost_line) z))))
 
 -- the lines of the parts of a patch's sheet, beside the vector list
 module _ (s vs : List ℕ) where

@@ -1,7 +1,8 @@
--- `report::text::word_at` meets its contract: both bytes are below 256, so the number fits. Assumes nothing.
+-- The first byte counts 256 times.
+use Rattle.std.proofs.Common.{arith}
 use Rattle.records.specs.Bytes.{word}
 use Rattle.report.proofs.text.word_at.Goals as goal
 
 pub returns : goal.returns
 unfolding word
-returns c = rw (c.wide.ensures, c.wide-2.ensures)
+returns c = omega (arith, c.from.ensures, c.from_be_bytes.ensures)

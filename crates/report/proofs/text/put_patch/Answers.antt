@@ -1,14 +1,12 @@
--- `report::text::patch_text` meets its contract: the parts of the sheet are its fields' bytes.
--- Assumes nothing.
-use mathlib.Core.Path.{◌≡◌, ap}
+-- The parts of the sheet are its fields' bytes.
+use mathlib.Core.Path.{◌≡◌, ◌∙◌}
 use native.Mathlib.Omega.{arith}
-use lib.ListN.{length}
 use Rattle.records.specs.Bytes.{nth}
 use Rattle.records.specs.Sheet.{quad}
 use Rattle.records.specs.Claims.{Below}
 use Rattle.report.proofs.Laws.Sheet.{PatchSpans, patch-first, patch-length, patch-second, patch-spans}
 use Rattle.report.proofs.Laws.Text.{patch-same, patch-room}
-use Rattle.report.proofs.text.patch_text.Goals as goal
+use Rattle.report.proofs.text.put_patch.Goals as goal
 
 pub field_end-table-requires : goal.field_end-table-requires
 field_end-table-requires c =
@@ -51,44 +49,42 @@ slice_bounds-quad_at-end c =
     c.field_end-cost.ensures in
     let p = spans in omega arith
 
-pub slice_bounds-patch_lines-end-2 : goal.slice_bounds-patch_lines-end-2
-slice_bounds-patch_lines-end-2 c =
+pub slice_bounds-put_patch_lines-end-2 : goal.slice_bounds-put_patch_lines-end-2
+slice_bounds-put_patch_lines-end-2 c =
     let spans : PatchSpans c.args.sheet.now c.field_end-table.result c.field_end-cost.result =
     patch-spans c.args.sheet.now c.requires.0 c.field_end-table.result c.field_end-table.ensures
     c.field_end-cost.result
     c.field_end-cost.ensures in
     let p = spans in omega arith
 
-pub slice_bounds-patch_lines-count-3 : goal.slice_bounds-patch_lines-count-3
-slice_bounds-patch_lines-count-3 c =
+pub slice_bounds-put_patch_lines-count-3 : goal.slice_bounds-put_patch_lines-count-3
+slice_bounds-put_patch_lines-count-3 c =
     let spans : PatchSpans c.args.sheet.now c.field_end-table.result c.field_end-cost.result =
     patch-spans c.args.sheet.now c.requires.0 c.field_end-table.result c.field_end-table.ensures
     c.field_end-cost.result
     c.field_end-cost.ensures in
     let p = spans in omega arith
 
-pub slice_bounds-patch_lines-start-3 : goal.slice_bounds-patch_lines-start-3
-slice_bounds-patch_lines-start-3 c =
+pub slice_bounds-put_patch_lines-start-3 : goal.slice_bounds-put_patch_lines-start-3
+slice_bounds-put_patch_lines-start-3 c =
     let spans : PatchSpans c.args.sheet.now c.field_end-table.result c.field_end-cost.result =
     patch-spans c.args.sheet.now c.requires.0 c.field_end-table.result c.field_end-table.ensures
     c.field_end-cost.result
     c.field_end-cost.ensures in
     let p = spans in omega arith
 
-pub patch_lines-requires : goal.patch_lines-requires
-patch_lines-requires c =
+pub put_patch_lines-requires-clause-room : goal.put_patch_lines-requires-clause-room
+put_patch_lines-requires-clause-room c =
     let spans : PatchSpans c.args.sheet.now c.field_end-table.result c.field_end-cost.result =
     patch-spans c.args.sheet.now c.requires.0 c.field_end-table.result c.field_end-table.ensures
     c.field_end-cost.result
     c.field_end-cost.ensures in
-    let paid : c.quad_at-paid.result ≡ quad (nth 2 c.args.sheet.now) =
-    rw spans.cost at c.quad_at-paid.ensures in
+    let paid : c.quad_at-paid.result ≡ quad (nth 2 c.args.sheet.now) = rw spans.cost at c.quad_at-paid.ensures in
     let a = c.args in
-    let p = spans in
     let bytes : Below 256 a.sheet.now = λ i. (c.type_inv.sheet i).fits in
     let vectors : Below 256 a.vectors.now = λ i. (c.type_inv.vectors i).fits in
-    let e = patch-same a.sheet.now a.vectors.now paid p.nets p.table p.notes in
-    omega (arith, ap length e, patch-room a.sheet.now a.vectors.now c.requires.0 bytes c.requires.1 vectors)
+    rw (patch-same a.sheet.now a.vectors.now paid spans.nets spans.table spans.notes)
+    (patch-room a.sheet.now a.vectors.now c.requires.0 bytes c.requires.1 vectors)
 
 pub returns : goal.returns
 returns c =
@@ -96,8 +92,6 @@ returns c =
     patch-spans c.args.sheet.now c.requires.0 c.field_end-table.result c.field_end-table.ensures
     c.field_end-cost.result
     c.field_end-cost.ensures in
-    let paid : c.quad_at-paid.result ≡ quad (nth 2 c.args.sheet.now) =
-    rw spans.cost at c.quad_at-paid.ensures in
-    let p = spans in
+    let paid : c.quad_at-paid.result ≡ quad (nth 2 c.args.sheet.now) = rw spans.cost at c.quad_at-paid.ensures in
     let a = c.args in
-    rw (patch-same a.sheet.now a.vectors.now paid p.nets p.table p.notes) at c.patch_lines.ensures
+    c.put_patch_lines.ensures ∙ patch-same a.sheet.now a.vectors.now paid spans.nets spans.table spans.notes
