@@ -1,7 +1,7 @@
 // The targets of a block driven by a table: each scenario's reading gives the vector to which its targets are set. Transposed, a word
 // of the readings' rows has four readings, and the entries at them are the word of four vectors.
 ghost use Rattle.std.specs.Prelude.{◌≡◌, ℕ, ◌+◌, ◌%◌, ◌≤◌, ◌<◌, get_or};
-ghost use Rattle.engine.specs.Inner.Kernel.{row_value, value_in, NetsSet};
+ghost use Rattle.engine.specs.Inner.Kernel.{value_in, NetsSet};
 ghost use Rattle.engine.specs.Inner.Note.{gathered};
 ghost use Rattle.engine.specs.Inner.Search.{RowsSay, DrivenRow};
 ghost use Rattle.engine.specs.Inner.Turn.{Looked};
@@ -35,12 +35,11 @@ pub(super) fn table_rows(mut readings: [u64; ROWS], table: &[u16; READINGS]) -> 
     ensures { (y : ℕ) → y < 1024 → gathered result y ≡ get_or table.now (gathered readings y % 1024) 0 }
 {
     transpose(&mut readings, ROW);
-    let mut found = [0u64; ROWS];
-    for i in 0..ROWS {
-        found[i] = look_four(readings[i], table);
+    for four in &mut readings {
+        *four = look_four(*four, table);
     }
-    transpose(&mut found, ROW);
-    found
+    transpose(&mut readings, ROW);
+    readings
 }
 
 // The rows from row first on become those of the targets.

@@ -89,9 +89,9 @@ pub(super) fn read_rows(plan: &Plan, words: &[u64; WORDS]) -> [u64; ROWS]
 
 // The row r, with 0 where the nets a and b differ.
 fn keep_equal(a: usize, b: usize, r: &mut [u64; ROW], words: &[u64; WORDS])
-    requires { (a < 1024) × (b < 1024) × (length r.old ≡ 16) }
-    ensures { (length r.new ≡ 16) × ((y : ℕ) → y < 1024 → row_value r.new y
-        ≡ cond (eqb (value_in words.now y a) (value_in words.now y b)) (row_value r.old y) 0) }
+    requires { (a < 1024) × (b < 1024) }
+    ensures { (y : ℕ) → y < 1024 → row_value r.new y
+        ≡ cond (eqb (value_in words.now y a) (value_in words.now y b)) (row_value r.old y) 0 }
 {
     for w in 0..ROW {
         r[w] = r[w] & (words[ROW * a + w] ^ words[ROW * b + w] ^ !0);

@@ -1,8 +1,7 @@
 // What a block of 1,024 inputs adds to the search: its rows of masks say which vectors rectify each input, its rows of readings what the
 // candidates give there. The sets of vectors are narrowed by all of its inputs; the vector list is stepped only at inputs that no listed
 // vector rectifies.
-ghost use Rattle.std.specs.Prelude.{◌≡◌, ℕ, ◌+◌, ◌*◌, ◌/◌, ◌%◌, ◌^◌, ◌≤◌, ◌<◌, length, get_or};
-ghost use Rattle.std.specs.Int.Bits.{bit_or};
+ghost use Rattle.std.specs.Prelude.{◌≡◌, ◌+◌, ◌*◌, ◌/◌, ◌%◌, ◌^◌, ◌≤◌, ◌<◌};
 ghost use Rattle.engine.specs.Inner.List.{listed_of};
 ghost use Rattle.engine.specs.Inner.Note.{narrowed, sets_from, gathered, ColumnMet, Joined, CoveredTo, ListNoted};
 

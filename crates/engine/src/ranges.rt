@@ -14,7 +14,7 @@ use super::limits::NETS;
 use super::packed::{COUNT_AT, COUNTS, NET, NET_AT, SLOTS_AT};
 use super::plan::Plan;
 use super::ternary::{ternary_entry, ternary_table, ternary_value};
-use records::{SLOTS, wide};
+use records::SLOTS;
 
 // What is known of the operands of a packed gate, which has four at most; 0 behind them.
 fn known_operands(c: u64, known: &[u8; NETS]) -> [u8; SLOTS]
@@ -40,8 +40,8 @@ pub(super) fn ternary_gate(c: u64, known: &[u8; NETS]) -> u8
     let count = c / COUNT_AT % COUNTS;
     if count == 2 {
         let rest = c / SLOTS_AT;
-        let a = wide(known[(rest % NET) as usize]);
-        let b = wide(known[(rest / NET % NET) as usize]);
+        let a = known[(rest % NET) as usize] as usize;
+        let b = known[(rest / NET % NET) as usize] as usize;
         return ternary_entry(ternary_table(kind), a, b);
     }
     let operands = known_operands(c, known);

@@ -1,6 +1,6 @@
 // The rows of a block, transposed: 16 rows of 16 words, word w of row i at 16 i + w. Each column of 16 words is turned by itself, so
 // that a word has what all rows say of four scenarios.
-ghost use Rattle.std.specs.Prelude.{◌≡◌, ◌^◌, ◌≤◌, ◌<◌, length};
+ghost use Rattle.std.specs.Prelude.{◌≡◌, ◌^◌, ◌≤◌, ◌<◌};
 ghost use Rattle.engine.specs.Inner.Turn.{Moved, HalfMask, SwappedRow, Swapped, Turned, Column, Placed, ColumnsTurned};
 
 use super::limits::{ROW, ROWS};

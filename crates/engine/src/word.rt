@@ -1,5 +1,5 @@
 // Words: a bit a scenario. Scenario j of word b is input 64 * b + j. A row has the 16 words of 1,024 scenarios.
-ghost use Rattle.std.specs.Prelude.{◌≡◌, ℕ, ◌+◌, ◌*◌, ◌≤◌, ◌<◌, max, true};
+ghost use Rattle.std.specs.Prelude.{◌≡◌, ℕ, ◌+◌, ◌*◌, ◌<◌, max, true};
 ghost use Rattle.engine.specs.Eval.{bit};
 ghost use Rattle.engine.specs.Choice.{or_zero};
 ghost use Rattle.engine.specs.Inner.List.{lowest};

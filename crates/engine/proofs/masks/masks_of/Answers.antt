@@ -1,7 +1,7 @@
 -- `engine::masks::masks_of` meets its contract. The invariant: the words are those at the vector of the step before, and the rows of
 -- the steps so far are done. Assumes nothing.
 use Prim.Native.Nat.{ℕ, ◌/◌, ◌^◌, ◌<◌}
-use mathlib.Core.Path.{◌≡◌, refl, ◌∙◌, subst}
+use mathlib.Core.Path.{◌≡◌, ◌∙◌, subst}
 use native.Mathlib.Nat.{one-mul}
 use native.Mathlib.Omega.{arith}
 use lib.Pow.{pow_pos, shl_exact}
@@ -18,7 +18,6 @@ loop-step-init c =
     let p = c.args.plan.now in
     let u = c.shortest_list-u in
     let v = shl_exact 1 p.targets 64 (lit< tt) (omega (arith, p.few_targets)) ∙ one-mul (2 ^ p.targets) in (
-      c.set_row.ensures.long ∙ refl,
       lit< tt,
       v,
       masks-first p u.result u.ensures.0 c.args.words.now c.equal_row.result c.equal_row.ensures c.set_row.ensures,
@@ -56,11 +55,10 @@ loop-step-preserved c =
     let t = c.turn_target in
     let e = c.equal_row-in-loop-step in
     let r = c.set_row-in-loop-step in (
-      r.ensures.long ∙ l.invariant.0,
       omega arith,
-      l.invariant.2,
-      masks-turned p u.result u.ensures.0 l.step e.result p.few_targets u.ensures.1 l.invariant.1 (omega (arith, l.invariant.2))
-          l.invariant.3
+      l.invariant.1,
+      masks-turned p u.result u.ensures.0 l.step e.result p.few_targets u.ensures.1 l.invariant.0 (omega (arith, l.invariant.1))
+          l.invariant.2
           (subst (λ (x : ℕ). TargetTurned p (turns u.result l.step) (x / 2 ^ turns u.result l.step) l.words t.new.words) v.ensures
           (subst (λ (x : ℕ). TargetTurned p x (v.result / 2 ^ x) l.words t.new.words) c.turned_at-t.ensures t.ensures))
           e.ensures
@@ -72,6 +70,6 @@ returns c =
     let p = c.args.plan.now in
     let l = c.loop-step in
     let u = c.shortest_list-u in
-    let e : l.step ≡ 2 ^ p.targets = omega (arith, l.invariant.2, pow_pos p.targets) in
+    let e : l.step ≡ 2 ^ p.targets = omega (arith, l.invariant.1, pow_pos p.targets) in
     masks-all p u.result u.ensures.0 p.few_targets u.ensures.1
-    (subst (λ (k : ℕ). MasksDone p u.result c.args.words.now k l.words l.masks) e l.invariant.3)
+    (subst (λ (k : ℕ). MasksDone p u.result c.args.words.now k l.words l.masks) e l.invariant.2)
