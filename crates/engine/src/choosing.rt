@@ -99,7 +99,7 @@ fn reading_sets(miter: Miter, nets: [u16; CANDIDATES], reads: usize) -> Met
     ensures { (j : Job) → MergedOf j miter → take reads nets ≡ candidate_nets j → SetsTo j (2 ^ j.inputs) result.skipped result.sets }
 {
     if miter.inputs <= WORD_INPUTS {
-        return sets_of_words(miter, nets, reads);
+        return sets_of_words(&miter, nets, reads);
     }
     let mut gates = [0u64; LISTED];
     let plan = plan_of(miter, nets, reads, miter.targets, &mut gates);

@@ -83,7 +83,7 @@ fn vector_list(miter: Miter, nets: [u16; CANDIDATES], reads: usize) -> Vectors
     ensures { (j : Job) → MergedOf j miter → take reads nets ≡ candidate_nets j → ListTo j (2 ^ j.inputs) result }
 {
     if miter.inputs <= WORD_INPUTS {
-        return list_of_words(miter);
+        return list_of_words(&miter);
     }
     let mut gates = [0u64; LISTED];
     let plan = plan_of(miter, nets, reads, miter.targets, &mut gates);
