@@ -55,12 +55,10 @@ fn gate_word(c: u64, words: &[u64; NETS]) -> u64
     let mut r = 0u64;
     let mut op = 3u64;
     let mut rest = c / SLOTS_AT;
-    let mut i = c / COUNT_AT % COUNTS;
-    while 0 < i {
+    for _ in 0..c / COUNT_AT % COUNTS {
         r = apply(op, r, words[(rest % NET) as usize]);
         op = c / 2 % 8;
-        rest = rest / NET;
-        i -= 1;
+        rest /= NET;
     }
     r ^ broadcast(c as usize)
 }
