@@ -2,6 +2,7 @@
 -- files: they need not be read to know what is promised.
 pub mod Packed
 pub mod Kernel
+pub mod Shifted
 pub mod Miter
 pub mod List
 pub mod Turn

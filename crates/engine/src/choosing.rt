@@ -85,7 +85,15 @@ fn rule_patch(support: Support, cost: u32, sets: &[u32; READINGS], reply: &mut [
 {
     let table = fill_table(sets, support.len);
     let notes = fill_notes(sets, support.len);
-    let len = put_patch(reply, support, &table, cost, &notes);
+    let nets = support.nets;
+    let count = reading_count(support.len);
+    let len = put_patch(
+        reply,
+        &nets[..support.len],
+        &table[..count],
+        cost,
+        &notes[..count],
+    );
     ChooseReply {
         number: 0,
         len,
@@ -114,7 +122,7 @@ fn choose_job(job: JobParts, reply: &mut [u8]) -> ChooseReply
     let candidates = job.counts.candidates;
     let nets = job.nets;
     let weights = job.weights;
-    let miter = merged_miter(job);
+    let miter = merged_miter(&job);
     let met = reading_sets(miter, nets, candidates);
     let count = reading_count(candidates);
     let reading = first_empty(&met.sets, count);

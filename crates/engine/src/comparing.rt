@@ -94,7 +94,7 @@ fn compare_sheet(job: JobParts, sheet: &[u8]) -> CompareReply
     let table = table_of(sheet, answer.table, reading_count(support.len));
     let picks = support.nets;
     let mut gates = [0u64; LISTED];
-    let plan = plan_of(merged_miter(job), picks, support.len, 0, &mut gates);
+    let plan = plan_of(merged_miter(&job), picks, support.len, 0, &mut gates);
     CompareReply {
         number: 0,
         result: first_difference(&gates, plan, &table),

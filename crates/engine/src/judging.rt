@@ -61,7 +61,7 @@ fn rule_list(list: Vectors, reply: &mut [u8]) -> JudgeReply
 {
     let vectors = list.list;
     if list.stuck {
-        let len = put_unfixable(reply, list.input, vectors, list.len);
+        let len = put_unfixable(reply, list.input, &vectors[..list.len]);
         return JudgeReply {
             number: 0,
             len,
@@ -70,7 +70,7 @@ fn rule_list(list: Vectors, reply: &mut [u8]) -> JudgeReply
             }),
         };
     }
-    let len = put_vectors(reply, 0, vectors, list.len);
+    let len = put_vectors(reply, 0, &vectors[..list.len]);
     JudgeReply {
         number: 0,
         len,
@@ -98,7 +98,7 @@ fn judge_job(job: JobParts, reply: &mut [u8]) -> JudgeReply
 {
     let candidates = job.counts.candidates;
     let nets = job.nets;
-    let list = vector_list(merged_miter(job), nets, candidates);
+    let list = vector_list(merged_miter(&job), nets, candidates);
     rule_list(list, reply)
 }
 

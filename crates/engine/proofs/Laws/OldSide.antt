@@ -18,16 +18,16 @@ use Rattle.records.specs.declared.loading.JobParts.{JobParts}
 use Rattle.records.proofs.Laws.Bytes.{and_left, and_right, and_both}
 use Rattle.engine.specs.Fit.{led}
 use Rattle.engine.specs.Inner.Packed.{packed_from, formed}
-use Rattle.engine.specs.Inner.Miter.{miter_gates, shifted, shift_of, codes, MiterRoom, MiterOf}
+use Rattle.engine.specs.Inner.Miter.{miter_gates, shift_of, codes, MiterOf}
+use Rattle.engine.specs.Inner.Shifted.{shifted}
 use Rattle.engine.specs.Inner.Plan.{marks_from}
 use Rattle.engine.specs.Inner.Fitting.{OldOf}
 use Rattle.engine.specs.declared.miter.Miter.{Miter}
 use Rattle.engine.proofs.Laws.FitNets.{old-good}
 use Rattle.engine.proofs.Laws.Marks.{fanout-marks}
 use Rattle.engine.proofs.Laws.Miter.{job-within, length-miter_gates}
-use Rattle.engine.proofs.Laws.MiterCode.{packed_from-append}
+use Rattle.engine.proofs.Laws.MiterCode.{packed_from-append, length-packed_from}
 use Rattle.engine.proofs.Laws.PlanLists.{marks_from-all}
-use Rattle.engine.proofs.Laws.Unpacked.{length-packed_from}
 
 all-front : {A : Type 0} (p : A → Bool) (xs ys : List A) → all p (xs ++ ys) ≡ true → all p xs ≡ true
 unfolding all
@@ -59,7 +59,7 @@ module _ {j : Job} {m : Miter} (w : MiterOf j m) where
   unfolding miter_gates
   front-forms = all-front formed j.old.gates (map (shifted j.inputs (shift_of j)) j.golden.gates) w.forms
 
-  pub old_of : MiterRoom m → {k : ℕ} {ms : List ℕ} → k ≡ length j.old.gates
+  pub old_of : length m.gates ≡ 800 → {k : ℕ} {ms : List ℕ} → k ≡ length j.old.gates
       → ms ≡ marks_from (take k m.gates) m.inputs m.targets
       → OldOf j (record { inputs = m.inputs; targets = m.targets; count = k; gates = m.gates; marks = ms })
   unfolding counts_of side_counts_of old_nets led net_at
@@ -72,7 +72,7 @@ module _ {j : Job} {m : Miter} (w : MiterOf j m) where
         inputs = w.inputs;
         targets = w.targets;
         count = e;
-        long = r.gates;
+        long = r;
         gates = front-codes e;
         forms = front-forms;
         marks =

@@ -1,7 +1,7 @@
 -- Laws of the gates in packed numbers (specs/Fitting, gate_in): good gates packed are those gates again; those of a patched netlist
 -- have four slots. Assumes nothing.
 use Prim.Native.Nat.{ℕ, zero, suc, ◌+◌, ◌-◌, ◌^◌, ◌≤◌, ◌<◌}
-use mathlib.Core.Path.{◌≡◌, refl, ap}
+use mathlib.Core.Path.{◌≡◌, refl}
 use mathlib.Core.List.{List, [], ◌∷◌, ◌++◌, map}
 use mathlib.Core.Bool.{true}
 use native.Mathlib.Omega.{arith}
@@ -40,11 +40,6 @@ gates-unpacked d (g ∷ gs) e f h =
       gate_in-packed d g (good-first d g gs e) t.0 (omega arith),
       gates-unpacked (suc d) gs (good-rest d g gs e) t.1 (omega arith),
     )
-
-pub length-packed_from : (d : ℕ) (gs : List Gate) → length (packed_from d gs) ≡ length gs
-unfolding packed_from
-length-packed_from d [] = refl
-length-packed_from d (g ∷ gs) = ap suc (length-packed_from (suc d) gs)
 
 -- ---- the gates of a patched netlist have four slots
 
