@@ -14,7 +14,7 @@ use super::limits::LONGEST_FIT;
 use super::miter::Miter;
 use super::netlist::put_netlist;
 use super::plan::mark_from;
-use super::renumber::{NewSide, OldSide, move_nets, number_inputs, place_marked};
+use super::renumber::{NewSide, OldSide, move_nets, number_inputs};
 use super::table::reading_count;
 use super::tree::{put_trees, trees_size};
 use records::{CANDIDATES, Check, GATES, JobParts, OUTPUTS, Support, load, read_sheet};
@@ -61,9 +61,9 @@ fn place_gates(old: &OldSide, support: &Support, table: &[u8]) -> NewSide
         numbers: number_inputs(old.inputs),
         gates: [0; GATES],
     };
-    place_marked(old, 0, &mut new);
+    new.place_marked(old, 0);
     place_trees(table, support, old.inputs, old.targets, &mut new);
-    place_marked(old, 1, &mut new);
+    new.place_marked(old, 1);
     new
 }
 

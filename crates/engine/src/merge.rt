@@ -3,7 +3,7 @@
 // them out. Outputs that have come to be one net need not be compared, nor what leads to them alone be evaluated.
 ghost use Rattle.std.specs.Prelude.{◌≡◌, true, ◌+◌, ◌-◌, ◌≤◌, ◌<◌, length, get_or};
 ghost use Rattle.records.specs.Job.{Job};
-ghost use Rattle.engine.specs.Inner.Renumber.{gate_in};
+ghost use Rattle.engine.specs.Inner.Packed.{gate_in};
 ghost use Rattle.records.specs.Parts.{PartsOf};
 ghost use Rattle.engine.specs.Inner.Miter.{SomeParts, MiterRoom, MiterOf, MergedOf};
 ghost use Rattle.engine.specs.Inner.Merge.{Backward, GatesMerged, PairsKept};

@@ -3,7 +3,7 @@ ghost use Rattle.std.specs.Prelude.{◌≡◌, map, ◌+◌, ◌*◌, ◌≤◌,
 ghost use Rattle.records.specs.Bytes.{flat, field};
 ghost use Rattle.records.specs.Job.{gate_bytes};
 ghost use Rattle.engine.specs.Inner.Sheet.{BytesPut};
-ghost use Rattle.engine.specs.Inner.Renumber.{gate_in};
+ghost use Rattle.engine.specs.Inner.Packed.{gate_in};
 ghost use Rattle.engine.specs.Inner.Netlist.{netlist_bytes};
 
 use super::packed::{count_of, kind_of, slots_in};

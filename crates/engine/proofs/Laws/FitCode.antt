@@ -14,15 +14,16 @@ use lib.Seq.{length-take-le, get_or-take, get_or-set_same, get_or-set_other}
 use Rattle.std.proofs.lemmas.List.{take_all, drop_all}
 use Rattle.records.specs.Bytes.{up_from}
 use Rattle.records.specs.Gate.{Gate, gate_of, operands, unused}
-use Rattle.records.specs.Netlist.{net_at}
+use Rattle.records.specs.Netlist.{net_at, fanout}
+use Rattle.records.specs.Refusal.{gates_good}
 use Rattle.records.specs.Claims.{Below}
 use Rattle.records.proofs.Laws.Bytes.{length-up_from}
 use Rattle.records.proofs.Laws.Gate.{gate_good-parts}
 use Rattle.engine.specs.Choice.{keep}
 use Rattle.engine.specs.Fit.{moved}
-use Rattle.engine.specs.Inner.Packed.{fields, kind_of, count_of, gate_with, packed, packed_from}
-use Rattle.engine.specs.Inner.Tree.{Nets, GateRoom, GatesPut, TreesPut}
-use Rattle.engine.specs.Inner.Renumber.{gate_in, unpacked, old_gates, old_base, OldHeld, indices_with, InputsNumbered, Numbered}
+use Rattle.engine.specs.Inner.Packed.{fields, kind_of, count_of, gate_with, packed, packed_from, gate_in, unpacked}
+use Rattle.engine.specs.Inner.Tree.{Nets, GateRoom, GatesPut, TreesPut, InputsNumbered}
+use Rattle.engine.specs.Inner.Renumber.{old_gates, old_base, indices_with, Numbered}
 use Rattle.engine.specs.Inner.Renumber.{moved_from, with_mark, MarkedPlaced}
 use Rattle.engine.specs.Inner.Fitting.{TreesPlaced}
 use Rattle.engine.specs.declared.renumber.NewSide.{NewSide}
@@ -241,6 +242,20 @@ moved-packed ns c d =
     rw (t.0, t.1)
 
 -- ---- the loop that numbers and puts them
+
+-- what an old side keeps, and how long its array of gates is
+pub record OldHeld (o : OldSide) : Type 0 where
+  pub inputs : o.inputs ≤ 20
+  pub targets : o.targets ≤ 4
+  pub count : o.count ≤ 400
+  pub long : length o.gates ≡ 800
+  pub good : gates_good (old_base o) (old_gates o) ≡ true
+  pub marks : (i : ℕ) → i < old_base o + o.count
+      → get_or o.marks i 0 ≡ net_at (fanout o.inputs o.targets (old_gates o)) i
+
+pub old-held : (o : OldSide) → length o.gates ≡ 800 → OldHeld o
+old-held o l =
+    record { inputs = o.inputs_bound; targets = o.targets_bound; count = o.count_bound; long = l; good = o.good; marks = o.led }
 
 module _ (o : OldSide) (h : OldHeld o) where
   pub length-old : length (old_gates o) ≡ o.count

@@ -28,7 +28,8 @@ use Rattle.engine.specs.Inner.Sheet.{BytesPut}
 use Rattle.engine.specs.Fit.{led, gate_indices, new_free_gate, new_free_net, trees, new_gate, new_nets, moved_gates, fitted, fitted_bytes, fits, longest_fit}
 use Rattle.engine.specs.Compare.{pair_tests}
 use Rattle.engine.specs.Reply.{fit_tests, fit_number, fit_reply, fitted_buffer}
-use Rattle.engine.specs.Inner.Renumber.{gate_in, old_gates, old_base, OldHeld, unpacked}
+use Rattle.engine.specs.Inner.Packed.{gate_in, unpacked}
+use Rattle.engine.specs.Inner.Renumber.{old_gates, old_base}
 use Rattle.engine.specs.Inner.Fitting.{old_job, side_job, GatesPlaced, Fittable, patched_count, FitGives, patch_number, sheet_fit_number, OldOf}
 use Rattle.engine.specs.Inner.Netlist.{netlist_bytes}
 use Rattle.engine.specs.declared.fitting.FitReply.{FitReply}
@@ -37,6 +38,7 @@ use Rattle.engine.specs.declared.renumber.OldSide.{OldSide}
 use Rattle.engine.proofs.Laws.Choice.{map-agree, all_true}
 use Rattle.engine.proofs.Laws.Compare.{failing-append}
 use Rattle.engine.proofs.Laws.FitNets.{old-good, length-fitted, fitted-good, place_of, mem-at}
+use Rattle.engine.proofs.Laws.FitCode.{OldHeld}
 use Rattle.engine.proofs.Laws.FitPlaced.{indices-all, gate-count, net-count, side-good, trees-count}
 use Rattle.engine.proofs.Laws.Fitted.{support-free}
 use Rattle.engine.proofs.Laws.Loaded.{refused-number, refused-job, accepted-job}
@@ -74,7 +76,7 @@ module _ (n m : ℕ) (gs : List Gate) (os : List ℕ) (is t : List ℕ) where
 
 -- ---- a patch
 
-module _ {o : OldSide} {s : Support} {table : List ℕ} (h : Fittable o s table) where
+module _ {o : OldSide} {s : Support} {table : List ℕ} (v : OldHeld o) (h : Fittable o s table) where
   abbrev job : Job
   job = side_job o []
 
@@ -85,7 +87,7 @@ module _ {o : OldSide} {s : Support} {table : List ℕ} (h : Fittable o s table)
   entries = take (2 ^ s.len) table
 
   patched-count : length (fitted job support entries).gates ≡ patched_count o s table
-  patched-count = omega (arith, length-fitted job support entries, indices-all job, gate-count h, trees-count h)
+  patched-count = omega (arith, length-fitted job support entries, indices-all job, gate-count v h, trees-count v h)
 
   module _ (os : List ℕ) where
     fits_count : fits (side_job o os) support entries ≡ leb (patched_count o s table) 400
@@ -110,9 +112,9 @@ module _ {o : OldSide} {s : Support} {table : List ℕ} (h : Fittable o s table)
     patched-gates os =
         ap (map gate_in) w.gates
         ∙ gates-unpacked o.inputs (fitted job support entries).gates
-        (fitted-good job support entries (side-good h) h.free)
+        (fitted-good job support entries (side-good v h) h.free)
         (fitted-formed job support entries (formed-in (take o.count o.gates)))
-        (omega (arith, patched-count, h.held.inputs))
+        (omega (arith, patched-count, v.inputs))
         ∙ sym (bare-gates o.inputs o.targets (old_gates o) os support entries)
 
     patched-outputs : (os nets : List ℕ) → ((i : ℕ) → i < length os → get_or os i 0 < old_base o + o.count)
@@ -123,7 +125,7 @@ module _ {o : OldSide} {s : Support} {table : List ℕ} (h : Fittable o s table)
         ∙ ap (λ (ns : List ℕ). map (net_at ns) os) (sym (bare-nets o.inputs o.targets (old_gates o) os support entries))
       where
         below : (i : ℕ) → Mem i os → i < old_nets job
-        below i m = let p = place_of m in omega (arith, l p.0 p.1, p.2, net-count h)
+        below i m = let p = place_of m in omega (arith, l p.0 p.1, p.2, net-count v h)
 
     pub patch-accepted : (os nets d : List ℕ) (len : ℕ) {e : List ℕ}
         → ((i : ℕ) → i < length os → get_or os i 0 < old_base o + o.count)
@@ -174,19 +176,6 @@ module _ {j : Job} {o : OldSide} (g : PartsGood j) (w : OldOf j o) where
 
   side_same : (os : List ℕ) → side_job o os ≡ old_job j.inputs j.targets j.old.gates os
   side_same os = rw (old-same, w.inputs, w.targets)
-
-  old-held : OldHeld o
-  unfolding counts_of side_counts_of led old_nets
-  old-held =
-      let n = within in
-      record {
-        inputs = omega (arith, n.inputs, w.inputs);
-        targets = omega (arith, n.targets, w.targets);
-        count = omega (arith, n.old.gates, w.count);
-        long = w.long;
-        good = rw (old-same, w.inputs, w.targets) (old-good j g.gates);
-        marks = λ i l. rw (old-same, w.inputs, w.targets) (w.marks i (omega (arith, w.inputs, w.targets, w.count)));
-      }
 
   -- the outputs' nets are among the old ones
   pub outputs-old : (os : List ℕ) → os ≡ j.old.outputs → (i : ℕ) → i < length os → get_or os i 0 < old_base o + o.count
@@ -264,7 +253,6 @@ module _ {j : Job} {parts : JobParts} (q : PartsOf j parts) (p : List ℕ) {a : 
       pub sheet-fittable : Fittable o a.support part
       sheet-fittable =
           record {
-            held = old-held q.good w;
             few = parts-few q p e z;
             long = read.long;
             entries = omega (arith, part-long);

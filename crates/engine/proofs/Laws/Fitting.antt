@@ -10,8 +10,7 @@ use Rattle.records.specs.Bytes.{flat, byte_pair, field}
 use Rattle.records.specs.Job.{gate_bytes}
 use Rattle.records.proofs.Laws.Job.{length-field, length-flat-map, length-outputs}
 use Rattle.engine.specs.Inner.Sheet.{BytesPut}
-use Rattle.engine.specs.Inner.Packed.{fields, kind_of, count_of}
-use Rattle.engine.specs.Inner.Renumber.{gate_in}
+use Rattle.engine.specs.Inner.Packed.{fields, kind_of, count_of, gate_in}
 use Rattle.engine.specs.Inner.Netlist.{netlist_bytes}
 use Rattle.engine.proofs.Laws.Sheet.{put_then}
 

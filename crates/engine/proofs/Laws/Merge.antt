@@ -24,8 +24,8 @@ use Rattle.records.proofs.Laws.Bytes.{and_both, all_cons}
 use Rattle.records.proofs.Laws.Gate.{gate_good-parts}
 use Rattle.engine.specs.Eval.{bits}
 use Rattle.engine.specs.Fit.{moved}
-use Rattle.engine.specs.Inner.Packed.{fields, packed, packed_from, formed}
-use Rattle.engine.specs.Inner.Renumber.{gate_in, InputsNumbered}
+use Rattle.engine.specs.Inner.Packed.{fields, packed, packed_from, formed, gate_in}
+use Rattle.engine.specs.Inner.Tree.{InputsNumbered}
 use Rattle.engine.specs.Inner.Tree.{Nets}
 use Rattle.engine.specs.Inner.Miter.{on_operands, SameGates, miter_gates, miter_goldens, miter_nets, miter_values, codes, PairsOf, MiterOf, MergedOf}
 use Rattle.engine.specs.Inner.Merge.{Packs, StandsFor, MergedIn, Chained, GatesMerged}

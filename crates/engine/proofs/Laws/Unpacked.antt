@@ -14,8 +14,7 @@ use Rattle.records.specs.Refusal.{gate_good, gates_good}
 use Rattle.records.proofs.Laws.Bytes.{all_cons}
 use Rattle.engine.specs.Tree.{constant, column, builds_low, builds_high, tree}
 use Rattle.engine.specs.Fit.{trees_from, trees, new_free_net, new_nets, gate_indices, moved, moved_gates, fitted}
-use Rattle.engine.specs.Inner.Packed.{fields, packed, packed_from, formed}
-use Rattle.engine.specs.Inner.Renumber.{gate_in}
+use Rattle.engine.specs.Inner.Packed.{fields, packed, packed_from, formed, gate_in}
 use Rattle.engine.proofs.Laws.Choice.{all_append}
 use Rattle.engine.proofs.Laws.FitGates.{no_gate}
 use Rattle.engine.proofs.Laws.FitTree.{TreeCase, zeros, ones, halves, halved, built, built-case, tree-case}

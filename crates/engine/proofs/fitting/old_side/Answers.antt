@@ -1,10 +1,35 @@
 -- `engine::fitting::old_side` meets its contract. Assumes nothing.
 use native.Mathlib.Omega.{arith}
-use Rattle.engine.proofs.Laws.OldSide.{gates-count, gates-most, old_of}
+use Rattle.engine.proofs.Laws.OldSide.{gates-count, gates-most, front-codes, front-forms, front-good, old-marks, front-marks}
 use Rattle.engine.proofs.fitting.old_side.Goals as goal
 
 pub mark_from-marks-requires : goal.mark_from-marks-requires
-mark_from-marks-requires c = let m = c.of_parts-miter.result in (omega (arith, gates-most c.requires.parts), omega (arith, m.inputs_bound, m.targets_bound))
+mark_from-marks-requires c =
+    let m = c.of_parts-miter.result in
+    (omega (arith, gates-most c.requires.parts), omega (arith, m.inputs_bound, m.targets_bound))
+
+pub invariant_of-result : goal.invariant_of-result
+invariant_of-result c =
+    let q = c.requires.parts in
+    let m = c.of_parts-miter.result in
+    let w = c.of_parts-miter.ensures c.requires.job q in
+    record {
+      inputs_bound = m.inputs_bound;
+      targets_bound = m.targets_bound;
+      count_bound = gates-most q;
+      good = front-good w (gates-count q);
+      led = front-marks w (gates-count q) c.mark_from-marks.ensures;
+    }
 
 pub returns : goal.returns
-returns c j q = old_of (c.of_parts-miter.ensures j q) (omega arith) (gates-count q) c.mark_from-marks.ensures
+returns c j q =
+    let w = c.of_parts-miter.ensures j q in
+    record {
+      inputs = w.inputs;
+      targets = w.targets;
+      count = gates-count q;
+      long = omega arith;
+      gates = front-codes w (gates-count q);
+      forms = front-forms w;
+      marks = old-marks w (gates-count q) c.mark_from-marks.ensures;
+    }

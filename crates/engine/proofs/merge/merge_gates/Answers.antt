@@ -4,7 +4,7 @@ use Prim.Native.Nat.{◌-◌, ◌≤◌}
 use mathlib.Core.Path.{refl, sym, ◌∙◌, ap}
 use native.Mathlib.Omega.{arith}
 use lib.Seq.{get_or-set_same}
-use Rattle.engine.specs.Inner.Renumber.{gate_in}
+use Rattle.engine.specs.Inner.Packed.{gate_in}
 use Rattle.engine.proofs.Laws.Loaded.{below-zeros}
 use Rattle.engine.proofs.Laws.Merge.{merging-none, merging-moved, merging-stands, merging-place}
 use Rattle.engine.proofs.merge.merge_gates.Goals as goal

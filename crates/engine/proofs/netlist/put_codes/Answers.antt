@@ -5,7 +5,7 @@ use native.Mathlib.Omega.{arith}
 use lib.ListN.{length, length-map, get_or-map}
 use Rattle.records.specs.Bytes.{flat}
 use Rattle.records.specs.Job.{gate_bytes}
-use Rattle.engine.specs.Inner.Renumber.{gate_in}
+use Rattle.engine.specs.Inner.Packed.{gate_in}
 use Rattle.engine.proofs.Laws.Fitting.{length-gate_in}
 use Rattle.engine.proofs.Laws.Sheet.{pieces-next, pieces-all}
 use Rattle.engine.proofs.netlist.put_codes.Goals as goal

@@ -5,7 +5,7 @@ use mathlib.Core.List.{map}
 use lib.ListN.{take}
 use Rattle.records.specs.Bytes.{flat}
 use Rattle.records.specs.Job.{gate_bytes}
-use Rattle.engine.specs.Inner.Renumber.{gate_in}
+use Rattle.engine.specs.Inner.Packed.{gate_in}
 use Rattle.engine.proofs.netlist.put_codes.Given as goal
 
 abbrev pub invariant-loop-i : goal.invariant-loop-i

@@ -2,7 +2,7 @@
 use mathlib.Core.List.{map}
 use Rattle.records.specs.Bytes.{flat}
 use Rattle.records.specs.Job.{gate_bytes}
-use Rattle.engine.specs.Inner.Renumber.{gate_in}
+use Rattle.engine.specs.Inner.Packed.{gate_in}
 use Rattle.engine.proofs.Laws.Fitting.{length-gate-bytes}
 use Rattle.engine.proofs.Laws.Sheet.{field-front}
 use Rattle.engine.proofs.netlist.put_gates.Goals as goal
