@@ -78,7 +78,7 @@ fn compare_sheet(job: JobParts, sheet: &[u8]) -> Result<Comparison, Refusal>
     let patch = read_sheet(counts.targets, counts.candidates, &nets, &weights, sheet)?;
     let support = patch.support;
     let table = table_of(sheet, patch.table, reading_count(support.len));
-    let plan = plan_of(merged_miter(job), support, 0);
+    let plan = plan_of(&merged_miter(&job), support, 0);
     Ok(first_difference(&plan, &table))
 }
 

@@ -9,7 +9,7 @@ ghost use Rattle.engine.specs.Rectify.{vector_loop};
 ghost use Rattle.engine.specs.Inner.List.{listed_of};
 ghost use Rattle.engine.specs.Support.{candidate_nets};
 ghost use Rattle.engine.specs.Inner.Guess.{ListTo};
-ghost use Rattle.engine.specs.Inner.Miter.{SomeParts, MiterRoom, MergedOf};
+ghost use Rattle.engine.specs.Inner.Miter.{SomeParts, MergedOf};
 ghost use Rattle.engine.specs.Inner.Plan.{NetsRead};
 ghost use Rattle.engine.specs.Inner.Judging.{JudgedJob};
 
@@ -47,8 +47,9 @@ fn rule_list(list: Vectors, reply: &mut [u8]) -> JudgedSheet
     requires { IfSome list.stuck (λ x. x < 4294967296) × (26 ≤ length reply.old) }
     ensures { (j : Job) → listed_of list ≡ vector_loop j → JudgedJob j reply.old (judge_told (Ok result)) reply.new }
 {
+    let vectors = list.list;
     if let Some(input) = list.stuck {
-        let len = put_unfixable(reply, input, list.list, list.len);
+        let len = put_unfixable(reply, input, &vectors[..list.len]);
         return JudgedSheet {
             len,
             verdict: Judgement::Unfixable(UnfixableInput {
@@ -56,7 +57,7 @@ fn rule_list(list: Vectors, reply: &mut [u8]) -> JudgedSheet
             }),
         };
     }
-    let len = put_vectors(reply, 0, list.list, list.len);
+    let len = put_vectors(reply, 0, &vectors[..list.len]);
     JudgedSheet {
         len,
         verdict: Judgement::Fixable,
@@ -64,15 +65,14 @@ fn rule_list(list: Vectors, reply: &mut [u8]) -> JudgedSheet
 }
 
 // The vector list over all inputs of a miter; of the nets read the tables are made (see guess.rt).
-fn vector_list(miter: Miter, reads: Support) -> Vectors
-    requires { MiterRoom miter × NetsRead reads.nets reads.len }
-    ensures { (j : Job) → MergedOf j miter → take reads.len reads.nets ≡ candidate_nets j → ListTo j (2 ^ j.inputs) result }
+fn vector_list(miter: &Miter, reads: Support) -> Vectors
+    requires { NetsRead reads.nets reads.len }
+    ensures { (j : Job) → MergedOf j miter.now → take reads.len reads.nets ≡ candidate_nets j → ListTo j (2 ^ j.inputs) result }
 {
     if miter.inputs <= WORD_INPUTS {
-        return list_of_words(&miter);
+        return list_of_words(miter);
     }
-    let targets = miter.targets;
-    list_of_inputs(&plan_of(miter, reads, targets))
+    list_of_inputs(&plan_of(miter, reads, miter.targets))
 }
 
 // The judgement on a good job's parts, and its sheet.
@@ -85,7 +85,7 @@ fn judge_job(job: JobParts, reply: &mut [u8]) -> JudgedSheet
         nets,
         len: job.counts.candidates,
     };
-    let list = vector_list(merged_miter(job), candidates);
+    let list = vector_list(&merged_miter(&job), candidates);
     rule_list(list, reply)
 }
 
