@@ -33,9 +33,8 @@ fn place_trees(table: &[u8], support: &Support, inputs: usize, targets: usize, n
     move_nets(&mut nets[..len], &new.numbers);
     new.count = put_trees(
         table,
-        len,
+        &nets[..len],
         targets,
-        nets,
         inputs,
         new.count,
         &mut new.numbers,

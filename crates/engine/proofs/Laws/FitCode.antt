@@ -8,9 +8,9 @@ use native.Mathlib.Nat.{add-zero, zero-add}
 use native.Mathlib.Omega.{arith}
 use borrow.Author.Tests.{eq-eqb, ne_eqb, eqb-true, eqb-false, ltb-true, ltb-false}
 use lib.Dec.{eqb, ltb}
-use lib.ListN.{length, get_or, take, drop, set, replicate, length-set, length-append, length-map, length-replicate, get_or-append, get_or-map}
+use lib.ListN.{length, get_or, take, drop, set, replicate, length-set, length-append, length-map, length-replicate, get_or-map}
 use lib.ListN.{get_or-replicate}
-use lib.Seq.{length-take-le, get_or-take, get_or-set_same, get_or-set_other}
+use lib.Seq.{take-length, length-take-le, get_or-take, get_or-set_same, get_or-set_other}
 use Rattle.std.proofs.lemmas.List.{take_all, drop_all}
 use Rattle.records.specs.Bytes.{up_from}
 use Rattle.records.specs.Gate.{Gate, gate_of, operands, unused}
@@ -30,8 +30,7 @@ use Rattle.engine.specs.declared.renumber.NewSide.{NewSide}
 use Rattle.engine.specs.declared.renumber.OldSide.{OldSide}
 use Rattle.engine.proofs.Laws.Choice.{true-or-false, length-keep-le, mem-keep, mem_below, map-agree, all_true}
 use Rattle.engine.proofs.Laws.FitGates.{no_gate, good-at}
-use Rattle.engine.proofs.Laws.FitNets.{get_or-defaults}
-use Rattle.engine.proofs.Laws.InPlace.{mapped, take-mapped}
+use Rattle.engine.proofs.Laws.InPlace.{mapped, take-mapped, below-map}
 use Rattle.engine.proofs.Laws.Tree.{gates-put-one, gates-put-append, gates-put-same, room-kept, room-less}
 
 -- ---- keep
@@ -379,27 +378,30 @@ module _ (o : OldSide) (b : ℕ) (new : NewSide) where
 
 -- ---- the trees
 
--- nets at their numbers are nets
-pub moved-nets : (k : ℕ) (ns is : List ℕ) {js : List ℕ} → k ≤ length is → js ≡ map (λ o. get_or ns o 0) (take k is)
-    → Nets k is → Nets 1024 ns → Nets k (js ++ drop k is)
-moved-nets k ns is {js} l e p q i h =
-    let f : ℕ → ℕ = λ o. get_or ns o 0 in
-    let xs : List ℕ = map f (take k is) in
-    let n : i < length xs = omega (arith, length-map (take k is) f, length-take-le k is l) in
-    let x : get_or (js ++ drop k is) i 0 ≡ get_or ns (get_or is i 0) 0 =
-    ap (λ (ys : List ℕ). get_or (ys ++ drop k is) i 0) e
-    ∙ get_or-append xs (drop k is) 0 i n
-    ∙ get_or-defaults xs i 0 (f 0) n
-    ∙ get_or-map f (take k is) i 0
-    ∙ ap f (get_or-take k is i 0 h) in
-    rw x (q (get_or is i 0) (p i h))
+-- the first k nets at their numbers: as many nets
+module _ (k : ℕ) (ns is : List ℕ) {js : List ℕ} (l : k ≤ length is) (e : js ≡ map (λ o. get_or ns o 0) (take k is)) where
+  moved-front : take k (js ++ drop k is) ≡ map (λ o. get_or ns o 0) (take k is)
+  moved-front = ap (λ (ys : List ℕ). take k (ys ++ drop k is)) e ∙ take-mapped (λ o. get_or ns o 0) k is l
+
+  pub moved-long : length (take k (js ++ drop k is)) ≡ k
+  moved-long = ap length moved-front ∙ length-map (take k is) (λ o. get_or ns o 0) ∙ length-take-le k is l
+
+  pub moved-nets : Nets k is → Nets 1024 ns → Below 1024 (take k (js ++ drop k is))
+  moved-nets p q =
+      rw moved-front
+      (below-map 1024 (λ o. get_or ns o 0) (take k is) (omega arith)
+      (λ i h.
+      let m : i < k = omega (arith, length-take-le k is l) in
+      q (get_or (take k is) i 0) (rw (get_or-take k is i 0 m) (p i m))))
 
 pub trees-placed : (n m k : ℕ) (nets : List ℕ) (a b : NewSide) {tb js : List ℕ} → k ≤ length nets
-    → js ≡ map (λ o. get_or a.numbers o 0) (take k nets)
-    → TreesPut m k n (js ++ drop k nets) tb a.count a.numbers a.gates b.count b.numbers b.gates
+    → js ≡ map (λ o. get_or a.numbers o 0) (take k nets) → let is = take k (js ++ drop k nets) in
+    TreesPut m (length is) n is tb a.count a.numbers a.gates b.count b.numbers b.gates
     → TreesPlaced n m (take k nets) (take (2 ^ k) tb) a b
 trees-placed n m k nets a b {tb} {js} l e w =
     let f : ℕ → ℕ = λ o. get_or a.numbers o 0 in
-    let t : take k (js ++ drop k nets) ≡ map f (take k nets) =
-    ap (λ (ys : List ℕ). take k (ys ++ drop k nets)) e ∙ take-mapped f k nets l in
-    record { gates = rw t at w.gates; nets = rw t at w.nets }
+    let is : List ℕ = map f (take k nets) in
+    let i : length is ≡ k = length-map (take k nets) f ∙ length-take-le k nets l in
+    let v : TreesPut m (length is) n is tb a.count a.numbers a.gates b.count b.numbers b.gates = rw (moved-front k a.numbers nets l e) at w in
+    let x : take (length is) is ≡ is = take-length is in
+    record { gates = rw (x, i) at v.gates; nets = rw (x, i) at v.nets }
