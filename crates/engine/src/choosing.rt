@@ -73,11 +73,10 @@ fn rule_patch(support: Support, cost: u32, sets: &[u32; READINGS], reply: &mut [
 {
     let table = fill_table(sets, support.len);
     let notes = fill_notes(sets, support.len);
-    let nets = support.nets;
     let count = reading_count(support.len);
     let len = put_patch(
         reply,
-        &nets[..support.len],
+        &support.nets[..support.len],
         &table[..count],
         cost,
         &notes[..count],

@@ -47,9 +47,8 @@ fn rule_list(list: Vectors, reply: &mut [u8]) -> JudgedSheet
     requires { IfSome list.stuck (λ x. x < 4294967296) × (26 ≤ length reply.old) }
     ensures { (j : Job) → listed_of list ≡ vector_loop j → JudgedJob j reply.old (judge_told (Ok result)) reply.new }
 {
-    let vectors = list.list;
     if let Some(input) = list.stuck {
-        let len = put_unfixable(reply, input, &vectors[..list.len]);
+        let len = put_unfixable(reply, input, &list.list[..list.len]);
         return JudgedSheet {
             len,
             verdict: Judgement::Unfixable(UnfixableInput {
@@ -57,7 +56,7 @@ fn rule_list(list: Vectors, reply: &mut [u8]) -> JudgedSheet
             }),
         };
     }
-    let len = put_vectors(reply, 0, &vectors[..list.len]);
+    let len = put_vectors(reply, 0, &list.list[..list.len]);
     JudgedSheet {
         len,
         verdict: Judgement::Fixable,
