@@ -100,16 +100,14 @@ fn reading_sets(miter: &Miter, reads: Support) -> Met
 }
 
 // The choice on a good job's parts, and its sheet.
-fn choose_job(job: JobParts, reply: &mut [u8]) -> ChosenSheet
-    requires { SomeParts job × Below 1024 job.nets × (2084 ≤ length reply.old) }
-    ensures { (j : Job) → PartsOf j job → ChosenJob j reply.old (choose_told (Ok result)) reply.new }
+fn choose_job(job: &JobParts, reply: &mut [u8]) -> ChosenSheet
+    requires { SomeParts job.now × Below 1024 job.now.nets × (2084 ≤ length reply.old) }
+    ensures { (j : Job) → PartsOf j job.now → ChosenJob j reply.old (choose_told (Ok result)) reply.new }
 {
     let candidates = job.counts.candidates;
-    let nets = job.nets;
-    let weights = job.weights;
-    let miter = merged_miter(&job);
+    let miter = merged_miter(job);
     let reads = Support {
-        nets,
+        nets: job.nets,
         len: candidates,
     };
     let met = reading_sets(&miter, reads);
@@ -117,8 +115,8 @@ fn choose_job(job: JobParts, reply: &mut [u8]) -> ChosenSheet
         return rule_blind(reading, reply);
     }
     let priced = Priced {
-        nets: &nets[..candidates],
-        weights: &weights[..candidates],
+        nets: &job.nets[..candidates],
+        weights: &job.weights[..candidates],
         sets: &met.sets,
         targets: miter.targets,
     };
@@ -148,5 +146,5 @@ pub fn choose(job: &[u8], reply: &mut [u8]) -> Result<ChosenSheet, Refusal>
         return Err(Refusal::Room);
     }
     let parts = load(job)?;
-    Ok(choose_job(parts, reply))
+    Ok(choose_job(&parts, reply))
 }
