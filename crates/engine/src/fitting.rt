@@ -1,5 +1,5 @@
 // The service fit.
-ghost use Rattle.std.specs.Prelude.{◌≡◌, [], ℕ, ◌+◌, ◌^◌, ◌≤◌, ◌<◌, length, get_or, take};
+ghost use Rattle.std.specs.Prelude.{◌≡◌, [], ℕ, ◌+◌, ◌^◌, ◌≤◌, ◌<◌, length, get_or};
 ghost use Rattle.records.specs.Claims.{Below};
 ghost use Rattle.records.specs.Job.{Job};
 ghost use Rattle.records.specs.Sheet.{patch_of};

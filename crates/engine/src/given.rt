@@ -1,5 +1,5 @@
 // Which readings of a support inputs give. A reading is unseen while no input looked at gives it: bit 16 of its set is 1.
-ghost use Rattle.std.specs.Prelude.{◌≡◌, true, List, ℕ, ◌<◌, length, take};
+ghost use Rattle.std.specs.Prelude.{◌≡◌, true, List, ℕ, ◌<◌, take};
 ghost use Rattle.records.specs.Bytes.{all as all'};
 ghost use Rattle.records.specs.Job.{Job};
 ghost use Rattle.records.specs.Refusal.{candidate_good};

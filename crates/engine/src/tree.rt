@@ -1,12 +1,12 @@
 // Multiplexer trees: packed gates put behind those of a netlist, a tree over each target's column of a table.
-ghost use Rattle.std.specs.Prelude.{◌≡◌, [], ◌∷◌, ℕ, ◌+◌, ◌-◌, ◌^◌, ◌≤◌, ◌<◌, eqb, length, get_or};
+ghost use Rattle.std.specs.Prelude.{◌≡◌, [], ◌∷◌, ℕ, ◌+◌, ◌-◌, ◌^◌, ◌≤◌, ◌<◌, eqb, length};
 ghost use Rattle.records.specs.Bytes.{all};
 ghost use Rattle.records.specs.Claims.{Below};
 ghost use Rattle.engine.specs.Choice.{same};
 ghost use Rattle.engine.specs.Eval.{bit, bits, number_of};
 ghost use Rattle.records.specs.Gate.{gate_of};
 ghost use Rattle.engine.specs.Tree.{column, join_of, builds_low, builds_high, join_gates, tree, tree_size};
-ghost use Rattle.engine.specs.Inner.Tree.{Nets, GateRoom, GatesPut, column_part, TablePart, tree_start, join_size, JoinRoom, trees_size, TreesPut};
+ghost use Rattle.engine.specs.Inner.Tree.{GateRoom, GatesPut, column_part, TablePart, tree_start, join_size, JoinRoom, trees_size, TreesPut};
 ghost use Rattle.engine.specs.declared.tree.Join.TheVariants.{Both};
 
 use super::limits::NETS;
