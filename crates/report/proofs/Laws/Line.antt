@@ -119,11 +119,14 @@ length-line w xs =
     length-append (w ++ numbers xs) (10 ∷ []) ∙ ap (λ (k : ℕ). k + 1) (length-append w (numbers xs))
 
 -- the numbers of a list are its values
-pub line-same : (w xs : List ℕ) → line w (map (λ (x : ℕ). x) xs) ≡ line w xs
+line-same : (w xs : List ℕ) → line w (map (λ (x : ℕ). x) xs) ≡ line w xs
 line-same w xs = ap (line w) (map-id xs)
 
-pub line-same_room : (n m : ℕ) (w xs : List ℕ) → n + length (line w xs) ≤ m → n + length (line w (map (λ (x : ℕ). x) xs)) ≤ m
-line-same_room n m w xs h = rw (line-same w xs) h
+pub bytes_room : (n m : ℕ) (w xs : List ℕ) → n + length (line w xs) ≤ m → n + length (line w (map (λ (x : ℕ). x) xs)) ≤ m
+bytes_room n m w xs h = rw (line-same w xs) h
+
+pub bytes-line : (a w xs : List ℕ) {b : List ℕ} → b ≡ a ++ line w (map (λ (x : ℕ). x) xs) → b ≡ a ++ line w xs
+bytes-line a w xs e = e ∙ ap (λ (ys : List ℕ). a ++ ys) (line-same w xs)
 
 -- the line of a list's values that are passed up to i
 module _ {A : Type 0} (f : A → ℕ) (w : List ℕ) (xs : List A) (i n : ℕ) (room : n + length (line w (map f xs)) ≤ 8366) where
