@@ -4,7 +4,7 @@ ghost use Rattle.arrayvec.specs.ArrayVec.{array_vec_len};
 ghost use Rattle.records.specs.Bytes.{nth, word as word'};
 ghost use Rattle.records.specs.Job.{nets_of};
 ghost use Rattle.records.specs.Sheet.{quad};
-ghost use Rattle.report.specs.Text.{digits, number, line, unfixable_word, blind_word, patch_text, value_text, refused_text, rectify_text, longest_text, printed_length, printed_bytes};
+ghost use Rattle.report.specs.Text.{number, line, unfixable_word, blind_word, patch_text, value_text, refused_text, rectify_text, longest_text, printed_length, printed_bytes};
 ghost use Rattle.report.specs.Inner.{PatchSheet, BlindSheet, UnfixableSheet, ChoiceSheet, patch_sheet_text, choice_text, pair};
 
 use arrayvec::ArrayVec;
@@ -48,26 +48,15 @@ impl Shown for [u8; 2] {
     }
 }
 
-// The digits of x.
-fn put_digits(text: &mut Text, x: usize)
-    requires { array_vec_len text.old + length (digits x) ≤ longest_text }
-    ensures { text.new.items ≡ text.old.items ++ digits x }
-{
-    if x < 10 {
-        text.push(b'0' + x as u8);
-        return;
-    }
-    put_digits(text, x / 10);
-    text.push(b'0' + (x % 10) as u8);
-}
-
 // A space and the digits of x.
 fn put_number(text: &mut Text, x: usize)
     requires { array_vec_len text.old + length (number x) ≤ longest_text }
     ensures { text.new.items ≡ text.old.items ++ number x }
 {
+    let mut buffer = itoa::Buffer::new();
+    let digits = buffer.format(x).as_bytes();
     text.push(b' ');
-    put_digits(text, x);
+    text.try_extend_from_slice(digits).unwrap();
 }
 
 // A line: a word and numbers.
