@@ -6,7 +6,7 @@ ghost use Rattle.records.specs.Parts.{PartsOf};
 ghost use Rattle.engine.specs.Support.{sound, candidate_nets, chosen};
 ghost use Rattle.engine.specs.Verdict.{blind_reading, chosen_bytes};
 ghost use Rattle.engine.specs.Reply.{choose_told, choose_reply};
-ghost use Rattle.engine.specs.Inner.Miter.{SomeParts, MiterRoom, MergedOf};
+ghost use Rattle.engine.specs.Inner.Miter.{SomeParts, MergedOf};
 ghost use Rattle.engine.specs.Inner.Plan.{NetsRead};
 ghost use Rattle.engine.specs.Inner.Search.{SetsTo};
 ghost use Rattle.engine.specs.Inner.Best.{HeldSupport, ChosenOf};
@@ -73,7 +73,14 @@ fn rule_patch(support: Support, cost: u32, sets: &[u32; READINGS], reply: &mut [
 {
     let table = fill_table(sets, support.len);
     let notes = fill_notes(sets, support.len);
-    let len = put_patch(reply, support, &table, cost, &notes);
+    let count = reading_count(support.len);
+    let len = put_patch(
+        reply,
+        &support.nets[..support.len],
+        &table[..count],
+        cost,
+        &notes[..count],
+    );
     ChosenSheet {
         len,
         verdict: Choice::Patch(PatchCost { cost }),
@@ -81,45 +88,42 @@ fn rule_patch(support: Support, cost: u32, sets: &[u32; READINGS], reply: &mut [
 }
 
 // The sets of all readings of these nets, over all inputs of a miter.
-fn reading_sets(miter: Miter, reads: Support) -> Met
-    requires { MiterRoom miter × NetsRead reads.nets reads.len }
-    ensures { (j : Job) → MergedOf j miter → take reads.len reads.nets ≡ candidate_nets j
+fn reading_sets(miter: &Miter, reads: Support) -> Met
+    requires { NetsRead reads.nets reads.len }
+    ensures { (j : Job) → MergedOf j miter.now → take reads.len reads.nets ≡ candidate_nets j
         → SetsTo j (2 ^ j.inputs) result.skipped result.sets }
 {
     if miter.inputs <= WORD_INPUTS {
-        return sets_of_words(&miter, reads.nets, reads.len);
+        return sets_of_words(miter, reads.nets, reads.len);
     }
-    let targets = miter.targets;
-    sets_of_inputs(&plan_of(miter, reads, targets))
+    sets_of_inputs(&plan_of(miter, reads, miter.targets))
 }
 
 // The choice on a good job's parts, and its sheet.
-fn choose_job(job: JobParts, reply: &mut [u8]) -> ChosenSheet
-    requires { SomeParts job × Below 1024 job.nets × (2084 ≤ length reply.old) }
-    ensures { (j : Job) → PartsOf j job → ChosenJob j reply.old (choose_told (Ok result)) reply.new }
+fn choose_job(job: &JobParts, reply: &mut [u8]) -> ChosenSheet
+    requires { SomeParts job.now × Below 1024 job.now.nets × (2084 ≤ length reply.old) }
+    ensures { (j : Job) → PartsOf j job.now → ChosenJob j reply.old (choose_told (Ok result)) reply.new }
 {
     let candidates = job.counts.candidates;
-    let nets = job.nets;
-    let weights = job.weights;
     let miter = merged_miter(job);
     let reads = Support {
-        nets,
+        nets: job.nets,
         len: candidates,
     };
-    let met = reading_sets(miter, reads);
+    let met = reading_sets(&miter, reads);
     if let Some(reading) = first_empty(&met.sets[..reading_count(candidates)]) {
         return rule_blind(reading, reply);
     }
     let priced = Priced {
-        nets: &nets[..candidates],
-        weights: &weights[..candidates],
+        nets: &job.nets[..candidates],
+        weights: &job.weights[..candidates],
         sets: &met.sets,
         targets: miter.targets,
     };
     let best = priced.best_support();
     let support = best.support;
     let mut sets = best.sets;
-    see_skipped(miter, support, met.skipped, &mut sets);
+    see_skipped(&miter, support, met.skipped, &mut sets);
     rule_patch(support, best.cost, &sets, reply)
 }
 
@@ -142,5 +146,5 @@ pub fn choose(job: &[u8], reply: &mut [u8]) -> Result<ChosenSheet, Refusal>
         return Err(Refusal::Room);
     }
     let parts = load(job)?;
-    Ok(choose_job(parts, reply))
+    Ok(choose_job(&parts, reply))
 }

@@ -68,17 +68,21 @@ fn table_of(sheet: &[u8], start: usize, count: usize) -> [u16; READINGS]
 }
 
 // The comparison of a good job with a sheet's bytes.
-fn compare_sheet(job: JobParts, sheet: &[u8]) -> Result<Comparison, Refusal>
-    requires { SomeParts job }
-    ensures { (j : Job) → PartsOf j job → compare_told result ≡ sheet_comparison j sheet.now }
+fn compare_sheet(job: &JobParts, sheet: &[u8]) -> Result<Comparison, Refusal>
+    requires { SomeParts job.now }
+    ensures { (j : Job) → PartsOf j job.now → compare_told result ≡ sheet_comparison j sheet.now }
 {
     let counts = job.counts;
-    let nets = job.nets;
-    let weights = job.weights;
-    let patch = read_sheet(counts.targets, counts.candidates, &nets, &weights, sheet)?;
+    let patch = read_sheet(
+        counts.targets,
+        counts.candidates,
+        &job.nets,
+        &job.weights,
+        sheet,
+    )?;
     let support = patch.support;
     let table = table_of(sheet, patch.table, reading_count(support.len));
-    let plan = plan_of(merged_miter(job), support, 0);
+    let plan = plan_of(&merged_miter(job), support, 0);
     Ok(first_difference(&plan, &table))
 }
 
@@ -88,5 +92,5 @@ fn compare_sheet(job: JobParts, sheet: &[u8]) -> Result<Comparison, Refusal>
 pub fn compare(job: &[u8], sheet: &[u8]) -> Result<Comparison, Refusal>
     ensures { compare_told result ≡ compare_reply job.now sheet.now }
 {
-    compare_sheet(load(job)?, sheet)
+    compare_sheet(&load(job)?, sheet)
 }

@@ -9,7 +9,7 @@ ghost use Rattle.engine.specs.Rectify.{vector_loop};
 ghost use Rattle.engine.specs.Inner.List.{listed_of};
 ghost use Rattle.engine.specs.Support.{candidate_nets};
 ghost use Rattle.engine.specs.Inner.Guess.{ListTo};
-ghost use Rattle.engine.specs.Inner.Miter.{SomeParts, MiterRoom, MergedOf};
+ghost use Rattle.engine.specs.Inner.Miter.{SomeParts, MergedOf};
 ghost use Rattle.engine.specs.Inner.Plan.{NetsRead};
 ghost use Rattle.engine.specs.Inner.Judging.{JudgedJob};
 
@@ -48,7 +48,7 @@ fn rule_list(list: Vectors, reply: &mut [u8]) -> JudgedSheet
     ensures { (j : Job) → listed_of list ≡ vector_loop j → JudgedJob j reply.old (judge_told (Ok result)) reply.new }
 {
     if let Some(input) = list.stuck {
-        let len = put_unfixable(reply, input, list.list, list.len);
+        let len = put_unfixable(reply, input, &list.list[..list.len]);
         return JudgedSheet {
             len,
             verdict: Judgement::Unfixable(UnfixableInput {
@@ -56,7 +56,7 @@ fn rule_list(list: Vectors, reply: &mut [u8]) -> JudgedSheet
             }),
         };
     }
-    let len = put_vectors(reply, 0, list.list, list.len);
+    let len = put_vectors(reply, 0, &list.list[..list.len]);
     JudgedSheet {
         len,
         verdict: Judgement::Fixable,
@@ -64,28 +64,26 @@ fn rule_list(list: Vectors, reply: &mut [u8]) -> JudgedSheet
 }
 
 // The vector list over all inputs of a miter; of the nets read the tables are made (see guess.rt).
-fn vector_list(miter: Miter, reads: Support) -> Vectors
-    requires { MiterRoom miter × NetsRead reads.nets reads.len }
-    ensures { (j : Job) → MergedOf j miter → take reads.len reads.nets ≡ candidate_nets j → ListTo j (2 ^ j.inputs) result }
+fn vector_list(miter: &Miter, reads: Support) -> Vectors
+    requires { NetsRead reads.nets reads.len }
+    ensures { (j : Job) → MergedOf j miter.now → take reads.len reads.nets ≡ candidate_nets j → ListTo j (2 ^ j.inputs) result }
 {
     if miter.inputs <= WORD_INPUTS {
-        return list_of_words(&miter);
+        return list_of_words(miter);
     }
-    let targets = miter.targets;
-    list_of_inputs(&plan_of(miter, reads, targets))
+    list_of_inputs(&plan_of(miter, reads, miter.targets))
 }
 
 // The judgement on a good job's parts, and its sheet.
-fn judge_job(job: JobParts, reply: &mut [u8]) -> JudgedSheet
-    requires { SomeParts job × Below 1024 job.nets × (26 ≤ length reply.old) }
-    ensures { (j : Job) → PartsOf j job → JudgedJob j reply.old (judge_told (Ok result)) reply.new }
+fn judge_job(job: &JobParts, reply: &mut [u8]) -> JudgedSheet
+    requires { SomeParts job.now × Below 1024 job.now.nets × (26 ≤ length reply.old) }
+    ensures { (j : Job) → PartsOf j job.now → JudgedJob j reply.old (judge_told (Ok result)) reply.new }
 {
-    let nets = job.nets;
     let candidates = Support {
-        nets,
+        nets: job.nets,
         len: job.counts.candidates,
     };
-    let list = vector_list(merged_miter(job), candidates);
+    let list = vector_list(&merged_miter(job), candidates);
     rule_list(list, reply)
 }
 
@@ -106,5 +104,5 @@ pub fn judge(job: &[u8], reply: &mut [u8]) -> Result<JudgedSheet, Refusal>
         return Err(Refusal::Room);
     }
     let parts = load(job)?;
-    Ok(judge_job(parts, reply))
+    Ok(judge_job(&parts, reply))
 }

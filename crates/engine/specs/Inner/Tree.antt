@@ -1,12 +1,13 @@
 -- Building multiplexer trees: gates put into the places of a netlist (src/tree.rt). No public contract cites this file. Assumes nothing.
 --
 --   column_part tb at k t   the column of target t at the 2 ^ k entries of the table tb from place at on
---   TablePart tb at k t     those entries stand in the table, and t is a bit of a byte
+--   TablePart tb k t        the table has 2 ^ k entries or more, and t is a bit of a byte
 --   tree_start k col           how the tree over k nets and the column col starts
 --   join_size j             how many gates join two halves
 --   JoinRoom ..             there is room for the gates that join two halves behind their trees
 --   trees_size m j k tb     how many gates the trees of the m targets from target j on have, over k nets and the table tb
 --   Nets k ns               each of the first k numbers of ns is one of 1,024 nets
+--   InputsNumbered n ns     the first n nets, the inputs, have their own numbers in ns
 --   GateRoom base n cs      the places cs hold n gates, and the net base + i of each gate i is one of 1,024
 --   GatesPut base ..        the gates gs now stand behind the first count gates, r gates in all; gate i drives net base + i
 --   support_trees ..        the trees of m targets over the first k nets of is and the table tb, the first gate driving net next
@@ -24,9 +25,9 @@ use Rattle.engine.specs.declared.tree.TreeStart.{TreeStart}
 abbrev pub column_part : List ℕ → ℕ → ℕ → ℕ → List ℕ
 column_part tb at k t = column (take (2 ^ k) (drop at tb)) t
 
-pub record TablePart (tb : List ℕ) (at k t : ℕ) : Type 0 where
+pub record TablePart (tb : List ℕ) (k t : ℕ) : Type 0 where
   pub most : k ≤ 10
-  pub within : at + 2 ^ k ≤ length tb
+  pub within : 2 ^ k ≤ length tb
   pub target : t < 8
 
 -- the tests of a column: all 0, all 1, equal halves
@@ -49,6 +50,11 @@ trees_size (suc m) j k tb = tree_size k (column_part tb 0 k j) + trees_size m (s
 
 abbrev pub Nets : ℕ → List ℕ → Type 0
 Nets k ns = (i : ℕ) → i < k → get_or ns i 0 < 1024
+
+pub record InputsNumbered (n : ℕ) (after : List ℕ) : Type 0 where
+  pub long : length after ≡ 1024
+  pub inputs : (i : ℕ) → i < n → get_or after i 0 ≡ i
+  pub nets : Nets 1024 after
 
 pub record GateRoom (base n : ℕ) (cs : List ℕ) : Type 0 where
   pub long : length cs ≡ 400

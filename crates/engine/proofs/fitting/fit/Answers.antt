@@ -21,13 +21,13 @@ returns-in_err-parts c =
     (fit_gives a.reply.now a.job.now a.sheet.now
     (fit_refused a.reply.now a.job.now a.sheet.now c.if-reply-lt-LONGEST_FIT.false _ c.in_err-parts.ensures)))
 
-pub old_side-requires : goal.old_side-requires
-old_side-requires c = some-parts c.args.job.now c.in_ok-parts.ensures
+pub old_side-old-requires : goal.old_side-old-requires
+old_side-old-requires c = some-parts c.args.job.now c.in_ok-parts.ensures
 
 pub fit_sheet-requires : goal.fit_sheet-requires
 fit_sheet-requires c =
     let q = accepted-parts c.args.job.now c.in_ok-parts.ensures in (
-      record { job = job_of c.args.job.now; parts = q; old = c.old_side.ensures (job_of c.args.job.now) q },
+      record { job = job_of c.args.job.now; parts = q; old = c.old_side-old.ensures (job_of c.args.job.now) q },
       c.if-reply-lt-LONGEST_FIT.false,
     )
 
@@ -39,4 +39,4 @@ returns c =
     replied
     (fit_gives a.reply.now a.job.now a.sheet.now
     (fit-accepted a.reply.now a.job.now a.sheet.now c.if-reply-lt-LONGEST_FIT.false (accepted-job a.job.now c.in_ok-parts.ensures)
-    (c.fit_sheet.ensures j q (c.old_side.ensures j q))))
+    (c.fit_sheet.ensures j q (c.old_side-old.ensures j q))))

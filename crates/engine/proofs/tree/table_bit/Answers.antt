@@ -1,8 +1,0 @@
--- `engine::tree::table_bit` meets its contract. Assumes nothing.
-use Rattle.engine.specs.Eval.{bit}
-use mathlib.Core.Path.{refl}
-use Rattle.engine.proofs.tree.table_bit.Goals as goal
-
-pub returns : goal.returns
-unfolding bit
-returns c = refl
