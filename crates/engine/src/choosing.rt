@@ -100,7 +100,7 @@ fn reading_sets(miter: Miter, reads: Support) -> Met
         → SetsTo j (2 ^ j.inputs) result.skipped result.sets }
 {
     if miter.inputs <= WORD_INPUTS {
-        return sets_of_words(miter, reads.nets, reads.len);
+        return sets_of_words(&miter, reads.nets, reads.len);
     }
     let targets = miter.targets;
     sets_of_inputs(&plan_of(miter, reads, targets))

@@ -83,7 +83,7 @@ fn vector_list(miter: Miter, reads: Support) -> Vectors
     ensures { (j : Job) → MergedOf j miter → take reads.len reads.nets ≡ candidate_nets j → ListTo j (2 ^ j.inputs) result }
 {
     if miter.inputs <= WORD_INPUTS {
-        return list_of_words(miter);
+        return list_of_words(&miter);
     }
     let targets = miter.targets;
     list_of_inputs(&plan_of(miter, reads, targets))
