@@ -36,7 +36,7 @@ use Rattle.engine.proofs.Laws.Reply.{number_short, number-long, number-accepts, 
 use Rattle.engine.proofs.Laws.Notes.{note-in}
 use Rattle.engine.proofs.Laws.Sheet.{whole-field, nth-field}
 use Rattle.engine.proofs.Laws.Choice.{cond_of, cond-zero, none_or_some, true-or-false, not-both, first-least, first-none-below}
-use Rattle.engine.proofs.Laws.ListLoop.{first-of-least, first-of-none}
+use Rattle.engine.proofs.Laws.Choice.{first-of-least, first-of-none}
 use Rattle.engine.proofs.Laws.Support.{rectifies-iff-outputs, length-table_of, table_of-below, sound-iff-found, sound-of-carries, carries-of-sound, shared-unrectifiable, sound-iff-subset-carries, rectifiable-of-carries}
 use Rattle.engine.proofs.Laws.Best.{chosen-sound}
 use Rattle.engine.proofs.Laws.Loop.{stuck-iff, stuck-none-iff}

@@ -1,6 +1,7 @@
 -- What the engine's private functions require and give, a file for each module of src/ that needs one. No public contract cites these
 -- files: they need not be read to know what is promised.
 pub mod Packed
+pub mod Operands
 pub mod Kernel
 pub mod Miter
 pub mod List

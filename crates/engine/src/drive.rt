@@ -1,29 +1,22 @@
 // The targets of a block driven by a table: each scenario's reading gives the vector to which its targets are set. Transposed, a word
 // of the readings' rows has four readings, and the entries at them are the word of four vectors.
 ghost use Rattle.std.specs.Prelude.{◌≡◌, ℕ, ◌+◌, ◌%◌, ◌≤◌, ◌<◌, get_or};
-ghost use Rattle.engine.specs.Inner.Kernel.{row_value, value_in, NetsSet};
+ghost use Rattle.engine.specs.Inner.Kernel.{value_in, NetsSet};
 ghost use Rattle.engine.specs.Inner.Note.{gathered};
 ghost use Rattle.engine.specs.Inner.Search.{RowsSay, DrivenRow};
 ghost use Rattle.engine.specs.Inner.Turn.{Looked};
 
 use super::kernel::run;
-use super::leaves::{equal_row, set_row};
+use super::leaves::{equal_row, row_of, set_row};
 use super::limits::{READING, READINGS, ROW, ROWS, WORDS};
 use super::plan::Plan;
 use super::turn::transpose;
-
-// An entry as a word. (Of an element behind a reference to an array it is not known that it fits; of an argument it is.)
-fn wide(entry: u16) -> u64
-    ensures { (result ≡ entry) × (result < 65536) }
-{
-    entry as u64
-}
 
 // The table's entry at a reading.
 fn look(reading: u64, table: &[u16; READINGS]) -> u64
     ensures { (result ≡ get_or table.now (reading % 1024) 0) × (result < 65536) }
 {
-    wide(table[(reading % READING) as usize])
+    table[(reading % READING) as usize] as u64
 }
 
 // .. at the four readings that a word holds
@@ -42,39 +35,20 @@ pub(super) fn table_rows(mut readings: [u64; ROWS], table: &[u16; READINGS]) -> 
     ensures { (y : ℕ) → y < 1024 → gathered result y ≡ get_or table.now (gathered readings y % 1024) 0 }
 {
     transpose(&mut readings, ROW);
-    let mut found = [0u64; ROWS];
-    for i in 0..ROWS {
-        found[i] = look_four(readings[i], table);
+    for four in &mut readings {
+        *four = look_four(*four, table);
     }
-    transpose(&mut found, ROW);
-    found
+    transpose(&mut readings, ROW);
+    readings
 }
 
-// Row i of 16 rows.
-pub(super) fn row_at(rows: &[u64; ROWS], i: usize) -> [u64; ROW]
-    requires { i < 16 }
-    ensures { (y : ℕ) → y < 1024 → row_value result y ≡ value_in rows.now y i }
+// The rows from row first on become those of the targets.
+fn set_targets(plan: &Plan, rows: &[u64; ROWS], first: usize, words: &mut [u64; WORDS])
+    requires { first ≤ 12 }
+    ensures { NetsSet plan.now.inputs plan.now.targets (λ y k. value_in rows.now y (first + k)) words.old words.new }
 {
-    let mut r = [0u64; ROW];
-    for w in 0..ROW {
-        r[w] = rows[ROW * i + w];
-    }
-    r
-}
-
-// The rows from row first on become those of the targets, from net at on.
-fn set_targets(
-    at: usize,
-    targets: usize,
-    rows: &[u64; ROWS],
-    first: usize,
-    words: &mut [u64; WORDS],
-)
-    requires { (at + targets ≤ 1024) × (first + targets ≤ 16) }
-    ensures { NetsSet at targets (λ y k. value_in rows.now y (first + k)) words.old words.new }
-{
-    for i in 0..targets {
-        set_row(at + i, row_at(rows, first + i), words);
+    for i in 0..plan.targets {
+        set_row(plan.inputs + i, row_of(first + i, rows), words);
     }
 }
 
@@ -91,7 +65,7 @@ pub(super) fn driven_row(
     ensures { (u : ℕ → ℕ) → RowsSay rows.now first plan.now.targets u
         → DrivenRow plan.now u words.old result words.new }
 {
-    set_targets(plan.inputs, plan.targets, rows, first, words);
+    set_targets(plan, rows, first, words);
     run(&plan.gates, plan.ends[0], plan.ends[1], words);
     equal_row(plan, words)
 }

@@ -159,7 +159,7 @@ fn old_side(job: JobParts) -> OldSide
     let inputs = miter.inputs;
     let targets = miter.targets;
     let gates = miter.gates;
-    let marks = mark_from(&gates, count, inputs, targets);
+    let marks = mark_from(&gates[..count], inputs, targets);
     OldSide {
         inputs,
         targets,

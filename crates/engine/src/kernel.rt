@@ -22,7 +22,7 @@ pub(super) fn apply(op: u64, a: u64, b: u64) -> u64
 
 // The operation on the words in r and those that stand from place at on.
 fn join(op: u64, at: usize, r: &mut [u64; ROW], words: &[u64; WORDS])
-    requires { (at + 16 ≤ 16384) × (length r.old ≡ 16) }
+    requires { at + 16 ≤ 16384 }
     ensures { Filled (λ w. applied op (get_or r.old w 0) (get_or words.now (at + w) 0)) 0 16
         r.old r.new }
 {
@@ -33,7 +33,7 @@ fn join(op: u64, at: usize, r: &mut [u64; ROW], words: &[u64; WORDS])
 
 // The words of r, inverted where x has a 1, stored from place at on.
 pub(super) fn store(at: usize, x: u64, r: [u64; ROW], words: &mut [u64; WORDS])
-    requires { (at + 16 ≤ 16384) × (length words.old ≡ 16384) }
+    requires { at + 16 ≤ 16384 }
     ensures { Filled (λ w. bit_xor (get_or r w 0) x) at 16 words.old words.new }
 {
     for w in 0..ROW {
@@ -61,7 +61,7 @@ fn gate_words(c: u64, words: &[u64; WORDS]) -> [u64; ROW]
 
 // Gates from..to of a list, in turn.
 pub(super) fn run(gates: &[u64], from: usize, to: usize, words: &mut [u64; WORDS])
-    requires { (to ≤ length gates.now) × (length words.old ≡ 16384) }
+    requires { to ≤ length gates.now }
     ensures { Ran (slice from to gates.now) words.old words.new }
 {
     for i in from..to {

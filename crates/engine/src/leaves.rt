@@ -9,6 +9,7 @@ ghost use Rattle.engine.specs.Inner.Search.{RowEqual};
 use super::limits::{BLOCK, ROW, ROWS, WORDS};
 use super::plan::Plan;
 use super::word::{broadcast, input_word};
+use std::array;
 
 // How many of the inputs left are in one block.
 pub(super) fn block_inputs(left: usize) -> usize
@@ -21,8 +22,8 @@ pub(super) fn block_inputs(left: usize) -> usize
 }
 
 // The row r becomes that of net i. (The kernel's store has one caller, so that it is part of the kernel's loop.)
-pub(super) fn set_row(i: usize, r: [u64; ROW], words: &mut [u64; WORDS])
-    requires { (i < 1024) × (length words.old ≡ 16384) }
+pub(super) fn set_row(i: usize, r: [u64; ROW], words: &mut [u64])
+    requires { 16 * i + 16 ≤ length words.old }
     ensures { NetSet i (row_value r) words.old words.new }
 {
     for w in 0..ROW {
@@ -32,12 +33,10 @@ pub(super) fn set_row(i: usize, r: [u64; ROW], words: &mut [u64; WORDS])
 
 // Net i becomes the lowest bit of x in every scenario.
 pub(super) fn set_net(i: usize, x: usize, words: &mut [u64; WORDS])
-    requires { (i < 1024) × (length words.old ≡ 16384) }
+    requires { i < 1024 }
     ensures { NetSet i (λ y. bit 0 x) words.old words.new }
 {
-    let v = broadcast(x);
-    let r = [v; ROW];
-    set_row(i, r, words);
+    set_row(i, [broadcast(x); ROW], words);
 }
 
 // The row of input i in block b.
@@ -45,27 +44,22 @@ fn input_row(i: usize, b: usize) -> [u64; ROW]
     requires { (i < 64) × (b < 65536) }
     ensures { (y : ℕ) → y < 1024 → row_value result y ≡ bit i (1024 * b + y) }
 {
-    let mut r = [0u64; ROW];
-    for w in 0..ROW {
-        r[w] = input_word(i, ROW * b + w);
-    }
-    r
+    array::from_fn(|w| input_word(i, ROW * b + w))
 }
 
 // The rows of the inputs in block b, from net 0 on.
 pub(super) fn load_inputs(inputs: usize, b: usize, words: &mut [u64; WORDS])
-    requires { (inputs ≤ 20) × (b < 65536) × (length words.old ≡ 16384) }
+    requires { (inputs ≤ 20) × (b < 65536) }
     ensures { NetsSet 0 inputs (λ y k. bit k (1024 * b + y)) words.old words.new }
 {
     for i in 0..inputs {
-        let r = input_row(i, b);
-        set_row(i, r, words);
+        set_row(i, input_row(i, b), words);
     }
 }
 
 // The targets, from net at on, become the bits of a vector in every scenario.
 pub(super) fn set_vector(at: usize, targets: usize, vector: usize, words: &mut [u64; WORDS])
-    requires { (at + targets ≤ 1024) × (targets ≤ 16) × (length words.old ≡ 16384) }
+    requires { (at + targets ≤ 1024) × (targets ≤ 16) }
     ensures { NetsSet at targets (λ y k. bit k vector) words.old words.new }
 {
     for i in 0..targets {
@@ -74,25 +68,11 @@ pub(super) fn set_vector(at: usize, targets: usize, vector: usize, words: &mut [
 }
 
 // The row of net i.
-pub(super) fn row_of(i: usize, words: &[u64; WORDS]) -> [u64; ROW]
-    requires { i < 1024 }
-    ensures { (length result ≡ 16) × ((y : ℕ) → y < 1024 → row_value result y ≡ value_in words.now y i) }
+pub(super) fn row_of(i: usize, words: &[u64]) -> [u64; ROW]
+    requires { 16 * i + 16 ≤ length words.now }
+    ensures { (y : ℕ) → y < 1024 → row_value result y ≡ value_in words.now y i }
 {
-    let mut r = [0u64; ROW];
-    for w in 0..ROW {
-        r[w] = words[ROW * i + w];
-    }
-    r
-}
-
-// The row r becomes row i of 16 rows.
-pub(super) fn put_row(i: usize, r: [u64; ROW], rows: &mut [u64; ROWS])
-    requires { (i < 16) × (length rows.old ≡ 256) }
-    ensures { NetSet i (row_value r) rows.old rows.new }
-{
-    for w in 0..ROW {
-        rows[ROW * i + w] = r[w];
-    }
+    array::from_fn(|w| words[ROW * i + w])
 }
 
 // The rows of the nets that a plan reads; the others of the 16 rows are 0.
@@ -102,16 +82,16 @@ pub(super) fn read_rows(plan: &Plan, words: &[u64; WORDS]) -> [u64; ROWS]
     let mut rows = [0u64; ROWS];
     for k in 0..plan.reads.len {
         let r = row_of(plan.reads.nets[k] as usize, words);
-        put_row(k, r, &mut rows);
+        set_row(k, r, &mut rows);
     }
     rows
 }
 
 // The row r, with 0 where the nets a and b differ.
 fn keep_equal(a: usize, b: usize, r: &mut [u64; ROW], words: &[u64; WORDS])
-    requires { (a < 1024) × (b < 1024) × (length r.old ≡ 16) }
-    ensures { (length r.new ≡ 16) × ((y : ℕ) → y < 1024 → row_value r.new y
-        ≡ cond (eqb (value_in words.now y a) (value_in words.now y b)) (row_value r.old y) 0) }
+    requires { (a < 1024) × (b < 1024) }
+    ensures { (y : ℕ) → y < 1024 → row_value r.new y
+        ≡ cond (eqb (value_in words.now y a) (value_in words.now y b)) (row_value r.old y) 0 }
 {
     for w in 0..ROW {
         r[w] = r[w] & (words[ROW * a + w] ^ words[ROW * b + w] ^ !0);

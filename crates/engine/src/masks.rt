@@ -5,7 +5,7 @@ ghost use Rattle.engine.specs.Inner.Masks.{ordered, turns, Among};
 ghost use Rattle.engine.specs.Inner.Search.{TargetTurned, BlockMasks};
 
 use super::kernel::run;
-use super::leaves::{equal_row, put_row, set_net};
+use super::leaves::{equal_row, set_net, set_row};
 use super::limits::{ROWS, VECTORS, WORDS};
 use super::plan::Plan;
 
@@ -69,12 +69,12 @@ pub(super) fn masks_of(plan: &Plan, words: &mut [u64; WORDS]) -> [u64; ROWS]
     let vectors = 1usize << plan.targets;
     let u = shortest_list(plan);
     let mut masks = [0u64; ROWS];
-    put_row(0, equal_row(plan, words), &mut masks);
+    set_row(0, equal_row(plan, words), &mut masks);
     for step in 1..vectors {
         let v = vector_at(u, step);
         let t = turned_at(u, step);
         turn_target(plan, t, v >> t, words);
-        put_row(v, equal_row(plan, words), &mut masks);
+        set_row(v, equal_row(plan, words), &mut masks);
     }
     masks
 }

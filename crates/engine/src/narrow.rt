@@ -15,7 +15,7 @@ ghost use Rattle.engine.specs.Inner.Plan.{NetsRead};
 ghost use Rattle.engine.specs.Inner.Search.{SetsTo};
 
 use super::kernel::apply;
-use super::leaves::put_row;
+use super::leaves::set_row;
 use super::limits::{MITER_GATES, NETS, READINGS, ROW, ROWS, UNSEEN};
 use super::list::Vectors;
 use super::masks::vector_at;
@@ -136,7 +136,7 @@ fn word_masks(miter: Miter, words: &mut [u64; NETS]) -> [u64; ROWS]
             words,
         );
         let r = equal_word(outputs, goldens, miter.outs, words);
-        put_row(v, [r; ROW], &mut masks);
+        set_row(v, [r; ROW], &mut masks);
     }
     masks
 }
@@ -150,7 +150,7 @@ fn read_words(nets: [u16; CANDIDATES], count: usize, words: &[u64; NETS]) -> [u6
     let mut rows = [0u64; ROWS];
     for k in 0..count {
         let r = words[nets[k] as usize];
-        put_row(k, [r; ROW], &mut rows);
+        set_row(k, [r; ROW], &mut rows);
     }
     rows
 }

@@ -1,15 +1,15 @@
 // What a block of 1,024 inputs adds to the search: its rows of masks say which vectors rectify each input, its rows of readings what the
 // candidates give there. The sets of vectors are narrowed by all of its inputs; the vector list is stepped only at inputs that no listed
 // vector rectifies.
-ghost use Rattle.std.specs.Prelude.{◌≡◌, ℕ, ◌+◌, ◌*◌, ◌/◌, ◌%◌, ◌^◌, ◌≤◌, ◌<◌, length, get_or};
-ghost use Rattle.std.specs.Int.Bits.{bit_or};
+ghost use Rattle.std.specs.Prelude.{◌≡◌, ◌+◌, ◌*◌, ◌/◌, ◌%◌, ◌^◌, ◌≤◌, ◌<◌};
 ghost use Rattle.engine.specs.Inner.List.{listed_of};
 ghost use Rattle.engine.specs.Inner.Note.{narrowed, sets_from, gathered, ColumnMet, Joined, CoveredTo, ListNoted};
 
+use super::leaves::row_of;
 use super::limits::{READING, READINGS, ROW, ROWS, SET, VECTORS, WORD};
 use super::list::Vectors;
 use super::turn::transpose;
-use super::word::first_zero;
+use super::word::{first_zero, join_rows};
 
 // The sets with the one of a reading cut down to its part in a set of vectors.
 fn meet(reading: u64, set: u64, sets: &mut [u32; READINGS])
@@ -52,7 +52,7 @@ pub(super) fn meet_block(
     columns: usize,
     sets: &mut [u32; READINGS],
 )
-    requires { (length masks ≡ 256) × (length readings ≡ 256) × (columns ≤ 16) }
+    requires { columns ≤ 16 }
     ensures { sets.new
         ≡ sets_from (gathered masks) (λ y. gathered readings y % 1024) sets.old 0 (64 * columns) }
 {
@@ -64,9 +64,7 @@ pub(super) fn meet_block(
 }
 
 // An input narrows the first set of its reading, in the low half of its place, where it leaves it a vector, else the second.
-fn sort(reading: u64, set: u64, sets: &mut [u32; READINGS])
-    ensures { length sets.new ≡ length sets.old }
-{
+fn sort(reading: u64, set: u64, sets: &mut [u32; READINGS]) {
     let at = (reading % READING) as usize;
     let mask = (set % SET) as u32;
     let both = sets[at];
@@ -80,7 +78,6 @@ fn sort(reading: u64, set: u64, sets: &mut [u32; READINGS])
 // .. for the 64 scenarios of column w of turned rows
 fn sort_column(masks: &[u64; ROWS], readings: &[u64; ROWS], w: usize, sets: &mut [u32; READINGS])
     requires { w < 16 }
-    ensures { length sets.new ≡ length sets.old }
 {
     for i in 0..WORD {
         let at = ROW * (i / 4) + w;
@@ -96,8 +93,7 @@ pub(super) fn sort_block(
     columns: usize,
     sets: &mut [u32; READINGS],
 )
-    requires { (length masks ≡ 256) × (length readings ≡ 256) × (columns ≤ 16) }
-    ensures { length sets.new ≡ length sets.old }
+    requires { columns ≤ 16 }
 {
     transpose(&mut masks, columns);
     transpose(&mut readings, columns);
@@ -120,25 +116,13 @@ fn gather_rows(masks: &[u64; ROWS], y: usize) -> usize
     r
 }
 
-// The words joined with those of row v.
-fn join_row(v: usize, masks: &[u64; ROWS], words: [u64; ROW]) -> [u64; ROW]
-    requires { v < 16 }
-    ensures { (w : ℕ) → w < 16 → get_or result w 0 ≡ bit_or (get_or words w 0) (get_or masks.now (16 * v + w) 0) }
-{
-    let mut r = [0u64; ROW];
-    for w in 0..ROW {
-        r[w] = words[w] | masks[ROW * v + w];
-    }
-    r
-}
-
 // The row that has a 1 where a listed vector rectifies the input.
 fn listed_row(masks: &[u64; ROWS], list: &Vectors) -> [u64; ROW]
     ensures { Joined masks.now (listed_of list.now).vectors result }
 {
     let mut words = [0u64; ROW];
     for v in list.listed() {
-        let next = join_row(usize::from(*v), masks, words);
+        let next = join_rows(words, row_of(usize::from(*v), masks));
         words = next;
     }
     words

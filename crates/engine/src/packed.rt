@@ -2,7 +2,8 @@
 // what stands in its four operand slots (10 each).
 ghost use Rattle.std.specs.Prelude.{◌≡◌, ◌<◌};
 ghost use Rattle.records.specs.Claims.{Below};
-ghost use Rattle.engine.specs.Inner.Packed.{gate_with, packed};
+ghost use Rattle.engine.specs.Inner.Packed.{gate_with, packed, operands_of};
+ghost use Rattle.engine.specs.Inner.Operands.{operands_left};
 
 use records::SLOTS;
 
@@ -31,4 +32,41 @@ pub(super) fn pack(kind: u8, count: u8, own: usize, slots: [u16; SLOTS]) -> u64
     let low = kind as u64 + COUNT_AT * count as u64 + NET_AT * own as u64;
     let first = SLOTS_AT * slots[0] as u64 + SECOND_AT * slots[1] as u64;
     low + first + THIRD_AT * slots[2] as u64 + FOURTH_AT * slots[3] as u64
+}
+
+// The nets of a gate's operands, first to last: those of the slots left, of which rest has the first in its lowest bits.
+#[derive(Drop)]
+pub struct Operands {
+    left: u64,
+    rest: u64,
+}
+
+pub(super) fn operands_of(c: u64) -> Operands
+    ensures { operands_left result ≡ operands_of c }
+{
+    Operands {
+        left: c / COUNT_AT % COUNTS,
+        rest: c / SLOTS_AT,
+    }
+}
+
+impl Iterator for Operands {
+    ghost use Rattle.std.specs.Iterator.{YieldsFirst, item_count};
+    ghost use Rattle.engine.specs.Inner.Operands.{operands_left};
+
+    type Item = usize;
+
+    ghost next_gives = { YieldsFirst operands_left };
+
+    ghost remaining = { item_count operands_left };
+
+    fn next(&mut self) -> Option<usize> {
+        if self.left == 0 {
+            return None;
+        }
+        let net = (self.rest % NET) as usize;
+        self.left -= 1;
+        self.rest = self.rest / NET;
+        Some(net)
+    }
 }

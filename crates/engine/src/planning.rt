@@ -1,5 +1,5 @@
 // Makes plans: picks the gates of a miter that are needed, and puts them in lists (src/plan.rt).
-ghost use Rattle.std.specs.Prelude.{◌≡◌, true, List, ℕ, ◌+◌, ◌≤◌, ◌<◌, max, length, take};
+ghost use Rattle.std.specs.Prelude.{◌≡◌, true, List, ℕ, ◌+◌, ◌≤◌, ◌<◌, max, take};
 ghost use Rattle.records.specs.Bytes.{all};
 ghost use Rattle.records.specs.Job.{Job};
 ghost use Rattle.records.specs.Refusal.{candidate_good};
@@ -11,29 +11,19 @@ ghost use Rattle.engine.specs.Inner.Plan.{ListPut, ListsUpTo, NetsRead, ReadsOf,
 
 use super::limits::{LISTED, LISTS, NETS};
 use super::miter::Miter;
-use super::packed::{COUNT_AT, COUNTS, NET, NET_AT, SLOTS_AT};
+use super::packed::{NET, NET_AT, operands_of};
 use super::plan::Plan;
-use records::{OUTPUTS, Support};
-
-fn greater(a: u8, b: u8) -> u8
-    ensures { result ≡ max a b }
-{
-    if a < b { b } else { a }
-}
+use records::Support;
 
 // The mark of a gate: the greatest of its operands' marks.
 fn gate_mark(c: u64, marks: &[u8; NETS]) -> u8
     ensures { result ≡ code_mark marks.now c }
 {
-    let mut r = 0u8;
-    let mut rest = c / SLOTS_AT;
-    let mut i = c / COUNT_AT % COUNTS;
-    while 0 < i {
-        r = greater(r, marks[(rest % NET) as usize]);
-        rest = rest / NET;
-        i -= 1;
+    let mut mark = 0u8;
+    for net in operands_of(c) {
+        mark = mark.max(marks[net]);
     }
-    r
+    mark
 }
 
 // A mark for each of the k nets from from on.
@@ -49,13 +39,12 @@ fn leaf_marks(from: usize, k: usize) -> [u8; NETS]
 }
 
 // The marks of all nets where the k leaves from from on have one: each gate's, in turn.
-pub(super) fn mark_from(gates: &[u64], count: usize, from: usize, k: usize) -> [u8; NETS]
-    requires { (count ≤ length gates.now) × (from + k ≤ 1024) }
-    ensures { result ≡ marks_from (take count gates.now) from k }
+pub(super) fn mark_from(gates: &[u64], from: usize, k: usize) -> [u8; NETS]
+    requires { from + k ≤ 1024 }
+    ensures { result ≡ marks_from gates.now from k }
 {
     let mut marks = leaf_marks(from, k);
-    for i in 0..count {
-        let c = gates[i];
+    for &c in gates {
         let m = gate_mark(c, &marks);
         marks[(c / NET_AT % NET) as usize] = m;
     }
@@ -67,8 +56,8 @@ fn mark_nets(nets: &[u16], mut marks: [u8; NETS]) -> [u8; NETS]
     requires { Below 1024 nets.now }
     ensures { result ≡ marked_all marks nets.now }
 {
-    for net in nets {
-        marks[*net as usize] = 1;
+    for &net in nets {
+        marks[net as usize] = 1;
     }
     marks
 }
@@ -77,22 +66,16 @@ fn mark_nets(nets: &[u16], mut marks: [u8; NETS]) -> [u8; NETS]
 fn mark_operands(c: u64, marks: &mut [u8; NETS])
     ensures { marks.new ≡ marked_all marks.old (operands_of c) }
 {
-    let mut rest = c / SLOTS_AT;
-    let mut i = c / COUNT_AT % COUNTS;
-    while 0 < i {
-        marks[(rest % NET) as usize] = 1;
-        rest = rest / NET;
-        i -= 1;
+    for net in operands_of(c) {
+        marks[net] = 1;
     }
 }
 
 // The marks, and from the last gate to the first those of the operands of each gate with a mark.
-fn mark_live(gates: &[u64], count: usize, mut marks: [u8; NETS]) -> [u8; NETS]
-    requires { count ≤ length gates.now }
-    ensures { result ≡ live_from marks (take count gates.now) }
+fn mark_live(gates: &[u64], mut marks: [u8; NETS]) -> [u8; NETS]
+    ensures { result ≡ live_from marks gates.now }
 {
-    for i in (0..count).rev() {
-        let c = gates[i];
+    for &c in gates.iter().rev() {
         if marks[(c / NET_AT % NET) as usize] != 0 {
             mark_operands(c, &mut marks);
         }
@@ -104,20 +87,17 @@ fn mark_live(gates: &[u64], count: usize, mut marks: [u8; NETS]) -> [u8; NETS]
 // is no room, the rest is left out.
 fn pick(
     gates: &[u64],
-    count: usize,
     live: &[u8; NETS],
     marks: &[u8; NETS],
     led: bool,
     at: usize,
     out: &mut [u64; LISTED],
 ) -> usize
-    requires { (count ≤ length gates.now) × (at ≤ 2400) }
-    ensures { ListPut (picked live.now marks.now led (take count gates.now)) at
-        out.old result out.new }
+    requires { at ≤ 2400 }
+    ensures { ListPut (picked live.now marks.now led gates.now) at out.old result out.new }
 {
     let mut end = at;
-    for i in 0..count {
-        let c = gates[i];
+    for &c in gates {
         let net = (c / NET_AT % NET) as usize;
         if live[net] != 0 {
             if (marks[net] != 0) == led {
@@ -135,43 +115,35 @@ fn pick(
 // and the end of each.
 fn lists_of(
     gates: &[u64],
-    count: usize,
-    live: [u8; NETS],
+    live: &[u8; NETS],
     inputs: usize,
     targets: usize,
     turns: usize,
     out: &mut [u64; LISTED],
 ) -> [usize; LISTS]
-    requires { (count ≤ length gates.now) × (inputs ≤ 20) × (targets ≤ 4) × (turns ≤ targets) }
-    ensures { ListsUpTo (turns + 2) inputs targets live (take count gates.now) result out.new }
+    requires { (inputs ≤ 20) × (targets ≤ 4) × (turns ≤ targets) }
+    ensures { ListsUpTo (turns + 2) inputs targets live.now gates.now result out.new }
 {
-    let fan = mark_from(gates, count, inputs, targets);
+    let fan = mark_from(gates, inputs, targets);
     let mut ends = [0usize; LISTS];
-    ends[0] = pick(gates, count, &live, &fan, false, 0, out);
-    ends[1] = pick(gates, count, &live, &fan, true, ends[0], out);
+    ends[0] = pick(gates, live, &fan, false, 0, out);
+    ends[1] = pick(gates, live, &fan, true, ends[0], out);
     for t in 0..turns {
-        let marks = mark_from(gates, count, inputs + t, 1);
-        ends[t + 2] = pick(gates, count, &live, &marks, true, ends[t + 1], out);
+        let marks = mark_from(gates, inputs + t, 1);
+        ends[t + 2] = pick(gates, live, &marks, true, ends[t + 1], out);
     }
     ends
 }
 
 // The marks of the live nets: outputs of both circuits, nets that are read, and what leads to them.
-fn live_marks(
-    gates: &[u64],
-    count: usize,
-    outputs: &[u16],
-    goldens: &[u16],
-    reads: &Support,
-) -> [u8; NETS]
-    requires count_in_bounds { (count ≤ length gates.now) × Below 1024 outputs.now × Below 1024 goldens.now }
-    requires reads_below { (reads.now.len ≤ 10) × Below 1024 reads.now.nets }
-    ensures { result ≡ live_marks outputs.now goldens.now (take reads.now.len reads.now.nets) (take count gates.now) }
+fn live_marks(gates: &[u64], outputs: &[u16], goldens: &[u16], reads: &[u16]) -> [u8; NETS]
+    requires { Below 1024 outputs.now × Below 1024 goldens.now × Below 1024 reads.now }
+    ensures { result ≡ live_marks outputs.now goldens.now reads.now gates.now }
 {
     let one = mark_nets(outputs, [0; NETS]);
     let two = mark_nets(goldens, one);
-    let three = mark_nets(&reads.nets[..reads.len], two);
-    mark_live(gates, count, three)
+    let three = mark_nets(reads, two);
+    mark_live(gates, three)
 }
 
 // The plan of a search over a miter's inputs where these nets are read, with lists for so many targets: all of them, or none where no target
@@ -181,23 +153,15 @@ pub(super) fn plan_of(miter: Miter, reads: Support, turns: usize) -> Plan
     ensures { (j : Job) (is : List ℕ) → MergedOf j miter → take reads.len reads.nets ≡ is → all (candidate_good j) is ≡ true
         → PlannedOf j is result × (turns ≡ miter.targets → TurnsOf j is result) }
 {
+    let from = &miter.gates[..miter.count];
     let live = live_marks(
-        &miter.gates,
-        miter.count,
+        from,
         &miter.outputs[..miter.outs],
         &miter.goldens[..miter.outs],
-        &reads,
+        &reads.nets[..reads.len],
     );
     let mut gates = [0u64; LISTED];
-    let ends = lists_of(
-        &miter.gates,
-        miter.count,
-        live,
-        miter.inputs,
-        miter.targets,
-        turns,
-        &mut gates,
-    );
+    let ends = lists_of(from, &live, miter.inputs, miter.targets, turns, &mut gates);
     Plan {
         inputs: miter.inputs,
         targets: miter.targets,
@@ -217,10 +181,11 @@ pub(super) fn reads_of(miter: Miter, reads: Support) -> Plan
     ensures { (j : Job) (is : List ℕ) → MergedOf j miter → take reads.len reads.nets ≡ is
         → all (candidate_good j) is ≡ true → ReadsOf j is result }
 {
-    let live = live_marks(&miter.gates, miter.count, &[], &[], &reads);
-    let fan = mark_from(&miter.gates, miter.count, miter.inputs, miter.targets);
+    let from = &miter.gates[..miter.count];
+    let live = live_marks(from, &[], &[], &reads.nets[..reads.len]);
+    let fan = mark_from(from, miter.inputs, miter.targets);
     let mut gates = [0u64; LISTED];
-    let end = pick(&miter.gates, miter.count, &live, &fan, false, 0, &mut gates);
+    let end = pick(from, &live, &fan, false, 0, &mut gates);
     Plan {
         inputs: miter.inputs,
         targets: miter.targets,

@@ -1,7 +1,6 @@
 // Partial evaluation of packed gates: one evaluation on 0, 1 and not yet known (2) speaks for a whole range of inputs, which the
 // search then need not look at one by one.
-ghost use Rattle.std.specs.Prelude.{◌≡◌, ◌↔◌, true, List, map, ℕ, ◌+◌, ◌≤◌, ◌<◌, min, length, get_or, take};
-ghost use Rattle.std.proofs.Math.Seq.{slice};
+ghost use Rattle.std.specs.Prelude.{◌≡◌, ◌↔◌, true, List, map, ℕ, ◌+◌, ◌≤◌, ◌<◌, min, get_or, take};
 ghost use Rattle.records.specs.Bytes.{tabulate, placed};
 ghost use Rattle.records.specs.Netlist.{net_at};
 ghost use Rattle.records.specs.Job.{Job};
@@ -15,7 +14,7 @@ use super::limits::NETS;
 use super::packed::{COUNT_AT, COUNTS, NET, NET_AT, SLOTS_AT};
 use super::plan::Plan;
 use super::ternary::{ternary_entry, ternary_table, ternary_value};
-use records::{SLOTS, wide};
+use records::SLOTS;
 
 // What is known of the operands of a packed gate, which has four at most; 0 behind them.
 fn known_operands(c: u64, known: &[u8; NETS]) -> [u8; SLOTS]
@@ -41,21 +40,19 @@ pub(super) fn ternary_gate(c: u64, known: &[u8; NETS]) -> u8
     let count = c / COUNT_AT % COUNTS;
     if count == 2 {
         let rest = c / SLOTS_AT;
-        let a = wide(known[(rest % NET) as usize]);
-        let b = wide(known[(rest / NET % NET) as usize]);
+        let a = known[(rest % NET) as usize] as usize;
+        let b = known[(rest / NET % NET) as usize] as usize;
         return ternary_entry(ternary_table(kind), a, b);
     }
     let operands = known_operands(c, known);
     ternary_value(kind, count as u8, operands)
 }
 
-// Each of the first count gates, one after the other, sets what is known of its own net.
-fn eval_partial(gates: &[u64], count: usize, known: &mut [u8; NETS])
-    requires { (count ≤ length gates.now) }
-    ensures { known.new ≡ evaluated code_ternary known.old (slice 0 count gates.now) }
+// Each gate, one after the other, sets what is known of its own net.
+fn eval_partial(gates: &[u64], known: &mut [u8; NETS])
+    ensures { known.new ≡ evaluated code_ternary known.old gates.now }
 {
-    for i in 0..count {
-        let c = gates[i];
+    for &c in gates {
         known[(c / NET_AT % NET) as usize] = ternary_gate(c, known);
     }
 }
@@ -73,7 +70,7 @@ fn partial_input(i: usize, low: usize, prefix: usize) -> u8
 
 // What is known of the inputs, from net 0 on: those from low on are the bits of prefix, the others not yet known.
 fn load_partial(inputs: usize, low: usize, prefix: usize, known: &mut [u8; NETS])
-    requires { (inputs < 64) }
+    requires { inputs < 64 }
     ensures { known.new ≡ placed known.old 0 (tabulate inputs (partial_input low prefix)) }
 {
     for i in 0..inputs {
@@ -83,7 +80,7 @@ fn load_partial(inputs: usize, low: usize, prefix: usize, known: &mut [u8; NETS]
 
 // Not yet known, on count known from net at on: the targets.
 fn load_unknown(at: usize, count: usize, known: &mut [u8; NETS])
-    requires { (at + count ≤ 1024) }
+    requires { at + count ≤ 1024 }
     ensures { known.new ≡ placed known.old at (tabulate count (λ i. unknown)) }
 {
     for i in 0..count {
@@ -117,6 +114,6 @@ pub(super) fn settled(plan: &Plan, low: usize, prefix: usize) -> bool
     let mut known = [0u8; NETS];
     load_partial(plan.inputs, low, prefix, &mut known);
     load_unknown(plan.inputs, plan.targets, &mut known);
-    eval_partial(&plan.gates, plan.ends[1], &mut known);
+    eval_partial(&plan.gates[..plan.ends[1]], &mut known);
     known_equal(plan, &known)
 }

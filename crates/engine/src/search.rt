@@ -158,7 +158,7 @@ pub(super) fn sets_of_inputs(plan: &Plan) -> Met
             );
             pace = next_pace(pace, kept);
             if !kept & (pace.wait == 0) {
-                table = sole_table(sets);
+                table = sole_table(&sets);
             }
             b += 1;
         } else {

@@ -3,12 +3,15 @@
 ghost use Rattle.std.specs.Prelude.{◌≡◌, true, List, ℕ};
 ghost use Rattle.engine.specs.Inner.Search.{FreeKept, sole_of, SoleTable, BlockKept};
 
-use super::drive::{driven_row, row_at, table_rows};
+use super::drive::{driven_row, table_rows};
+use super::leaves::row_of;
 use super::limits::{BLOCK, READINGS, ROWS, UNSEEN, WORDS};
 use super::plan::Plan;
 use super::word::{first_zero, join_rows, lowest_of, zero_row};
+use std::array;
 
-// What the table has where there is no only vector: the set is empty; it has several, or no input gave its reading.
+// What the table has where there is no only vector: the set is empty; it has several, or no input gave its reading. They are numbers, as the
+// entries are taken bit by bit: transposed, those at a block's readings have the vectors in rows 0 to 3, NO_VECTOR in row 4 and NOT_SOLE in row 5.
 const NO_VECTOR: u16 = 16;
 
 pub(super) const NOT_SOLE: u16 = 32;
@@ -30,14 +33,10 @@ fn sole_of(set: u32) -> u16
 }
 
 // .. of the set of each reading
-pub(super) fn sole_table(sets: [u32; READINGS]) -> [u16; READINGS]
-    ensures { SoleTable sets result }
+pub(super) fn sole_table(sets: &[u32; READINGS]) -> [u16; READINGS]
+    ensures { SoleTable sets.now result }
 {
-    let mut table = [0u16; READINGS];
-    for r in 0..READINGS {
-        table[r] = sole_of(sets[r]);
-    }
-    table
+    array::from_fn(|r| sole_of(sets[r]))
 }
 
 // Whether no input of a block gives a reading that none gave before, or whose set has several vectors, and each set's vector rectifies the
@@ -53,9 +52,9 @@ pub(super) fn keep_block(
         → BlockKept plan.now readings words.old ss }
 {
     let vectors = table_rows(readings, table);
-    if !zero_row(row_at(&vectors, 5)) {
+    if !zero_row(row_of(5, &vectors)) {
         return false;
     }
     let row = driven_row(plan, &vectors, 0, words);
-    BLOCK <= first_zero(join_rows(row, row_at(&vectors, 4)))
+    BLOCK <= first_zero(join_rows(row, row_of(4, &vectors)))
 }

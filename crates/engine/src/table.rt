@@ -1,5 +1,5 @@
 // The table of a support and its notes, from the sets of vectors of its readings.
-ghost use Rattle.std.specs.Prelude.{◌≡◌, ◌^◌, ◌≤◌, length};
+ghost use Rattle.std.specs.Prelude.{◌≡◌, ℕ, ◌^◌, ◌≤◌, ◌<◌, length, get_or};
 ghost use Rattle.engine.specs.Choice.{or_zero};
 ghost use Rattle.engine.specs.Inner.List.{lowest};
 ghost use Rattle.engine.specs.Inner.Table.{TableFilled, note_from, NotesFilled};
@@ -15,8 +15,20 @@ pub(super) fn reading_count(k: usize) -> usize
     1usize << k
 }
 
-// The smallest vector of a set, 0 where there is none. (Of an element behind a reference to an array it is not known that it fits; of an
-// argument it is.)
+// What entry says of the set of each reading of len nets, in 2 ^ len turns.
+fn fill<F: Fn(u32) -> u8>(sets: &[u32], len: usize, entry: F) -> [u8; READINGS]
+    requires within { (len ≤ 10) × (2 ^ len ≤ length sets.now) }
+    requires callable { F.IsAlwaysCallable entry }
+    ensures { (r : ℕ) → r < 2 ^ len → F.post entry (get_or sets.now r 0) (get_or result r 0) }
+{
+    let mut entries = [0u8; READINGS];
+    for r in 0..reading_count(len) {
+        entries[r] = entry(sets[r]);
+    }
+    entries
+}
+
+// The smallest vector of a set, 0 where there is none.
 fn lowest_vector(set: u32) -> u8
     ensures { result ≡ or_zero (lowest set) }
 {
@@ -24,17 +36,12 @@ fn lowest_vector(set: u32) -> u8
 }
 
 // The table of a support of len nets that has these sets: at each reading the smallest vector that rectifies every input giving it,
-// 0 where there is none. It takes 2 ^ len turns, and evaluates no gate.
+// 0 where there is none. It evaluates no gate.
 pub(super) fn fill_table(sets: &[u32], len: usize) -> [u8; READINGS]
     requires { (len ≤ 10) × (2 ^ len ≤ length sets.now) }
     ensures { TableFilled sets.now len result }
 {
-    let count = reading_count(len);
-    let mut table = [0u8; READINGS];
-    for r in 0..count {
-        table[r] = lowest_vector(sets[r]);
-    }
-    table
+    fill(sets, len, lowest_vector)
 }
 
 // The note of a reading with this set, whose bit above the vectors' is 1 where no input gives it.
@@ -50,15 +57,11 @@ fn note_of(set: u32) -> u8
     2
 }
 
-// The notes of a support of len nets that has these sets: at each reading 0 where no input gives it, 1 where its set has one vector, else 2. It takes 2 ^ len turns, and evaluates no gate.
+// The notes of a support of len nets that has these sets: at each reading 0 where no input gives it, 1 where its set has one vector,
+// else 2. It evaluates no gate.
 pub(super) fn fill_notes(sets: &[u32; READINGS], len: usize) -> [u8; READINGS]
     requires { len ≤ 10 }
     ensures { NotesFilled sets.now len result }
 {
-    let count = reading_count(len);
-    let mut notes = [0u8; READINGS];
-    for r in 0..count {
-        notes[r] = note_of(sets[r]);
-    }
-    notes
+    fill(sets, len, note_of)
 }

@@ -20,19 +20,12 @@ pub(super) fn first_trust(inputs: usize, least: usize) -> usize
     (1usize << inputs) / SIXTEEN_BLOCKS
 }
 
-// One less, down to 0.
-pub(super) fn less(trust: usize) -> usize
-    ensures { result ≤ trust }
-{
-    if trust == 0 { 0 } else { trust - 1 }
-}
-
 // One more, up to the most.
 pub(super) fn more(trust: usize) -> usize
     requires { trust ≤ 64 }
     ensures { (trust ≤ result) × (result ≤ 64) }
 {
-    if trust < TRUST { trust + 1 } else { TRUST }
+    TRUST.min(trust + 1)
 }
 
 // After block b, which the test did not save. It is not tried on the first block.
@@ -40,7 +33,11 @@ pub(super) fn next_trust(trust: usize, b: usize) -> usize
     requires { trust ≤ 64 }
     ensures { result ≤ 64 }
 {
-    if b == 0 { trust } else { less(trust) }
+    if b == 0 {
+        trust
+    } else {
+        trust.saturating_sub(1)
+    }
 }
 
 // When a test is tried next: after wait blocks; and, where it fails then, after rest more.
@@ -104,5 +101,9 @@ pub(super) fn next_tries(tries: usize, b: usize, skip: usize) -> usize
     if b % RANGE != 0 {
         return tries;
     }
-    if skip == 0 { less(tries) } else { more(tries) }
+    if skip == 0 {
+        tries.saturating_sub(1)
+    } else {
+        more(tries)
+    }
 }

@@ -1,9 +1,10 @@
 // The rows of a block, transposed: 16 rows of 16 words, word w of row i at 16 i + w. Each column of 16 words is turned by itself, so
 // that a word has what all rows say of four scenarios.
-ghost use Rattle.std.specs.Prelude.{◌≡◌, ◌^◌, ◌≤◌, ◌<◌, length};
+ghost use Rattle.std.specs.Prelude.{◌≡◌, ◌^◌, ◌≤◌, ◌<◌};
 ghost use Rattle.engine.specs.Inner.Turn.{Moved, HalfMask, SwappedRow, Swapped, Turned, Column, Placed, ColumnsTurned};
 
 use super::limits::{ROW, ROWS};
+use std::array;
 
 fn power(e: u64) -> usize
     requires { e < 4 }
@@ -35,11 +36,7 @@ fn stage(x: [u64; ROW], e: u64, low: u64) -> [u64; ROW]
     requires { (e < 4) × HalfMask e low }
     ensures { Swapped e x result }
 {
-    let mut y = [0u64; ROW];
-    for i in 0..ROW {
-        y[i] = row(&x, e, low, i);
-    }
-    y
+    array::from_fn(|i| row(&x, e, low, i))
 }
 
 // Bit 16 k + j of word i becomes bit 16 k + i of word j.
@@ -57,15 +54,11 @@ fn column(x: &[u64; ROWS], w: usize) -> [u64; ROW]
     requires { w < 16 }
     ensures { Column x.now w result }
 {
-    let mut c = [0u64; ROW];
-    for i in 0..ROW {
-        c[i] = x[ROW * i + w];
-    }
-    c
+    array::from_fn(|i| x[ROW * i + w])
 }
 
 fn put_column(w: usize, c: [u64; ROW], x: &mut [u64; ROWS])
-    requires { (w < 16) × (length x.old ≡ 256) }
+    requires { w < 16 }
     ensures { Placed w 16 c x.old x.new }
 {
     for i in 0..ROW {
@@ -75,8 +68,8 @@ fn put_column(w: usize, c: [u64; ROW], x: &mut [u64; ROWS])
 
 // Turns the block's first columns in place: bit 16 k + i of word w of row j is then what bit 16 k + j of word w of row i was.
 pub(super) fn transpose(x: &mut [u64; ROWS], columns: usize)
-    requires { (length x.old ≡ 256) × (columns ≤ 16) }
-    ensures { (length x.new ≡ 256) × ColumnsTurned columns x.old x.new }
+    requires { columns ≤ 16 }
+    ensures { ColumnsTurned columns x.old x.new }
 {
     for w in 0..columns {
         let c = turn(column(x, w));

@@ -271,6 +271,10 @@ pub record Least (p : ℕ → Bool) (n x : ℕ) : Type 0 where
   pub holds : p x ≡ true
   pub smaller : (y : ℕ) → y < x → p y ≡ false
 
+pub none_or_some : (o : Option ℕ) → (o ≡ none) ⊎ ((x : ℕ) × (o ≡ some x))
+none_or_some none = inl refl
+none_or_some (some x) = inr (x, refl)
+
 module _ (p : ℕ → Bool) (n : ℕ) where
   pub all-iff-below : (all p (up_from 0 n) ≡ true) ↔ ((x : ℕ) → x < n → p x ≡ true)
   all-iff-below = (
@@ -286,11 +290,27 @@ module _ (p : ℕ → Bool) (n : ℕ) where
   pub first-none-below : first p (up_from 0 n) ≡ none → (x : ℕ) → x < n → p x ≡ false
   first-none-below e x h = first-none p (up_from 0 n) e x ((mem_below n x).1 h)
 
--- ---- found
+  pub first-of-least : (x : ℕ) → Least p n x → first p (up_from 0 n) ≡ some x
+  first-of-least x l =
+      ⊎_elim
+      (λ (e : first p (up_from 0 n) ≡ none). absurd (not-both l.holds (first-none-below e x l.below)))
+      (λ r.
+      let z : ℕ = r.0 in
+      let m = first-least z r.1 in
+      let a : z < x → ⊥ = λ u. not-both m.holds (l.smaller z u) in
+      let b : x < z → ⊥ = λ u. not-both l.holds (m.smaller x u) in
+      let q : z ≡ x = omega arith in
+      r.1 ∙ ap some q)
+      (none_or_some (first p (up_from 0 n)))
 
-pub none_or_some : (o : Option ℕ) → (o ≡ none) ⊎ ((x : ℕ) × (o ≡ some x))
-none_or_some none = inl refl
-none_or_some (some x) = inr (x, refl)
+  pub first-of-none : ((x : ℕ) → x < n → p x ≡ false) → first p (up_from 0 n) ≡ none
+  first-of-none h =
+      ⊎_elim
+      (λ (e : first p (up_from 0 n) ≡ none). e)
+      (λ r. let m = first-least r.0 r.1 in absurd (not-both m.holds (h r.0 m.below)))
+      (none_or_some (first p (up_from 0 n)))
+
+-- ---- found
 
 pub found_some : (o : Option ℕ) → found o ≡ true → o ≡ some (or_zero o)
 unfolding found or_zero

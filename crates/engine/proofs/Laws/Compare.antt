@@ -40,7 +40,7 @@ use Rattle.engine.specs.declared.plan.Plan.{Plan}
 use Rattle.engine.proofs.Laws.Choice.{true-or-false, Least}
 use Rattle.engine.proofs.Laws.Fill.{fill-at}
 use Rattle.engine.proofs.Laws.Leaves.{get_or-zeros}
-use Rattle.engine.proofs.Laws.ListLoop.{first-of-least, first-of-none}
+use Rattle.engine.proofs.Laws.Choice.{first-of-least, first-of-none}
 use Rattle.engine.proofs.Laws.PartsSheet.{parts-number, parts-sheet}
 use Rattle.engine.proofs.Laws.Plan.{reads_of}
 use Rattle.engine.proofs.Laws.Support.{reading-lt}

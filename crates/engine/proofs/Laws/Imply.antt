@@ -42,7 +42,7 @@ use Rattle.engine.proofs.Laws.Miter.{miter-nets}
 use Rattle.engine.proofs.Laws.Packed.{packed-own, packed-value}
 use Rattle.engine.proofs.Laws.Partial.{gate-completes}
 use Rattle.engine.proofs.Laws.Plan.{leaves_of, base, length-leaves}
-use Rattle.engine.proofs.Laws.PlanCode.{fields-next}
+use Rattle.engine.proofs.Laws.Packed.{fields-next}
 use Rattle.engine.proofs.Laws.Ranges.{ternary-follows}
 use Rattle.engine.proofs.Laws.Run.{good-first, good-rest, same-values}
 use Rattle.engine.proofs.Laws.Search.{first-few}

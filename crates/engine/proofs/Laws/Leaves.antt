@@ -14,13 +14,15 @@ use lib.Seq.{get_or-set_same, get_or-set_other, get_or-take, length-take-le}
 use Rattle.records.specs.Bytes.{up_from, tabulate}
 use Rattle.engine.specs.Choice.{same}
 use Rattle.engine.specs.Eval.{bit, number_of}
-use Rattle.engine.specs.Inner.Kernel.{Filled, row_value, value_in, NetSet, NetsSet, LowestBit, FirstZero}
+use Rattle.engine.specs.Inner.Kernel.{Filled, row_value, value_in, NetSet, NetsSet, FirstZero}
 use Rattle.engine.specs.Inner.Note.{gathered}
 use Rattle.engine.proofs.Laws.Eval.{bit-lt}
 use Rattle.engine.proofs.Laws.Fill.{fill-at}
 use Rattle.engine.proofs.Laws.Kernel.{net-filled, bit-sum}
 use Rattle.engine.proofs.Laws.Outputs.{same_next}
-use Rattle.engine.proofs.Laws.Word.{bit-and, bit-zero, bit-ones}
+use Rattle.engine.proofs.Laws.Word.{bit-and, bit-zero, bit-ones, ones_below, zero_after}
+use Rattle.std.specs.Int.{trailing_ones}
+use Rattle.std.proofs.Common.{w64}
 
 -- ---- rows
 
@@ -181,24 +183,17 @@ zeros-more row w e z y h =
 
 -- ---- the first scenario of which a row says 0
 
--- a 0 in a word inverted is a 1
-bit-set : (i x v : ℕ) → i < 64 → bit i (bit_xor x (2 ^ 64 - 1)) ≡ v → v < 2 → bit i x ≡ 1 - v
-bit-set i x v h e l =
-    let s : (bit i x + 1) % 2 ≡ v = ap (λ (k : ℕ). (bit i x + k) % 2) (sym (bit-ones i h)) ∙ sym (bit-sum i x (2 ^ 64 - 1)) ∙ e in
-    omega (arith, bit-lt i x)
-
-module _ (row : List ℕ) (w r : ℕ) (e : (y : ℕ) → y < 64 * w → row_value row y ≡ 1)
-    (l : LowestBit (bit_xor (get_or row w 0) (2 ^ 64 - 1)) 64 r) where
+module _ (row : List ℕ) (w r : ℕ) (e : (y : ℕ) → y < 64 * w → row_value row y ≡ 1) (o : r ≡ trailing_ones w64 (get_or row w 0))
+    (fits : get_or row w 0 < 2 ^ 64) where
   row_word : (y : ℕ) → y / 64 ≡ w → row_value row y ≡ bit (y % 64) (get_or row w 0)
   unfolding row_value
   row_word y q = ap (λ (k : ℕ). bit (y % 64) (get_or row k 0)) q
 
-  pub ones-more : (y : ℕ) → y < 64 * w + r → row_value row y ≡ 1
-  ones-more y h =
-      let m = l.most in
+  -- the word begins with so many ones
+  pub ones-more : (y : ℕ) → y < 64 * w + r → y < 64 * (w + 1) → row_value row y ≡ 1
+  ones-more y h k =
       ⊎_elim
-      (λ (a : 64 * w - y ≡ 0).
-      row_word y (omega arith) ∙ bit-set (y % 64) (get_or row w 0) 0 (omega arith) (l.clear (y % 64) (omega arith)) (omega arith))
+      (λ (a : 64 * w - y ≡ 0). row_word y (omega arith) ∙ ones_below (get_or row w 0) fits (y % 64) (omega (arith, o)))
       (λ (a : 0 < 64 * w - y). e y (omega arith))
       (eq-zero-or-pos (64 * w - y))
 
@@ -207,10 +202,11 @@ module _ (row : List ℕ) (w r : ℕ) (e : (y : ℕ) → y < 64 * w → row_valu
       let p : (64 * w + r) % 64 ≡ r = omega arith in
       record {
         most = omega arith;
-        ones = ones-more;
+        ones = λ y k. ones-more y k (omega arith);
         zero =
             λ k.
             row_word (64 * w + r) (omega arith)
             ∙ ap (λ (i : ℕ). bit i (get_or row w 0)) p
-            ∙ bit-set r (get_or row w 0) 1 a (l.set a) (omega arith);
+            ∙ ap (λ (i : ℕ). bit i (get_or row w 0)) o
+            ∙ zero_after (get_or row w 0) fits (rw o at a);
       }

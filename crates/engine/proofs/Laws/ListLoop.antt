@@ -14,14 +14,13 @@ use native.Mathlib.Nat.{zero-add}
 use native.Mathlib.Omega.{arith}
 use lib.ListN.{length, length-append}
 use lib.Pow.{pow_pos, pow_mono}
-use Rattle.records.specs.Bytes.{up_from}
 use Rattle.records.specs.Job.{Job}
 use Rattle.engine.specs.Choice.{any, first}
 use Rattle.engine.specs.Eval.{all_inputs, all_vectors}
 use Rattle.engine.specs.Rectify.{rectifies, unrectified, Listed, rounds, vector_loop}
 use Rattle.engine.specs.Inner.Masks.{rectifiers}
 use Rattle.engine.specs.Inner.List.{list_step, listed_from, start_list}
-use Rattle.engine.proofs.Laws.Choice.{not-both, true-or-false, none_or_some, any-true, any-of-member, Least, first-least, first-none-below}
+use Rattle.engine.proofs.Laws.Choice.{true-or-false, none_or_some, any-true, any-of-member, first-least, first-of-least, first-of-none}
 use Rattle.engine.proofs.Laws.Loop.{rounds-done, rounds-stuck, rounds-again, Listing, listing_start, listing-round, listing-length}
 use Rattle.engine.proofs.Laws.VectorSets.{in_set, in_set-rectifiers, lowest-rectifiers}
 use Rattle.engine.proofs.Laws.List.{walked, walked-holds, eq-or-below, listed-eta, list_step-stuck, list_step-listed, list_step-none, list_step-append, listing, listed_from-walked}
@@ -32,27 +31,6 @@ any-agree : (p q : ℕ → Bool) (xs : List ℕ) → ((x : ℕ) → Mem x xs →
 unfolding any
 any-agree p q [] h = refl
 any-agree p q (x ∷ xs) h = rw (h x (here refl), any-agree p q xs (λ y m. h y (there m)))
-
-module _ (p : ℕ → Bool) (n : ℕ) where
-  pub first-of-least : (x : ℕ) → Least p n x → first p (up_from 0 n) ≡ some x
-  first-of-least x l =
-      ⊎_elim
-      (λ (e : first p (up_from 0 n) ≡ none). absurd (not-both l.holds (first-none-below p n e x l.below)))
-      (λ r.
-      let z : ℕ = r.0 in
-      let m = first-least p n z r.1 in
-      let a : z < x → ⊥ = λ u. not-both m.holds (l.smaller z u) in
-      let b : x < z → ⊥ = λ u. not-both l.holds (m.smaller x u) in
-      let q : z ≡ x = omega arith in
-      r.1 ∙ ap some q)
-      (none_or_some (first p (up_from 0 n)))
-
-  pub first-of-none : ((x : ℕ) → x < n → p x ≡ false) → first p (up_from 0 n) ≡ none
-  first-of-none h =
-      ⊎_elim
-      (λ (e : first p (up_from 0 n) ≡ none). e)
-      (λ r. let m = first-least p n r.0 r.1 in absurd (not-both m.holds (h r.0 m.below)))
-      (none_or_some (first p (up_from 0 n)))
 
 -- what holds after the inputs below x: no input is stuck yet, and the rounds left from the list give the loop's result ..
 record Going (j : Job) (x : ℕ) (l : Listed) : Type 0 where

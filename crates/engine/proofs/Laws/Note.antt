@@ -11,7 +11,7 @@ use mathlib.Core.Bool.{Bool, true}
 use native.Mathlib.Numerals.{add-one}
 use native.Mathlib.Omega.{arith}
 use borrow.Author.Tests.{eq-eqb}
-use lib.Bits.{bit_and, bit_or}
+use lib.Bits.{bit_and}
 use lib.ListN.{length, get_or, take, drop, replicate, get_or-replicate}
 use lib.Seq.{take-suc}
 use Rattle.records.specs.Bytes.{tabulate}
@@ -30,7 +30,7 @@ use Rattle.engine.proofs.Laws.VectorSets.{in_set}
 use Rattle.std.specs.Option.{is_some}
 use Rattle.engine.proofs.Laws.Stream.{step-stuck}
 use Rattle.engine.proofs.Laws.List.{listing, walked-still, listed_from-walked, listed_from-append, listed_from-snoc, list_step-listed}
-use Rattle.engine.proofs.Laws.Word.{bit-or, bit-zero}
+use Rattle.engine.proofs.Laws.Word.{bit-zero}
 
 -- ---- sets that a reading does not change
 
@@ -99,21 +99,12 @@ pub either-one : (a b : ℕ) → a < 2 → b < 2 → max a b ≡ 1 → (a ≡ 1)
 either-one zero b h k e = inr (omega arith)
 either-one (suc a) b h k e = inl (omega arith)
 
--- .. of rows, where the words are joined
-joined-row : (masks words next : List ℕ) (v : ℕ)
-    → ((w : ℕ) → w < 16 → get_or next w 0 ≡ bit_or (get_or words w 0) (get_or masks (16 * v + w) 0))
-    → (y : ℕ) → y < 1024 → row_value next y ≡ max (row_value words y) (value_in masks y v)
-unfolding row_value value_in
-joined-row masks words next v j y k =
-    ap (bit (y % 64)) (j (y / 64) (omega arith))
-    ∙ bit-or (y % 64) (get_or words (y / 64) 0) (get_or masks (16 * v + y / 64) 0)
-
 pub row_value-lt : (r : List ℕ) (y : ℕ) → row_value r y < 2
 unfolding row_value
 row_value-lt r y = bit-lt (y % 64) (get_or r (y / 64) 0)
 
 pub joined-next : (masks list words next : List ℕ) (i : ℕ) → i < length list → get_or list i 0 < 16
-    → ((w : ℕ) → w < 16 → get_or next w 0 ≡ bit_or (get_or words w 0) (get_or masks (16 * get_or list i 0 + w) 0))
+    → ((y : ℕ) → y < 1024 → row_value next y ≡ max (row_value words y) (value_in masks y (get_or list i 0)))
     → Joined masks (take i list) words → Joined masks (take (i + 1) list) next
 joined-next masks list words next i l h j p y k e =
     let v = get_or list i 0 in
@@ -122,7 +113,7 @@ joined-next masks list words next i l h j p y k e =
     (λ (a : row_value words y ≡ 1). inl (p y k a))
     (λ (b : value_in masks y v ≡ 1). inr (eq-eqb (bit v (gathered masks y)) 1 (bit-gathered masks y v h ∙ b)))
     (either-one (row_value words y) (value_in masks y v) (row_value-lt words y) (value_in-lt masks y v)
-    (sym (joined-row masks words next v j y k) ∙ e)))
+    (sym (j y k) ∙ e)))
 
 -- ---- the next scenario that no listed vector covers
 

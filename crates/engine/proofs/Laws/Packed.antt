@@ -27,6 +27,21 @@ record Parts (c k n d z : ℕ) : Type 0 where
 parts : (k n d z : ℕ) → k < 16 → n < 8 → d < 1024 → Parts (k + 16 * n + 128 * d + 131072 * z) k n d z
 parts k n d z h i j = record { kind = omega arith; count = omega arith; net = omega arith; slots = omega arith }
 
+-- the first operand, and those behind it
+pub fields-next : (n x : ℕ) → 0 < n → fields n x ≡ x % 1024 ∷ fields (n - 1) (x / 1024)
+unfolding fields
+fields-next zero x h = let f : ⊥ = omega arith in absurd f
+fields-next (suc n) x h = let e : suc n - 1 ≡ n = omega arith in rw e
+
+pub fields-none : (n x : ℕ) → n ≡ 0 → fields n x ≡ []
+unfolding fields
+fields-none n x e = rw e
+
+pub field-below : (n x : ℕ) {y : ℕ} {ys : List ℕ} → fields n x ≡ y ∷ ys → y < 1024
+unfolding fields
+field-below zero x {ys = ys} e = let f : ⊥ = omega (arith, ap length e) in absurd f
+field-below (suc n) x e = omega (arith, ap (λ (l : List ℕ). get_or l 0 0) e)
+
 -- the first n slots, which fit into ten bits each
 pub fields-slots : (n : ℕ) (ss : List ℕ) → n ≤ length ss → Below 1024 ss → fields n (slots_number ss) ≡ take n ss
 unfolding fields slots_number

@@ -1,5 +1,5 @@
 -- Laws of the loops that mark nets and pick gates (src/planning.rt), a turn each. Assumes nothing.
-use Prim.Native.Nat.{ℕ, zero, suc, ◌+◌, ◌-◌, ◌/◌, ◌%◌, ◌≤◌, ◌<◌, min, max}
+use Prim.Native.Nat.{ℕ, zero, suc, ◌+◌, ◌≤◌, ◌<◌, min, max}
 use mathlib.Core.Path.{◌≡◌, refl, sym, ◌∙◌, ap}
 use mathlib.Core.Logic.{◌⊎◌, inl, inr, ⊎_elim}
 use mathlib.Core.List.{List, [], ◌∷◌, ◌++◌, map, append_assoc, append-nil}
@@ -10,12 +10,13 @@ use borrow.Author.Tests.{ltb-true, ltb-false, eqb-true, eqb-false, ne_eqb}
 use lib.Dec.{ltb, eqb}
 use lib.ListN.{length, get_or, take, drop, set, replicate, length-set, length-append, length-take, length-replicate, get_or-replicate, drop_of_length-le}
 use lib.Seq.{take-suc, drop-cons, take_all, take-append-le, take-take, take_at, take-suc-set, get_or-take, get_or-set_same, get_or-set_other, length-take-le, ext_get_or}
+use Rattle.std.specs.List.{push}
 use Rattle.std.proofs.lemmas.List.{drop_more}
 use Rattle.records.specs.Gate.{disj}
 use Rattle.records.specs.Netlist.{net_at}
 use Rattle.records.proofs.Laws.Bytes.{and_both, and-false-left, and-false-right, length-tabulate, get_d_tabulate}
 use Rattle.engine.specs.Choice.{keep}
-use Rattle.engine.specs.Inner.Packed.{fields, own, operands_of, evaluated}
+use Rattle.engine.specs.Inner.Packed.{own, operands_of, evaluated}
 use Rattle.engine.specs.Inner.Plan.{code_mark, marked, marked_all, live_from, leaves_from, marks_from, picked, list_at, lists_to, ListPut, ListsUpTo}
 use Rattle.engine.proofs.Laws.Choice.{true-or-false}
 use Rattle.engine.proofs.Laws.FitCode.{keep_append, keep_one, keep-none}
@@ -23,36 +24,27 @@ use Rattle.engine.proofs.Laws.Marks.{leaf_mark, leaf_mark-in, leaf_mark-out, unm
 
 -- ---- the operands of a gate, first to last
 
-pub fields-next : (n x : ℕ) → 0 < n → fields n x ≡ x % 1024 ∷ fields (n - 1) (x / 1024)
-unfolding fields
-fields-next zero x h = let f : ⊥ = omega arith in absurd f
-fields-next (suc n) x h = let e : suc n - 1 ≡ n = omega arith in rw e
-
-pub fields-none : (n x : ℕ) → n ≡ 0 → fields n x ≡ []
-unfolding fields
-fields-none n x e = rw e
-
 -- the greatest mark so far, and those of the operands left
 module _ (vs : List ℕ) where
-  abbrev pub MarkLeft : ℕ → ℕ → ℕ → ℕ → Type 0
-  MarkLeft c r n x = max r (disj (map (net_at vs) (fields n x))) ≡ code_mark vs c
+  abbrev pub MarkLeft : ℕ → ℕ → List ℕ → Type 0
+  MarkLeft c r is = max r (disj (map (net_at vs) is)) ≡ code_mark vs c
 
-  pub mark-all : (c : ℕ) → MarkLeft c 0 (c / 16 % 8) (c / 131072)
+  pub mark-all : (c : ℕ) → MarkLeft c 0 (operands_of c)
   unfolding code_mark
   mark-all c = omega arith
 
-  pub mark-next : (c r n x w : ℕ) → 0 < n → w ≡ max r (get_or vs (x % 1024) 0) → MarkLeft c r n x → MarkLeft c w (n - 1) (x / 1024)
+  pub mark-next : (c r x w : ℕ) {is js : List ℕ} → is ≡ x ∷ js → w ≡ max r (get_or vs x 0) → MarkLeft c r is → MarkLeft c w js
   unfolding disj net_at
-  mark-next c r n x w h e m =
-      let d = disj (map (net_at vs) (fields (n - 1) (x / 1024))) in
-      let s : max w d ≡ max r (max (get_or vs (x % 1024) 0) d) = omega arith in
-      s ∙ sym (ap (λ (l : List ℕ). max r (disj (map (net_at vs) l))) (fields-next n x h)) ∙ m
+  mark-next c r x w {is} {js} s e m =
+      let d = disj (map (net_at vs) js) in
+      let n : max w d ≡ max r (max (get_or vs x 0) d) = omega arith in
+      n ∙ sym (ap (λ (l : List ℕ). max r (disj (map (net_at vs) l))) s) ∙ m
 
-  pub mark-none : (c r n x : ℕ) → n ≡ 0 → MarkLeft c r n x → r ≡ code_mark vs c
+  pub mark-none : (c r : ℕ) {is : List ℕ} → is ≡ [] → MarkLeft c r is → r ≡ code_mark vs c
   unfolding disj
-  mark-none c r n x e m =
+  mark-none c r s m =
       let z : max r 0 ≡ r = omega arith in
-      sym (ap (λ (l : List ℕ). max r (disj (map (net_at vs) l))) (fields-none n x e) ∙ z) ∙ m
+      sym (ap (λ (l : List ℕ). max r (disj (map (net_at vs) l))) s ∙ z) ∙ m
 
 -- ---- leaves with a mark
 
@@ -157,15 +149,6 @@ module _ (ms is : List ℕ) (i : ℕ) where
   unfolding marked_all
   marked_all-end h = ap (marked_all ms) (drop_of_length-le is {i = i} h)
 
-module _ (ms : List ℕ) (n x : ℕ) where
-  pub marked_all-fields : 0 < n → marked_all (set ms (x % 1024) 1) (fields (n - 1) (x / 1024)) ≡ marked_all ms (fields n x)
-  unfolding marked_all
-  marked_all-fields h = sym (ap (marked_all ms) (fields-next n x h))
-
-  pub marked_all-none : n ≡ 0 → marked_all ms (fields n x) ≡ ms
-  unfolding marked_all
-  marked_all-none e = ap (marked_all ms) (fields-none n x e)
-
 -- ---- live gates, last to first
 
 pub length-live_from : (ms cs : List ℕ) → length (live_from ms cs) ≡ length ms
@@ -187,32 +170,25 @@ module _ (ms : List ℕ) (c : ℕ) (cs : List ℕ) where
   unfolding live_from
   live_from-unmarked e = rw e
 
-pub live-none : (ms cs : List ℕ) (n : ℕ) → n ≤ length cs → ms ≡ live_from ms (drop n (take n cs))
+-- a turn of the loop, which goes down: gate c is the last of those that are left
+pub live-last : (ms : List ℕ) (c : ℕ) (cs : List ℕ) → live_from ms (push cs c) ≡ live_from (live_from ms (c ∷ [])) cs
 unfolding live_from
-live-none ms cs n h = sym (ap (live_from ms) (left-none n cs h n (omega arith)))
+live-last ms c [] = refl
+live-last ms c (x ∷ cs) = rw (live-last ms c cs)
 
--- a turn of the loop that goes down: gate k - 1, with the marks that the gates from k on give
-module _ (ms cs ls : List ℕ) (n k : ℕ) (h : n ≤ length cs) (l : 0 < k) (g : k ≤ n) (e : ls ≡ live_from ms (drop k (take n cs))) where
-  down-cons : drop (k - 1) (take n cs) ≡ get_or cs (k - 1) 0 ∷ drop k (take n cs)
-  down-cons = let m : k - 1 + 1 ≡ k = omega arith in rw m at (left-cons n cs h (k - 1) (omega arith))
+module _ (ms : List ℕ) (c : ℕ) (cs : List ℕ) where
+  pub live-marked : (get_or ms (own c) 0 ≡ 0 → ⊥) → live_from (marked_all ms (operands_of c)) cs ≡ live_from ms (push cs c)
+  unfolding live_from
+  live-marked h = sym (live-last ms c cs ∙ ap (λ (x : List ℕ). live_from x cs) (live_from-marked ms c [] (marked-of ms (own c) h)))
 
-  pub live-marked : (get_or ls (own (get_or cs (k - 1) 0)) 0 ≡ 0 → ⊥)
-      → marked_all ls (operands_of (get_or cs (k - 1) 0)) ≡ live_from ms (drop (k - 1) (take n cs))
-  live-marked m =
-      let c = get_or cs (k - 1) 0 in
-      ap (λ (x : List ℕ). marked_all x (operands_of c)) e
-      ∙ sym
-      (ap (live_from ms) down-cons
-      ∙ live_from-marked ms c (drop k (take n cs)) (rw e at (marked-of ls (own c) m)))
+  pub live-unmarked : get_or ms (own c) 0 ≡ 0 → live_from ms cs ≡ live_from ms (push cs c)
+  unfolding live_from net_at
+  live-unmarked h = sym (live-last ms c cs ∙ ap (λ (x : List ℕ). live_from x cs) (live_from-unmarked ms c [] (unmarked-of ms (own c) h)))
 
-  pub live-unmarked : get_or ls (own (get_or cs (k - 1) 0)) 0 ≡ 0 → ls ≡ live_from ms (drop (k - 1) (take n cs))
-  unfolding net_at
-  live-unmarked m =
-      let c = get_or cs (k - 1) 0 in
-      e
-      ∙ sym
-      (ap (live_from ms) down-cons
-      ∙ live_from-unmarked ms c (drop k (take n cs)) (rw e at (unmarked-of ls (own c) m)))
+pub live-none : (ms cs : List ℕ) → length cs ≡ 0 → live_from ms cs ≡ ms
+unfolding live_from
+live-none ms [] h = refl
+live-none ms (c ∷ cs) h = let f : ⊥ = omega arith in absurd f
 
 -- ---- gates picked
 

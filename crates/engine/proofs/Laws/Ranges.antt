@@ -7,12 +7,11 @@ use mathlib.Core.List.{List, [], ◌∷◌, ◌++◌, map, map-map}
 use mathlib.Core.Logic.{⊎_elim}
 use mathlib.Core.Bool.{Bool, true, false, not, and-true, ◌&&◌, true≢false}
 use native.Mathlib.Nat.{add-zero, eq-or-lt_of_le}
-use native.Mathlib.Numerals.{add-one}
 use native.Mathlib.Omega.{arith}
 use borrow.Author.Tests.{ltb-true}
 use lib.Dec.{ltb}
-use lib.ListN.{length, get_or, take, set, length-append, take-append-drop, drop_of_length-le, get_or-append}
-use lib.Seq.{slice, slice-cons, length-take-le, take_all, take-take, get_or_at, get_or-take}
+use lib.ListN.{length, get_or, take, length-append, take-append-drop, get_or-append}
+use lib.Seq.{slice, length-take-le, take_all, take-take, get_or_at, get_or-take}
 use Rattle.records.specs.Bytes.{tabulate, all, placed}
 use Rattle.records.specs.Gate.{Gate, operands}
 use Rattle.records.specs.Netlist.{net_at, extended, value_of, values}
@@ -36,22 +35,6 @@ use Rattle.engine.proofs.Laws.Partial.{gate-completes, map-take-agree}
 use Rattle.engine.proofs.Laws.FitGates.{net_at-extended}
 use Rattle.engine.proofs.Laws.Plan.{free_of, closed-free}
 use Rattle.engine.proofs.Laws.Run.{evaluated-append, length-evaluated, evaluated-other, keep-ext, good-first, good-rest, own-within, Follows, run-part, same-values}
-
--- ---- a turn of the loop over gates
-
-module _ (F : List ℕ → ℕ → ℕ) (vs cs : List ℕ) (i to : ℕ) (l : to ≤ length cs) where
-  -- what is left: the gate at i sets its net, and the others go on from there
-  pub evaluated-next : i < to
-      → evaluated F (set vs (own (get_or cs i 0)) (F vs (get_or cs i 0))) (slice (i + 1) to cs) ≡ evaluated F vs (slice i to cs)
-  unfolding evaluated
-  evaluated-next h = rw (add-one, slice-cons i to cs 0 h l)
-
-  pub evaluated-end : to ≤ i → evaluated F vs (slice i to cs) ≡ vs
-  unfolding evaluated
-  evaluated-end h =
-      let n = length-take-le to cs l in
-      let e : length (take to cs) ≤ i = omega arith in
-      ap (evaluated F vs) (drop_of_length-le (take to cs) e)
 
 -- ---- a gate
 

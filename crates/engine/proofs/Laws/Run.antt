@@ -14,7 +14,8 @@ use native.Mathlib.Nat.{add-zero}
 use native.Mathlib.Omega.{arith}
 use borrow.Author.Tests.{ltb-true, eqb-true, eqb-false}
 use lib.Dec.{ltb, eqb}
-use lib.ListN.{length, set, length-set, length-append}
+use lib.ListN.{length, get_or, drop, set, length-set, length-append, drop_of_length-le}
+use Rattle.std.proofs.lemmas.List.{drop_more}
 use lib.Seq.{get_or-set_same, get_or-set_other, get_or_at}
 use Rattle.records.specs.Bytes.{all}
 use Rattle.records.specs.Gate.{Gate, operands, gate_value}
@@ -42,6 +43,17 @@ net_at-extended-first f known g gs d e =
     ∙ get_or_at known (f known g) [] 0 d e
 
 -- ---- gates run
+
+-- a turn of a loop over gates: the one at i sets its net, and the others go on from there
+module _ (F : List ℕ → ℕ → ℕ) (vs cs : List ℕ) (i : ℕ) where
+  pub evaluated-next : i < length cs
+      → evaluated F (set vs (own (get_or cs i 0)) (F vs (get_or cs i 0))) (drop (i + 1) cs) ≡ evaluated F vs (drop i cs)
+  unfolding evaluated
+  evaluated-next h = sym (ap (evaluated F vs) (drop_more cs i 0 h))
+
+  pub evaluated-end : length cs ≤ i → evaluated F vs (drop i cs) ≡ vs
+  unfolding evaluated
+  evaluated-end h = ap (evaluated F vs) (drop_of_length-le cs {i = i} h)
 
 module _ (F : List ℕ → ℕ → ℕ) where
   pub evaluated-append : (vs cs ds : List ℕ) → evaluated F vs (cs ++ ds) ≡ evaluated F (evaluated F vs cs) ds

@@ -1,7 +1,7 @@
 -- Laws of the walk over a job's inputs, block by block: the list and the sets after a block, inputs that change nothing, and how far
 -- the walk has come. Assumes nothing.
 use Prim.Native.Nat.{ℕ, ◌+◌, ◌-◌, ◌*◌, ◌%◌, ◌^◌, min, ◌≤◌, ◌<◌}
-use mathlib.Core.Path.{◌≡◌, refl, sym, ◌∙◌, ap, subst}
+use mathlib.Core.Path.{◌≡◌, sym, ◌∙◌, ap, subst}
 use mathlib.Core.List.{List}
 use mathlib.Core.Bool.{true, false}
 use mathlib.Core.Option.{some}
@@ -146,7 +146,6 @@ module _ {p : Plan} (b count : ℕ) {words readings : List ℕ} (e : BlockRead p
       → BlockMet p b count ss ts
   block-met {masks = masks} {ss = ss} r k z m n =
       record {
-        long = met-long masks readings ss count n;
         sets = λ j s t.
             let is = candidate_nets j in
             let q = t.planned in
@@ -163,7 +162,6 @@ module _ {p : Plan} (b count : ℕ) {words readings : List ℕ} (e : BlockRead p
   pub block-kept : {ss : List ℕ} → count ≤ 1024 → BlockKept p readings words ss → BlockMet p b count ss ss
   block-kept {ss} few k =
       record {
-        long = refl;
         sets = λ j s o.
             let is = candidate_nets j in
             let q = o.planned in

@@ -6,7 +6,7 @@ use mathlib.Core.List.{List}
 use mathlib.Core.Bool.{Bool, true, cond}
 use native.Mathlib.Nat.{zero-add}
 use native.Mathlib.Omega.{arith}
-use lib.ListN.{length, get_or, take, replicate}
+use lib.ListN.{get_or, take, replicate}
 use lib.Pow.{pow-add, pow_mono}
 use lib.Seq.{slice}
 use Rattle.records.specs.Job.{Job}
@@ -39,24 +39,21 @@ module _ (p : Plan) where
   row-rectifies q b u r a e y h = e y h ∙ ap (λ (t : Bool). cond t 1 0) (equal-rectifies q a y h)
 
   -- inputs loaded, and the gates run that no target leads to
-  pub block-loaded : (b : ℕ) {w₀ w₁ w₂ : List ℕ} → length w₀ ≡ 16384 → NetsSet 0 p.inputs (λ y k. bit k (1024 * b + y)) w₀ w₁
+  pub block-loaded : (b : ℕ) {w₀ w₁ w₂ : List ℕ} → NetsSet 0 p.inputs (λ y k. bit k (1024 * b + y)) w₀ w₁
       → Ran (slice 0 (get_or p.ends 0 0) p.gates) w₁ w₂ → BlockLoaded p b w₂
-  block-loaded b {w₀} {w₁} {w₂} l s r =
+  block-loaded b {w₀} {w₁} {w₂} s r =
       let read : (j : Job) (is : List ℕ) (q : ReadsOf j is p) → BlockFree j q.live b w₂ =
       λ j is q. block_read q b w₁ w₂ (λ y k h e. rw zero-add at (s.put y k h (omega (arith, q.inputs)))) r in
       record {
-        long = r.long ∙ s.long ∙ l;
         free = read;
         readings = λ j is q f y h. ap (λ (os : List ℕ). reading_in w₂ os y) q.nets ∙ read-values q (read j is q) f y h;
       }
 
   -- .. and the nets read
-  pub block-rows : {b : ℕ} {words rows : List ℕ} → BlockLoaded p b words → length rows ≡ 256
+  pub block-rows : {b : ℕ} {words rows : List ℕ} → BlockLoaded p b words
       → ((y : ℕ) → y < 1024 → gathered rows y ≡ reading_in words (take p.reads.len p.reads.nets) y) → BlockRead p b words rows
-  block-rows l many g =
+  block-rows l g =
       record {
-        long = l.long;
-        many = many;
         free = l.free;
         readings = λ j is q f y h. g y h ∙ l.readings j is q f y h;
       }
@@ -74,7 +71,6 @@ module _ (p : Plan) where
       → Ran (slice (get_or p.ends 0 0) (get_or p.ends 1 0) p.gates) w₁ w₂ → BlockVector p v w w₂
   block-vectored v s r =
       record {
-        long = r.long ∙ s.long;
         values = λ j is q b a. block-set s r (λ y. v) (λ y k h l. refl) q b a;
       }
 
@@ -87,7 +83,6 @@ module _ (p : Plan) where
       let at : (j : Job) (is : List ℕ) (q : PlannedOf j is p) (b : ℕ) → BlockFree j q.live b w → BlockAt j q.live b u w₂ =
       λ j is q b a. block-set s r u n q b a in
       record {
-        long = r.long ∙ s.long;
         free = λ j is q b a. block-free (at j is q b a);
         values = λ j is q b a. row-rectifies q b u row (at j is q b a) e;
       }
@@ -97,7 +92,6 @@ module _ (p : Plan) where
       → Ran (slice (get_or p.ends (t + 1) 0) (get_or p.ends (t + 2) 0) p.gates) w₁ w₂ → TargetTurned p t x w w₂
   target-turned t x {w} {w₁} {w₂} s r =
       record {
-        long = r.long ∙ s.long;
         turned = λ j is q b v u h e k a.
             let n : NetSet (j.inputs + t) (λ y. bit t u) w w₁ =
             subst (λ (i : ℕ). NetSet (i + t) (λ y. bit t u) w w₁) q.planned.inputs
@@ -146,11 +140,10 @@ module _ (p : Plan) (u : ℕ) (o : u < 4) where
         masks-next j b u o s r g.1 k n (row-rectifies p q.planned b (λ y. ordered u s) r turned e),
       )
 
-  pub masks-all : {w₀ w ms : List ℕ} → p.targets ≤ 4 → Among p.targets u → length ms ≡ 256
+  pub masks-all : {w₀ w ms : List ℕ} → p.targets ≤ 4 → Among p.targets u
       → MasksDone p u w₀ (2 ^ p.targets) w ms → BlockMasks p w₀ ms
-  masks-all {w₀} {w} {ms} m f l d =
+  masks-all {w₀} {w} {ms} m f d =
       record {
-        long = l;
         sets = λ j is q b a y h.
             let n = q.planned.targets in
             masks-gathered j b u ms (omega (arith, n)) o (subst (λ (k : ℕ). Among k u) n f)

@@ -11,8 +11,8 @@ use native.Mathlib.Omega.{arith}
 use borrow.Author.Tests.{eqb-true, eq-eqb}
 use lib.Dec.{eqb}
 use lib.Pow.{pow_mono, shr-shr}
-use lib.ListN.{length, get_or, take, set, length-append}
-use lib.Seq.{length-take-le, get_or-take, get_or-set_same, get_or-set_other, ext_get_or}
+use lib.ListN.{length, get_or, take, length-append}
+use lib.Seq.{length-take-le, get_or-take, ext_get_or}
 use Rattle.records.specs.Job.{Job}
 use Rattle.records.specs.Netlist.{net_at}
 use Rattle.records.proofs.Laws.Bytes.{false_of}
@@ -137,19 +137,6 @@ module _ (j : Job) (is ss : List ℕ) (h : SetsOf j is ss) where
       (λ r i.
       let b : r < 2 ^ length is = omega arith in
       get_or-take (2 ^ length is) ts r 0 b ∙ f r b ∙ sym (ap or_zero (shared-sets r b)) ∙ sym (get_or-table_of j is r b))
-
--- the table so far: the lowest vectors of the sets below n
-abbrev pub TableTo : List ℕ → List ℕ → ℕ → Type 0
-TableTo ss ts n = (r : ℕ) → r < n → get_or ts r 0 ≡ or_zero (lowest (get_or ss r 0))
-
-pub table-next : (ss ts : List ℕ) (n : ℕ) → n < length ts → TableTo ss ts n
-    → TableTo ss (set ts n (or_zero (lowest (get_or ss n 0)))) (n + 1)
-table-next ss ts n l f r i =
-    let v = or_zero (lowest (get_or ss n 0)) in
-    ⊎_elim
-    (λ (e : r ≡ n). rw e (get_or-set_same ts n v 0 l))
-    (λ (u : r < n). get_or-set_other ts n r v 0 (λ e. let z : ⊥ = omega arith in z) ∙ f r u)
-    (eq-or-lt_of_le (omega arith))
 
 -- ---- readings with one net more
 

@@ -6,13 +6,17 @@ use mathlib.Core.Logic.{◌↔◌, ⊎_elim}
 use mathlib.Core.List.{List, map}
 use mathlib.Core.Bool.{Bool, true, false, cond}
 use mathlib.Core.Option.{none, some}
-use native.Mathlib.Nat.{mod-lt, zero-mul, zero-add, suc-add, zero-div, div-one, pow-suc}
+use native.Mathlib.Nat.{eq-zero-or-pos, mod-lt, zero-mul, zero-add, suc-add, zero-div, div-one, pow-suc}
 use native.Mathlib.Numerals.{one-add}
 use native.Mathlib.Omega.{arith}
-use borrow.Author.Tests.{eq-eqb, eqb-true, eqb-false, ltb-true, ltb-false}
+use borrow.Author.Tests.{ne_eqb, eq-eqb, eqb-true, eqb-false, ltb-true, ltb-false}
 use lib.Dec.{eqb, ltb}
 use lib.ListN.{get_or, get_or-eq_default}
 use lib.Pow.{pow_pos, pow_mono, shr_lt, shr-shr, split}
+use Rattle.std.specs.Int.{trailing_zeros}
+use Rattle.std.specs.Int.Count.{count_trailing_zeros, trailing_of_zero}
+use Rattle.std.proofs.Common.{w64}
+use Rattle.std.proofs.lemmas.Nat.Bits.{bit_at-trailing_zeros}
 use Rattle.records.specs.Bytes.{up_from, tabulate}
 use Rattle.records.specs.Job.{Job}
 use Rattle.records.proofs.Laws.Bytes.{length-tabulate, get_d_tabulate}
@@ -21,7 +25,7 @@ use Rattle.engine.specs.Eval.{bit, number_of, all_vectors}
 use Rattle.engine.specs.Rectify.{rectifies}
 use Rattle.engine.specs.Inner.Masks.{rectifiers}
 use Rattle.engine.specs.Inner.List.{lowest}
-use Rattle.engine.proofs.Laws.Choice.{true-or-false, none_or_some, first-here, first-there, first-least, first-none-below}
+use Rattle.engine.proofs.Laws.Choice.{true-or-false, none_or_some, first-here, first-there, first-least, first-none-below, first-of-least, first-of-none}
 use Rattle.engine.proofs.Laws.Eval.{Bits, bits-nil, bits-cons, bits-map, bit-lt, number_of-lt}
 
 -- ---- choices
@@ -93,6 +97,26 @@ lowest-lt s =
     (λ (e : lowest s ≡ none). omega (arith, ap or_zero e))
     (λ r. omega (arith, ap or_zero r.1, (first-least (in_set s) 16 r.0 r.1).below))
     (none_or_some (lowest s))
+
+-- as the code finds it: the lowest 1 is at one of sixteen places, or at none
+pub lowest-here : (s : ℕ) → s < 2 ^ 64 → trailing_zeros w64 s < 16 → lowest s ≡ some (trailing_zeros w64 s)
+unfolding lowest bit
+lowest-here s h l =
+    let z : s ≡ 0 → ⊥ = λ e. let f : count_trailing_zeros 64 0 < 16 = rw e at l in omega (arith, trailing_of_zero 64) in
+    let t = bit_at-trailing_zeros w64 s (omega arith) h in
+    first-of-least (in_set s) 16 (trailing_zeros w64 s)
+    (record { below = l; holds = eq-eqb _ 1 t.1; smaller = λ v k. ne_eqb _ 1 (λ e. omega (arith, t.2 v k)) })
+
+pub lowest-nowhere : (s : ℕ) → s < 2 ^ 64 → 16 ≤ trailing_zeros w64 s → lowest s ≡ none
+unfolding lowest bit
+lowest-nowhere s h l =
+    first-of-none (in_set s) 16
+    (λ v k.
+    ne_eqb _ 1
+    (⊎_elim
+    (λ (e : s ≡ 0) (b : bit v s ≡ 1). omega (arith, zero-div (2 ^ v), rw e at b))
+    (λ (p : 0 < s) (b : bit v s ≡ 1). omega (arith, (bit_at-trailing_zeros w64 s p h).2 v (omega arith)))
+    (eq-zero-or-pos s)))
 
 -- it is in the set
 pub lowest-bit : (s v : ℕ) → lowest s ≡ some v → (v < 16) × (bit v s ≡ 1)

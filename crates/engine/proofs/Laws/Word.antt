@@ -5,8 +5,14 @@ use native.Mathlib.Omega.{arith}
 use lib.Arith.{digits_div}
 use lib.Bits.{bit_and, bit_or, bit_xor, differ, and_step, or_step, xor_step, and_shr, or_shr, xor_shr}
 use lib.Pow.{pow_pos, pow-add, split, shr_lt, ones_split}
-use native.Mathlib.Nat.{add-mul, mod-lt, zero-div, div-one}
+use native.Mathlib.Nat.{add-mul, mod-lt, zero-div, div-one, eq-zero-or-pos}
 use Rattle.engine.specs.Eval.{bit}
+use Rattle.std.specs.Int.{trailing_ones}
+use Rattle.std.specs.Int.Count.{count_trailing_zeros, trailing_of_zero}
+use Rattle.std.proofs.Common.{w64}
+use Rattle.std.proofs.lemmas.Nat.{trailing_le}
+use Rattle.std.proofs.lemmas.Nat.Bits.{bit_at-trailing_ones, bit_at_ones}
+use mathlib.Core.Logic.{◌⊎◌, inl, inr, ⊎_elim}
 
 -- the lowest bit of a number made of a number and a bit
 low : (q b : ℕ) → b < 2 → (q * 2 + b) % 2 ≡ b
@@ -83,3 +89,27 @@ bit-zero i = ap (λ (x : ℕ). x % 2) (zero-div (2 ^ i))
 
 pub bit-ones : (i : ℕ) → i < 64 → bit i (2 ^ 64 - 1) ≡ 1
 bit-ones i h = bit_not i 0 h (omega arith) ∙ ap (λ (v : ℕ). 1 - v) (bit-zero i)
+
+-- ---- the ones that a word begins with
+
+-- a word has a 0, or is all ones
+word_cases : (x : ℕ) → x < 2 ^ 64 → (x + 1 < 2 ^ 64) ⊎ (x ≡ 2 ^ 64 - 1)
+word_cases x h =
+    ⊎_elim (λ (e : 2 ^ 64 - 1 - x ≡ 0). inr (omega arith)) (λ (e : 0 < 2 ^ 64 - 1 - x). inl (omega arith)) (eq-zero-or-pos (2 ^ 64 - 1 - x))
+
+pub ones_below : (x : ℕ) → x < 2 ^ 64 → (i : ℕ) → i < trailing_ones w64 x → bit i x ≡ 1
+unfolding bit
+ones_below x h i l =
+    ⊎_elim
+    (λ (k : x + 1 < 2 ^ 64). (bit_at-trailing_ones w64 x k).2 i l)
+    (λ (e : x ≡ 2 ^ 64 - 1). rw e (bit_at_ones 64 i (omega (arith, trailing_le 64 (2 ^ 64 - 1 - x)))))
+    (word_cases x h)
+
+-- .. and the place behind them
+pub zero_after : (x : ℕ) → x < 2 ^ 64 → trailing_ones w64 x < 64 → bit (trailing_ones w64 x) x ≡ 0
+unfolding bit
+zero_after x h l =
+    ⊎_elim
+    (λ (k : x + 1 < 2 ^ 64). (bit_at-trailing_ones w64 x k).1)
+    (λ (e : x ≡ 2 ^ 64 - 1). let f : count_trailing_zeros 64 0 < 64 = rw e at l in absurd (omega (arith, trailing_of_zero 64)))
+    (word_cases x h)

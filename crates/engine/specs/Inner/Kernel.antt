@@ -7,7 +7,6 @@
 --   column words y         those of all 1,024 nets
 --   Ran cs before after    in every scenario the values after are those that the gates cs give
 --   row_value r y          bit y % 64 of word y / 64 of the 16 words r: what a row says of scenario y
---   LowestBit w k r        r is the lowest place below k whose bit in w is 1; k where there is none
 --   FirstZero row r        r is the first scenario of which the row says 0; 1,024 where there is none
 use Rattle.std.specs.Prelude.{ℕ, ◌+◌, ◌*◌, ◌/◌, ◌%◌, ◌≤◌, ◌<◌, ◌≡◌, List, ◌⊎◌, cond, eqb, length, get_or}
 use Rattle.std.specs.Int.Bits.{bit_and, bit_or, bit_xor}
@@ -47,11 +46,6 @@ pub record NetsSet (at n : ℕ) (f : ℕ → ℕ → ℕ) (before after : List �
   pub long : length after ≡ length before
   pub put : (y k : ℕ) → y < 1024 → k < n → value_in after y (at + k) ≡ f y k
   pub kept : (y k : ℕ) → y < 1024 → (k < at) ⊎ (at + n ≤ k) → value_in after y k ≡ value_in before y k
-
-pub record LowestBit (word count r : ℕ) : Type 0 where
-  pub most : r ≤ count
-  pub clear : (i : ℕ) → i < r → bit i word ≡ 0
-  pub set : r < count → bit r word ≡ 1
 
 pub record FirstZero (row : List ℕ) (r : ℕ) : Type 0 where
   pub most : r ≤ 1024

@@ -45,20 +45,16 @@ pub record SetsTo (j : Job) (x k : ℕ) (ss : List ℕ) : Type 0 where
 
 -- the nets read are priced ones, or might be: no target leads to them
 pub record BlockLoaded (p : Plan) (b : ℕ) (words : List ℕ) : Type 0 where
-  pub long : length words ≡ 16384
   pub free : (j : Job) (is : List ℕ) (q : ReadsOf j is p) → BlockFree j q.live b words
   pub readings : (j : Job) (is : List ℕ) → ReadsOf j is p → all (candidate_good j) is ≡ true
       → (y : ℕ) → y < 1024 → reading_in words (take p.reads.len p.reads.nets) y ≡ reading j is (1024 * b + y)
 
 pub record BlockRead (p : Plan) (b : ℕ) (words rows : List ℕ) : Type 0 where
-  pub long : length words ≡ 16384
-  pub many : length rows ≡ 256
   pub free : (j : Job) (is : List ℕ) (q : ReadsOf j is p) → BlockFree j q.live b words
   pub readings : (j : Job) (is : List ℕ) → ReadsOf j is p → all (candidate_good j) is ≡ true
       → (y : ℕ) → y < 1024 → gathered rows y ≡ reading j is (1024 * b + y)
 
 pub record BlockVector (p : Plan) (v : ℕ) (before after : List ℕ) : Type 0 where
-  pub long : length after ≡ length before
   pub values : (j : Job) (is : List ℕ) (q : PlannedOf j is p) (b : ℕ) → BlockFree j q.live b before
       → BlockAt j q.live b (λ y. v) after
 
@@ -80,7 +76,6 @@ RowsSay rows first n u = (y k : ℕ) → y < 1024 → k < n → value_in rows y 
 
 -- bit y of the row is 1 exactly when vector u y rectifies input y of the block
 pub record DrivenRow (p : Plan) (u : ℕ → ℕ) (before row after : List ℕ) : Type 0 where
-  pub long : length after ≡ length before
   pub free : FreeKept p before after
   pub values : (j : Job) (is : List ℕ) (q : PlannedOf j is p) (b : ℕ) → BlockFree j q.live b before
       → (y : ℕ) → y < 1024 → row_value row y ≡ cond (rectifies j (1024 * b + y) (u y)) 1 0
@@ -102,13 +97,11 @@ BlockKept p readings before ss =
 
 -- the lowest bit of x is the new bit of target t
 pub record TargetTurned (p : Plan) (t x : ℕ) (before after : List ℕ) : Type 0 where
-  pub long : length after ≡ length before
   pub turned : (j : Job) (is : List ℕ) (q : TurnsOf j is p) (b v u : ℕ) → t < j.targets → bit t u ≡ bit 0 x
       → ((k : ℕ) → k < j.targets → (k < t) ⊎ (t < k) → bit k u ≡ bit k v)
       → BlockAt j q.planned.live b (λ y. v) before → BlockAt j q.planned.live b (λ y. u) after
 
 pub record BlockMasks (p : Plan) (words masks : List ℕ) : Type 0 where
-  pub long : length masks ≡ 256
   pub sets : (j : Job) (is : List ℕ) (q : TurnsOf j is p) (b : ℕ) → BlockAt j q.planned.live b (λ y. 0) words
       → (y : ℕ) → y < 1024 → gathered masks y ≡ rectifiers j (1024 * b + y)
 
@@ -126,6 +119,5 @@ pub record SettledFrom (p : Plan) (b r : ℕ) : Type 0 where
       → (x v : ℕ) → 1024 * b ≤ x → x < 1024 * (b + r) → rectifies j x v ≡ true
 
 pub record BlockMet (p : Plan) (b count : ℕ) (before after : List ℕ) : Type 0 where
-  pub long : length after ≡ length before
   pub sets : (j : Job) (k : ℕ) → TurnsOf j (candidate_nets j) p → SetsTo j (1024 * b) k before
       → SetsTo j (1024 * b + count) k after

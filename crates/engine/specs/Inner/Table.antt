@@ -6,7 +6,6 @@
 use Rattle.std.specs.Prelude.{ℕ, ◌%◌, ◌^◌, ◌≡◌, List, cond, eqb, length, take}
 use Rattle.records.specs.Job.{Job}
 use Rattle.engine.specs.Support.{table_of, notes_of}
-use Rattle.engine.specs.Inner.Note.{max_readings}
 use Rattle.engine.specs.Inner.Best.{SetsOf}
 use Rattle.engine.specs.Inner.Given.{Unseen}
 use Rattle.engine.specs.Inner.List.{max_vectors, lowest}
@@ -14,7 +13,6 @@ use Rattle.engine.specs.Eval.{bit}
 use Rattle.engine.specs.Choice.{or_zero}
 
 pub record TableFilled (ss : List ℕ) (n : ℕ) (t : List ℕ) : Type 0 where
-  pub long : length t ≡ max_readings
   pub table : (j : Job) (is : List ℕ) → SetsOf j is ss → length is ≡ n → take (2 ^ n) t ≡ table_of j is
 
 -- exactly one vector is in a set that is the power of two of its smallest
@@ -22,5 +20,4 @@ unfoldable pub note_from : ℕ → ℕ
 note_from s = cond (eqb (bit max_vectors s) 0) (cond (eqb (s % 65536) (2 ^ or_zero (lowest s))) 1 2) 0
 
 pub record NotesFilled (ss : List ℕ) (n : ℕ) (t : List ℕ) : Type 0 where
-  pub long : length t ≡ max_readings
   pub notes : (j : Job) (is : List ℕ) → SetsOf j is ss → Unseen j is ss → length is ≡ n → take (2 ^ n) t ≡ notes_of j is

@@ -8,7 +8,7 @@ use Rattle.engine.proofs.best.patch_gates.Goals as goal
 pub trees_size-requires : goal.trees_size-requires
 trees_size-requires c =
     let p = c.requires in
-    (p.0, omega (arith, readings-many p.0, c.fill_table-table.ensures.long), p.2)
+    (p.0, omega (arith, readings-many p.0), p.2)
 
 pub returns : goal.returns
 unfolding patch_gates

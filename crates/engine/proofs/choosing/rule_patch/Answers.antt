@@ -17,8 +17,8 @@ put_patch-len-requires c =
     let few = p.0.few in
     let m = readings-many few in
     record {
-      in_bounds = (p.1, few, omega (arith, c.fill_table-table.ensures.long));
-      len_in_bounds = omega (arith, c.fill_notes-notes.ensures.long);
+      in_bounds = (p.1, few, omega arith);
+      len_in_bounds = omega arith;
     }
 
 pub returns : goal.returns

@@ -1,6 +1,5 @@
 -- `engine::given::see_block` meets its contract: where the cover is not met, the sets stay; else the block's readings, and the sets after them.
 -- Assumes nothing.
-use native.Mathlib.Omega.{arith}
 use Rattle.engine.proofs.Laws.Given.{block-seen, block-passed}
 use Rattle.engine.proofs.Laws.Searching.{block-small, block-rows}
 use Rattle.engine.proofs.given.see_block.Goals as goal
@@ -16,5 +15,5 @@ pub returns : goal.returns
 returns c =
     let p = c.args.plan.now in
     let e = c.read_rows-readings in
-    let b = block-rows p c.free_block.ensures (omega arith) e.ensures in
+    let b = block-rows p c.free_block.ensures e.ensures in
     block-seen c.args.b c.args.count e.result _ _ _ p.few_reads c.requires.0 b c.meet_block.ensures

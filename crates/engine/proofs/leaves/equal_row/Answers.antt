@@ -1,5 +1,5 @@
 -- `engine::leaves::equal_row` meets its contract. The invariant: the row says where the first k outputs are equal. Assumes nothing.
-use mathlib.Core.Path.{refl, ◌∙◌}
+use mathlib.Core.Path.{◌∙◌}
 use native.Mathlib.Omega.{arith}
 use Rattle.engine.specs.Choice.{same}
 use Rattle.engine.proofs.Laws.Kernel.{row-replicate}
@@ -9,11 +9,9 @@ use Rattle.engine.proofs.leaves.equal_row.Goals as goal
 
 pub loop-k-init : goal.loop-k-init
 unfolding same
-loop-k-init c = (refl, λ y h. row-replicate _ y h ∙ bit-ones _ (omega arith))
+loop-k-init c y h = row-replicate _ y h ∙ bit-ones _ (omega arith)
 
 pub loop-k-preserved : goal.loop-k-preserved
-loop-k-preserved c =
-    let l = c.loop-k in (
-      c.keep_equal.ensures.0,
-      λ y h. equal_next _ _ _ l.k _ _ (omega arith) (omega arith) (l.invariant.1 y h) (c.keep_equal.ensures.1 y h),
-    )
+loop-k-preserved c y h =
+    let l = c.loop-k in
+    equal_next _ _ _ l.k _ _ (omega arith) (omega arith) (l.invariant y h) (c.keep_equal.ensures y h)

@@ -1,19 +1,18 @@
--- `engine::leaves::input_row` meets its contract. The invariant: the first w words are those of the input. Assumes nothing.
-use Prim.Native.Nat.{◌+◌, ◌*◌, ◌%◌}
-use mathlib.Core.Path.{◌∙◌, ap}
+-- `engine::leaves::input_row` meets its contract, word by word. Assumes nothing.
+use Prim.Native.Nat.{ℕ, ◌+◌, ◌*◌, ◌/◌, ◌%◌, ◌<◌}
+use mathlib.Core.Path.{◌≡◌, ◌∙◌, ap}
 use native.Mathlib.Omega.{arith}
-use lib.ListN.{length-set}
+use Rattle.std.proofs.Common.{rules}
 use Rattle.engine.specs.Eval.{bit}
-use Rattle.engine.proofs.Laws.Leaves.{row_next, input-place}
+use Rattle.engine.specs.Inner.Kernel.{row_value}
+use Rattle.engine.proofs.Laws.Array.{from_fn_each}
+use Rattle.engine.proofs.Laws.Leaves.{input-place}
 use Rattle.engine.proofs.leaves.input_row.Goals as goal
 
-pub loop-w-preserved : goal.loop-w-preserved
-loop-w-preserved c =
+pub returns : goal.returns
+unfolding row_value
+returns c y h =
     let a = c.args in
-    let l = c.loop-w in
-    let v = c.input_word.result in (
-      omega arith,
-      length-set l.r l.w v ∙ l.invariant.1,
-      row_next (λ y. bit a.i (1024 * a.b + y)) l.r l.w v (omega arith) l.invariant.2
-          (λ y q. c.input_word.ensures (y % 64) (omega arith) ∙ ap (bit a.i) (rw (← q) (input-place a.b y))),
-    )
+    from_fn_each (λ w v. (j : ℕ) → j < 64 → bit j v ≡ bit a.i (64 * (16 * a.b + w) + j)) _ c.from_fn.ensures.items (λ w v q l k. search rules) (y / 64)
+    (omega arith) (y % 64) (omega arith)
+    ∙ ap (bit a.i) (input-place a.b y)

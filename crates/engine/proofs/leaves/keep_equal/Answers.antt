@@ -9,4 +9,4 @@ pub returns : goal.returns
 returns c =
     let l = c.loop-w in
     let e : l.w ≡ 16 = omega arith in
-    (omega (arith, l.invariant.1.long), row_kept _ _ _ _ _ (rw e at l.invariant.1))
+    row_kept _ _ _ _ _ (rw e at l.invariant)

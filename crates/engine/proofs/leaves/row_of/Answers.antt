@@ -1,21 +1,17 @@
--- `engine::leaves::row_of` meets its contract. The invariant: the first w words are those of the net. Assumes nothing.
-use Prim.Native.Nat.{ℕ, ◌+◌, ◌*◌, ◌%◌}
-use mathlib.Core.Path.{sym, ◌∙◌, ap}
+-- `engine::leaves::row_of` meets its contract, word by word. Assumes nothing.
+use Prim.Native.Nat.{◌+◌, ◌*◌, ◌/◌, ◌%◌}
+use mathlib.Core.Path.{◌≡◌, ap}
 use native.Mathlib.Omega.{arith}
-use lib.ListN.{get_or, length-set}
+use lib.ListN.{get_or}
+use Rattle.std.proofs.Common.{rules}
 use Rattle.engine.specs.Eval.{bit}
-use Rattle.engine.specs.Inner.Kernel.{value_in}
-use Rattle.engine.proofs.Laws.Leaves.{row_next}
+use Rattle.engine.specs.Inner.Kernel.{row_value, value_in}
+use Rattle.engine.proofs.Laws.Array.{from_fn_each}
 use Rattle.engine.proofs.leaves.row_of.Goals as goal
 
-pub loop-w-preserved : goal.loop-w-preserved
-unfolding value_in
-loop-w-preserved c =
+pub returns : goal.returns
+unfolding row_value value_in
+returns c y h =
     let a = c.args in
-    let l = c.loop-w in
-    let v = get_or a.words.now (16 * a.i + l.w) 0 in (
-      omega arith,
-      length-set l.r l.w v ∙ l.invariant.1,
-      row_next (λ y. value_in a.words.now y a.i) l.r l.w v (omega arith) l.invariant.2
-          (λ y q. ap (λ (w : ℕ). bit (y % 64) (get_or a.words.now (16 * a.i + w) 0)) (sym q)),
-    )
+    ap (bit (y % 64))
+    (from_fn_each (λ w v. v ≡ get_or a.words.now (16 * a.i + w) 0) _ c.from_fn.ensures.items (λ w v q l k. search rules) (y / 64) (omega arith))

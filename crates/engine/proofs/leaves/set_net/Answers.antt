@@ -8,5 +8,5 @@ use Rattle.engine.proofs.leaves.set_net.Goals as goal
 
 pub returns : goal.returns
 returns c =
-    let b = c.broadcast-v in
+    let b = c.broadcast in
     net-alike _ _ _ _ _ c.set_row.ensures (λ y h. row-replicate b.result y h ∙ b.ensures (y % 64) (omega arith))

@@ -1,7 +1,7 @@
 -- `engine::masks::masks_of` meets its contract. The invariant: the words are those at the vector of the step before, and the rows of
 -- the steps so far are done. Assumes nothing.
 use Prim.Native.Nat.{ℕ, ◌/◌, ◌^◌, ◌<◌}
-use mathlib.Core.Path.{◌≡◌, refl, ◌∙◌, subst}
+use mathlib.Core.Path.{◌≡◌, ◌∙◌, subst}
 use native.Mathlib.Nat.{one-mul}
 use native.Mathlib.Omega.{arith}
 use lib.Pow.{pow_pos, shl_exact}
@@ -18,10 +18,9 @@ loop-step-init c =
     let p = c.args.plan.now in
     let u = c.shortest_list-u in
     let v = shl_exact 1 p.targets 64 (lit< tt) (omega (arith, p.few_targets)) ∙ one-mul (2 ^ p.targets) in (
-      c.put_row.ensures.long ∙ refl,
       lit< tt,
       v,
-      masks-first p u.result u.ensures.0 c.args.words.now c.equal_row.result c.equal_row.ensures c.put_row.ensures,
+      masks-first p u.result u.ensures.0 c.args.words.now c.equal_row.result c.equal_row.ensures c.set_row.ensures,
     )
 
 pub vector_at-v-requires : goal.vector_at-v-requires
@@ -41,11 +40,11 @@ turn_target-requires c =
     let u = c.shortest_list-u in
     omega (arith, turns-lt u.result u.ensures.0 c.loop-step.step s)
 
-pub put_row-requires-in-loop-step : goal.put_row-requires-in-loop-step
-put_row-requires-in-loop-step c =
+pub set_row-requires-in-loop-step : goal.set_row-requires-in-loop-step
+set_row-requires-in-loop-step c =
     let s : c.loop-step.step < 16 = omega (arith, vectors-many c.args.plan.now.few_targets) in
     let u = c.shortest_list-u in
-    (omega (arith, ordered-lt u.result u.ensures.0 c.loop-step.step s), c.loop-step.invariant.0)
+    omega (arith, ordered-lt u.result u.ensures.0 c.loop-step.step s)
 
 pub loop-step-preserved : goal.loop-step-preserved
 loop-step-preserved c =
@@ -55,16 +54,15 @@ loop-step-preserved c =
     let v = c.vector_at-v in
     let t = c.turn_target in
     let e = c.equal_row-in-loop-step in
-    let r = c.put_row-in-loop-step in (
-      r.ensures.long ∙ l.invariant.0,
+    let r = c.set_row-in-loop-step in (
       omega arith,
-      l.invariant.2,
-      masks-turned p u.result u.ensures.0 l.step e.result p.few_targets u.ensures.1 l.invariant.1 (omega (arith, l.invariant.2))
-          l.invariant.3
+      l.invariant.1,
+      masks-turned p u.result u.ensures.0 l.step e.result p.few_targets u.ensures.1 l.invariant.0 (omega (arith, l.invariant.1))
+          l.invariant.2
           (subst (λ (x : ℕ). TargetTurned p (turns u.result l.step) (x / 2 ^ turns u.result l.step) l.words t.new.words) v.ensures
           (subst (λ (x : ℕ). TargetTurned p x (v.result / 2 ^ x) l.words t.new.words) c.turned_at-t.ensures t.ensures))
           e.ensures
-          (subst (λ (x : ℕ). NetSet x (row_value e.result) l.masks r.new.rows) v.ensures r.ensures),
+          (subst (λ (x : ℕ). NetSet x (row_value e.result) l.masks r.new.words) v.ensures r.ensures),
     )
 
 pub returns : goal.returns
@@ -72,6 +70,6 @@ returns c =
     let p = c.args.plan.now in
     let l = c.loop-step in
     let u = c.shortest_list-u in
-    let e : l.step ≡ 2 ^ p.targets = omega (arith, l.invariant.2, pow_pos p.targets) in
-    masks-all p u.result u.ensures.0 p.few_targets u.ensures.1 l.invariant.0
-    (subst (λ (k : ℕ). MasksDone p u.result c.args.words.now k l.words l.masks) e l.invariant.3)
+    let e : l.step ≡ 2 ^ p.targets = omega (arith, l.invariant.1, pow_pos p.targets) in
+    masks-all p u.result u.ensures.0 p.few_targets u.ensures.1
+    (subst (λ (k : ℕ). MasksDone p u.result c.args.words.now k l.words l.masks) e l.invariant.2)

@@ -16,7 +16,7 @@ loop-k-preserved c =
     let a = c.args in (
       omega arith,
       nets-next 0 l.k l.k _ _ l.rows _ l.invariant.1 (omega arith)
-          (net-alike _ _ _ _ _ c.put_row.ensures (λ y h. row-replicate _ y h ∙ sym (net-bit a.words.now (y % 64) _))),
+          (net-alike _ _ _ _ _ c.set_row.ensures (λ y h. row-replicate _ y h ∙ sym (net-bit a.words.now (y % 64) _))),
     )
 
 pub returns : goal.returns

@@ -24,13 +24,13 @@ vector_at-v-requires c =
     omega (arith, c.loop-step.invariant.3, vectors-many c.requires.0.targets) in
     (lit< tt, step-few)
 
-pub put_row-requires : goal.put_row-requires
-put_row-requires c =
+pub set_row-requires : goal.set_row-requires
+set_row-requires c =
     let step-few : c.loop-step.step < 16 =
     omega (arith, c.loop-step.invariant.3, vectors-many c.requires.0.targets) in
     let v = c.vector_at-v in
     let l = c.loop-step in
-    (omega (arith, v.ensures, ordered-lt 0 (lit< tt) l.step step-few), l.invariant.1)
+    omega (arith, v.ensures, ordered-lt 0 (lit< tt) l.step step-few)
 
 pub loop-step-preserved : goal.loop-step-preserved
 loop-step-preserved c =
@@ -40,7 +40,7 @@ loop-step-preserved c =
     let m = c.args.miter in
     let v = c.vector_at-v in (
       c.eval_vector.ensures.0,
-      c.put_row.ensures.long ∙ c.loop-step.invariant.1,
+      c.set_row.ensures.long ∙ c.loop-step.invariant.1,
       omega arith,
       c.loop-step.invariant.3,
       λ j q.
@@ -48,7 +48,7 @@ loop-step-preserved c =
           (c.loop-step.invariant.4 j q)
           (c.eval_vector.ensures.1 j (narrow-of q c.requires.1))
           c.equal_word-r.ensures
-          c.put_row.ensures,
+          c.set_row.ensures,
     )
 
 pub returns : goal.returns

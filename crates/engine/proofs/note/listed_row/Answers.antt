@@ -1,8 +1,11 @@
 -- `engine::note::listed_row` meets its contract. The invariant: where the words say 1, one of the vectors before place v is in
 -- the set. Assumes nothing.
-use Prim.Native.Nat.{◌≤◌}
+use Prim.Native.Nat.{ℕ, ◌≤◌, ◌<◌, max}
+use mathlib.Core.Path.{◌≡◌, ◌∙◌, ap}
+use mathlib.Core.List.{List}
+use Rattle.engine.specs.Inner.Kernel.{row_value, value_in}
 use native.Mathlib.Omega.{arith}
-use lib.ListN.{length}
+use lib.ListN.{length, get_or}
 use lib.Seq.{take_all}
 use Rattle.engine.specs.Inner.List.{listed_of}
 use Rattle.engine.proofs.Laws.Note.{joined-none, joined-next}
@@ -12,10 +15,11 @@ use Rattle.engine.proofs.note.listed_row.Goals as goal
 pub loop-v-init : goal.loop-v-init
 loop-v-init c = joined-none c.args.masks.now _
 
-pub join_row-next-requires : goal.join_row-next-requires
-join_row-next-requires c =
-    rw c.from.ensures
-    (rw c.listed-v-items.ensures (listed-below c.args.list.now c.loop-v.v-index (rw c.listed-v-items.ensures at c.loop-v-test.true)))
+pub row_of-requires : goal.row_of-requires
+row_of-requires c =
+    let h = listed-below c.args.list.now c.loop-v.v-index (rw c.listed-v-items.ensures at c.loop-v-test.true) in
+    let v : c.from.result < 16 = rw (c.from.ensures, c.listed-v-items.ensures) h in
+    omega arith
 
 pub loop-v-preserved : goal.loop-v-preserved
 loop-v-preserved c =
@@ -23,8 +27,13 @@ loop-v-preserved c =
     let l = c.loop-v in
     let same = c.listed-v-items.ensures in
     let h = rw same at c.loop-v-test.true in
-    joined-next a.masks.now (listed_of a.list.now).vectors l.words c.join_row-next.result l.v-index h (listed-below a.list.now l.v-index h)
-    (rw (c.from.ensures, same) at c.join_row-next.ensures) l.invariant
+    let vs = (listed_of a.list.now).vectors in
+    let v : c.from.result ≡ get_or vs l.v-index 0 = c.from.ensures ∙ ap (λ (xs : List ℕ). get_or xs l.v-index 0) same in
+    joined-next a.masks.now vs l.words c.join_rows-next.result l.v-index h (listed-below a.list.now l.v-index h)
+    (λ y k.
+    c.join_rows-next.ensures y k
+    ∙ ap (max (row_value l.words y)) (c.row_of.ensures y k ∙ ap (value_in a.masks.now y) v))
+    l.invariant
 
 pub returns : goal.returns
 returns c =

@@ -26,4 +26,4 @@ returns c =
     let l = c.loop-w in
     let a = c.args in
     let e : l.w ≡ a.columns = omega arith in
-    rw e at (l.invariant.1 a.masks a.readings c.transpose.ensures.1 c.transpose-2.ensures.1)
+    rw e at (l.invariant.1 a.masks a.readings c.transpose.ensures c.transpose-2.ensures)

@@ -1,20 +1,25 @@
 -- `engine::planning::gate_mark` meets its contract. The invariant: the greatest mark so far, with those of the operands left, gives the
 -- gate's. Assumes nothing.
-use native.Mathlib.Omega.{arith}
+use mathlib.Core.Path.{◌∙◌, ap}
+use Rattle.engine.specs.Inner.Operands.{operands_left}
 use Rattle.engine.proofs.Laws.PlanCode.{mark-all, mark-next, mark-none}
+use Rattle.engine.proofs.Laws.Packed.{field-below}
 use Rattle.engine.proofs.planning.gate_mark.Goals as goal
 
-pub loop-i-init : goal.loop-i-init
-loop-i-init c = mark-all c.args.marks.now c.args.c
+pub loop-net-init : goal.loop-net-init
+loop-net-init c =
+    let e = ap operands_left c.into_iter-net-iterator.ensures.into_iter_gives ∙ c.operands_of-net-items.ensures in
+    rw e (mark-all c.args.marks.now c.args.c)
 
-pub loop-i-preserved : goal.loop-i-preserved
-loop-i-preserved c =
-    let a = c.args in
-    let l = c.loop-i in
-    mark-next a.marks.now a.c l.r l.i l.rest c.greater-r.result (omega arith) c.greater-r.ensures l.invariant
+pub bounds-marks-net : goal.bounds-marks-net
+bounds-marks-net c = field-below _ _ c.in-Some.ensures.steps
+
+pub loop-net-preserved : goal.loop-net-preserved
+loop-net-preserved c =
+    let l = c.loop-net in
+    mark-next c.args.marks.now c.args.c l.mark c.in-Some.net _ c.in-Some.ensures.steps c.max-mark.ensures l.invariant
 
 pub returns : goal.returns
 returns c =
-    let a = c.args in
-    let l = c.loop-i in
-    mark-none a.marks.now a.c l.r l.i l.rest (omega arith) l.invariant
+    let l = c.loop-net in
+    mark-none c.args.marks.now c.args.c l.mark c.in-None.ensures.steps.0 l.invariant

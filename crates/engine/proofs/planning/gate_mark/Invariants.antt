@@ -1,10 +1,8 @@
 -- `engine::planning::gate_mark` meets its contract. The invariant: the greatest mark so far, with those of the operands left, gives the
 -- gate's. Assumes nothing.
+use Rattle.engine.specs.Inner.Operands.{operands_left}
 use Rattle.engine.proofs.Laws.PlanCode.{MarkLeft}
 use Rattle.engine.proofs.planning.gate_mark.Given as goal
 
-abbrev pub invariant-loop-i : goal.invariant-loop-i
-invariant-loop-i l = MarkLeft l.marks l.c l.r l.i l.rest
-
-abbrev pub decreases-loop-i : goal.decreases-loop-i
-decreases-loop-i l = l.i
+abbrev pub invariant-loop-net : goal.invariant-loop-net
+invariant-loop-net l = MarkLeft l.marks l.c l.mark (operands_left l.net-iterator)

@@ -8,10 +8,10 @@ use Rattle.engine.proofs.Laws.PlanCode.{leaves_none, leaves-next}
 use Rattle.engine.proofs.planning.leaf_marks.Goals as goal
 
 pub loop-i-init : goal.loop-i-init
-loop-i-init c = (omega arith, leaves_none _)
+loop-i-init c = leaves_none _
 
 pub loop-i-preserved : goal.loop-i-preserved
 loop-i-preserved c =
     let a = c.args in
     let l = c.loop-i in
-    (omega arith, ap (λ (m : List ℕ). set m (a.from + l.i) 1) l.invariant.1 ∙ leaves-next a.from l.i (omega arith))
+    ap (λ (m : List ℕ). set m (a.from + l.i) 1) l.invariant ∙ leaves-next a.from l.i (omega arith)

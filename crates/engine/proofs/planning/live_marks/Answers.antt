@@ -3,7 +3,6 @@
 use Prim.Native.Nat.{ℕ}
 use mathlib.Core.Path.{◌∙◌, ap}
 use mathlib.Core.List.{List}
-use lib.ListN.{take}
 use Rattle.engine.specs.Inner.Plan.{marked_all, live_from, live_marks}
 use Rattle.engine.proofs.planning.live_marks.Goals as goal
 
@@ -11,10 +10,8 @@ pub returns : goal.returns
 unfolding live_marks
 returns c =
     let a = c.args in
-    let is = take a.reads.now.len a.reads.now.nets in
-    let cs = take a.count a.gates.now in
     c.mark_live.ensures
-    ∙ ap (λ (ms : List ℕ). live_from ms cs)
+    ∙ ap (λ (ms : List ℕ). live_from ms a.gates.now)
     (c.mark_nets-three.ensures
-    ∙ ap (λ (ms : List ℕ). marked_all ms is)
+    ∙ ap (λ (ms : List ℕ). marked_all ms a.reads.now)
     (c.mark_nets-two.ensures ∙ ap (λ (ms : List ℕ). marked_all ms a.goldens.now) c.mark_nets-one.ensures))

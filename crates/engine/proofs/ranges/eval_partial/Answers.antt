@@ -3,27 +3,22 @@
 use Prim.Native.Nat.{ℕ, ◌+◌}
 use mathlib.Core.Path.{sym, ◌∙◌, ap}
 use native.Mathlib.Omega.{arith}
-use lib.ListN.{get_or, set, length-set}
-use lib.Seq.{slice}
+use lib.ListN.{get_or, drop, set}
 use Rattle.engine.specs.Inner.Packed.{own, evaluated}
 use Rattle.engine.specs.Inner.Ranges.{code_ternary}
-use Rattle.engine.proofs.Laws.Ranges.{evaluated-next, evaluated-end}
+use Rattle.engine.proofs.Laws.Run.{evaluated-next, evaluated-end}
 use Rattle.engine.proofs.ranges.eval_partial.Goals as goal
 
-pub loop-i-preserved : goal.loop-i-preserved
-loop-i-preserved c =
-    let a = c.args in
-    let l = c.loop-i in
-    let g = get_or a.gates.now l.i 0 in (
-      length-set l.known (own g) c.ternary_gate.result ∙ l.invariant.0,
-      ap (λ (x : ℕ). evaluated code_ternary (set l.known (own g) x) (slice (l.i + 1) a.count a.gates.now))
-          c.ternary_gate.ensures
-          ∙ evaluated-next code_ternary l.known a.gates.now l.i a.count (omega arith) (omega arith)
-          ∙ l.invariant.1,
-    )
+pub loop-c-preserved : goal.loop-c-preserved
+loop-c-preserved c =
+    let l = c.loop-c in
+    let cs = c.args.gates.now in
+    let g = get_or cs l.c-index 0 in
+    ap (λ (x : ℕ). evaluated code_ternary (set l.known (own g) x) (drop (l.c-index + 1) cs)) c.ternary_gate.ensures
+    ∙ evaluated-next code_ternary l.known cs l.c-index (omega arith)
+    ∙ l.invariant
 
 pub returns : goal.returns
 returns c =
-    let a = c.args in
-    let l = c.loop-i in
-    sym (evaluated-end code_ternary l.known a.gates.now l.i a.count (omega arith) (omega arith)) ∙ l.invariant.1
+    let l = c.loop-c in
+    sym (evaluated-end code_ternary l.known c.args.gates.now l.c-index (omega arith)) ∙ l.invariant

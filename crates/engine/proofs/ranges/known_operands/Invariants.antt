@@ -2,11 +2,11 @@
 -- is known of all operands. Assumes nothing.
 use lib.ListN.{length}
 use mathlib.Core.Path.{◌≡◌}
-use Prim.Native.Nat.{◌/◌, ◌≤◌}
+use Prim.Native.Nat.{◌/◌}
 use Rattle.records.specs.Netlist.{net_at}
 use Rattle.engine.proofs.Laws.Partial.{ReadTo}
 use Rattle.engine.proofs.ranges.known_operands.Given as goal
 
 abbrev pub invariant-loop-i : goal.invariant-loop-i
 invariant-loop-i l =
-    (l.i ≤ 4) × (length l.r ≡ 4) × ReadTo (net_at l.known) l.count (l.c / 131072) l.r l.rest l.i
+    (length l.r ≡ 4) × ReadTo (net_at l.known) l.count (l.c / 131072) l.r l.rest l.i

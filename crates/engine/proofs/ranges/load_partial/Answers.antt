@@ -8,16 +8,12 @@ use Rattle.engine.proofs.Laws.Partial.{filling-none, filling-next}
 use Rattle.engine.proofs.ranges.load_partial.Goals as goal
 
 pub loop-i-init : goal.loop-i-init
-loop-i-init c = (omega arith, filling-none _ _ _)
+loop-i-init c = filling-none _ _ _
 
 pub loop-i-preserved : goal.loop-i-preserved
 loop-i-preserved c =
     let a = c.args in
-    let l = c.loop-i in (
-      omega arith,
-      filling-next a.known.now 0 (partial_input a.low a.prefix) l.known l.i l.i c.partial_input.result
-          (sym (zero-add l.i))
-          (omega arith)
-          c.partial_input.ensures
-          l.invariant.1,
-    )
+    let l = c.loop-i in
+    filling-next a.known.now 0 (partial_input a.low a.prefix) l.known l.i l.i c.partial_input.result (sym (zero-add l.i))
+    (omega arith)
+    c.partial_input.ensures l.invariant

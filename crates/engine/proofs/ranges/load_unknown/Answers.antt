@@ -7,10 +7,10 @@ use Rattle.engine.proofs.Laws.Partial.{filling-none, filling-next}
 use Rattle.engine.proofs.ranges.load_unknown.Goals as goal
 
 pub loop-i-init : goal.loop-i-init
-loop-i-init c = (omega arith, filling-none _ _ _)
+loop-i-init c = filling-none _ _ _
 
 pub loop-i-preserved : goal.loop-i-preserved
 loop-i-preserved c =
     let a = c.args in
     let l = c.loop-i in
-    (omega arith, filling-next a.known.now a.at (λ k. unknown) l.known l.i _ _ refl (omega arith) refl l.invariant.1)
+    filling-next a.known.now a.at (λ k. unknown) l.known l.i _ _ refl (omega arith) refl l.invariant

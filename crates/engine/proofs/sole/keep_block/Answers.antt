@@ -16,9 +16,9 @@ returns c =
       free_kept = a.free;
       block_kept = λ o.
           sole-kept c.args.readings c.args.table.now c.table_rows-vectors.result row.result c.table_rows-vectors.ensures
-          (λ y l. sym (c.row_at.ensures y l) ∙ c.zero_row.ensures c.if-not-zero_row.false y l)
+          (λ y l. sym (c.row_of.ensures y l) ∙ c.zero_row.ensures c.if-not-zero_row.false y l)
           (λ y l.
-          ap (λ (n : ℕ). max (row_value row.result y) n) (sym (c.row_at-2.ensures y l))
+          ap (λ (n : ℕ). max (row_value row.result y) n) (sym (c.row_of-2.ensures y l))
           ∙ sym (c.join_rows.ensures y l)
           ∙ c.first_zero.ensures.ones y (omega (arith, leb-true)))
           a;

@@ -1,9 +1,13 @@
--- `engine::word::zero_row` meets its contract. The invariant: of the scenarios of the words passed the row says 0. Assumes nothing.
-use native.Mathlib.Omega.{arith}
-use Rattle.engine.proofs.Laws.Leaves.{zeros-more}
+-- `engine::word::zero_row` meets its contract. Assumes nothing.
+use mathlib.Core.Path.{sym, ◌∙◌, ap}
+use Prim.Native.Nat.{ℕ, ◌%◌}
+use mathlib.Core.List.{List}
+use Rattle.std.specs.Cmp.Lexicographic.{same_text}
+use Rattle.engine.specs.Inner.Kernel.{row_value}
+use Rattle.engine.proofs.Laws.Kernel.{row-replicate}
+use Rattle.engine.proofs.Laws.Word.{bit-zero}
 use Rattle.engine.proofs.word.zero_row.Goals as goal
 
-pub loop-w-preserved : goal.loop-w-preserved
-loop-w-preserved c =
-    let l = c.loop-w in
-    (omega arith, zeros-more c.args.row l.w l.invariant.1 c.if-row-w-ne0.false)
+pub returns : goal.returns
+returns c e y h = let same = same_text _ _ (sym e ∙ c.eq.ensures) in
+    ap (λ (r : List ℕ). row_value r y) same ∙ row-replicate 0 y h ∙ bit-zero (y % 64)

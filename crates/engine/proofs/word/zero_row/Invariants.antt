@@ -1,8 +1,0 @@
--- `engine::word::zero_row` meets its contract. The invariant: of the scenarios of the words passed the row says 0. Assumes nothing.
-use Prim.Native.Nat.{ℕ, ◌*◌, ◌≤◌, ◌<◌}
-use mathlib.Core.Path.{◌≡◌}
-use Rattle.engine.specs.Inner.Kernel.{row_value}
-use Rattle.engine.proofs.word.zero_row.Given as goal
-
-abbrev pub invariant-loop-w : goal.invariant-loop-w
-invariant-loop-w l = (l.w ≤ 16) × ((y : ℕ) → y < 64 * l.w → row_value l.row y ≡ 0)
