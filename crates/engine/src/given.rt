@@ -1,8 +1,9 @@
 // Which readings of a support inputs give. A reading is unseen while no input looked at gives it: bit 16 of its set is 1.
-ghost use Rattle.std.specs.Prelude.{◌≡◌, true, List, ℕ, ◌<◌, length, take};
+ghost use Rattle.std.specs.Prelude.{◌≡◌, true, List, ℕ, ◌/◌, ◌<◌, eqb, length, take};
 ghost use Rattle.records.specs.Bytes.{all as all'};
 ghost use Rattle.records.specs.Job.{Job};
 ghost use Rattle.records.specs.Refusal.{candidate_good};
+ghost use Rattle.engine.specs.Eval.{bit};
 ghost use Rattle.engine.specs.Inner.Miter.{MiterRoom, MergedOf};
 ghost use Rattle.engine.specs.Inner.Plan.{NetsRead};
 ghost use Rattle.engine.specs.Inner.Search.{BlockRange};
@@ -14,7 +15,7 @@ use super::cover::{cover_of, gives_cover, next_unseen, unseen_count};
 use super::cube::Cover;
 use super::imply::unrefuted;
 use super::leaves::{block_inputs, read_rows};
-use super::limits::{BLOCK, RANGE, READINGS, RENEWALS, ROWS, SPLITS, TESTED, WORDS};
+use super::limits::{BLOCK, RANGE, READINGS, RENEWALS, ROWS, SPLITS, TESTED, WORD, WORDS};
 use super::miter::Miter;
 use super::note::meet_block;
 use super::plan::Plan;
@@ -42,7 +43,7 @@ fn see_block(
         return;
     }
     let readings = read_rows(plan, words);
-    meet_block([!0u64; ROWS], readings, (count + 63) / 64, sets);
+    meet_block([!0u64; ROWS], readings, count.div_ceil(WORD), sets);
 }
 
 // A cover of the unseen readings that an input may still give, none of them in a cube of never, which no input gives: the cubes that are refuted here
@@ -100,12 +101,18 @@ impl Covering {
     }
 }
 
-// Whether it is time for that: before block 0, 1, 2, 4, 8 or 16 of a range that was skipped.
-fn is_due(skipped: usize, b: usize) -> bool
+// Whether block b is of a range that was skipped.
+fn is_skipped(skipped: usize, b: usize) -> bool
     requires { b < 1024 }
+    ensures { result ≡ eqb (bit (b / 32) skipped) 1 }
 {
+    (skipped >> (b / RANGE)) % 2 == 1
+}
+
+// Whether it is time for a new cover: before block 0, 1, 2, 4, 8 or 16 of a range.
+fn is_due(b: usize) -> bool {
     let r = b % RANGE;
-    (r & (r + RANGE - 1) == 0) & ((skipped >> (b / RANGE)) % 2 == 1)
+    r == 0 || r.is_power_of_two()
 }
 
 // The sets after the inputs of the ranges that were skipped. It ends where no reading is unseen, or none of those that are can be given.
@@ -122,23 +129,18 @@ fn see_inputs(plan: &Plan, skipped: usize, sets: &mut [u32; READINGS])
         let Some(first) = next else {
             return;
         };
-        if is_due(skipped, b) {
+        if !is_skipped(skipped, b) {
+            continue;
+        }
+        if is_due(b) {
             covering.renew(plan, sets);
         }
         if covering.left.count == 0 {
             return;
         }
-        if (skipped >> (b / RANGE)) % 2 == 1 {
-            see_block(
-                plan,
-                b,
-                block_inputs(size - BLOCK * b),
-                &covering.left,
-                &mut words,
-                sets,
-            );
-            next = next_unseen(sets, first, count);
-        }
+        let inputs = block_inputs(size - BLOCK * b);
+        see_block(plan, b, inputs, &covering.left, &mut words, sets);
+        next = next_unseen(sets, first, count);
     }
 }
 

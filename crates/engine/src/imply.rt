@@ -10,7 +10,7 @@ ghost use Rattle.engine.specs.Inner.Packed.{operands_of};
 
 use super::cube::{Cover, Cube};
 use super::limits::NETS;
-use super::packed::{COUNT_AT, COUNTS, NET, NET_AT, SLOTS_AT};
+use super::packed::{COUNT_AT, COUNTS, NET, NET_AT, SLOTS_AT, operands_of};
 use super::plan::Plan;
 use super::ranges::ternary_gate;
 
@@ -39,12 +39,8 @@ fn learn(i: usize, v: u8, known: &mut [u8; NETS]) -> Result<(), Contradiction>
 fn learn_operands(c: u64, v: u8, known: &mut [u8; NETS]) -> Result<(), Contradiction>
     ensures { Learns (AllHave v (operands_of c)) known.old (is_ok result) known.new }
 {
-    let mut rest = c / SLOTS_AT;
-    let mut i = c / COUNT_AT % COUNTS;
-    while 0 < i {
-        learn((rest % NET) as usize, v, known)?;
-        rest = rest / NET;
-        i -= 1;
+    for net in operands_of(c) {
+        learn(net, v, known)?;
     }
     Ok(())
 }
@@ -130,20 +126,16 @@ fn learn_cube(plan: &Plan, cube: Cube, known: &mut [u8; NETS]) -> Result<(), Con
     Ok(())
 }
 
-// The first open operand of gate c, or its last.
-fn open_operand(c: u64, known: &[u8; NETS]) -> usize
-    ensures { result < 1024 }
+// The first open operand of gate c.
+fn open_operand(c: u64, known: &[u8; NETS]) -> Option<usize>
+    ensures { IfSome result (λ i. i < 1024) }
 {
-    let mut rest = c / SLOTS_AT;
-    let mut i = c / COUNT_AT % COUNTS;
-    while 1 < i {
-        if UNKNOWN <= known[(rest % NET) as usize] {
-            return (rest % NET) as usize;
+    for net in operands_of(c) {
+        if UNKNOWN <= known[net] {
+            return Some(net);
         }
-        rest = rest / NET;
-        i -= 1;
     }
-    (rest % NET) as usize
+    None
 }
 
 // An open operand of the last gate that is not justified.
@@ -152,7 +144,7 @@ fn open_net(gates: &[u64], known: &[u8; NETS]) -> Option<usize>
 {
     for c in gates.iter().rev() {
         if known[(*c / NET_AT % NET) as usize] < UNKNOWN && UNKNOWN <= ternary_gate(*c, known) {
-            return Some(open_operand(*c, known));
+            return open_operand(*c, known);
         }
     }
     None

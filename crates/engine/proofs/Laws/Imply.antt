@@ -1,6 +1,6 @@
 -- Laws of what nets' values imply (specs/Inner/Imply): one net more is known; what a gate's net says of its operands; the values of a job's gates
 -- are such as the gates give; and the cubes that are left. Assumes nothing.
-use Prim.Native.Nat.{ℕ, suc, ◌+◌, ◌-◌, ◌/◌, ◌%◌, ◌^◌, ◌≤◌, ◌<◌}
+use Prim.Native.Nat.{ℕ, suc, ◌+◌, ◌/◌, ◌%◌, ◌^◌, ◌≤◌, ◌<◌}
 use mathlib.Core.Path.{◌≡◌, refl, sym, ◌∙◌, ap, subst}
 use mathlib.Core.Logic.{⊎_elim}
 use mathlib.Core.List.Memᴰ.{cases_cons}
@@ -42,7 +42,6 @@ use Rattle.engine.proofs.Laws.Miter.{miter-nets}
 use Rattle.engine.proofs.Laws.Packed.{packed-own, packed-value}
 use Rattle.engine.proofs.Laws.Partial.{gate-completes}
 use Rattle.engine.proofs.Laws.Plan.{leaves_of, base, length-leaves}
-use Rattle.engine.proofs.Laws.Packed.{fields-next}
 use Rattle.engine.proofs.Laws.Ranges.{ternary-follows}
 use Rattle.engine.proofs.Laws.Run.{good-first, good-rest, same-values}
 use Rattle.engine.proofs.Laws.Search.{first-few}
@@ -104,17 +103,14 @@ both-never {d = d} f g b e i l low high vs v m =
 
 -- ---- operands
 
-module _ (v : ℕ) (vs : List ℕ) (n rest : ℕ) (h : 0 < n) (a : AllHave v (fields n rest) vs) where
-  abbrev has_v : ℕ → Bool
-  has_v i = eqb (net_at vs i) v
+module _ (v : ℕ) (vs : List ℕ) {i : ℕ} {is ks : List ℕ} (e : ks ≡ i ∷ is) (a : AllHave v ks vs) where
+  parts : (eqb (net_at vs i) v ≡ true) × AllHave v is vs
+  parts = all_cons (λ (k : ℕ). eqb (net_at vs k) v) i is (rw e at a)
 
-  parts : (has_v (rest % 1024) ≡ true) × (AllHave v (fields (n - 1) (rest / 1024)) vs)
-  parts = all_cons has_v (rest % 1024) (fields (n - 1) (rest / 1024)) (rw (fields-next n rest h) at a)
+  pub first-has : net_at vs i ≡ v
+  first-has = eqb-true (net_at vs i) v parts.0
 
-  pub first-has : net_at vs (rest % 1024) ≡ v
-  first-has = eqb-true (net_at vs (rest % 1024)) v parts.0
-
-  pub rest-have : AllHave v (fields (n - 1) (rest / 1024)) vs
+  pub rest-have : AllHave v is vs
   rest-have = parts.1
 
 -- ---- what a gate's net says
