@@ -1,7 +1,6 @@
 -- Laws of the definitions, a file for each notion.
 pub mod AnyOrder
 pub mod Array
-pub mod Arena
 pub mod Best
 pub mod Block
 pub mod Choice

@@ -13,12 +13,13 @@ ghost use Rattle.engine.specs.Inner.Best.{HeldSupport, ChosenOf};
 ghost use Rattle.engine.specs.Inner.Given.{Unseen};
 ghost use Rattle.engine.specs.Inner.Choosing.{ChosenJob};
 
-use super::best::{Priced, best_support, first_empty};
+use super::best::first_empty;
 use super::given::see_skipped;
 use super::limits::{LONGEST_CHOOSE, READINGS, WORD_INPUTS};
 use super::merge::merged_miter;
 use super::miter::Miter;
 use super::narrow::sets_of_words;
+use super::pick::Priced;
 use super::planning::plan_of;
 use super::search::{Met, sets_of_inputs};
 use super::sheet::{put_blind, put_patch};
@@ -115,24 +116,21 @@ fn choose_job(job: JobParts, reply: &mut [u8]) -> ChooseReply
     let nets = job.nets;
     let weights = job.weights;
     let miter = merged_miter(job);
-    let met = reading_sets(
-        miter,
-        Support {
-            nets,
-            len: candidates,
-        },
-    );
-    let count = reading_count(candidates);
-    let reading = first_empty(&met.sets, count);
-    if reading < count {
+    let reads = Support {
+        nets,
+        len: candidates,
+    };
+    let met = reading_sets(miter, reads);
+    if let Some(reading) = first_empty(&met.sets[..reading_count(candidates)]) {
         return rule_blind(reading, reply);
     }
     let priced = Priced {
-        count: candidates,
-        weights,
+        nets: &nets[..candidates],
+        weights: &weights[..candidates],
+        sets: &met.sets,
         targets: miter.targets,
     };
-    let best = best_support(nets, priced, &met.sets);
+    let best = priced.best_support();
     let support = best.support;
     let mut sets = best.sets;
     see_skipped(miter, support, met.skipped, &mut sets);

@@ -30,8 +30,6 @@ pub const TRUST: usize = 64;
 pub const TRIES: usize = 8;
 // The readings of ten candidates.
 pub const READINGS: usize = 1024;
-// .. and of nine, and so on down to none (src/best.rt).
-pub const ARENA: usize = 2 * READINGS;
 // A quarter of a transposed word holds a reading, below READING, or a set of vectors, a bit for each, below SET.
 pub const READING: u64 = READINGS as u64;
 

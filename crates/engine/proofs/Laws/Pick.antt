@@ -12,19 +12,19 @@ use borrow.Author.Tests.{eqb-true}
 use lib.Dec.{ltb, eqb}
 use lib.Pow.{pow_pos, pow_mono, shr-shr}
 use lib.ListN.{length, get_or, take, drop, length-append, length-map, length-take}
-use lib.Seq.{length-take-le, get_or-take, drop-length}
+use lib.Seq.{length-take-le, take-length, drop-length}
 use Rattle.records.specs.Job.{Job, Candidate}
 use Rattle.records.specs.Refusal.{ascending}
 use Rattle.records.proofs.Laws.Bytes.{false_of}
 use Rattle.records.specs.declared.sheet.Support.{Support}
 use Rattle.engine.specs.Support.{sound, candidate_nets, cost, patch_gates, earlier, better, chosen}
-use Rattle.engine.specs.Inner.Best.{picked, total, low_first, before, open_at, candidate_weights, SetsOf, GivenBits, SameTo, LeftOut, OpenPick, PricedRoom, PricedOf, PickOf, CountedOf, OpenOf, BestFrom, PickedNets, HeldSupport, Choosable, ChosenOf}
-use Rattle.engine.specs.declared.best.Pick.{Pick}
-use Rattle.engine.specs.declared.best.Priced.{Priced}
-use Rattle.engine.proofs.Laws.Arena.{same-sets, same-given}
+use Rattle.std.specs.List.{sum}
+use Rattle.engine.specs.Inner.Best.{picked, low_first, before, open_at, candidate_weights, SetsOf, GivenBits, LeftOut, OpenPick, PricedOf, PickOf, CountedOf, OpenOf, BestFrom, PickedNets, HeldSupport, Choosable, ChosenOf}
+use Rattle.engine.specs.declared.pick.Pick.{Pick}
+use Rattle.engine.specs.declared.pick.Priced.{Priced}
 use Rattle.engine.proofs.Laws.Best.{better-irrefl, better-trans, better-neither, chosen-unique}
 use Rattle.engine.proofs.Laws.Choice.{not-both, true-or-false}
-use Rattle.engine.proofs.Laws.Picked.{length-picked-le, picked_all, picked-subset, subset-picked, total-from-le, open_none, open-all, open-among, open-suc, open_in, open-out, total-in, total-out, above-first, low-earlier, cost-picked, nets-from, weights-from, in-or-out}
+use Rattle.engine.proofs.Laws.Picked.{length-picked-le, picked_all, picked-subset, subset-picked, sum-from-le, open_none, open-all, open-among, open-suc, open_in, open-out, sum-in, sum-out, above-first, low-earlier, cost-picked, nets-from, weights-from, in-or-out}
 use Rattle.engine.proofs.Laws.Sets.{left-sets, left-given, left-sound, left-unsound}
 use Rattle.engine.proofs.Laws.Support.{sound-mono}
 
@@ -32,7 +32,23 @@ and_same : (b x y : Bool) → (b ≡ true → x ≡ y) → (b && x) ≡ (b && y)
 and_same true x y f = f refl
 and_same false x y f = refl
 
+pub halves : {n : ℕ} → 0 < n → 2 ^ n ≡ 2 ^ (n - 1) * 2
+halves {n} l = let e : suc (n - 1) ≡ n = omega arith in rw e at (pow-suc 2 (n - 1))
+
 -- ---- open picks
+
+-- r is the pick p without the net below the place, and with it, whose weight is w
+pub record Without (p r : Pick) : Type 0 where
+  pub set : r.set ≡ 2 * p.set
+  pub cost : r.cost ≡ p.cost
+  pub len : r.len ≡ p.len - 1
+  pub gates : r.gates ≡ 0
+
+pub record With (w : ℕ) (p r : Pick) : Type 0 where
+  pub set : r.set ≡ 2 * p.set + 1
+  pub cost : r.cost ≡ p.cost + w
+  pub len : r.len ≡ p.len
+  pub gates : r.gates ≡ 0
 
 module _ {i : ℕ} {p : Pick} (h : OpenPick i p) where
   pub open-small : p.set < 1024
@@ -44,25 +60,23 @@ module _ {i : ℕ} {p : Pick} (h : OpenPick i p) where
   module _ {q : ℕ} (e : i ≡ suc q) where
     room : 2 ^ (10 - q) ≡ 2 ^ (10 - i) * 2
     room =
-        let l : 10 - q ≡ suc (10 - i) = omega (arith, h.places, h.few) in
+        let l : 10 - q ≡ suc (10 - i) = omega (arith, h.places, p.few) in
         rw l (pow-suc 2 (10 - i))
 
-    pub fewer-open : OpenPick q (record { set = 2 * p.set; cost = p.cost; len = p.len - 1; gates = 0 })
-    fewer-open =
+    pub fewer-open : {r : Pick} → Without p r → OpenPick q r
+    fewer-open w =
         record {
-          places = omega (arith, h.places);
-          few = omega (arith, h.few);
-          set = omega (arith, h.set, room);
-          cost = omega (arith, h.cost, h.places, h.few);
+          places = omega (arith, h.places, w.len);
+          set = omega (arith, h.set, room, w.set);
+          cost = omega (arith, h.cost, h.places, p.few, w.cost);
         }
 
-    pub kept-room : (w : ℕ) → w < 65536 → OpenPick q (record { set = 2 * p.set + 1; cost = p.cost + w; len = p.len; gates = 0 })
-    kept-room w l =
+    pub kept-room : {n : ℕ} {r : Pick} → n < 65536 → With n p r → OpenPick q r
+    kept-room l w =
         record {
-          places = omega (arith, h.places);
-          few = h.few;
-          set = omega (arith, h.set, room);
-          cost = omega (arith, h.cost, h.places, h.few);
+          places = omega (arith, h.places, w.len);
+          set = omega (arith, h.set, room, w.set);
+          cost = omega (arith, h.cost, h.places, p.few, w.cost);
         }
 
 -- ---- the order
@@ -98,7 +112,7 @@ module _ (j : Job) where
   length-weights = length-map j.candidates (λ (c : Candidate). c.weight) ∙ sym (length-map j.candidates (λ (c : Candidate). c.net))
 
   module _ (ascends : ascending (candidate_nets j) ≡ true) where
-    pub cost-at : (s : ℕ) → cost j (at s) ≡ total (picked (candidate_weights j) s)
+    pub cost-at : (s : ℕ) → cost j (at s) ≡ sum (picked (candidate_weights j) s)
     unfolding cost candidate_nets candidate_weights
     cost-at s = cost-picked j.candidates s ascends
 
@@ -113,17 +127,27 @@ module _ (j : Job) where
   counted-before h l =
       record { pick = h; gates = ⊎_elim (λ z. let f : ⊥ = omega arith in absurd f) (λ e. e) h.gates }
 
-  pub counted-now : {p : Pick} {n : ℕ} → PickOf j p → n ≡ patch_gates j (at p.set)
-      → CountedOf j (record { set = p.set; cost = p.cost; len = p.len; gates = n })
-  counted-now h e =
-      record { pick = record { set = h.set; len = h.len; cost = h.cost; sound = h.sound; gates = inr e }; gates = e }
+  pub counted-now : {p r : Pick} → PickOf j p → (r.set ≡ p.set) × (r.cost ≡ p.cost) × (r.len ≡ p.len)
+      → r.gates ≡ patch_gates j (at p.set) → CountedOf j r
+  counted-now h s e =
+      let g = e ∙ ap (λ (t : ℕ). patch_gates j (at t)) (sym s.0) in
+      record {
+        pick = record {
+          set = rw s.0 h.set;
+          len = s.2 ∙ rw s.0 h.len;
+          cost = s.1 ∙ rw s.0 h.cost;
+          sound = rw s.0 h.sound;
+          gates = inr g;
+        };
+        gates = g;
+      }
 
   -- ---- where the search ends
 
   pub closed-sets : {p : Pick} {ss : List ℕ} → OpenOf j 0 p ss → SetsOf j (at p.set) ss
   closed-sets {p} h = rw (← open_none (candidate_nets j) p.set) h.sets
 
-  module _ {v : Priced} {all : List ℕ} (w : PricedOf j v all) where
+  module _ {v : Priced} (w : PricedOf j v) where
     -- a counted pick is chosen before another where its support is
     before-better : {a b : Pick} → CountedOf j a → CountedOf j b → before a b ≡ better j (at a.set) (at b.set)
     unfolding before better
@@ -138,7 +162,7 @@ module _ (j : Job) where
         && (ltb (patch_gates j x) (patch_gates j y) || (eqb (patch_gates j x) (patch_gates j y) && (ltb (length x) (length y) || t)))))
         (and_same (eqb (length x) (length y)) (low_first 10 a.set b.set) (earlier x y)
         (λ e.
-        low-earlier 10 (candidate_nets j) a.set b.set w.few w.ascends p.pick.set q.pick.set
+        low-earlier 10 (candidate_nets j) a.set b.set (omega (arith, w.count, v.few)) w.ascends p.pick.set q.pick.set
         (eqb-true (length x) (length y) e))))
 
     -- what is open costs more than the best so far
@@ -150,8 +174,8 @@ module _ (j : Job) where
           kept = better-irrefl j (at b.set);
           least =
               λ t e s.
-              let c = total-from-le i (candidate_weights j) t in
-              let d : total (picked (drop i (candidate_weights j)) (t / 2 ^ i)) ≡ p.cost = rw e (sym h.cost) in
+              let c = sum-from-le i (candidate_weights j) t in
+              let d : sum (picked (drop i (candidate_weights j)) (t / 2 ^ i)) ≡ p.cost = rw e (sym h.cost) in
               not-better-dearer j (at t) (at b.set) (omega (arith, cost-at w.ascends t, g.cost));
         }
 
@@ -278,38 +302,39 @@ module _ (j : Job) where
     half = omega arith
 
     module _ {b : Bool} {ps : List ℕ} (f : LeftOut ss (p.len - 1) q b ps) where
-      pub left_open : b ≡ true → OpenOf j q (record { set = 2 * p.set; cost = p.cost; len = p.len - 1; gates = 0 }) ps
-      left_open e =
+      pub left_open : b ≡ true → {r : Pick} → Without p r → OpenOf j q r ps
+      left_open e {r} o =
+          let z : r.set / 2 ≡ p.set = omega (arith, o.set) in
+          let v : r.set % 2 ≡ 0 = omega (arith, o.set) in
           record {
             places = omega (arith, h.places);
-            set = omega (arith, h.set, one_place);
-            len = out-long q (2 * p.set) p.set p.len h.places half h.len h.sets even;
-            cost = h.cost ∙ sym (total-out (candidate_weights j) q few-weights (2 * p.set) even ∙ rw half);
-            sets = out-sets q (2 * p.set) p.set p.len h.places half h.len h.sets even f e;
-            sound = out-sound q (2 * p.set) p.set p.len h.places half h.len h.sets even f e;
-            gates = refl;
+            set = omega (arith, h.set, one_place, o.set);
+            len = o.len ∙ out-long q r.set p.set p.len h.places z h.len h.sets v;
+            cost = o.cost ∙ h.cost ∙ sym (sum-out (candidate_weights j) q few-weights r.set v ∙ rw z);
+            sets = out-sets q r.set p.set p.len h.places z h.len h.sets v f e;
+            sound = out-sound q r.set p.set p.len h.places z h.len h.sets v f e;
+            gates = o.gates;
           }
 
       pub left_not : b ≡ false → sound j (open_at (candidate_nets j) q (2 * p.set)) ≡ false
       left_not e = out-unsound q (2 * p.set) p.set p.len h.places half h.len h.sets even f e
 
-    pub kept-open : {v : Priced} {all : List ℕ} → PricedOf j v all
-        → OpenOf j q (record { set = 2 * p.set + 1; cost = p.cost + get_or v.weights q 0; len = p.len; gates = 0 }) ss
-    kept-open w =
-        let z : (2 * p.set + 1) / 2 ≡ p.set = omega arith in
-        let o : (2 * p.set + 1) % 2 ≡ 1 = omega arith in
-        let e = kept-nets q (2 * p.set + 1) p.set p.len h.places z h.len h.sets o in
-        let c : total (picked (drop q (candidate_weights j)) (2 * p.set + 1))
-        ≡ get_or (candidate_weights j) q 0 + total (picked (drop (suc q) (candidate_weights j)) p.set) =
-        total-in (candidate_weights j) q few-weights (2 * p.set + 1) o ∙ rw z in
+    pub kept-open : {v : Priced} → PricedOf j v → {r : Pick} → With (get_or v.weights.now q 0) p r → OpenOf j q r ss
+    kept-open w {r} k =
+        let z : r.set / 2 ≡ p.set = omega (arith, k.set) in
+        let o : r.set % 2 ≡ 1 = omega (arith, k.set) in
+        let e = kept-nets q r.set p.set p.len h.places z h.len h.sets o in
+        let c : sum (picked (drop q (candidate_weights j)) r.set)
+        ≡ get_or (candidate_weights j) q 0 + sum (picked (drop (suc q) (candidate_weights j)) p.set) =
+        sum-in (candidate_weights j) q few-weights r.set o ∙ rw z in
         record {
           places = omega (arith, h.places);
-          set = omega (arith, h.set, one_place);
-          len = h.len ∙ ap length (sym e);
-          cost = omega (arith, h.cost, c, w.weights q h.places);
+          set = omega (arith, h.set, one_place, k.set);
+          len = k.len ∙ h.len ∙ ap length (sym e);
+          cost = omega (arith, h.cost, c, k.cost, w.weights q h.places);
           sets = rw e h.sets;
           sound = rw e h.sound;
-          gates = refl;
+          gates = k.gates;
         }
 
   -- ---- both halves
@@ -341,21 +366,18 @@ module _ (j : Job) where
       }
 
   -- .. as the search joins them: f is the best of those without the net, where they are looked into
-  module _ {q : ℕ} {p b f : Pick} {ss : List ℕ} {d : Bool} {ps : List ℕ} {v : Priced} {all : List ℕ} (w : PricedOf j v all)
-      (g : PickOf j b) (h : OpenOf j (suc q) p ss) (o : LeftOut ss (p.len - 1) q d ps)
-      (a : ((d ≡ true) × (OpenOf j q (record { set = 2 * p.set; cost = p.cost; len = p.len - 1; gates = 0 }) ps
-      → BestFrom j q (2 * p.set) b f)) ⊎ ((d ≡ false) × (f ≡ b))) where
+  module _ {q : ℕ} {p b f : Pick} {ss : List ℕ} {d : Bool} {ps : List ℕ} {v : Priced} (w : PricedOf j v) (g : PickOf j b)
+      (h : OpenOf j (suc q) p ss) (o : LeftOut ss (p.len - 1) q d ps)
+      (a : ((d ≡ true) × BestFrom j q (2 * p.set) b f) ⊎ ((d ≡ false) × (f ≡ b))) where
     half-best : BestFrom j q (2 * p.set) b f ⊎ ((sound j (open_at (candidate_nets j) q (2 * p.set)) ≡ false) × (f ≡ b))
-    half-best = ⊎_elim (λ u. inl (u.1 (left_open h o u.0))) (λ u. inr (left_not h o u.0, u.1)) a
+    half-best = ⊎_elim (λ u. inl u.1) (λ u. inr (left_not h o u.0, u.1)) a
 
     half-pick : PickOf j f
     half-pick = ⊎_elim (λ u. u.pick) (λ u. rw u.1 g) half-best
 
-    pub best-joined : {r : Pick} → (PickOf j f
-        → OpenOf j q (record { set = 2 * p.set + 1; cost = p.cost + get_or v.weights q 0; len = p.len; gates = 0 }) ss
-        → BestFrom j q (2 * p.set + 1) f r)
+    pub best-joined : {k r : Pick} → With (get_or v.weights.now q 0) p k → (PickOf j f → OpenOf j q k ss → BestFrom j q k.set f r)
         → BestFrom j (suc q) p.set b r
-    best-joined n = best-split (n half-pick (kept-open h w)) half-best
+    best-joined k n = best-split (rw k.set at (n half-pick (kept-open h w k))) half-best
 
 -- ---- the sets of a sound set of candidates
 
@@ -371,16 +393,14 @@ sets-all ss n s j e h u =
     let a : open_at (candidate_nets j) n (s / 2 ^ n) ≡ candidate_nets j = rw e at (open-all (candidate_nets j) (s / 2 ^ length (candidate_nets j))) in
     (sym (ap length a ∙ e), rw a h, λ k g. rw a g)
 
--- .. copied into places of their own at the end
-pub sets-none : (ss : List ℕ) (n s len : ℕ) (ps rs : List ℕ) → SetsTo ss n s 0 len ps → SameTo (2 ^ len) ps rs → (j : Job)
-    → length (candidate_nets j) ≡ n → SetsOf j (candidate_nets j) ss → sound j (picked (candidate_nets j) s) ≡ true
-    → SetsOf j (picked (candidate_nets j) s) rs
-    × ((k : ℕ) → GivenBits j (candidate_nets j) ss k → GivenBits j (picked (candidate_nets j) s) rs k)
-sets-none ss n s len ps rs f m j e h u =
+pub sets-none : (ss : List ℕ) (n s len : ℕ) (ps : List ℕ) → SetsTo ss n s 0 len ps → (j : Job) → length (candidate_nets j) ≡ n
+    → SetsOf j (candidate_nets j) ss → sound j (picked (candidate_nets j) s) ≡ true
+    → SetsOf j (picked (candidate_nets j) s) ps
+    × ((k : ℕ) → GivenBits j (candidate_nets j) ss k → GivenBits j (picked (candidate_nets j) s) ps k)
+sets-none ss n s len ps f j e h u =
     let a : open_at (candidate_nets j) 0 (s / 2 ^ 0) ≡ picked (candidate_nets j) s = rw (div-one s) (open_none (candidate_nets j) s) in
     let g = f j e h u in
-    let c = rw g.0 at m in
-    (rw (← a) (same-sets c g.1), λ k o. rw (← a) (same-given c (g.2 k o)))
+    (rw (← a) g.1, λ k o. rw (← a) (g.2 k o))
 
 module _ (ss : List ℕ) (n s q len : ℕ) (ps : List ℕ) (l : q < n) (f : SetsTo ss n s (suc q) len ps) where
   halved : s / 2 ^ q / 2 ≡ s / 2 ^ suc q
@@ -409,73 +429,76 @@ module _ (ss : List ℕ) (n s q len : ℕ) (ps : List ℕ) (l : q < n) (f : Sets
 -- ---- from all candidates to the chosen support
 
 -- the nets that a set picks stand in ten places
-pub picked-held : (n : ℕ) (is : List ℕ) {s : ℕ} {r : Support} → n ≤ 10 → PickedNets (take n is) s r → HeldSupport r
-picked-held n is {s} {r} few p =
+pub picked-held : (is : List ℕ) {s : ℕ} {r : Support} → length is ≤ 10 → PickedNets is s r → HeldSupport r
+picked-held is {s} {r} few p =
     record {
-      few = omega (arith, p.len, length-picked-le (take n is) s, length-take n is);
+      few = omega (arith, p.len, length-picked-le is s);
       held = omega (arith, p.len, ap length p.nets, length-take r.len r.nets);
     }
 
-module _ {j : Job} {is ss : List ℕ} {v : Priced} (room : PricedRoom v) (ni : length is ≡ 10) (nw : length v.weights ≡ 10)
-    (h : Choosable j is v ss) where
-  abbrev n : ℕ
-  n = v.count
+module _ {j : Job} {v : Priced} (h : Choosable j v) where
+  abbrev is : List ℕ
+  is = v.nets.now
 
-  pub nets-are : candidate_nets j ≡ take n is
+  abbrev n : ℕ
+  n = length is
+
+  pub nets-are : candidate_nets j ≡ is
   unfolding candidate_nets
-  nets-are = ap (map (λ (c : Candidate). c.net)) h.candidates ∙ nets-from n is v.weights (omega (arith, room.few))
+  nets-are = ap (map (λ (c : Candidate). c.net)) h.candidates ∙ nets-from n is v.weights.now (omega arith) ∙ take-length is
 
   pub nets-many : length (candidate_nets j) ≡ n
-  nets-many = ap length nets-are ∙ length-take-le n is (omega (arith, room.few))
+  nets-many = ap length nets-are
 
-  weights-are : candidate_weights j ≡ take n v.weights
+  weights-are : candidate_weights j ≡ v.weights.now
   unfolding candidate_weights
-  weights-are = ap (map (λ (c : Candidate). c.weight)) h.candidates ∙ weights-from n is v.weights (omega (arith, room.few))
+  weights-are =
+      ap (map (λ (c : Candidate). c.weight)) h.candidates
+      ∙ weights-from n is v.weights.now (omega (arith, v.weighed))
+      ∙ rw (← v.weighed) (take-length v.weights.now)
 
-  pub all-sets : SetsOf j (candidate_nets j) ss
-  all-sets = record { targets = omega (arith, h.targets, room.targets); sets = h.sets.sets }
+  pub all-sets : SetsOf j (candidate_nets j) v.sets.now
+  all-sets = record { targets = omega (arith, h.targets, v.few_targets); sets = h.sets.sets }
 
-  pub all-priced : PricedOf j v ss
+  pub all-priced : PricedOf j v
   all-priced =
       record {
         count = sym nets-many;
-        few = omega (arith, nets-many, room.few);
         ascends = h.ascends;
-        weights = λ i l. rw weights-are (get_or-take n v.weights i 0 (omega (arith, nets-many)));
+        weights = λ i l. rw weights-are refl;
         targets = sym h.targets;
         sets = all-sets;
       }
 
   -- all candidates together are a sound support
-  pub all-pick : {m c : ℕ} → m ≡ 2 ^ n → c ≡ total (take n v.weights)
-      → PickOf j (record { set = m - 1; cost = c; len = n; gates = 0 })
-  all-pick e o =
+  pub all-pick : {p : Pick} → p.set ≡ 2 ^ n - 1 → p.cost ≡ sum v.weights.now → p.len ≡ n → p.gates ≡ 0 → PickOf j p
+  all-pick {p} s o l g =
       let a : picked (candidate_nets j) (2 ^ n - 1) ≡ candidate_nets j = rw nets-many at (picked_all (candidate_nets j)) in
       let b : picked (candidate_weights j) (2 ^ n - 1) ≡ candidate_weights j =
       rw (length-weights j, nets-many) at (picked_all (candidate_weights j)) in
-      rw (e, o)
+      let e : picked (candidate_nets j) p.set ≡ candidate_nets j = rw s a in
       record {
         set = rw nets-many (omega (arith, pow_pos n));
-        len = sym (ap length a ∙ nets-many);
-        cost = sym (cost-at j h.ascends (2 ^ n - 1) ∙ ap total (b ∙ weights-are));
-        sound = rw a h.sound;
-        gates = inl refl;
+        len = l ∙ sym (ap length e ∙ nets-many);
+        cost = o ∙ sym (cost-at j h.ascends p.set ∙ rw s (ap sum (b ∙ weights-are)));
+        sound = rw e h.sound;
+        gates = inl g;
       }
 
   -- .. and all are open at first
-  pub all-open : OpenOf j n (record { set = 0; cost = 0; len = n; gates = 0 }) ss
-  unfolding total picked
-  all-open =
-      let a : open_at (candidate_nets j) n 0 ≡ candidate_nets j = rw nets-many at (open-all (candidate_nets j) 0) in
+  pub all-open : {p : Pick} → p.set ≡ 0 → p.cost ≡ 0 → p.len ≡ n → p.gates ≡ 0 → OpenOf j n p v.sets.now
+  unfolding picked
+  all-open {p} s o l g =
+      let a : open_at (candidate_nets j) n p.set ≡ candidate_nets j = rw nets-many at (open-all (candidate_nets j) p.set) in
       let d : drop n (candidate_weights j) ≡ [] = rw (length-weights j, nets-many) at (drop-length (candidate_weights j)) in
       record {
         places = omega (arith, nets-many);
-        set = pow_pos (length (candidate_nets j) - n);
-        len = sym (ap length a ∙ nets-many);
-        cost = rw d;
+        set = rw s (pow_pos (length (candidate_nets j) - n));
+        len = l ∙ sym (ap length a ∙ nets-many);
+        cost = o ∙ rw d refl;
         sets = rw a all-sets;
         sound = rw a h.sound;
-        gates = refl;
+        gates = g;
       }
 
   module _ {b r : Pick} (g : BestFrom j n 0 b r) where
@@ -488,10 +511,10 @@ module _ {j : Job} {is ss : List ℕ} {v : Priced} (room : PricedRoom v) (ni : l
         let l : t.0 < 2 ^ n = rw nets-many at t.1 in
         rw t.2 (g.least t.0 (div-eq_of_lt l) (rw t.2 at s)))
 
-    pub chosen_of : {u : Support} {ps : List ℕ} → PickedNets (take n is) r.set u → SetsOf j (picked (candidate_nets j) r.set) ps
+    pub chosen_of : {u : Support} {ps : List ℕ} → PickedNets is r.set u → SetsOf j (picked (candidate_nets j) r.set) ps
         → ChosenOf j u r.cost ps
     chosen_of p s =
-        let q : picked (take n is) r.set ≡ chosen j = rw nets-are at best-chosen in
+        let q : picked is r.set ≡ chosen j = rw nets-are at best-chosen in
         record {
           len = p.len ∙ ap length q;
           support = p.nets ∙ q;

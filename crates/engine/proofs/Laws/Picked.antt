@@ -32,7 +32,12 @@ use Rattle.records.proofs.Laws.Bytes.{and_left, and_right, false_of}
 use Rattle.records.proofs.Laws.Job.{tabulate-get_or}
 use Rattle.engine.specs.Eval.{bit, bits, number_of}
 use Rattle.engine.specs.Support.{subsets, earlier}
-use Rattle.engine.specs.Inner.Best.{picked, total, low_first, open_at}
+use Rattle.std.specs.List.{sum}
+use Rattle.std.proofs.lemmas.List.Sums.{sum_by-append, sum_by-cons}
+use Rattle.std.proofs.Common.{cond, Ordering, Less, Equal, Greater, is_lt, is_eq, nat_cmp}
+use Rattle.std.specs.Ordering.{ordering_then}
+use Rattle.engine.specs.declared.pick.Pick.{Pick}
+use Rattle.engine.specs.Inner.Best.{picked, low_first, before, open_at}
 use Rattle.engine.proofs.Laws.Choice.{map-agree}
 use Rattle.engine.proofs.Laws.Eval.{Bits, bits-nil, bits-cons, bit-lt}
 use Rattle.engine.proofs.Laws.Support.{subsets-among}
@@ -161,15 +166,10 @@ module _ {A : Type 0} where
       (λ o. picked-out x xs s o ∙ rw (r, e, picked-out x (take i xs) s o))
       (in-or-out s)
 
-total-append : (xs ys : List ℕ) → total (xs ++ ys) ≡ total xs + total ys
-unfolding total
-total-append [] ys = omega arith
-total-append (x ∷ xs) ys = omega (arith, total-append xs ys)
-
 -- the places from i on cost no more than all
-pub total-from-le : (i : ℕ) (ws : List ℕ) (s : ℕ) → total (picked (drop i ws) (s / 2 ^ i)) ≤ total (picked ws s)
-total-from-le i ws s =
-    rw (picked-split i ws s, total-append (picked (take i ws) s) (picked (drop i ws) (s / 2 ^ i))) (omega arith)
+pub sum-from-le : (i : ℕ) (ws : List ℕ) (s : ℕ) → sum (picked (drop i ws) (s / 2 ^ i)) ≤ sum (picked ws s)
+sum-from-le i ws s =
+    rw (picked-split i ws s, sum_by-append (λ (w : ℕ). w) (picked (take i ws) s) (picked (drop i ws) (s / 2 ^ i))) (omega arith)
 
 module _ (is : List ℕ) where
   pub open_none : (s : ℕ) → open_at is 0 s ≡ picked is s
@@ -205,12 +205,13 @@ module _ (is : List ℕ) (i : ℕ) (h : i < length is) where
   open-out s e = rw (drop-cons is i 0 h, picked-out (get_or is i 0) (drop (suc i) is) s e)
 
 module _ (ws : List ℕ) (i : ℕ) (h : i < length ws) where
-  pub total-in : (s : ℕ) → s % 2 ≡ 1 → total (picked (drop i ws) s) ≡ get_or ws i 0 + total (picked (drop (suc i) ws) (s / 2))
-  unfolding total
-  total-in s e = rw (drop-cons ws i 0 h, picked-in (get_or ws i 0) (drop (suc i) ws) s e)
+  pub sum-in : (s : ℕ) → s % 2 ≡ 1 → sum (picked (drop i ws) s) ≡ get_or ws i 0 + sum (picked (drop (suc i) ws) (s / 2))
+  sum-in s e =
+      rw (drop-cons ws i 0 h, picked-in (get_or ws i 0) (drop (suc i) ws) s e)
+      (sum_by-cons (λ (w : ℕ). w) (get_or ws i 0) (picked (drop (suc i) ws) (s / 2)))
 
-  pub total-out : (s : ℕ) → s % 2 ≡ 0 → total (picked (drop i ws) s) ≡ total (picked (drop (suc i) ws) (s / 2))
-  total-out s e = rw (drop-cons ws i 0 h, picked-out (get_or ws i 0) (drop (suc i) ws) s e)
+  pub sum-out : (s : ℕ) → s % 2 ≡ 0 → sum (picked (drop i ws) s) ≡ sum (picked (drop (suc i) ws) (s / 2))
+  sum-out s e = rw (drop-cons ws i 0 h, picked-out (get_or ws i 0) (drop (suc i) ws) s e)
 
 -- ---- picking place by place
 
@@ -250,12 +251,6 @@ module _ (xs : List ℕ) (s i : ℕ) (h : i < length xs) where
   pub length-picked-in : bit i s ≡ 1 → length (picked (take (i + 1) xs) s) ≡ length (picked (take i xs) s) + 1
   length-picked-in e = rw (picked-take-in e) (length-append (picked (take i xs) s) (get_or xs i 0 ∷ []))
 
-pub total-take : (xs : List ℕ) (i : ℕ) → i < length xs → total (take (i + 1) xs) ≡ total (take i xs) + get_or xs i 0
-unfolding total
-total-take xs i h =
-    let e = total-append (take i xs) (get_or xs i 0 ∷ []) in
-    rw (add-one i, take-suc xs i 0 h) (omega arith)
-
 -- the nets picked so far, and the next one
 module _ (xs ps : List ℕ) (s i len : ℕ) (h : i < length xs) (n : len ≡ length (picked (take i xs) s)) (room : len < length ps)
     (e : take len ps ≡ picked (take i xs) s) where
@@ -279,6 +274,33 @@ module _ (a b : ℕ) (t : Bool) where
   equal-first e = rw (not-below (omega arith), eq-eqb a b e)
 
 -- ---- two sets of ascending nets
+
+-- .. as orders that are joined decide it
+abbrev decided : Ordering → Bool → Bool
+decided o t = is_lt o || (is_eq o && t)
+
+decided-then : (o p : Ordering) (t : Bool) → decided (ordering_then o p) t ≡ decided o (decided p t)
+decided-then Less p t = refl
+decided-then Equal p t = refl
+decided-then Greater p t = refl
+
+decided-cond : (b c t : Bool) → decided (cond b Less (cond c Equal Greater)) t ≡ (b || (c && t))
+decided-cond true c t = refl
+decided-cond false true t = refl
+decided-cond false false t = refl
+
+pub before-order : (p q : Pick) → let o = ordering_then (ordering_then (nat_cmp p.cost q.cost) (nat_cmp p.gates q.gates)) (nat_cmp p.len q.len) in
+    decided o (low_first 10 p.set q.set) ≡ before p q
+unfolding before
+before-order p q =
+    let t = low_first 10 p.set q.set in
+    let n = nat_cmp p.len q.len in
+    decided-then (ordering_then (nat_cmp p.cost q.cost) (nat_cmp p.gates q.gates)) n t
+    ∙ decided-then (nat_cmp p.cost q.cost) (nat_cmp p.gates q.gates) (decided n t)
+    ∙ decided-cond (ltb p.cost q.cost) (eqb p.cost q.cost) (decided (nat_cmp p.gates q.gates) (decided n t))
+    ∙ ap (λ (u : Bool). ltb p.cost q.cost || (eqb p.cost q.cost && u))
+    (decided-cond (ltb p.gates q.gates) (eqb p.gates q.gates) (decided n t)
+    ∙ ap (λ (u : Bool). ltb p.gates q.gates || (eqb p.gates q.gates && u)) (decided-cond (ltb p.len q.len) (eqb p.len q.len) t))
 
 low_first-same : (n a b : ℕ) → a % 2 ≡ b % 2 → low_first (suc n) a b ≡ low_first n (a / 2) (b / 2)
 unfolding low_first
@@ -405,19 +427,21 @@ weights cs = map (λ (c : Candidate). c.weight) cs
 
 -- the cost of picked nets is the sum of the weights at their places
 pub cost-picked : (cs : List Candidate) (s : ℕ) → ascending (nets cs) ≡ true
-    → cost_of cs (picked (nets cs) s) ≡ total (picked (weights cs) s)
-unfolding picked cost_of weight_of total
+    → cost_of cs (picked (nets cs) s) ≡ sum (picked (weights cs) s)
+unfolding picked cost_of weight_of
 cost-picked [] s e = refl
 cost-picked (c ∷ cs) s e =
     let is = picked (nets cs) (s / 2) in
-    let r : cost_of cs is ≡ total (picked (weights cs) (s / 2)) =
+    let r : cost_of cs is ≡ sum (picked (weights cs) (s / 2)) =
     cost-picked cs (s / 2) (ascending-tail c.net (nets cs) e) in
     let k : cost_of (c ∷ cs) is ≡ cost_of cs is =
     cost-skip c cs is
     (λ i m. ascending-below c.net (nets cs) e i (subsets-among (nets cs) is (picked-subset (nets cs) (s / 2)) i m)) in
     let q : eqb c.net c.net ≡ true = eq-eqb c.net c.net refl in
     ⊎_elim
-    (λ i. rw (picked-in c.net (nets cs) s i, picked-in c.weight (weights cs) s i, q, k, r))
+    (λ i.
+    rw (picked-in c.net (nets cs) s i, picked-in c.weight (weights cs) s i, q, k, r)
+    (sym (sum_by-cons (λ (w : ℕ). w) c.weight (picked (weights cs) (s / 2)))))
     (λ i. rw (picked-out c.net (nets cs) s i, picked-out c.weight (weights cs) s i) (k ∙ r))
     (in-or-out s)
 

@@ -1,26 +1,33 @@
 -- Laws of the replies that judge and choose make: the judgement of the vector list, and the choice of the sets, with their sheets, are
 -- those of the definitions. Assumes nothing.
-use Prim.Native.Nat.{ℕ, ◌^◌, ◌≤◌, ◌<◌}
+use Prim.Native.Nat.{ℕ, ◌%◌, ◌^◌, ◌≤◌, ◌<◌}
 use mathlib.Core.Path.{◌≡◌, refl, sym, ◌∙◌, ap}
+use mathlib.Core.Logic.{⊎_elim}
 use mathlib.Core.List.{List, ◌++◌, map}
 use mathlib.Core.Bool.{true, false}
 use native.Mathlib.Nat.{zero-add}
 use native.Mathlib.Omega.{arith}
+use borrow.Author.Tests.{eq-eqb, eqb-true, ltb-true, ltb-false}
+use lib.Dec.{ltb}
 use lib.Pow.{pow_mono}
-use Rattle.std.specs.Prelude.{Option, Some, None, IfSome}
-use lib.ListN.{length, take, length-map}
-use lib.Seq.{length-take-le}
+use lib.ListN.{length, get_or, take, length-map, get_or-eq_default}
+use lib.Seq.{length-take-le, get_or-take}
 use Rattle.records.specs.Bytes.{all, byte_pair, placed, field}
 use Rattle.records.specs.Job.{Job, Candidate}
 use Rattle.records.specs.Refusal.{ascending, candidate_good, candidates_good}
-use Rattle.records.specs.Claims.{PartsGood}
+use Rattle.records.specs.Claims.{PartsGood, Below}
 use Rattle.records.specs.Service.{candidates_from, counts_of}
 use Rattle.records.specs.Inner.{Within}
 use Rattle.records.specs.Parts.{PartsOf}
 use Rattle.records.specs.declared.loading.JobParts.{JobParts}
 use Rattle.records.specs.declared.job.Counts.{Counts}
 use Rattle.records.specs.declared.sheet.Support.{Support}
-use Rattle.records.proofs.Laws.Bytes.{false_of, and_left}
+use Rattle.records.proofs.Laws.Bytes.{and_left, tabulate-ext}
+use Rattle.std.specs.Prelude.{Option, Some, None, IfSome, ◌==◌}
+use Rattle.std.specs.Option.{is_some}
+use Rattle.std.specs.List.{position, position_or_len}
+use Rattle.std.proofs.lemmas.List.Quantifiers.{position-Some}
+use Rattle.std.proofs.lemmas.List.Sums.{fails_before_first}
 use Rattle.engine.specs.Rectify.{Listed, vector_loop}
 use Rattle.engine.specs.Support.{sound, table_of, notes_of, candidate_nets, cost, chosen}
 use Rattle.engine.specs.Verdict.{blind_reading, four_bytes, judge_sheet, choose_sheet}
@@ -29,22 +36,23 @@ use Rattle.engine.specs.Inner.Sheet.{patch_bytes, BytesPut}
 use Rattle.engine.specs.Inner.List.{listed_of}
 use Rattle.engine.specs.Inner.Guess.{ListTo}
 use Rattle.engine.specs.Inner.Search.{SetsTo}
-use Rattle.engine.specs.Inner.Best.{ReadingSets, SetsOf, GivenBits, FirstEmpty, Choosable, ChosenOf}
+use Rattle.engine.specs.Inner.Best.{ReadingSets, SetsOf, GivenBits, FilledTo, first_empty, Choosable, ChosenOf}
 use Rattle.engine.specs.Inner.Given.{Unseen, SameVectors}
 use Rattle.engine.specs.Inner.Table.{TableFilled, NotesFilled}
 use Rattle.engine.specs.Inner.Judging.{JudgedJob}
 use Rattle.engine.specs.Inner.Choosing.{ChosenJob}
 use Rattle.engine.specs.declared.list.Vectors.{Vectors}
+use Rattle.engine.specs.declared.pick.Priced.{Priced}
 use Rattle.engine.specs.declared.judging.Judgement.{Judgement}
 use Rattle.engine.specs.declared.judging.JudgeReply.{JudgeReply}
 use Rattle.engine.specs.declared.choosing.Choice.{Choice}
 use Rattle.engine.specs.declared.choosing.ChooseReply.{ChooseReply}
 use Rattle.engine.proofs.Laws.Loop.{stuck-iff}
 use Rattle.engine.proofs.Laws.Best.{chosen-sound}
-use Rattle.engine.proofs.Laws.Choice.{all_true, all-of-members}
+use Rattle.engine.proofs.Laws.Choice.{all_true, all-of-members, not-both, true-or-false}
 use Rattle.engine.proofs.Laws.Support.{subsets-among}
 use Rattle.engine.proofs.Laws.Picked.{nets-from}
-use Rattle.engine.proofs.Laws.Sets.{sound-iff-full, blind-of-empty}
+use Rattle.engine.proofs.Laws.Sets.{sound-of-filled, blind-of-empty, holds-some}
 use Rattle.engine.proofs.Laws.Miter.{job-within, candidates-good}
 use Rattle.engine.proofs.Laws.ListLoop.{walk-list}
 use Rattle.engine.proofs.Laws.Stream.{listed-at, listed-going}
@@ -152,6 +160,42 @@ module _ {j : Job} {p : JobParts} (r : PartsOf j p) where
       ∙ sym (nets-from k p.nets p.weights (omega (arith, r.nets-long, (job-within j r.good).candidates)))
       ∙ ap (map (λ (c : Candidate). c.net)) r.candidates
 
+-- the first empty set, and that there is none
+empty_some : (ss : List ℕ) (q : ℕ) → first_empty ss ≡ Some q → (q < length ss) × (get_or ss q 0 % 65536 ≡ 0) × FilledTo ss q
+empty_some ss q e =
+    let h = position-Some (λ t. t % 65536 == 0) ss q 0 e in
+    (h.0, eqb-true _ 0 h.1, λ k l. holds-some _ (λ z. not-both (eq-eqb _ 0 z) (h.2 k l)))
+
+empty_none : (ss : List ℕ) → first_empty ss ≡ None → FilledTo ss (length ss)
+empty_none ss e k l =
+    let p = λ (t : ℕ). t % 65536 == 0 in
+    let n = position_or_len p ss in
+    let h : length ss ≤ n =
+    ⊎_elim
+    (λ (o : ltb n (length ss) ≡ true). let f : is_some (position p ss) ≡ true = rw o refl in absurd (not-both f (ap is_some e)))
+    (λ (o : ltb n (length ss) ≡ false). ltb-false n (length ss) o)
+    (true-or-false (ltb n (length ss))) in
+    holds-some _ (λ z. not-both (eq-eqb _ 0 z) (fails_before_first p ss k 0 (omega arith)))
+
+-- the candidates stand at the starts of their places
+pub below-taken : {n k : ℕ} (is : List ℕ) → 0 < n → k ≤ length is → Below n is → Below n (take k is)
+below-taken {n} {k} is p h b i =
+    ⊎_elim
+    (λ (o : ltb i k ≡ true). rw (get_or-take k is i 0 (ltb-true i k o)) (b i))
+    (λ (o : ltb i k ≡ false).
+    let m : length (take k is) ≤ i = omega (arith, length-take-le k is h, ltb-false i k o) in
+    rw (get_or-eq_default (take k is) 0 m) p)
+    (true-or-false (ltb i k))
+
+candidates-taken : (k : ℕ) (is ws : List ℕ) → k ≤ length is
+    → candidates_from k is ws ≡ candidates_from (length (take k is)) (take k is) (take k ws)
+unfolding candidates_from
+candidates-taken k is ws h =
+    rw (length-take-le k is h)
+    (tabulate-ext k (λ i. record { net = get_or is i 0; weight = get_or ws i 0 })
+    (λ i. record { net = get_or (take k is) i 0; weight = get_or (take k ws) i 0 })
+    (λ i l. rw (get_or-take k is i 0 l, get_or-take k ws i 0 l) refl))
+
 -- no target leads to the chosen nets, as to no candidate
 pub chosen-good : {j : Job} → PartsGood j → sound j (candidate_nets j) ≡ true → all (candidate_good j) (chosen j) ≡ true
 chosen-good {j} g s =
@@ -183,8 +227,8 @@ module _ {j : Job} {p : JobParts} (r : PartsOf j p) where
         let m : 2 ^ j.inputs ≤ 1048576 = pow_mono {j = 20} few.inputs in
         omega arith
 
-  -- a reading of all candidates with an empty set is blind
-  module _ {ss : List ℕ} {k : ℕ} (g : SetsTo j (2 ^ j.inputs) k ss) {n q : ℕ} (e : n ≡ 2 ^ p.counts.candidates) (f : FirstEmpty ss n q) where
+  -- the sets of all readings of the candidates
+  module _ {ss : List ℕ} {k : ℕ} (g : SetsTo j (2 ^ j.inputs) k ss) {n : ℕ} (e : n ≡ 2 ^ p.counts.candidates) where
     abbrev is : List ℕ
     is = candidate_nets j
 
@@ -212,25 +256,32 @@ module _ {j : Job} {p : JobParts} (r : PartsOf j p) where
     unfolding counts_of
     all-sets = record { targets = few.targets; sets = sets.sets }
 
-    empty : FirstEmpty ss (2 ^ length is) q
-    empty = rw many f
+    long : length (take n ss) ≡ n
+    long = length-take-le n ss (omega (arith, g.long, e, readings-many (parts-few r)))
 
-    pub rule-blind : q < n → (sound j is ≡ false) × (q ≡ blind_reading j)
-    rule-blind l =
-        let u : sound j is ≡ false =
-        false_of (sound j is) (λ t. let z = (sound-iff-full j ss all-sets q empty).1 t ∙ many in let b : ⊥ = omega arith in b) in
-        (u, blind-of-empty j ss all-sets q empty u)
+    filled_first : {q : ℕ} → q ≤ n → FilledTo (take n ss) q → FilledTo ss q
+    filled_first l f i o = let m : i < n = omega arith in rw (← get_or-take n ss i 0 m) (f i o)
 
-    pub rule-sound : {m : ℕ} → m ≡ j.targets → n ≤ q
-        → Choosable j p.nets (record { count = p.counts.candidates; weights = p.weights; targets = m }) ss
+    -- a reading with an empty set is blind
+    pub rule-blind : (q : ℕ) → first_empty (take n ss) ≡ Some q → (q < 1024) × (sound j is ≡ false) × (q ≡ blind_reading j)
+    rule-blind q o =
+        let f = empty_some (take n ss) q o in
+        let l : q < n = omega (arith, f.0, long) in
+        let b = blind-of-empty j ss all-sets q (rw many l) (rw (← get_or-take n ss q 0 l) f.1) (filled_first (omega arith) f.2) in
+        (omega (arith, e, readings-many (parts-few r)), b.0, b.1)
+
+    -- .. and else the candidates are sound together
+    pub rule-sound : {v : Priced} → first_empty (take n ss) ≡ None → v.nets.now ≡ take p.counts.candidates p.nets
+        → v.weights.now ≡ take p.counts.candidates p.weights → v.sets.now ≡ ss → v.targets ≡ j.targets → Choosable j v
     unfolding counts_of candidate_nets candidates_good
-    rule-sound t l =
-        let m = f.most in
-        let o : q ≡ n = omega arith in
+    rule-sound {v} o ni nw ns t =
         record {
-          candidates = sym r.candidates ∙ ap (λ (c : Counts). candidates_from c.candidates p.nets p.weights) (sym r.counts);
+          candidates =
+              sym r.candidates
+              ∙ ap (λ (c : Counts). candidates_from c.candidates p.nets p.weights) (sym r.counts)
+              ∙ rw (ni, nw) (candidates-taken p.counts.candidates p.nets p.weights (omega (arith, r.nets-long, parts-few r)));
           ascends = and_left (ascending is) (all (λ (c : Candidate). candidate_good j c.net) j.candidates) r.good.candidates;
           targets = sym t;
-          sets = sets;
-          sound = (sound-iff-full j ss all-sets q empty).0 (o ∙ sym many);
+          sets = rw ns sets;
+          sound = sound-of-filled j ss all-sets (rw many (filled_first (omega arith) (rw long at (empty_none (take n ss) o))));
         }

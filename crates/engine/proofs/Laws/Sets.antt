@@ -4,7 +4,7 @@ use Prim.Native.Nat.{ℕ, zero, suc, ◌+◌, ◌-◌, ◌*◌, ◌/◌, ◌%◌
 use mathlib.Core.Path.{◌≡◌, refl, sym, ◌∙◌, ap}
 use mathlib.Core.Logic.{◌↔◌, ◌⊎◌, inl, inr, ⊎_elim}
 use mathlib.Core.List.{List, [], ◌∷◌, ◌++◌, map}
-use mathlib.Core.Bool.{true, false}
+use mathlib.Core.Bool.{true, false, false≢true}
 use mathlib.Core.Option.{Option, none, some}
 use native.Mathlib.Nat.{mul_assoc, mul_comm, mod-eq_of_lt, pow-suc, div-one, eq-or-lt_of_le, eq-zero-or-pos}
 use native.Mathlib.Omega.{arith}
@@ -21,7 +21,9 @@ use Rattle.engine.specs.Eval.{bit, number_of, old_values}
 use Rattle.engine.specs.Support.{reading, shared, sound, table_of, candidate_nets}
 use Rattle.engine.specs.Verdict.{blind_reading}
 use Rattle.engine.specs.Inner.List.{max_vectors, lowest}
-use Rattle.engine.specs.Inner.Best.{RectifiesAll, SetsOf, NotEmpty, GivenBits, FirstEmpty, spread, joined_at}
+use Rattle.engine.specs.Inner.Kernel.{Filled}
+use Rattle.engine.proofs.Laws.Fill.{fill-at}
+use Rattle.engine.specs.Inner.Best.{RectifiesAll, SetsOf, NotEmpty, GivenBits, FilledTo, LeftOut, spread, joined_at}
 use Rattle.engine.proofs.Laws.Choice.{Least, none_or_some, first-least, first-none-below, found_first, not-both}
 use Rattle.engine.proofs.Laws.Eval.{bit-lt, net_at-lt, old_values-bits}
 use Rattle.engine.proofs.Laws.Shift.{bit-mod}
@@ -295,39 +297,37 @@ module _ (j : Job) (xs : List ℕ) (x : ℕ) (ks ss : List ℕ) where
             (with-net y q d);
       }
 
+-- .. as it is put into places, up to the first that is empty
+module _ {ss : List ℕ} {n i : ℕ} where
+  pub left-filled : {xs ys : List ℕ} → Filled (joined_at ss i) 0 (2 ^ n) xs ys → ((q : ℕ) → q < 2 ^ n → NotEmpty (joined_at ss i q))
+      → LeftOut ss n i true ys
+  left-filled f z = record { filled = λ e q l. (fill-at f q l, z q l); empty = λ e. absurd (false≢true (sym e)) }
+
+  pub left-empty : {q : ℕ} {ps : List ℕ} → q < 2 ^ n → joined_at ss i q % 65536 ≡ 0 → LeftOut ss n i false ps
+  left-empty {q} l e = record { filled = λ t. absurd (false≢true t); empty = λ t. (q, l, e) }
+
 -- ---- the first empty set of all
 
-module _ (j : Job) (ss : List ℕ) (h : SetsOf j (candidate_nets j) ss) (r : ℕ)
-    (f : FirstEmpty ss (2 ^ length (candidate_nets j)) r) where
-  found_before : (q : ℕ) → q < r → found (shared j (candidate_nets j) q) ≡ true
-  found_before q l =
-      let m = f.most in
-      rw (shared-sets j (candidate_nets j) ss h q (omega arith)) (found-lowest (get_or ss q 0) (f.filled q l))
+module _ (j : Job) (ss : List ℕ) (h : SetsOf j (candidate_nets j) ss) where
+  found_to : {n : ℕ} → n ≤ 2 ^ length (candidate_nets j) → FilledTo ss n → (q : ℕ) → q < n → found (shared j (candidate_nets j) q) ≡ true
+  found_to m f q l = rw (shared-sets j (candidate_nets j) ss h q (omega arith)) (found-lowest (get_or ss q 0) (f q l))
 
-  least-blind : r < 2 ^ length (candidate_nets j) → LeastBlind j r
-  unfolding found
-  least-blind l =
-      record {
-        below = l;
-        none-shared = shared-sets j (candidate_nets j) ss h r l ∙ lowest-empty (get_or ss r 0) (f.empty l);
-        smaller = λ q i e. not-both (found_before q i) (ap found e);
-      }
-
-  -- there is none exactly where all candidates together are sound
-  pub sound-iff-full : (r ≡ 2 ^ length (candidate_nets j)) ↔ (sound j (candidate_nets j) ≡ true)
-  sound-iff-full = (
-    λ e. (sound-iff-found j (candidate_nets j)).1 (λ q l. found_before q (rw e l)),
-    λ e.
-        ⊎_elim
-        (λ i. i)
-        (λ (i : r < 2 ^ length (candidate_nets j)). absurd (not-both e (unsound-of-blind j r (least-blind i))))
-        (eq-or-lt_of_le f.most),
-  )
+  -- where there is none, all candidates together are sound
+  pub sound-of-filled : FilledTo ss (2 ^ length (candidate_nets j)) → sound j (candidate_nets j) ≡ true
+  sound-of-filled f = (sound-iff-found j (candidate_nets j)).1 (found_to (omega arith) f)
 
   -- .. and else it is the blind reading
-  pub blind-of-empty : sound j (candidate_nets j) ≡ false → r ≡ blind_reading j
-  blind-of-empty e =
-      ⊎_elim
-      (λ i. absurd (not-both (sound-iff-full.0 i) e))
-      (λ (i : r < 2 ^ length (candidate_nets j)). blind-unique j r (blind_reading j) (least-blind i) (blind-least j e))
-      (eq-or-lt_of_le f.most)
+  module _ (r : ℕ) (l : r < 2 ^ length (candidate_nets j)) (e : get_or ss r 0 % 65536 ≡ 0) (f : FilledTo ss r) where
+    least-blind : LeastBlind j r
+    unfolding found
+    least-blind =
+        record {
+          below = l;
+          none-shared = shared-sets j (candidate_nets j) ss h r l ∙ lowest-empty (get_or ss r 0) e;
+          smaller = λ q i o. not-both (found_to (omega arith) f q i) (ap found o);
+        }
+
+    pub blind-of-empty : (sound j (candidate_nets j) ≡ false) × (r ≡ blind_reading j)
+    blind-of-empty =
+        let u = unsound-of-blind j r least-blind in
+        (u, blind-unique j r (blind_reading j) least-blind (blind-least j u))

@@ -1,4 +1,4 @@
--- Supports as sets of candidates, and what the sets of vectors of all readings say of them (src/best.rt). A set of candidates is a
+-- Supports as sets of candidates, and what the sets of vectors of all readings say of them (src/best.rt, src/pick.rt). A set of candidates is a
 -- number whose bit i says whether candidate i is in it. No public contract cites this file. Assumes nothing.
 --
 --   picked xs s            the elements of xs whose places are in the set s, in their order
@@ -8,32 +8,28 @@
 --   NotEmpty t             the set of vectors t has one
 --   GivenBits j is ss k    bit 16 of a set of the nets is is 0 only where some input gives the reading; where it is 1, none does but in ranges of
 --                          2 ^ 15 inputs that were skipped, bit i of k for range i
---   FirstEmpty ss n r      r is the least place below n whose set is empty, or n
+--   FilledTo ss n          none of the first n sets is empty
+--   first_empty ss         the first place whose set is empty, if there is one
 --   spread i q             the reading q with a bit 0 put in at place i: of one net more, at place i, whose value is 0
 --   joined_at ss i q       the vectors in the sets of both readings that are q without net i
 --   SameTo n xs ys         ys is the same as xs at the first n places
---   Kept n xs ys           .. and as long
---   ArenaRoom at n xs      the arena xs has room for the sets of n nets from place at on, and behind them for those that leave out one net after
---                          the other
 --   LeftOut ss n i b ps    ps are the sets of n nets, made by leaving out net i of those of ss, up to the first that is empty, and b says whether
 --                          none is
 --   PickedNets is s r      the support r has the nets of is whose places are in s
---   total xs               the sum of xs
 --   low_first n a b        of the sets a and b of n candidates, a has the lowest in which they differ
 --   before p q             pick p is chosen before pick q: lower cost, then fewer gates, then fewer nets, then the smaller net
 --   open_at is i s         the nets is up to place i, and of those from there on the ones that are in the set s
 --   candidate_weights j    the weights of all candidates
 --   OpenPick i p           pick p has room for i candidates more
---   PricedRoom p           bounds of the struct p
---   PricedOf j p ss        the struct p has the priced nets of job j, which ascend, and ss are the sets of all of them
+--   PricedOf j p           the struct p has the priced nets of job j, which ascend, and the sets of all of them
 --   PickOf j p             pick p is a sound support of job j; its gates are counted, or 0
 --   CountedOf j p          .. are counted
 --   OpenOf j i p ss        pick p says which candidates from place i on are in a support; with all those before it is sound
 --   BestFrom j i s b r     of pick b and the sound sets that are s from place i on, r is the one that is chosen
 --   HeldSupport r          the nets of the support r stand in its ten places
---   Choosable ..           the job whose candidates and sets of vectors stand in places has a sound support
+--   Choosable j p          the job whose candidates, and sets of vectors, the struct p has, has a sound support
 --   ChosenOf j s c ss      the support s is the chosen one of job j, c its cost, and ss are its sets
-use Rattle.std.specs.Prelude.{ℕ, zero, suc, ◌+◌, ◌-◌, ◌*◌, ◌/◌, ◌%◌, ◌^◌, ◌≤◌, ◌<◌, ◌≡◌, ◌↔◌, ◌⊎◌, List, [], ◌∷◌, ◌++◌, map, Bool, true, false, cond, ◌&&◌, ◌||◌, ltb, eqb, length, get_or, take, drop}
+use Rattle.std.specs.Prelude.{ℕ, zero, suc, ◌+◌, ◌-◌, ◌*◌, ◌/◌, ◌%◌, ◌^◌, ◌≤◌, ◌<◌, ◌≡◌, ◌↔◌, ◌⊎◌, List, [], ◌∷◌, ◌++◌, map, Bool, true, false, cond, ◌&&◌, ◌||◌, ltb, eqb, length, get_or, take, drop, sum, Option, position, ◌==◌}
 use Rattle.std.specs.Int.Bits.{bit_and}
 use Rattle.records.specs.Job.{Job, Candidate}
 use Rattle.records.specs.Refusal.{max_targets, max_candidates, ascending}
@@ -45,8 +41,8 @@ use Rattle.engine.specs.Rectify.{rectifies}
 use Rattle.engine.specs.Support.{reading, sound, candidate_nets, cost, patch_gates, better, chosen}
 use Rattle.engine.specs.Inner.List.{max_vectors}
 use Rattle.engine.specs.Inner.Note.{max_readings}
-use Rattle.engine.specs.declared.best.Pick.{Pick}
-use Rattle.engine.specs.declared.best.Priced.{Priced}
+use Rattle.engine.specs.declared.pick.Pick.{Pick}
+use Rattle.engine.specs.declared.pick.Priced.{Priced}
 
 unfoldable pub picked : {A : Type 0} → List A → ℕ → List A
 picked [] s = []
@@ -75,10 +71,11 @@ pub record GivenBits (j : Job) (is ss : List ℕ) (k : ℕ) : Type 0 where
   pub unmet : (r : ℕ) → r < 2 ^ length is → bit max_vectors (get_or ss r 0) ≡ 1
       → (x : ℕ) → x < 2 ^ j.inputs → bit (x / 32768) k ≡ 0 → reading j is x ≡ r → ⊥
 
-pub record FirstEmpty (ss : List ℕ) (count r : ℕ) : Type 0 where
-  pub most : r ≤ count
-  pub empty : r < count → get_or ss r 0 % 65536 ≡ 0
-  pub filled : (q : ℕ) → q < r → NotEmpty (get_or ss q 0)
+abbrev pub FilledTo : List ℕ → ℕ → Type 0
+FilledTo ss n = (q : ℕ) → q < n → NotEmpty (get_or ss q 0)
+
+abbrev pub first_empty : List ℕ → Option ℕ
+first_empty ss = position (λ t. t % 65536 == 0) ss
 
 -- ---- a net left out
 
@@ -92,14 +89,6 @@ joined_at ss i q = bit_and (get_or ss (spread i q) 0) (get_or ss (spread i q + 2
 abbrev pub SameTo : ℕ → List ℕ → List ℕ → Type 0
 SameTo n xs ys = (k : ℕ) → k < n → get_or ys k 0 ≡ get_or xs k 0
 
-pub record Kept (n : ℕ) (xs ys : List ℕ) : Type 0 where
-  pub long : length ys ≡ length xs
-  pub same : SameTo n xs ys
-
-pub record ArenaRoom (at n : ℕ) (xs : List ℕ) : Type 0 where
-  pub room : at + 2 * 2 ^ n ≤ 2048
-  pub long : length xs ≡ 2048
-
 pub record LeftOut (ss : List ℕ) (n i : ℕ) (sound : Bool) (ps : List ℕ) : Type 0 where
   pub filled : sound ≡ true → (q : ℕ) → q < 2 ^ n → (get_or ps q 0 ≡ joined_at ss i q) × NotEmpty (joined_at ss i q)
   pub empty : sound ≡ false → (q : ℕ) × (q < 2 ^ n) × (joined_at ss i q % 65536 ≡ 0)
@@ -109,10 +98,6 @@ pub record LeftOut (ss : List ℕ) (n i : ℕ) (sound : Bool) (ps : List ℕ) : 
 pub record PickedNets (is : List ℕ) (s : ℕ) (r : Support) : Type 0 where
   pub len : r.len ≡ length (picked is s)
   pub nets : take r.len r.nets ≡ picked is s
-
-unfoldable pub total : List ℕ → ℕ
-total [] = 0
-total (x ∷ xs) = x + total xs
 
 unfoldable pub low_first : ℕ → ℕ → ℕ → Bool
 low_first zero a b = false
@@ -134,21 +119,15 @@ candidate_weights j = map (λ (c : Candidate). c.weight) j.candidates
 
 pub record OpenPick (i : ℕ) (p : Pick) : Type 0 where
   pub places : i ≤ p.len
-  pub few : p.len ≤ max_candidates
   pub set : p.set < 2 ^ (max_candidates - i)
   pub cost : p.cost ≤ 65535 * (max_candidates - i)
 
-pub record PricedRoom (p : Priced) : Type 0 where
-  pub few : p.count ≤ max_candidates
-  pub targets : p.targets ≤ max_targets
-
-pub record PricedOf (j : Job) (p : Priced) (ss : List ℕ) : Type 0 where
-  pub count : p.count ≡ length (candidate_nets j)
-  pub few : length (candidate_nets j) ≤ max_candidates
+pub record PricedOf (j : Job) (p : Priced) : Type 0 where
+  pub count : length p.nets.now ≡ length (candidate_nets j)
   pub ascends : ascending (candidate_nets j) ≡ true
-  pub weights : (i : ℕ) → i < length (candidate_nets j) → get_or (candidate_weights j) i 0 ≡ get_or p.weights i 0
+  pub weights : (i : ℕ) → i < length (candidate_nets j) → get_or (candidate_weights j) i 0 ≡ get_or p.weights.now i 0
   pub targets : p.targets ≡ j.targets
-  pub sets : SetsOf j (candidate_nets j) ss
+  pub sets : SetsOf j (candidate_nets j) p.sets.now
 
 pub record PickOf (j : Job) (p : Pick) : Type 0 where
   pub set : p.set < 2 ^ length (candidate_nets j)
@@ -165,7 +144,7 @@ pub record OpenOf (j : Job) (i : ℕ) (p : Pick) (ss : List ℕ) : Type 0 where
   pub places : i ≤ length (candidate_nets j)
   pub set : p.set < 2 ^ (length (candidate_nets j) - i)
   pub len : p.len ≡ length (open_at (candidate_nets j) i p.set)
-  pub cost : p.cost ≡ total (picked (drop i (candidate_weights j)) p.set)
+  pub cost : p.cost ≡ sum (picked (drop i (candidate_weights j)) p.set)
   pub sets : SetsOf j (open_at (candidate_nets j) i p.set) ss
   pub sound : sound j (open_at (candidate_nets j) i p.set) ≡ true
   pub gates : p.gates ≡ 0
@@ -182,11 +161,11 @@ pub record HeldSupport (r : Support) : Type 0 where
   pub few : r.len ≤ max_candidates
   pub held : r.len ≤ length r.nets
 
-pub record Choosable (j : Job) (is : List ℕ) (p : Priced) (ss : List ℕ) : Type 0 where
-  pub candidates : j.candidates ≡ candidates_from p.count is p.weights
+pub record Choosable (j : Job) (p : Priced) : Type 0 where
+  pub candidates : j.candidates ≡ candidates_from (length p.nets.now) p.nets.now p.weights.now
   pub ascends : ascending (candidate_nets j) ≡ true
   pub targets : j.targets ≡ p.targets
-  pub sets : ReadingSets j ss
+  pub sets : ReadingSets j p.sets.now
   pub sound : sound j (candidate_nets j) ≡ true
 
 pub record ChosenOf (j : Job) (s : Support) (c : ℕ) (ss : List ℕ) : Type 0 where

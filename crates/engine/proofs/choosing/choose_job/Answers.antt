@@ -1,8 +1,10 @@
 -- `engine::choosing::choose_job` meets its contract: the miter, and the sets of all readings; blind where some
 -- reading's set is empty, and else the chosen support has a patch. Assumes nothing.
+use mathlib.Core.Path.{refl, sym}
 use native.Mathlib.Omega.{arith}
+use lib.Seq.{length-take-le}
 use Rattle.engine.specs.Support.{chosen}
-use Rattle.engine.proofs.Laws.Rule.{readings-many, parts-few, parts-nets, chosen-good, chosen-same, rule-given, rule-blind, rule-sound}
+use Rattle.engine.proofs.Laws.Rule.{readings-many, parts-few, parts-nets, chosen-good, chosen-same, rule-given, rule-blind, rule-sound, below-taken}
 use Rattle.engine.proofs.choosing.choose_job.Goals as goal
 
 pub reading_sets-met-requires : goal.reading_sets-met-requires
@@ -10,45 +12,46 @@ reading_sets-met-requires c =
     let p = c.requires.0.parts in
     (c.merged_miter-miter.ensures.miter_room, record { long = p.nets-long; below = c.requires.1; few = parts-few p })
 
-pub reading_count-count-requires : goal.reading_count-count-requires
-reading_count-count-requires c = parts-few c.requires.0.parts
+pub reading_count-requires : goal.reading_count-requires
+reading_count-requires c = parts-few c.requires.0.parts
 
-pub first_empty-reading-requires : goal.first_empty-reading-requires
-first_empty-reading-requires c =
-    omega (arith, c.reading_count-count.ensures, readings-many (parts-few c.requires.0.parts))
+pub shared_ref_as_front-first_empty : goal.shared_ref_as_front-first_empty
+shared_ref_as_front-first_empty c = omega (arith, c.reading_count.ensures, readings-many (parts-few c.requires.0.parts))
 
-pub rule_blind-requires : goal.rule_blind-requires
-rule_blind-requires c =
-    let p = c.requires in
-    let m = readings-many (parts-few p.0.parts) in
-    (omega (arith, c.reading_count-count.ensures, c.if-reading-count.true), p.2)
-
-pub returns-then-reading-count : goal.returns-then-reading-count
-returns-then-reading-count c =
-    λ j p.
+pub returns-in-Some : goal.returns-in-Some
+returns-in-Some c j p =
     let met = c.reading_sets-met.ensures j (c.merged_miter-miter.ensures.merged_of j p) (parts-nets p) in
-    let b = rule-blind p met c.reading_count-count.ensures c.first_empty-reading.ensures c.if-reading-count.true in
-    c.rule_blind.ensures j b.0 b.1
+    let b = rule-blind p met c.reading_count.ensures c.in-Some.reading (rw c.first_empty.ensures at c.in-Some.is) in
+    c.rule_blind.ensures j b.1 b.2
 
-pub best_support-best-requires : goal.best_support-best-requires
-best_support-best-requires c =
-    record { few = parts-few c.requires.0.parts; targets = c.merged_miter-miter.ensures.miter_room.targets }
+pub slice_bounds-nets-end : goal.slice_bounds-nets-end
+slice_bounds-nets-end c = let p = c.requires.0.parts in omega (arith, p.nets-long, parts-few p)
+
+pub slice_bounds-priced-end : goal.slice_bounds-priced-end
+slice_bounds-priced-end c =
+    let p = c.requires.0.parts in
+    sym (length-take-le c.args.job.counts.candidates c.args.job.nets (omega (arith, p.nets-long, parts-few p)))
+
+pub slice_bounds-weights-end : goal.slice_bounds-weights-end
+slice_bounds-weights-end c = let p = c.requires.0.parts in omega (arith, p.weights-long, parts-few p)
+
+pub slice_bounds-priced-end-2 : goal.slice_bounds-priced-end-2
+slice_bounds-priced-end-2 c =
+    let p = c.requires.0.parts in
+    sym (length-take-le c.args.job.counts.candidates c.args.job.weights (omega (arith, p.weights-long, parts-few p)))
 
 pub see_skipped-requires : goal.see_skipped-requires
 see_skipped-requires c =
-    (c.merged_miter-miter.ensures.miter_room, c.best_support-best.ensures.held_support.1 c.requires.1, c.best_support-best.ensures.held_support.2)
-
-pub rule_patch-requires : goal.rule_patch-requires
-rule_patch-requires c =
-    (c.best_support-best.ensures.held_support.0, c.requires.2)
+    let p = c.requires.0.parts in
+    let few = parts-few p in
+    let b = below-taken c.args.job.nets (omega arith) (omega (arith, p.nets-long)) c.requires.1 in
+    (c.merged_miter-miter.ensures.miter_room, c.best_support-best.ensures.held_support.1 b, omega arith)
 
 pub returns : goal.returns
-returns c =
-    λ j p.
+returns c j p =
     let m = c.merged_miter-miter.ensures.merged_of j p in
     let met = c.reading_sets-met.ensures j m (parts-nets p) in
-    let q = rule-sound p met c.reading_count-count.ensures c.first_empty-reading.ensures m.targets c.if-reading-count.false in
+    let q = rule-sound p met c.reading_count.ensures (rw c.first_empty.ensures at c.in_default.is) refl refl refl m.targets in
     let best = c.best_support-best.ensures.chosen_of j q in
     c.rule_patch.ensures j q.sound (chosen-same c.see_skipped.ensures.same_vectors best.0)
-    (c.see_skipped.ensures.unseen j (chosen j) m best.0.support (chosen-good p.good q.sound)
-    (best.1 _ (rule-given p met c.reading_count-count.ensures c.first_empty-reading.ensures)))
+    (c.see_skipped.ensures.unseen j (chosen j) m best.0.support (chosen-good p.good q.sound) (best.1 _ (rule-given p met c.reading_count.ensures)))

@@ -1,5 +1,0 @@
--- `engine::best::best_from`: the number of open places falls.
-use Rattle.engine.proofs.best.+best_from.Given as goal
-
-abbrev pub decreases-best_from : goal.decreases-best_from
-decreases-best_from l = l.i

@@ -1,0 +1,26 @@
+// What a support is chosen from, and the sets of nets that are compared (see best.rt).
+ghost use Rattle.std.specs.Prelude.{◌≡◌, ◌≤◌, length};
+
+use super::limits::READINGS;
+
+// The nets that a support is chosen from, with their weights, the sets of the readings of all of them, and how many targets there are.
+#[derive(Drop)]
+pub struct Priced<'a> {
+    pub nets: &'a [u16],
+    pub weights: &'a [u16],
+    pub sets: &'a [u32; READINGS],
+    pub targets: usize,
+    ghost few: { length nets.now ≤ 10 },
+    ghost weighed: { length weights.now ≡ length nets.now },
+    ghost few_targets: { targets ≤ 4 },
+}
+
+// A set of these nets, bit i for net i, its cost, how many nets it has, and how many gates its patch, 0 until they are counted.
+#[derive(Clone, Copy)]
+pub struct Pick {
+    pub set: usize,
+    pub cost: u32,
+    pub len: usize,
+    pub gates: usize,
+    ghost few: { len ≤ 10 },
+}
