@@ -86,7 +86,15 @@ fn rule_patch(support: Support, cost: u32, sets: &[u32; READINGS], reply: &mut [
 {
     let table = fill_table(sets, support.len);
     let notes = fill_notes(sets, support.len);
-    let len = put_patch(reply, support, &table, cost, &notes);
+    let nets = support.nets;
+    let count = reading_count(support.len);
+    let len = put_patch(
+        reply,
+        &nets[..support.len],
+        &table[..count],
+        cost,
+        &notes[..count],
+    );
     ChooseReply {
         number: 0,
         len,
@@ -115,7 +123,7 @@ fn choose_job(job: JobParts, reply: &mut [u8]) -> ChooseReply
     let candidates = job.counts.candidates;
     let nets = job.nets;
     let weights = job.weights;
-    let miter = merged_miter(job);
+    let miter = merged_miter(&job);
     let reads = Support {
         nets,
         len: candidates,

@@ -60,7 +60,7 @@ fn rule_list(list: Vectors, reply: &mut [u8]) -> JudgeReply
     ensures { (j : Job) → listed_of list ≡ vector_loop j → JudgedJob j reply.old result reply.new }
 {
     if let Some(input) = list.stuck {
-        let len = put_unfixable(reply, input, list.list, list.len);
+        let len = put_unfixable(reply, input, &list.list[..list.len]);
         return JudgeReply {
             number: 0,
             len,
@@ -69,7 +69,7 @@ fn rule_list(list: Vectors, reply: &mut [u8]) -> JudgeReply
             }),
         };
     }
-    let len = put_vectors(reply, 0, list.list, list.len);
+    let len = put_vectors(reply, 0, &list.list[..list.len]);
     JudgeReply {
         number: 0,
         len,
@@ -99,7 +99,7 @@ fn judge_job(job: JobParts, reply: &mut [u8]) -> JudgeReply
         nets,
         len: job.counts.candidates,
     };
-    let list = vector_list(merged_miter(job), candidates);
+    let list = vector_list(merged_miter(&job), candidates);
     rule_list(list, reply)
 }
 
