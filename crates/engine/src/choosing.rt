@@ -6,7 +6,7 @@ ghost use Rattle.records.specs.Parts.{PartsOf};
 ghost use Rattle.engine.specs.Support.{sound, candidate_nets, chosen};
 ghost use Rattle.engine.specs.Verdict.{blind_reading, chosen_bytes};
 ghost use Rattle.engine.specs.Reply.{declined_choose, choose_reply};
-ghost use Rattle.engine.specs.Inner.Miter.{SomeParts, MiterRoom, MergedOf};
+ghost use Rattle.engine.specs.Inner.Miter.{SomeParts, MergedOf};
 ghost use Rattle.engine.specs.Inner.Plan.{NetsRead};
 ghost use Rattle.engine.specs.Inner.Search.{SetsTo};
 ghost use Rattle.engine.specs.Inner.Best.{HeldSupport, ChosenOf};
@@ -103,16 +103,15 @@ fn rule_patch(support: Support, cost: u32, sets: &[u32; READINGS], reply: &mut [
 }
 
 // The sets of all readings of these nets, over all inputs of a miter.
-fn reading_sets(miter: Miter, reads: Support) -> Met
-    requires { MiterRoom miter × NetsRead reads.nets reads.len }
-    ensures { (j : Job) → MergedOf j miter → take reads.len reads.nets ≡ candidate_nets j
+fn reading_sets(miter: &Miter, reads: Support) -> Met
+    requires { NetsRead reads.nets reads.len }
+    ensures { (j : Job) → MergedOf j miter.now → take reads.len reads.nets ≡ candidate_nets j
         → SetsTo j (2 ^ j.inputs) result.skipped result.sets }
 {
     if miter.inputs <= WORD_INPUTS {
-        return sets_of_words(&miter, reads.nets, reads.len);
+        return sets_of_words(miter, reads);
     }
-    let targets = miter.targets;
-    sets_of_inputs(&plan_of(miter, reads, targets))
+    sets_of_inputs(&plan_of(miter, reads, miter.targets))
 }
 
 // The choice on a good job's parts, and its sheet.
@@ -128,7 +127,7 @@ fn choose_job(job: JobParts, reply: &mut [u8]) -> ChooseReply
         nets,
         len: candidates,
     };
-    let met = reading_sets(miter, reads);
+    let met = reading_sets(&miter, reads);
     if let Some(reading) = first_empty(&met.sets[..reading_count(candidates)]) {
         return rule_blind(reading, reply);
     }
@@ -141,7 +140,7 @@ fn choose_job(job: JobParts, reply: &mut [u8]) -> ChooseReply
     let best = priced.best_support();
     let support = best.support;
     let mut sets = best.sets;
-    see_skipped(miter, support, met.skipped, &mut sets);
+    see_skipped(&miter, support, met.skipped, &mut sets);
     rule_patch(support, best.cost, &sets, reply)
 }
 

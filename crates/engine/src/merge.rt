@@ -5,7 +5,7 @@ ghost use Rattle.std.specs.Prelude.{◌≡◌, true, ◌+◌, ◌-◌, ◌≤◌
 ghost use Rattle.records.specs.Job.{Job};
 ghost use Rattle.engine.specs.Inner.Packed.{gate_in};
 ghost use Rattle.records.specs.Parts.{PartsOf};
-ghost use Rattle.engine.specs.Inner.Miter.{SomeParts, MiterRoom, MiterOf, MergedOf};
+ghost use Rattle.engine.specs.Inner.Miter.{SomeParts, MiterOf, MergedOf};
 ghost use Rattle.engine.specs.Inner.Merge.{Backward, GatesMerged, PairsKept};
 
 use super::limits::{LEAST_TO_MERGE, MITER_GATES, NETS};
@@ -136,8 +136,7 @@ fn merged(miter: &Miter) -> Miter
 // costs less.
 pub(super) fn merged_miter(job: &JobParts) -> Miter
     requires { SomeParts job.now }
-    ensures miter_room { MiterRoom result }
-    ensures merged_of { (j : Job) → PartsOf j job.now → MergedOf j result }
+    ensures { (j : Job) → PartsOf j job.now → MergedOf j result }
 {
     let miter = Miter::of_parts(job);
     if miter.inputs < LEAST_TO_MERGE {

@@ -1,6 +1,6 @@
 // Jobs of at most six inputs: one word a net has its values at all inputs, bit y that at input y, and no list of gates is made. Where six
 // inputs are not used, the 64 places of a word repeat those of the inputs there are.
-ghost use Rattle.std.specs.Prelude.{◌≡◌, map, cond, ℕ, ◌%◌, ◌^◌, ◌≤◌, ◌<◌, length, get_or, take};
+ghost use Rattle.std.specs.Prelude.{◌≡◌, map, cond, ℕ, ◌%◌, ◌^◌, ◌≤◌, ◌<◌, length, take};
 ghost use Rattle.records.specs.Claims.{Below};
 ghost use Rattle.records.specs.Job.{Job};
 ghost use Rattle.records.specs.Netlist.{net_at};
@@ -8,7 +8,7 @@ ghost use Rattle.engine.specs.Choice.{same};
 ghost use Rattle.engine.specs.Eval.{bit, number_of};
 ghost use Rattle.engine.specs.Support.{candidate_nets};
 ghost use Rattle.engine.specs.Inner.Guess.{ListTo};
-ghost use Rattle.engine.specs.Inner.Miter.{MiterRoom, MergedOf};
+ghost use Rattle.engine.specs.Inner.Miter.{MergedOf};
 ghost use Rattle.engine.specs.Inner.Narrow.{values_at, leaf_at, LeavesLoaded, WordsRan, NarrowOf, ValuesOf, MasksOf};
 ghost use Rattle.engine.specs.Inner.Note.{gathered};
 ghost use Rattle.engine.specs.Inner.Packed.{code_value};
@@ -25,7 +25,7 @@ use super::note::{list_block, meet_block};
 use super::packed::{COUNT_AT, COUNTS, NET, NET_AT, SLOTS_AT};
 use super::search::{Met, all_vectors};
 use super::word::{broadcast, input_word};
-use records::CANDIDATES;
+use records::Support;
 
 // The word of leaf i at a vector: an input's, or that of a target behind the inputs.
 fn leaf_word(inputs: usize, vector: usize, i: usize) -> u64
@@ -89,7 +89,6 @@ fn equal_word(outputs: &[u16], goldens: &[u16], words: &[u64; NETS]) -> u64
 
 // The words of all nets at a vector.
 fn eval_vector(miter: &Miter, vector: usize, words: &mut [u64; NETS])
-    requires { MiterRoom miter.now }
     ensures { (j : Job) → NarrowOf j miter.now.inputs miter.now.targets (take miter.now.count miter.now.gates)
         → ValuesOf j vector words.new }
 {
@@ -100,7 +99,7 @@ fn eval_vector(miter: &Miter, vector: usize, words: &mut [u64; NETS])
 // The rows of all vectors: bit y of row v is 1 where vector v rectifies input y. It costs, for each vector, one gate evaluation a gate, on
 // one word. The words become those at the last vector.
 fn word_masks(miter: &Miter, words: &mut [u64; NETS]) -> [u64; ROWS]
-    requires { MiterRoom miter.now × (miter.now.inputs ≤ 6) }
+    requires { miter.now.inputs ≤ 6 }
     ensures masks { (j : Job) → MergedOf j miter.now → MasksOf j result }
     ensures words { (j : Job) → MergedOf j miter.now → (v : ℕ) × ValuesOf j v words.new }
 {
@@ -132,7 +131,7 @@ fn read_words(nets: &[u16], words: &[u64; NETS]) -> [u64; ROWS]
 
 // The vector list over all inputs of a miter with six at most.
 pub(super) fn list_of_words(miter: &Miter) -> Vectors
-    requires { MiterRoom miter.now × (miter.now.inputs ≤ 6) }
+    requires { miter.now.inputs ≤ 6 }
     ensures { (j : Job) → MergedOf j miter.now → ListTo j (2 ^ j.inputs) result }
 {
     let mut words = [0u64; NETS];
@@ -140,14 +139,14 @@ pub(super) fn list_of_words(miter: &Miter) -> Vectors
     list_block(masks, 0, 1usize << miter.inputs, Vectors::start())
 }
 
-// The sets of all readings of the first reads nets, over all inputs of a miter with six at most.
-pub(super) fn sets_of_words(miter: &Miter, nets: [u16; CANDIDATES], reads: usize) -> Met
-    requires { MiterRoom miter.now × (miter.now.inputs ≤ 6) × NetsRead nets reads }
-    ensures { (j : Job) → MergedOf j miter.now → take reads nets ≡ candidate_nets j → SetsTo j (2 ^ j.inputs) result.skipped result.sets }
+// The sets of all readings of these nets, over all inputs of a miter with six at most.
+pub(super) fn sets_of_words(miter: &Miter, reads: Support) -> Met
+    requires { (miter.now.inputs ≤ 6) × NetsRead reads.nets reads.len }
+    ensures { (j : Job) → MergedOf j miter.now → take reads.len reads.nets ≡ candidate_nets j → SetsTo j (2 ^ j.inputs) result.skipped result.sets }
 {
     let mut words = [0u64; NETS];
     let masks = word_masks(miter, &mut words);
-    let readings = read_words(&nets[..reads], &words);
+    let readings = read_words(&reads.nets[..reads.len], &words);
     let mut sets = [UNSEEN + all_vectors(miter.targets) as u32; READINGS];
     meet_block(masks, readings, 1, &mut sets);
     Met { sets, skipped: 0 }

@@ -10,11 +10,10 @@
 --   SameGates d gs hs    the gates hs may stand for the gates gs, over d leaves: whatever depends on a gate's kind and on what its operands
 --                        have comes out the same at every net
 --   SomeParts p          p are the parts of some good job
---   MiterRoom m          lengths and bounds of the struct m
 --   MiterOf j m          the struct m has the miter of the good job j
 --   PairsOf j os gs      the values of the nets os and gs are the same, pair by pair, exactly when the vector rectifies the input
 --   MergedOf j m         .. gates that may stand for the miter's, and such nets
-use Rattle.std.specs.Prelude.{ℕ, ◌+◌, ◌≤◌, ◌<◌, ◌≡◌, List, ◌++◌, map, true, ltb, length, get_or, take}
+use Rattle.std.specs.Prelude.{ℕ, ◌+◌, ◌≡◌, List, ◌++◌, map, true, ltb, length, take}
 use Rattle.records.specs.Bytes.{all}
 use Rattle.records.specs.Gate.{Gate, operands}
 use Rattle.records.specs.Netlist.{net_at, extended, values}
@@ -65,16 +64,6 @@ pub record SameGates (d : ℕ) (gs hs : List Gate) : Type 0 where
 pub record SomeParts (p : JobParts) : Type 0 where
   pub job : Job
   pub parts : PartsOf job p
-
-pub record MiterRoom (m : Miter) : Type 0 where
-  pub gates : length m.gates ≡ 800
-  pub outputs : length m.outputs ≡ 32
-  pub goldens : length m.goldens ≡ 32
-  pub below : (i : ℕ) → (get_or m.outputs i 0 < 1024) × (get_or m.goldens i 0 < 1024)
-  pub count : m.count ≤ 800
-  pub outs : m.outs ≤ 32
-  pub inputs : m.inputs ≤ 20
-  pub targets : m.targets ≤ 4
 
 pub record MiterOf (j : Job) (m : Miter) : Type 0 where
   pub good : PartsGood j
