@@ -141,7 +141,7 @@ pub(super) fn list_of_words(miter: &Miter) -> Vectors
 
 // The sets of all readings of these nets, over all inputs of a miter with six at most.
 pub(super) fn sets_of_words(miter: &Miter, reads: Support) -> Met
-    requires { (miter.now.inputs ≤ 6) × NetsRead reads.nets reads.len }
+    requires { (miter.now.inputs ≤ 6) × NetsRead reads }
     ensures { (j : Job) → MergedOf j miter.now → take reads.len reads.nets ≡ candidate_nets j → SetsTo j (2 ^ j.inputs) result.skipped result.sets }
 {
     let mut words = [0u64; NETS];
