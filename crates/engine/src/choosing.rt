@@ -115,14 +115,14 @@ fn reading_sets(miter: &Miter, reads: Support) -> Met
 }
 
 // The choice on a good job's parts, and its sheet.
-fn choose_job(job: JobParts, reply: &mut [u8]) -> ChooseReply
-    requires { SomeParts job × Below 1024 job.nets × (2084 ≤ length reply.old) }
-    ensures { (j : Job) → PartsOf j job → ChosenJob j reply.old result reply.new }
+fn choose_job(job: &JobParts, reply: &mut [u8]) -> ChooseReply
+    requires { SomeParts job.now × Below 1024 job.now.nets × (2084 ≤ length reply.old) }
+    ensures { (j : Job) → PartsOf j job.now → ChosenJob j reply.old result reply.new }
 {
     let candidates = job.counts.candidates;
     let nets = job.nets;
     let weights = job.weights;
-    let miter = merged_miter(&job);
+    let miter = merged_miter(job);
     let reads = Support {
         nets,
         len: candidates,
@@ -167,5 +167,5 @@ pub fn choose(job: &[u8], reply: &mut [u8]) -> ChooseReply
     let Check::Passed = check else {
         return declined(parts.number);
     };
-    choose_job(parts, reply)
+    choose_job(&parts, reply)
 }

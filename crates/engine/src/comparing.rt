@@ -75,14 +75,18 @@ fn table_of(sheet: &[u8], start: usize, count: usize) -> [u16; READINGS]
 }
 
 // The comparison of a good job with a sheet's bytes.
-fn compare_sheet(job: JobParts, sheet: &[u8]) -> CompareReply
-    requires { SomeParts job }
-    ensures { (j : Job) → PartsOf j job → result ≡ sheet_comparison j sheet.now }
+fn compare_sheet(job: &JobParts, sheet: &[u8]) -> CompareReply
+    requires { SomeParts job.now }
+    ensures { (j : Job) → PartsOf j job.now → result ≡ sheet_comparison j sheet.now }
 {
     let counts = job.counts;
-    let nets = job.nets;
-    let weights = job.weights;
-    let answer = read_sheet(counts.targets, counts.candidates, &nets, &weights, sheet);
+    let answer = read_sheet(
+        counts.targets,
+        counts.candidates,
+        &job.nets,
+        &job.weights,
+        sheet,
+    );
     if answer.number != 0 {
         return CompareReply {
             number: answer.number,
@@ -91,7 +95,7 @@ fn compare_sheet(job: JobParts, sheet: &[u8]) -> CompareReply
     }
     let support = answer.support;
     let table = table_of(sheet, answer.table, reading_count(support.len));
-    let plan = plan_of(&merged_miter(&job), support, 0);
+    let plan = plan_of(&merged_miter(job), support, 0);
     CompareReply {
         number: 0,
         result: first_difference(&plan, &table),
@@ -112,5 +116,5 @@ pub fn compare(job: &[u8], sheet: &[u8]) -> CompareReply
             result: Comparison::Declined,
         };
     };
-    compare_sheet(parts, sheet)
+    compare_sheet(&parts, sheet)
 }

@@ -89,16 +89,16 @@ fn vector_list(miter: &Miter, reads: Support) -> Vectors
 }
 
 // The judgement on a good job's parts, and its sheet.
-fn judge_job(job: JobParts, reply: &mut [u8]) -> JudgeReply
-    requires { SomeParts job × Below 1024 job.nets × (26 ≤ length reply.old) }
-    ensures { (j : Job) → PartsOf j job → JudgedJob j reply.old result reply.new }
+fn judge_job(job: &JobParts, reply: &mut [u8]) -> JudgeReply
+    requires { SomeParts job.now × Below 1024 job.now.nets × (26 ≤ length reply.old) }
+    ensures { (j : Job) → PartsOf j job.now → JudgedJob j reply.old result reply.new }
 {
     let nets = job.nets;
     let candidates = Support {
         nets,
         len: job.counts.candidates,
     };
-    let list = vector_list(&merged_miter(&job), candidates);
+    let list = vector_list(&merged_miter(job), candidates);
     rule_list(list, reply)
 }
 
@@ -123,5 +123,5 @@ pub fn judge(job: &[u8], reply: &mut [u8]) -> JudgeReply
     let Check::Passed = check else {
         return declined(parts.number);
     };
-    judge_job(parts, reply)
+    judge_job(&parts, reply)
 }

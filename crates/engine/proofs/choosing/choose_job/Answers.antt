@@ -30,7 +30,7 @@ slice_bounds-nets-end c = let p = c.requires.0.parts in omega (arith, p.nets-lon
 pub slice_bounds-priced-end : goal.slice_bounds-priced-end
 slice_bounds-priced-end c =
     let p = c.requires.0.parts in
-    sym (length-take-le c.args.job.counts.candidates c.args.job.nets (omega (arith, p.nets-long, parts-few p)))
+    sym (length-take-le c.args.job.now.counts.candidates c.args.job.now.nets (omega (arith, p.nets-long, parts-few p)))
 
 pub slice_bounds-weights-end : goal.slice_bounds-weights-end
 slice_bounds-weights-end c = let p = c.requires.0.parts in omega (arith, p.weights-long, parts-few p)
@@ -38,13 +38,13 @@ slice_bounds-weights-end c = let p = c.requires.0.parts in omega (arith, p.weigh
 pub slice_bounds-priced-end-2 : goal.slice_bounds-priced-end-2
 slice_bounds-priced-end-2 c =
     let p = c.requires.0.parts in
-    sym (length-take-le c.args.job.counts.candidates c.args.job.weights (omega (arith, p.weights-long, parts-few p)))
+    sym (length-take-le c.args.job.now.counts.candidates c.args.job.now.weights (omega (arith, p.weights-long, parts-few p)))
 
 pub see_skipped-requires : goal.see_skipped-requires
 see_skipped-requires c =
     let p = c.requires.0.parts in
     let few = parts-few p in
-    let b = below-taken c.args.job.nets (omega arith) (omega (arith, p.nets-long)) c.requires.1 in
+    let b = below-taken c.args.job.now.nets (omega arith) (omega (arith, p.nets-long)) c.requires.1 in
     c.best_support-best.ensures.held_support.1 b
 
 pub returns : goal.returns
