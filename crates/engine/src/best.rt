@@ -126,11 +126,11 @@ impl Priced<'_> {
         ensures set_value { result.set ≡ pick.set }
         ensures counted_of { (j : Job) → PricedOf j self.now → PickOf j pick → CountedOf j result }
     {
-        if 0 < pick.gates {
+        if pick.gates.is_some() {
             return pick;
         }
         let mut counted = pick;
-        counted.gates = patch_gates(&self.sets_of(pick.set), pick.len, self.targets);
+        counted.gates = Some(patch_gates(&self.sets_of(pick.set), pick.len, self.targets));
         counted
     }
 
@@ -148,7 +148,7 @@ impl Priced<'_> {
         }
         let was = self.counted(best);
         let mut now = from;
-        now.gates = patch_gates(sets, from.len, self.targets);
+        now.gates = Some(patch_gates(sets, from.len, self.targets));
         if precedes(now, was) { now } else { was }
     }
 
@@ -174,7 +174,7 @@ impl Priced<'_> {
                 set: 2 * from.set,
                 cost: from.cost,
                 len: from.len - 1,
-                gates: 0,
+                gates: None,
             };
             found = self.best_from(best, without, place, fewer, rest);
         }
@@ -182,7 +182,7 @@ impl Priced<'_> {
             set: 2 * from.set + 1,
             cost: from.cost + u32::from(self.weights[place]),
             len: from.len,
-            gates: 0,
+            gates: None,
         };
         self.best_from(found, with, place, sets, room)
     }
@@ -200,13 +200,13 @@ impl Priced<'_> {
             set: reading_count(count) - 1,
             cost: sum_weights(self.weights),
             len: count,
-            gates: 0,
+            gates: None,
         };
         let none = Pick {
             set: 0,
             cost: 0,
             len: count,
-            gates: 0,
+            gates: None,
         };
         let mut room = [0u32; READINGS];
         let sets = self.sets;

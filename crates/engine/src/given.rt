@@ -153,7 +153,7 @@ pub(super) fn see_skipped(
     skipped: usize,
     sets: &mut [u32; READINGS],
 )
-    requires { MiterRoom miter × NetsRead support.nets support.len × (length sets.old ≡ 1024) }
+    requires { MiterRoom miter × NetsRead support.nets support.len }
     ensures unseen { (j : Job) (is : List ℕ) → MergedOf j miter → take support.len support.nets ≡ is
         → all' (candidate_good j) is ≡ true → GivenBits j is sets.old skipped → Unseen j is sets.new }
     ensures same_vectors { SameVectors sets.old sets.new }

@@ -45,7 +45,7 @@ see_skipped-requires c =
     let p = c.requires.0.parts in
     let few = parts-few p in
     let b = below-taken c.args.job.nets (omega arith) (omega (arith, p.nets-long)) c.requires.1 in
-    (c.merged_miter-miter.ensures.miter_room, c.best_support-best.ensures.held_support.1 b, omega arith)
+    (c.merged_miter-miter.ensures.miter_room, c.best_support-best.ensures.held_support.1 b)
 
 pub returns : goal.returns
 returns c j p =
