@@ -18,7 +18,7 @@ use mathlib.Core.List.{List, [], ◌∷◌, ◌++◌, map, map-map, append-nil, 
 use native.Mathlib.Nat.{pow-suc, div-one}
 use native.Mathlib.Numerals.{add-one}
 use native.Mathlib.Omega.{arith}
-use borrow.Author.Tests.{ltb-true, eqb-true, lt-ltb, eq-eqb}
+use borrow.Author.Tests.{ltb-true, eqb-true, eqb-false, lt-ltb, eq-eqb}
 use lib.Pow.{pow_pos, shr-shr}
 use lib.Dec.{ltb, eqb}
 use lib.ListN.{length, get_or, take, drop, set, length-append}
@@ -37,7 +37,7 @@ use Rattle.std.proofs.lemmas.List.Sums.{sum_by-append, sum_by-cons}
 use Rattle.std.proofs.Common.{cond, Ordering, Less, Equal, Greater, is_lt, is_eq, nat_cmp}
 use Rattle.std.specs.Ordering.{ordering_then}
 use Rattle.engine.specs.Inner.Best.{picked, low_first, open_at}
-use Rattle.engine.proofs.Laws.Choice.{map-agree}
+use Rattle.engine.proofs.Laws.Choice.{map-agree, true-or-false}
 use Rattle.engine.proofs.Laws.Eval.{Bits, bits-nil, bits-cons, bit-lt}
 use Rattle.engine.proofs.Laws.Support.{subsets-among}
 
@@ -297,6 +297,15 @@ ranked c d m n k l t =
     ∙ ap (λ (u : Bool). ltb c d || (eqb c d && u))
     (decided-cond (ltb m n) (eqb m n) (decided (nat_cmp k l) t)
     ∙ ap (λ (u : Bool). ltb m n || (eqb m n && u)) (decided-cond (ltb k l) (eqb k l) t))
+
+-- a candidate is in both sets, or in none
+pub in-both : (i a b : ℕ) → eqb (bit i a) 1 ≡ eqb (bit i b) 1 → a / 2 ^ i % 2 ≡ b / 2 ^ i % 2
+unfolding bit
+in-both i a b e =
+    ⊎_elim
+    (λ (o : eqb (a / 2 ^ i % 2) 1 ≡ true). eqb-true (a / 2 ^ i % 2) 1 o ∙ sym (eqb-true (b / 2 ^ i % 2) 1 (sym e ∙ o)))
+    (λ (o : eqb (a / 2 ^ i % 2) 1 ≡ false). omega (arith, eqb-false (a / 2 ^ i % 2) 1 o, eqb-false (b / 2 ^ i % 2) 1 (sym e ∙ o)))
+    (true-or-false (eqb (a / 2 ^ i % 2) 1))
 
 low_first-same : (n a b : ℕ) → a % 2 ≡ b % 2 → low_first (suc n) a b ≡ low_first n (a / 2) (b / 2)
 unfolding low_first
