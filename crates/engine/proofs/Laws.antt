@@ -22,6 +22,7 @@ pub mod Given
 pub mod Imply
 pub mod Guess
 pub mod Join
+pub mod InPlace
 pub mod Kernel
 pub mod Leaves
 pub mod Loop

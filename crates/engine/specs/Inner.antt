@@ -3,6 +3,7 @@
 pub mod Packed
 pub mod Operands
 pub mod Kernel
+pub mod Shifted
 pub mod Miter
 pub mod List
 pub mod Turn

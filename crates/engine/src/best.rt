@@ -98,7 +98,7 @@ fn patch_gates(sets: &[u32], len: usize, targets: usize) -> usize
 impl Priced<'_> {
     // The nets of a set.
     fn support_of(&self, set: usize) -> Support
-        ensures { PickedNets self.now.nets.now set result × (Below 1024 self.now.nets.now → NetsRead result.nets result.len) }
+        ensures { PickedNets self.now.nets.now set result × (Below 1024 self.now.nets.now → NetsRead result) }
     {
         let mut picks = [0u16; CANDIDATES];
         let mut len = 0usize;
@@ -199,7 +199,7 @@ impl Priced<'_> {
     // as many more as the entries of their tables that the count of their gates reads.
     pub(super) fn best_support(&self) -> Chosen
         ensures held_support { HeldSupport result.support
-            × (Below 1024 self.now.nets.now → NetsRead result.support.nets result.support.len) }
+            × (Below 1024 self.now.nets.now → NetsRead result.support) }
         ensures chosen_of { (j : Job) → Choosable j self.now → ChosenOf j result.support result.cost result.sets
             × ((k : ℕ) → GivenBits j (candidate_nets j) self.now.sets.now k → GivenBits j (chosen j) result.sets k) }
     {

@@ -6,7 +6,7 @@ ghost use Rattle.records.specs.Parts.{PartsOf};
 ghost use Rattle.engine.specs.Support.{sound, candidate_nets, chosen};
 ghost use Rattle.engine.specs.Verdict.{blind_reading, chosen_bytes};
 ghost use Rattle.engine.specs.Reply.{declined_choose, choose_reply};
-ghost use Rattle.engine.specs.Inner.Miter.{SomeParts, MiterRoom, MergedOf};
+ghost use Rattle.engine.specs.Inner.Miter.{SomeParts, MergedOf};
 ghost use Rattle.engine.specs.Inner.Plan.{NetsRead};
 ghost use Rattle.engine.specs.Inner.Search.{SetsTo};
 ghost use Rattle.engine.specs.Inner.Best.{HeldSupport, ChosenOf};
@@ -86,7 +86,15 @@ fn rule_patch(support: Support, cost: u32, sets: &[u32; READINGS], reply: &mut [
 {
     let table = fill_table(sets, support.len);
     let notes = fill_notes(sets, support.len);
-    let len = put_patch(reply, support, &table, cost, &notes);
+    let nets = support.nets;
+    let count = reading_count(support.len);
+    let len = put_patch(
+        reply,
+        &nets[..support.len],
+        &table[..count],
+        cost,
+        &notes[..count],
+    );
     ChooseReply {
         number: 0,
         len,
@@ -95,16 +103,15 @@ fn rule_patch(support: Support, cost: u32, sets: &[u32; READINGS], reply: &mut [
 }
 
 // The sets of all readings of these nets, over all inputs of a miter.
-fn reading_sets(miter: Miter, reads: Support) -> Met
-    requires { MiterRoom miter × NetsRead reads.nets reads.len }
-    ensures { (j : Job) → MergedOf j miter → take reads.len reads.nets ≡ candidate_nets j
+fn reading_sets(miter: &Miter, reads: Support) -> Met
+    requires { NetsRead reads }
+    ensures { (j : Job) → MergedOf j miter.now → take reads.len reads.nets ≡ candidate_nets j
         → SetsTo j (2 ^ j.inputs) result.skipped result.sets }
 {
     if miter.inputs <= WORD_INPUTS {
-        return sets_of_words(miter, reads.nets, reads.len);
+        return sets_of_words(miter, reads);
     }
-    let targets = miter.targets;
-    sets_of_inputs(&plan_of(miter, reads, targets))
+    sets_of_inputs(&plan_of(miter, reads, miter.targets))
 }
 
 // The choice on a good job's parts, and its sheet.
@@ -115,12 +122,12 @@ fn choose_job(job: JobParts, reply: &mut [u8]) -> ChooseReply
     let candidates = job.counts.candidates;
     let nets = job.nets;
     let weights = job.weights;
-    let miter = merged_miter(job);
+    let miter = merged_miter(&job);
     let reads = Support {
         nets,
         len: candidates,
     };
-    let met = reading_sets(miter, reads);
+    let met = reading_sets(&miter, reads);
     if let Some(reading) = first_empty(&met.sets[..reading_count(candidates)]) {
         return rule_blind(reading, reply);
     }
@@ -133,7 +140,7 @@ fn choose_job(job: JobParts, reply: &mut [u8]) -> ChooseReply
     let best = priced.best_support();
     let support = best.support;
     let mut sets = best.sets;
-    see_skipped(miter, support, met.skipped, &mut sets);
+    see_skipped(&miter, support, met.skipped, &mut sets);
     rule_patch(support, best.cost, &sets, reply)
 }
 

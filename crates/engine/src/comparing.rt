@@ -91,7 +91,7 @@ fn compare_sheet(job: JobParts, sheet: &[u8]) -> CompareReply
     }
     let support = answer.support;
     let table = table_of(sheet, answer.table, reading_count(support.len));
-    let plan = plan_of(merged_miter(job), support, 0);
+    let plan = plan_of(&merged_miter(&job), support, 0);
     CompareReply {
         number: 0,
         result: first_difference(&plan, &table),

@@ -11,10 +11,10 @@ ghost use Rattle.engine.specs.Inner.Fitting.{TreesPlaced, side_job, Fittable, pa
 ghost use Rattle.engine.specs.Inner.Renumber.{old_base};
 
 use super::limits::LONGEST_FIT;
-use super::miter::miter_of;
+use super::miter::Miter;
 use super::netlist::put_netlist;
 use super::planning::mark_from;
-use super::renumber::{NewSide, OldSide, move_nets, number_inputs, place_marked};
+use super::renumber::{NewSide, OldSide, move_nets, number_inputs};
 use super::table::reading_count;
 use super::tree::{put_trees, trees_size};
 use records::{CANDIDATES, Check, GATES, JobParts, OUTPUTS, Support, load, read_sheet};
@@ -28,77 +28,61 @@ pub struct FitReply {
 
 // A tree for each target, over the support's nets at their new numbers, behind the new gates. The targets get the nets of their
 // trees as their numbers.
-fn place_trees(
-    table: &[u8],
-    support: Support,
-    inputs: usize,
-    targets: usize,
-    new: NewSide,
-) -> NewSide
-    requires len_bound { (support.len ≤ 10) × (support.len ≤ length support.nets) × (2 ^ support.len ≤ length table.now)
-        × Nets support.len support.nets }
-    requires targets_bound { (targets ≤ 4) × (inputs + targets ≤ 1024) × (length new.numbers ≡ 1024) × Nets 1024 new.numbers }
-    requires gate_room { GateRoom inputs (new.count + trees_size targets 0 support.len table.now) new.gates }
-    ensures { TreesPlaced inputs targets (take support.len support.nets)
-        (take (2 ^ support.len) table.now) new result }
+fn place_trees(table: &[u8], support: &Support, inputs: usize, targets: usize, new: &mut NewSide)
+    requires len_bound { (support.now.len ≤ 10) × (2 ^ support.now.len ≤ length table.now) × Nets support.now.len support.now.nets }
+    requires targets_bound { (targets ≤ 4) × (inputs + targets ≤ 1024) × Nets 1024 new.old.numbers }
+    requires gate_room { GateRoom inputs (new.old.count + trees_size targets 0 support.now.len table.now) new.old.gates }
+    ensures { TreesPlaced inputs targets (take support.now.len support.now.nets)
+        (take (2 ^ support.now.len) table.now) new.old new.new }
 {
-    let nets = support.nets;
     let len = support.len;
-    let mut numbers = new.numbers;
-    let mut gates = new.gates;
-    let mut moved = [0u16; CANDIDATES];
-    move_nets(&nets, len, &numbers, &mut moved);
-    let count = put_trees(
+    let mut nets = support.nets;
+    move_nets(&mut nets[..len], &new.numbers);
+    new.count = put_trees(
         table,
         len,
         targets,
-        moved,
+        nets,
         inputs,
         new.count,
-        &mut numbers,
-        &mut gates,
+        &mut new.numbers,
+        &mut new.gates,
     );
-    NewSide {
-        count,
-        numbers,
-        gates,
-    }
 }
 
 // The gates of the patched netlist and each old net's new number.
-fn place_gates(old: OldSide, support: Support, table: &[u8]) -> NewSide
-    requires { Fittable old support table.now × (patched_count old support table.now ≤ 400) }
-    ensures { GatesPlaced (side_job old []) (take support.len support.nets)
-        (take (2 ^ support.len) table.now) result }
+fn place_gates(old: &OldSide, support: &Support, table: &[u8]) -> NewSide
+    requires { Fittable old.now support.now table.now × (patched_count old.now support.now table.now ≤ 400) }
+    ensures { GatesPlaced (side_job old.now []) (take support.now.len support.now.nets)
+        (take (2 ^ support.now.len) table.now) result }
 {
-    let numbers = number_inputs(old.inputs);
-    let gates = [0u64; GATES];
-    let start = NewSide {
+    let mut new = NewSide {
         count: 0,
-        numbers,
-        gates,
+        numbers: number_inputs(old.inputs),
+        gates: [0; GATES],
     };
-    let free = place_marked(old, 0, start);
-    let grown = place_trees(table, support, old.inputs, old.targets, free);
-    place_marked(old, 1, grown)
+    new.place_marked(old, 0);
+    place_trees(table, support, old.inputs, old.targets, &mut new);
+    new.place_marked(old, 1);
+    new
 }
 
-// The reply to a patch that can be fitted to the old side with the first count outputs, and its netlist, or number 9.
+// The reply to a patch that can be fitted to the old side with these outputs, and its netlist, or number 9.
 fn fit_patch(
-    old: OldSide,
-    outputs: [u16; OUTPUTS],
-    count: usize,
-    support: Support,
+    old: &OldSide,
+    outputs: &[u16],
+    support: &Support,
     table: &[u8],
     reply: &mut [u8],
 ) -> FitReply
-    requires fittable { Fittable old support table.now × (4075 ≤ length reply.old) }
-    requires count_bound { (count ≤ 32) × ((i : ℕ) → i < count → get_or outputs i 0 < old_base old + old.count) }
+    requires fittable { Fittable old.now support.now table.now × (4075 ≤ length reply.old) }
+    requires outputs_bound { (length outputs.now ≤ 32)
+        × ((i : ℕ) → i < length outputs.now → get_or outputs.now i 0 < old_base old.now + old.now.count) }
     ensures { FitGives
-        (patch_number (side_job old (take count outputs)) (take support.len support.nets)
-        (take (2 ^ support.len) table.now))
-        (fitted_bytes (side_job old (take count outputs)) (take support.len support.nets)
-        (take (2 ^ support.len) table.now))
+        (patch_number (side_job old.now outputs.now) (take support.now.len support.now.nets)
+        (take (2 ^ support.now.len) table.now))
+        (fitted_bytes (side_job old.now outputs.now) (take support.now.len support.now.nets)
+        (take (2 ^ support.now.len) table.now))
         reply.old result reply.new }
 {
     let size = trees_size(table, support.len, old.targets);
@@ -106,63 +90,59 @@ fn fit_patch(
         return FitReply { number: 9, len: 0 };
     }
     let new = place_gates(old, support, table);
-    let numbers = new.numbers;
-    let gates = new.gates;
-    let mut nets = [0u16; OUTPUTS];
-    move_nets(&outputs, count, &numbers, &mut nets);
-    let len = put_netlist(reply, old.inputs, gates, new.count, nets, count);
+    let mut places = [0u16; OUTPUTS];
+    let nets = &mut places[..outputs.len()];
+    nets.copy_from_slice(outputs);
+    move_nets(nets, &new.numbers);
+    let len = put_netlist(reply, old.inputs, &new.gates[..new.count], nets);
     FitReply { number: 0, len }
 }
 
 // The reply to a sheet's bytes for a job's parts and old side, and its netlist, or number 7, 8 or 9.
-fn fit_sheet(old: OldSide, job: JobParts, sheet: &[u8], reply: &mut [u8]) -> FitReply
-    requires { FitReady old job × (4075 ≤ length reply.old) }
-    ensures { (j : Job) → PartsOf j job → OldOf j old
+fn fit_sheet(old: &OldSide, job: &JobParts, sheet: &[u8], reply: &mut [u8]) -> FitReply
+    requires { FitReady old.now job.now × (4075 ≤ length reply.old) }
+    ensures { (j : Job) → PartsOf j job.now → OldOf j old.now
         → FitGives (sheet_fit_number j sheet.now)
         (fitted_bytes j (patch_of sheet.now).support (patch_of sheet.now).table)
         reply.old result reply.new }
 {
     let counts = job.counts;
-    let nets = job.nets;
-    let weights = job.weights;
-    let answer = read_sheet(counts.targets, counts.candidates, &nets, &weights, sheet);
+    let answer = read_sheet(
+        counts.targets,
+        counts.candidates,
+        &job.nets,
+        &job.weights,
+        sheet,
+    );
     if answer.number != 0 {
         return FitReply {
             number: answer.number,
             len: 0,
         };
     }
-    let outputs = job.outputs;
-    let side = counts.old;
-    let support = answer.support;
     let start = answer.table;
-    let end = start + reading_count(support.len);
+    let end = start + reading_count(answer.support.len);
     fit_patch(
         old,
-        outputs,
-        side.outputs,
-        support,
+        &job.outputs[..counts.old.outputs],
+        &answer.support,
         &sheet[start..end],
         reply,
     )
 }
 
 // The old side of a job's parts: its gates are the first of the miter's.
-fn old_side(job: JobParts) -> OldSide
-    requires { SomeParts job }
-    ensures { (j : Job) → PartsOf j job → OldOf j result }
+fn old_side(job: &JobParts) -> OldSide
+    requires { SomeParts job.now }
+    ensures { (j : Job) → PartsOf j job.now → OldOf j result }
 {
-    let counts = job.counts;
-    let side = counts.old;
-    let count = side.gates;
-    let miter = miter_of(job);
-    let inputs = miter.inputs;
-    let targets = miter.targets;
+    let count = job.counts.old.gates;
+    let miter = Miter::of_parts(job);
+    let marks = mark_from(&miter.gates[..count], miter.inputs, miter.targets);
     let gates = miter.gates;
-    let marks = mark_from(&gates[..count], inputs, targets);
     OldSide {
-        inputs,
-        targets,
+        inputs: miter.inputs,
+        targets: miter.targets,
         count,
         gates,
         marks,
@@ -188,6 +168,6 @@ pub fn fit(job: &[u8], sheet: &[u8], reply: &mut [u8]) -> FitReply
             len: 0,
         };
     };
-    let old = old_side(parts);
-    fit_sheet(old, parts, sheet, reply)
+    let old = old_side(&parts);
+    fit_sheet(&old, &parts, sheet, reply)
 }

@@ -1,10 +1,10 @@
 // Which readings of a support inputs give. A reading is unseen while no input looked at gives it: bit 16 of its set is 1.
-ghost use Rattle.std.specs.Prelude.{◌≡◌, true, List, ℕ, ◌/◌, ◌<◌, eqb, length, take};
+ghost use Rattle.std.specs.Prelude.{◌≡◌, true, List, ℕ, ◌/◌, ◌<◌, eqb, take};
 ghost use Rattle.records.specs.Bytes.{all as all'};
 ghost use Rattle.records.specs.Job.{Job};
 ghost use Rattle.records.specs.Refusal.{candidate_good};
 ghost use Rattle.engine.specs.Eval.{bit};
-ghost use Rattle.engine.specs.Inner.Miter.{MiterRoom, MergedOf};
+ghost use Rattle.engine.specs.Inner.Miter.{MergedOf};
 ghost use Rattle.engine.specs.Inner.Plan.{NetsRead};
 ghost use Rattle.engine.specs.Inner.Search.{BlockRange};
 ghost use Rattle.engine.specs.Inner.Best.{GivenBits};
@@ -148,13 +148,13 @@ fn see_inputs(plan: &Plan, skipped: usize, sets: &mut [u32; READINGS])
 // tell already, and nothing is evaluated. Else a cover of the unseen readings is made, at a cost that imply.rt says. Where cubes are left that an
 // input may give, each block of 1,024 inputs of these ranges, until all readings are seen, costs what see_block says.
 pub(super) fn see_skipped(
-    miter: Miter,
+    miter: &Miter,
     support: Support,
     skipped: usize,
     sets: &mut [u32; READINGS],
 )
-    requires { MiterRoom miter × NetsRead support.nets support.len }
-    ensures unseen { (j : Job) (is : List ℕ) → MergedOf j miter → take support.len support.nets ≡ is
+    requires { NetsRead support }
+    ensures unseen { (j : Job) (is : List ℕ) → MergedOf j miter.now → take support.len support.nets ≡ is
         → all' (candidate_good j) is ≡ true → GivenBits j is sets.old skipped → Unseen j is sets.new }
     ensures same_vectors { SameVectors sets.old sets.new }
 {

@@ -3,14 +3,15 @@
 // one or two vectors: two tables of listed vectors drive the old circuit, one after the other. At each reading of the candidates the first
 // has one that rectified the inputs looked at which give it, up to one for which there was none, and the second one that rectified those
 // from there on which the first did not. Where an input is left, all vectors are evaluated, and the tables learn.
-ghost use Rattle.std.specs.Prelude.{◌≡◌, true, false, ℕ, ◌*◌, ◌^◌, ◌≤◌, ◌<◌, eqb, get_or, take};
+ghost use Rattle.std.specs.Prelude.{◌≡◌, true, false, ℕ, ◌*◌, ◌^◌, ◌≤◌, ◌<◌, eqb};
 ghost use Rattle.records.specs.Job.{Job};
 ghost use Rattle.engine.specs.Choice.{any};
 ghost use Rattle.engine.specs.Eval.{bit};
 ghost use Rattle.engine.specs.Support.{candidate_nets};
+ghost use Rattle.engine.specs.Inner.List.{listed_of};
 ghost use Rattle.engine.specs.Inner.Search.{FreeKept};
 ghost use Rattle.engine.specs.Inner.Plan.{TurnsOf};
-ghost use Rattle.engine.specs.Inner.Guess.{ListTo, OfListed, BlockGuessed, BlockShown, BlockListed};
+ghost use Rattle.engine.specs.Inner.Guess.{ListTo, listed_pair, OfListed, BlockGuessed, BlockShown, BlockListed};
 
 use super::drive::{driven_row, table_rows};
 use super::leaves::{block_inputs, equal_row};
@@ -22,6 +23,7 @@ use super::plan::Plan;
 use super::search::{first_tries, read_block, settled_from, vector_block};
 use super::trust::{first_trust, more, next_tries, next_trust};
 use super::word::{first_zero, join_rows, lowest_of};
+use std::array;
 
 // The vector list after a block, how far the tables are trusted then, and whether they are to be made anew.
 #[derive(Drop)]
@@ -39,32 +41,32 @@ enum Shown {
     Not,
 }
 
-// The first len vectors of a list, as a set.
-fn listed_set(list: [u8; VECTORS], len: usize) -> u16
-    requires { (len ≤ 16) × ((i : ℕ) → get_or list i 0 < 16) }
-    ensures { (v : ℕ) → v < 16 → bit v result ≡ 1 → any (eqb v) (take len list) ≡ true }
+// The listed vectors, as a set.
+fn listed_set(list: &Vectors) -> usize
+    ensures { (v : ℕ) → v < 16 → bit v result ≡ 1 → any (eqb v) (listed_of list.now).vectors ≡ true }
 {
-    let mut set = 0u16;
-    for i in 0..len {
-        set = set | (1u16 << (list[i] as usize));
+    let mut set = 0usize;
+    for &v in list.listed() {
+        set |= 1 << v;
     }
     set
 }
 
-// The two tables: at each reading the smallest listed vector of its first set and, 16 times, that of its second, 0 where there is none.
-fn listed_table(sets: [u32; READINGS], list: Vectors) -> [u16; READINGS]
-    ensures { OfListed list result }
+// The smallest listed vector of the first of two sets and, 16 times, that of the second, 0 where there is none.
+fn listed_pair(both: usize, listed: usize) -> u16
+    ensures { result ≡ listed_pair listed both }
 {
-    let vectors = list.list;
-    let listed = listed_set(vectors, list.len) as usize;
-    let mut table = [0u16; READINGS];
-    for r in 0..READINGS {
-        let both = sets[r] as usize;
-        let first = lowest_of(both & listed);
-        let second = lowest_of((both >> 16) & listed);
-        table[r] = (first + VECTORS * second) as u16;
-    }
-    table
+    let first = lowest_of(both & listed);
+    let second = lowest_of((both >> 16) & listed);
+    (first + VECTORS * second) as u16
+}
+
+// The two tables: such a pair at each reading.
+fn listed_table(sets: &[u32; READINGS], list: &Vectors) -> [u16; READINGS]
+    ensures { OfListed list.now result }
+{
+    let listed = listed_set(list);
+    array::from_fn(|r| listed_pair(sets[r] as usize, listed))
 }
 
 // Whether each of the first count inputs of a block is rectified by one of the two tables' vectors. It costs one gate evaluation a gate that a
@@ -94,10 +96,9 @@ fn try_listed(plan: &Plan, list: Vectors, count: usize, words: &mut [u64; WORDS]
     ensures free_kept { FreeKept plan.now words.old words.new }
     ensures block_shown { result ≡ true → BlockShown plan.now words.old list count }
 {
-    let vectors = list.list;
     let mut row = [0u64; ROW];
-    for i in 0..list.len {
-        vector_block(plan, vectors[i] as usize, words);
+    for &v in list.listed() {
+        vector_block(plan, v as usize, words);
         let next = join_rows(row, equal_row(plan, words));
         row = next;
         if count <= first_zero(row) {
@@ -115,16 +116,13 @@ fn few_listed(plan: &Plan, len: usize, trust: usize) -> bool {
     }
     let vector = 2 * plan.ends[1] + 3 * plan.outs;
     let free = 2 * plan.ends[0];
-    if len == 2 {
-        return vector < free + 450;
+    match len {
+        1 => true,
+        2 => vector < free + 450,
+        3 => vector < free + 225,
+        4 => vector < free + 150,
+        _ => false,
     }
-    if len == 3 {
-        return vector < free + 225;
-    }
-    if len == 4 {
-        return vector < free + 150;
-    }
-    len == 1
 }
 
 // How it is shown that a block leaves the list as it is: that way is tried which costs less.
@@ -232,7 +230,7 @@ pub(super) fn list_of_inputs(plan: &Plan) -> Vectors
             }
             trust = next.trust;
             if next.anew {
-                table = listed_table(sets, list);
+                table = listed_table(&sets, &list);
             }
             b += 1;
         } else {

@@ -9,7 +9,7 @@ ghost use Rattle.engine.specs.Rectify.{vector_loop};
 ghost use Rattle.engine.specs.Inner.List.{listed_of};
 ghost use Rattle.engine.specs.Support.{candidate_nets};
 ghost use Rattle.engine.specs.Inner.Guess.{ListTo};
-ghost use Rattle.engine.specs.Inner.Miter.{SomeParts, MiterRoom, MergedOf};
+ghost use Rattle.engine.specs.Inner.Miter.{SomeParts, MergedOf};
 ghost use Rattle.engine.specs.Inner.Plan.{NetsRead};
 ghost use Rattle.engine.specs.Inner.Judging.{JudgedJob};
 
@@ -60,7 +60,7 @@ fn rule_list(list: Vectors, reply: &mut [u8]) -> JudgeReply
     ensures { (j : Job) → listed_of list ≡ vector_loop j → JudgedJob j reply.old result reply.new }
 {
     if let Some(input) = list.stuck {
-        let len = put_unfixable(reply, input, list.list, list.len);
+        let len = put_unfixable(reply, input, &list.list[..list.len]);
         return JudgeReply {
             number: 0,
             len,
@@ -69,7 +69,7 @@ fn rule_list(list: Vectors, reply: &mut [u8]) -> JudgeReply
             }),
         };
     }
-    let len = put_vectors(reply, 0, list.list, list.len);
+    let len = put_vectors(reply, 0, &list.list[..list.len]);
     JudgeReply {
         number: 0,
         len,
@@ -78,15 +78,14 @@ fn rule_list(list: Vectors, reply: &mut [u8]) -> JudgeReply
 }
 
 // The vector list over all inputs of a miter; of the nets read the tables are made (see guess.rt).
-fn vector_list(miter: Miter, reads: Support) -> Vectors
-    requires { MiterRoom miter × NetsRead reads.nets reads.len }
-    ensures { (j : Job) → MergedOf j miter → take reads.len reads.nets ≡ candidate_nets j → ListTo j (2 ^ j.inputs) result }
+fn vector_list(miter: &Miter, reads: Support) -> Vectors
+    requires { NetsRead reads }
+    ensures { (j : Job) → MergedOf j miter.now → take reads.len reads.nets ≡ candidate_nets j → ListTo j (2 ^ j.inputs) result }
 {
     if miter.inputs <= WORD_INPUTS {
         return list_of_words(miter);
     }
-    let targets = miter.targets;
-    list_of_inputs(&plan_of(miter, reads, targets))
+    list_of_inputs(&plan_of(miter, reads, miter.targets))
 }
 
 // The judgement on a good job's parts, and its sheet.
@@ -99,7 +98,7 @@ fn judge_job(job: JobParts, reply: &mut [u8]) -> JudgeReply
         nets,
         len: job.counts.candidates,
     };
-    let list = vector_list(merged_miter(job), candidates);
+    let list = vector_list(&merged_miter(&job), candidates);
     rule_list(list, reply)
 }
 

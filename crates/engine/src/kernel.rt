@@ -49,12 +49,10 @@ fn gate_words(c: u64, words: &[u64; WORDS]) -> [u64; ROW]
     let mut r = [0u64; ROW];
     let mut op = 3u64;
     let mut rest = c / SLOTS_AT;
-    let mut i = c / COUNT_AT % COUNTS;
-    while 0 < i {
+    for _ in 0..c / COUNT_AT % COUNTS {
         join(op, ROW * (rest % NET) as usize, &mut r, words);
         op = c / 2 % 8;
-        rest = rest / NET;
-        i -= 1;
+        rest /= NET;
     }
     r
 }

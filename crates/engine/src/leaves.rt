@@ -15,10 +15,7 @@ use std::array;
 pub(super) fn block_inputs(left: usize) -> usize
     ensures { result ≡ min left 1024 }
 {
-    if left < BLOCK {
-        return left;
-    }
-    BLOCK
+    left.min(BLOCK)
 }
 
 // The row r becomes that of net i. (The kernel's store has one caller, so that it is part of the kernel's loop.)
@@ -94,7 +91,7 @@ fn keep_equal(a: usize, b: usize, r: &mut [u64; ROW], words: &[u64; WORDS])
         ≡ cond (eqb (value_in words.now y a) (value_in words.now y b)) (row_value r.old y) 0 }
 {
     for w in 0..ROW {
-        r[w] = r[w] & (words[ROW * a + w] ^ words[ROW * b + w] ^ !0);
+        r[w] &= words[ROW * a + w] ^ words[ROW * b + w] ^ !0;
     }
 }
 

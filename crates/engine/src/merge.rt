@@ -3,13 +3,13 @@
 // them out. Outputs that have come to be one net need not be compared, nor what leads to them alone be evaluated.
 ghost use Rattle.std.specs.Prelude.{◌≡◌, true, ◌+◌, ◌-◌, ◌≤◌, ◌<◌, length, get_or};
 ghost use Rattle.records.specs.Job.{Job};
-ghost use Rattle.engine.specs.Inner.Renumber.{gate_in};
+ghost use Rattle.engine.specs.Inner.Packed.{gate_in};
 ghost use Rattle.records.specs.Parts.{PartsOf};
-ghost use Rattle.engine.specs.Inner.Miter.{SomeParts, MiterRoom, MiterOf, MergedOf};
+ghost use Rattle.engine.specs.Inner.Miter.{SomeParts, MiterOf, MergedOf};
 ghost use Rattle.engine.specs.Inner.Merge.{Backward, GatesMerged, PairsKept};
 
 use super::limits::{LEAST_TO_MERGE, MITER_GATES, NETS};
-use super::miter::{Miter, miter_of};
+use super::miter::Miter;
 use super::packed::{NET, NET_AT, SLOTS_AT};
 use super::renumber::{move_nets, moved_code, number_inputs};
 use records::{JobParts, OUTPUTS};
@@ -62,11 +62,11 @@ fn find(gates: &[u64; MITER_GATES], next: &[u16; MITER_GATES], from: usize, c: u
 // The gates with each operand replaced by the net that stands for it: that of an earlier gate alike, or itself. Gates are found by chains: heads
 // has for each place one more than the index of the last gate that has it, next for each gate one more than that of the one before it with
 // the same place, and 0 where there is none. It costs some steps a gate, since chains are short.
-fn merge_gates(base: usize, count: usize, gates: [u64; MITER_GATES]) -> MergedGates
-    requires { (base + count ≤ 1024) × (count ≤ 800) × (length gates ≡ 800) }
-    ensures { GatesMerged base count gates result }
+fn merge_gates(base: usize, count: usize, gates: &[u64; MITER_GATES]) -> MergedGates
+    requires { (base + count ≤ 1024) × (count ≤ 800) }
+    ensures { GatesMerged base count gates.now result }
 {
-    let mut gates = gates;
+    let mut gates = *gates;
     let mut stands = number_inputs(base + count);
     let mut heads = [0u16; NETS];
     let mut next = [0u16; MITER_GATES];
@@ -85,20 +85,18 @@ fn merge_gates(base: usize, count: usize, gates: [u64; MITER_GATES]) -> MergedGa
     MergedGates { gates, stands }
 }
 
-// The first outs pairs, but for those of one net, which are equal whatever it is.
-fn pairs_apart(outputs: [u16; OUTPUTS], goldens: [u16; OUTPUTS], outs: usize) -> Pairs
-    requires { (outs ≤ 32) × (length outputs ≡ 32) × (length goldens ≡ 32) }
-    ensures { PairsKept outputs goldens outs result }
+// The pairs of the old nets and the golden ones, but for those of one net, which are equal whatever it is.
+fn pairs_apart(outputs: &[u16], goldens: &[u16]) -> Pairs
+    requires { (length outputs.now ≤ 32) × (length goldens.now ≡ length outputs.now) }
+    ensures { PairsKept outputs.now goldens.now result }
 {
     let mut olds = [0u16; OUTPUTS];
     let mut news = [0u16; OUTPUTS];
     let mut count = 0usize;
-    for i in 0..outs {
-        let a = outputs[i];
-        let b = goldens[i];
-        if a != b {
-            olds[count] = a;
-            news[count] = b;
+    for (a, b) in outputs.iter().zip(goldens) {
+        if *a != *b {
+            olds[count] = *a;
+            news[count] = *b;
             count += 1;
         }
     }
@@ -110,44 +108,39 @@ fn pairs_apart(outputs: [u16; OUTPUTS], goldens: [u16; OUTPUTS], outs: usize) ->
 }
 
 // The miter with its gates merged, and the pairs of the nets that stand for an old output and its golden one, where they are not one net.
-fn merged(miter: Miter) -> Miter
-    requires { MiterRoom miter }
-    ensures miter_room { MiterRoom result }
-    ensures merged_of { (j : Job) → MiterOf j miter → MergedOf j result }
+fn merged(miter: &Miter) -> Miter
+    ensures { (j : Job) → MiterOf j miter.now → MergedOf j result }
 {
-    let gates = miter.gates;
-    let goldens = miter.goldens;
-    let outputs = miter.outputs;
-    let merged = merge_gates(miter.inputs + miter.targets, miter.count, gates);
-    let stands = merged.stands;
-    let mut old_nets = [0u16; OUTPUTS];
-    move_nets(&outputs, OUTPUTS, &stands, &mut old_nets);
-    let mut golden_nets = [0u16; OUTPUTS];
-    move_nets(&goldens, OUTPUTS, &stands, &mut golden_nets);
-    let merged_gates = merged.gates;
-    let pairs = pairs_apart(old_nets, golden_nets, miter.outs);
-    let olds = pairs.outputs;
-    let news = pairs.goldens;
+    let merged = merge_gates(miter.inputs + miter.targets, miter.count, &miter.gates);
+    let outs = miter.outs;
+    let mut outputs = miter.outputs;
+    move_nets(&mut outputs[..outs], &merged.stands);
+    let mut goldens = miter.goldens;
+    move_nets(&mut goldens[..outs], &merged.stands);
+    let pairs = pairs_apart(&outputs[..outs], &goldens[..outs]);
+    let gates = merged.gates;
+    let outputs = pairs.outputs;
+    let goldens = pairs.goldens;
     Miter {
         inputs: miter.inputs,
         targets: miter.targets,
         count: miter.count,
-        gates: merged_gates,
+        gates,
         outs: pairs.count,
-        outputs: olds,
-        goldens: news,
+        outputs,
+        goldens,
     }
 }
 
 // The miter of a good job's parts, its gates merged. A job of few inputs keeps its gates: evaluating them
 // costs less.
-pub(super) fn merged_miter(job: JobParts) -> Miter
-    requires { SomeParts job }
-    ensures miter_room { MiterRoom result }
-    ensures merged_of { (j : Job) → PartsOf j job → MergedOf j result }
+pub(super) fn merged_miter(job: &JobParts) -> Miter
+    requires { SomeParts job.now }
+    ensures { (j : Job) → PartsOf j job.now → MergedOf j result }
 {
-    if job.counts.inputs < LEAST_TO_MERGE {
-        return miter_of(job);
+    let miter = Miter::of_parts(job);
+    if miter.inputs < LEAST_TO_MERGE {
+        return miter;
     }
-    merged(miter_of(job))
+    merged(&miter)
 }

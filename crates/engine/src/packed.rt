@@ -1,8 +1,8 @@
 // A gate in one number, from the lowest bit on: its kind (4 bits), how many operands it has (3), the net that it drives (10), and
 // what stands in its four operand slots (10 each).
-ghost use Rattle.std.specs.Prelude.{◌≡◌, ◌<◌};
+ghost use Rattle.std.specs.Prelude.{◌≡◌, ◌/◌, ◌<◌};
 ghost use Rattle.records.specs.Claims.{Below};
-ghost use Rattle.engine.specs.Inner.Packed.{gate_with, packed, operands_of};
+ghost use Rattle.engine.specs.Inner.Packed.{fields, kind_of, count_of, gate_with, packed, operands_of};
 ghost use Rattle.engine.specs.Inner.Operands.{operands_left};
 
 use records::SLOTS;
@@ -32,6 +32,36 @@ pub(super) fn pack(kind: u8, count: u8, own: usize, slots: [u16; SLOTS]) -> u64
     let low = kind as u64 + COUNT_AT * count as u64 + NET_AT * own as u64;
     let first = SLOTS_AT * slots[0] as u64 + SECOND_AT * slots[1] as u64;
     low + first + THIRD_AT * slots[2] as u64 + FOURTH_AT * slots[3] as u64
+}
+
+// The kind of the gate in the number c.
+pub(super) fn kind_of(c: u64) -> u8
+    ensures { result ≡ kind_of c }
+{
+    (c % COUNT_AT) as u8
+}
+
+// How many operands it has.
+pub(super) fn count_of(c: u64) -> u8
+    ensures { result ≡ count_of c }
+{
+    (c / COUNT_AT % COUNTS) as u8
+}
+
+// What stands in its operand slots.
+pub(super) fn slots_in(c: u64) -> [u16; SLOTS]
+    ensures { result ≡ fields 4 (c / 131072) }
+{
+    let first = c / SLOTS_AT;
+    let second = first / NET;
+    let third = second / NET;
+    let fourth = third / NET;
+    [
+        (first % NET) as u16,
+        (second % NET) as u16,
+        (third % NET) as u16,
+        (fourth % NET) as u16,
+    ]
 }
 
 // The nets of a gate's operands, first to last: those of the slots left, of which rest has the first in its lowest bits.

@@ -5,7 +5,7 @@ ghost use Rattle.records.specs.Job.{Job};
 ghost use Rattle.records.specs.Refusal.{candidate_good};
 ghost use Rattle.records.specs.Claims.{Below};
 ghost use Rattle.engine.specs.Inner.Packed.{operands_of};
-ghost use Rattle.engine.specs.Inner.Miter.{MiterRoom, MergedOf};
+ghost use Rattle.engine.specs.Inner.Miter.{MergedOf};
 ghost use Rattle.engine.specs.Inner.Plan.{code_mark, marked_all, live_from, live_marks, leaves_from, marks_from, picked};
 ghost use Rattle.engine.specs.Inner.Plan.{ListPut, ListsUpTo, NetsRead, ReadsOf, PlannedOf, TurnsOf};
 
@@ -148,10 +148,10 @@ fn live_marks(gates: &[u64], outputs: &[u16], goldens: &[u16], reads: &[u16]) ->
 
 // The plan of a search over a miter's inputs where these nets are read, with lists for so many targets: all of them, or none where no target
 // is set by itself.
-pub(super) fn plan_of(miter: Miter, reads: Support, turns: usize) -> Plan
-    requires { MiterRoom miter × NetsRead reads.nets reads.len × (turns ≤ miter.targets) }
-    ensures { (j : Job) (is : List ℕ) → MergedOf j miter → take reads.len reads.nets ≡ is → all (candidate_good j) is ≡ true
-        → PlannedOf j is result × (turns ≡ miter.targets → TurnsOf j is result) }
+pub(super) fn plan_of(miter: &Miter, reads: Support, turns: usize) -> Plan
+    requires { NetsRead reads × (turns ≤ miter.now.targets) }
+    ensures { (j : Job) (is : List ℕ) → MergedOf j miter.now → take reads.len reads.nets ≡ is → all (candidate_good j) is ≡ true
+        → PlannedOf j is result × (turns ≡ miter.now.targets → TurnsOf j is result) }
 {
     let from = &miter.gates[..miter.count];
     let live = live_marks(
@@ -176,9 +176,9 @@ pub(super) fn plan_of(miter: Miter, reads: Support, turns: usize) -> Plan
 
 // The plan of a walk over a miter's inputs that reads these nets and compares no outputs: its gates lead to these nets, and no target leads
 // to them.
-pub(super) fn reads_of(miter: Miter, reads: Support) -> Plan
-    requires { MiterRoom miter × NetsRead reads.nets reads.len }
-    ensures { (j : Job) (is : List ℕ) → MergedOf j miter → take reads.len reads.nets ≡ is
+pub(super) fn reads_of(miter: &Miter, reads: Support) -> Plan
+    requires { NetsRead reads }
+    ensures { (j : Job) (is : List ℕ) → MergedOf j miter.now → take reads.len reads.nets ≡ is
         → all (candidate_good j) is ≡ true → ReadsOf j is result }
 {
     let from = &miter.gates[..miter.count];

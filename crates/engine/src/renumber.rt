@@ -1,23 +1,29 @@
 // The nets of a patched netlist: each old net's new number, and gates and nets at their new numbers.
-ghost use Rattle.std.specs.Prelude.{◌≡◌, map, ◌+◌, ◌≤◌, ◌<◌, length, get_or, take};
+ghost use Rattle.std.specs.Prelude.{◌≡◌, map, true, ℕ, ◌+◌, ◌≤◌, ◌<◌, length, get_or};
 ghost use Rattle.records.specs.Claims.{Below};
+ghost use Rattle.records.specs.Netlist.{net_at, fanout};
+ghost use Rattle.records.specs.Refusal.{gates_good};
 ghost use Rattle.engine.specs.Fit.{moved};
-ghost use Rattle.engine.specs.Inner.Packed.{packed};
-ghost use Rattle.engine.specs.Inner.Tree.{Nets, GateRoom};
-ghost use Rattle.engine.specs.Inner.Renumber.{gate_in, OldHeld, InputsNumbered, with_mark, MarkedPlaced};
+ghost use Rattle.engine.specs.Inner.Packed.{gate_in, unpacked, packed};
+ghost use Rattle.engine.specs.Inner.Tree.{Nets, InputsNumbered};
 
 use super::limits::{MITER_GATES, NETS};
-use super::packed::{COUNT_AT, COUNTS, NET, SLOTS_AT, pack};
+use super::packed::{count_of, kind_of, pack, slots_in};
 use records::{GATES, SLOTS};
 
 // A job's old netlist as fit reads it: packed gates, the first of the miter's, and a mark for each net that a target leads to.
-#[derive(Clone, Copy)]
+#[derive(Drop)]
 pub struct OldSide {
     pub inputs: usize,
     pub targets: usize,
     pub count: usize,
     pub gates: [u64; MITER_GATES],
     pub marks: [u8; NETS],
+    ghost inputs_bound: { inputs ≤ 20 },
+    ghost targets_bound: { targets ≤ 4 },
+    ghost count_bound: { count ≤ 400 },
+    ghost good: { gates_good (inputs + targets) (unpacked count gates) ≡ true },
+    ghost led: { (i : ℕ) → i < inputs + targets + count → get_or marks i 0 ≡ net_at (fanout inputs targets (unpacked count gates)) i },
 }
 
 // A patched netlist as it grows: how many gates it has, each old net's new number, and the packed gates.
@@ -26,6 +32,29 @@ pub struct NewSide {
     pub count: usize,
     pub numbers: [u16; NETS],
     pub gates: [u64; GATES],
+}
+
+impl NewSide {
+    ghost use Rattle.engine.specs.Inner.Tree.{GateRoom};
+    ghost use Rattle.engine.specs.Inner.Renumber.{with_mark, MarkedPlaced};
+
+    // Puts the old gates with this mark, in their order, behind its gates, numbered from its next net on.
+    pub(super) fn place_marked(&mut self, old: &OldSide, mark: u8)
+        requires { Nets 1024 self.old.numbers
+            × GateRoom old.now.inputs (self.old.count + length (with_mark old.now mark)) self.old.gates }
+        ensures { MarkedPlaced old.now mark self.old self.new }
+    {
+        let base = old.inputs + old.targets;
+        for i in 0..old.count {
+            let net = base + i;
+            if old.marks[net] == mark {
+                let own = old.inputs + self.count;
+                self.numbers[net] = own as u16;
+                self.gates[self.count] = moved_code(old.gates[i], own, &self.numbers);
+                self.count += 1;
+            }
+        }
+    }
 }
 
 // The numbers of the inputs stay.
@@ -40,32 +69,14 @@ pub(super) fn number_inputs(inputs: usize) -> [u16; NETS]
     numbers
 }
 
-// The first count nets at their new numbers.
-pub(super) fn move_nets(nets: &[u16], count: usize, numbers: &[u16; NETS], out: &mut [u16])
-    requires { (count ≤ length nets.now) × (count ≤ length out.old) × Nets count nets.now }
-    ensures { take count out.new
-        ≡ map (λ o. get_or numbers.now o 0) (take count nets.now) }
+// The nets at their new numbers.
+pub(super) fn move_nets(nets: &mut [u16], numbers: &[u16; NETS])
+    requires { Below 1024 nets.old }
+    ensures { nets.new ≡ map (λ o. get_or numbers.now o 0) nets.old }
 {
-    for i in 0..count {
-        let a = nets[i] as usize;
-        out[i] = numbers[a];
+    for net in nets.iter_mut() {
+        *net = numbers[*net as usize];
     }
-}
-
-// The operand slots of the gate in the number c, those that it uses at their new numbers.
-fn moved_slots(c: u64, numbers: &[u16; NETS]) -> [u16; SLOTS]
-    requires { Nets 1024 numbers.now }
-    ensures { (result ≡ (moved numbers.now (gate_in c)).slots) × Below 1024 result }
-{
-    let mut r = [0u16; SLOTS];
-    let mut rest = c / SLOTS_AT;
-    let count = (c / COUNT_AT % COUNTS) as usize;
-    for i in 0..SLOTS {
-        let net = (rest % NET) as usize;
-        r[i] = if i < count { numbers[net] } else { net as u16 };
-        rest = rest / NET;
-    }
-    r
 }
 
 // The gate in the number c at its new numbers, driving net own, in one number.
@@ -73,41 +84,9 @@ pub(super) fn moved_code(c: u64, own: usize, numbers: &[u16; NETS]) -> u64
     requires { (own < 1024) × Nets 1024 numbers.now }
     ensures { result ≡ packed own (moved numbers.now (gate_in c)) }
 {
-    let slots = moved_slots(c, numbers);
-    pack(
-        (c % COUNT_AT) as u8,
-        (c / COUNT_AT % COUNTS) as u8,
-        own,
-        slots,
-    )
-}
-
-// The old gates with this mark, in their order, numbered from the new netlist's next net on and put behind its gates.
-pub(super) fn place_marked(old: OldSide, mark: u8, new: NewSide) -> NewSide
-    requires old_held { OldHeld old × (length new.numbers ≡ 1024) × Nets 1024 new.numbers }
-    requires gate_room { GateRoom old.inputs (new.count + length (with_mark old mark)) new.gates }
-    ensures { MarkedPlaced old mark new result }
-{
-    let marks = old.marks;
-    let codes = old.gates;
-    let inputs = old.inputs;
-    let base = inputs + old.targets;
-    let many = old.count;
-    let mut numbers = new.numbers;
-    let mut gates = new.gates;
-    let mut count = new.count;
-    for i in 0..many {
-        let net = base + i;
-        if marks[net] == mark {
-            let own = inputs + count;
-            numbers[net] = own as u16;
-            gates[count] = moved_code(codes[i], own, &numbers);
-            count += 1;
-        }
-    }
-    NewSide {
-        count,
-        numbers,
-        gates,
-    }
+    let count = count_of(c);
+    let used = SLOTS.min(count as usize);
+    let mut slots = slots_in(c);
+    move_nets(&mut slots[..used], numbers);
+    pack(kind_of(c), count, own, slots)
 }

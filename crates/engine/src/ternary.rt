@@ -3,7 +3,14 @@
 ghost use Rattle.std.specs.Prelude.{min, ◌≡◌, map, take};
 ghost use Rattle.engine.specs.Ternary.{unknown, ternary_value, ternary_table, entry};
 
-use records::{SLOTS, wide};
+use records::SLOTS;
+
+// The kinds not and and, and an operand that is not yet known.
+const NOT: u8 = 3;
+
+const AND: u8 = 4;
+
+const UNKNOWN: usize = 2;
 
 // The tables, by kind; the first operand picks the row. A kind of one operand looks at the first alone, a constant at none.
 const TABLES: [[[u8; 3]; 3]; 10] = [
@@ -30,20 +37,11 @@ pub fn ternary_table(kind: u8) -> [[u8; 3]; 3]
     }
 }
 
-// An operand as a place in the table: what is neither 0 nor 1 is not yet known.
-fn place(x: usize) -> usize
-    ensures { result ≡ min x unknown }
-{
-    if x < 2 { x } else { 2 }
-}
-
-// The entry of a table at two operands; the first picks the row.
+// The entry of a table at two operands; the first picks the row. An operand that is neither 0 nor 1 is not yet known.
 pub fn ternary_entry(table: [[u8; 3]; 3], a: usize, b: usize) -> u8
     ensures { result ≡ entry table a b }
 {
-    let i = place(a);
-    let j = place(b);
-    table[i][j]
+    table[a.min(UNKNOWN)][b.min(UNKNOWN)]
 }
 
 // What is known of a gate of this kind on what is known of its first count operands, of all four where count is above 4: the plain
@@ -56,12 +54,13 @@ pub fn ternary_value(kind: u8, count: u8, operands: [u8; SLOTS]) -> u8
     }
     let plain = kind - kind % 2;
     let table = ternary_table(plain);
-    let mut r = if plain == 4 { 1 } else { 0 };
-    for i in (0..if count < 4 { count as usize } else { SLOTS }).rev() {
-        r = ternary_entry(table, wide(operands[i]), wide(r));
+    let mut r = if plain == AND { 1 } else { 0 };
+    let used = SLOTS.min(count as usize);
+    for i in (0..used).rev() {
+        r = ternary_entry(table, operands[i] as usize, r as usize);
     }
     if kind % 2 == 1 {
-        return ternary_entry(ternary_table(3), wide(r), 0);
+        return ternary_entry(ternary_table(NOT), r as usize, 0);
     }
     r
 }

@@ -1,29 +1,29 @@
 -- Laws of fit's code (specs/Fitting): new numbers of nets, and gates moved to them. Assumes nothing.
-use Prim.Native.Nat.{ℕ, zero, suc, ◌+◌, ◌-◌, ◌^◌, ◌/◌, ◌%◌, ◌≤◌, ◌<◌}
+use Prim.Native.Nat.{ℕ, zero, suc, ◌+◌, ◌-◌, ◌^◌, ◌/◌, min, ◌≤◌, ◌<◌}
 use mathlib.Core.Path.{◌≡◌, refl, sym, ◌∙◌, ap}
 use mathlib.Core.Logic.{⊎_elim}
 use mathlib.Core.List.{List, [], ◌∷◌, ◌++◌, map, append-nil, map-append, Memᴰ as Mem}
 use mathlib.Core.Bool.{Bool, true, false, cond}
 use native.Mathlib.Nat.{add-zero, zero-add}
-use native.Mathlib.Numerals.{add-one}
 use native.Mathlib.Omega.{arith}
-use borrow.Author.Tests.{eq-eqb, ne_eqb, eqb-true, eqb-false, ltb-true, ltb-false, lt-ltb, le-ltb}
+use borrow.Author.Tests.{eq-eqb, ne_eqb, eqb-true, eqb-false, ltb-true, ltb-false}
 use lib.Dec.{eqb, ltb}
-use lib.ListN.{length, get_or, take, drop, set, replicate, length-set, length-append, length-map, length-replicate, get_or-map}
+use lib.ListN.{length, get_or, take, drop, set, replicate, length-set, length-append, length-map, length-replicate, get_or-append, get_or-map}
 use lib.ListN.{get_or-replicate}
-use lib.Seq.{append_snoc, drop-nil, length-take-le, get_or-take, get_or-set_same, get_or-set_other, take-length, take-nil, take-suc-set}
-use Rattle.records.specs.Bytes.{up_from, all}
+use lib.Seq.{length-take-le, get_or-take, get_or-set_same, get_or-set_other}
+use Rattle.std.proofs.lemmas.List.{take_all, drop_all}
+use Rattle.records.specs.Bytes.{up_from}
 use Rattle.records.specs.Gate.{Gate, gate_of, operands, unused}
-use Rattle.records.specs.Netlist.{net_at}
+use Rattle.records.specs.Netlist.{net_at, fanout}
+use Rattle.records.specs.Refusal.{gates_good}
 use Rattle.records.specs.Claims.{Below}
-use Rattle.records.proofs.Laws.Accepted.{below-of-all}
 use Rattle.records.proofs.Laws.Bytes.{length-up_from}
 use Rattle.records.proofs.Laws.Gate.{gate_good-parts}
 use Rattle.engine.specs.Choice.{keep}
 use Rattle.engine.specs.Fit.{moved}
-use Rattle.engine.specs.Inner.Packed.{fields, kind_of, count_of, gate_with, packed, packed_from}
-use Rattle.engine.specs.Inner.Tree.{Nets, GateRoom, GatesPut, TreesPut}
-use Rattle.engine.specs.Inner.Renumber.{gate_in, unpacked, old_gates, old_base, OldHeld, indices_with, InputsNumbered, Numbered}
+use Rattle.engine.specs.Inner.Packed.{fields, kind_of, count_of, gate_with, packed, packed_from, gate_in, unpacked}
+use Rattle.engine.specs.Inner.Tree.{Nets, GateRoom, GatesPut, TreesPut, InputsNumbered}
+use Rattle.engine.specs.Inner.Renumber.{old_gates, old_base, indices_with, Numbered}
 use Rattle.engine.specs.Inner.Renumber.{moved_from, with_mark, MarkedPlaced}
 use Rattle.engine.specs.Inner.Fitting.{TreesPlaced}
 use Rattle.engine.specs.declared.renumber.NewSide.{NewSide}
@@ -31,7 +31,7 @@ use Rattle.engine.specs.declared.renumber.OldSide.{OldSide}
 use Rattle.engine.proofs.Laws.Choice.{true-or-false, length-keep-le, mem-keep, mem_below, map-agree, all_true}
 use Rattle.engine.proofs.Laws.FitGates.{no_gate, good-at}
 use Rattle.engine.proofs.Laws.FitNets.{get_or-defaults}
-use Rattle.engine.proofs.Laws.List.{set_below}
+use Rattle.engine.proofs.Laws.InPlace.{mapped, take-mapped}
 use Rattle.engine.proofs.Laws.Tree.{gates-put-one, gates-put-append, gates-put-same, room-kept, room-less}
 
 -- ---- keep
@@ -211,102 +211,51 @@ indices_with-le ms base b i n h =
 
 -- ---- gates at their new numbers
 
--- the slots ss, the first n of them at their new numbers
-abbrev moved_slots : List ℕ → ℕ → List ℕ → List ℕ
-moved_slots ns n ss = map (net_at ns) (take n ss) ++ drop n ss
+pub below-fields : (n x : ℕ) → Below 1024 (fields n x)
+unfolding fields
+below-fields zero x i = omega arith
+below-fields (suc n) x zero = omega arith
+below-fields (suc n) x (suc i) = below-fields n (x / 1024) i
 
-moved_slots-cons : (ns : List ℕ) (n i x : ℕ) (xs : List ℕ)
-    → moved_slots ns (n - i) (x ∷ xs) ≡ cond (ltb i n) (net_at ns x) x ∷ moved_slots ns (n - (i + 1)) xs
-moved_slots-cons ns n i x xs =
+take-min : (n : ℕ) (xs : List ℕ) → length xs ≡ 4 → (take (min 4 n) xs ≡ take n xs) × (drop (min 4 n) xs ≡ drop n xs)
+take-min n xs h =
     ⊎_elim
-    (λ (t : ltb i n ≡ true).
-    let h = ltb-true i n t in
-    let m : n - i ≡ suc (n - (i + 1)) = omega arith in
-    rw (t, m))
-    (λ (t : ltb i n ≡ false).
-    let h = ltb-false i n t in
-    let m : n - i ≡ 0 = omega arith in
-    let o : n - (i + 1) ≡ 0 = omega arith in
-    rw (t, m, o))
-    (true-or-false (ltb i n))
+    (λ (t : ltb n 4 ≡ true).
+    let l = ltb-true n 4 t in
+    let e : min 4 n ≡ n = omega arith in
+    (ap (λ (k : ℕ). take k xs) e, ap (λ (k : ℕ). drop k xs) e))
+    (λ (t : ltb n 4 ≡ false).
+    let l = ltb-false n 4 t in
+    let e : min 4 n ≡ 4 = omega arith in (
+      ap (λ (k : ℕ). take k xs) e ∙ take_all 4 xs (omega arith) ∙ sym (take_all n xs (omega arith)),
+      ap (λ (k : ℕ). drop k xs) e ∙ drop_all 4 xs (omega arith) ∙ sym (drop_all n xs (omega arith)),
+    ))
+    (true-or-false (ltb n 4))
 
--- slot i of n that are used, or more
-pub slot-used : (i n a b : ℕ) {v : ℕ} → i < n → v ≡ a → v ≡ cond (ltb i n) a b
-slot-used i n a b h e = rw (lt-ltb i n h) e
-
-pub slot-unused : (i n a b : ℕ) {v : ℕ} → n ≤ i → v ≡ b → v ≡ cond (ltb i n) a b
-slot-unused i n a b h e = rw (le-ltb i n h) e
-
--- the first i slots of the gate in c stand in r as they are to be, and the others, as they were, in the number rest
-pub record Moving (ns : List ℕ) (c : ℕ) (r : List ℕ) (rest i : ℕ) : Type 0 where
-  pub most : i ≤ 4
-  pub long : length r ≡ 4
-  pub below : Below 1024 r
-  pub slots : take i r ++ moved_slots ns (count_of c - i) (fields (4 - i) rest) ≡ (moved ns (gate_in c)).slots
-
-module _ (ns : List ℕ) (c : ℕ) where
-  pub moving-none : Moving ns c (replicate 4 0) (c / 131072) 0
-  unfolding moved gate_in operands unused all
-  moving-none =
-      let e : count_of c - 0 ≡ count_of c = omega arith in
-      record {
-        most = omega arith;
-        long = refl;
-        below = below-of-all 1024 (omega arith) (replicate 4 0) refl;
-        slots = rw e;
-      }
-
-  module _ {r : List ℕ} {rest i : ℕ} (w : Moving ns c r rest i) where
-    -- a turn: slot i, with the value v that its use gives
-    pub moving-next : Nets 1024 ns → i < 4 → {v : ℕ} → v ≡ cond (ltb i (count_of c)) (get_or ns (rest % 1024) 0) (rest % 1024)
-        → Moving ns c (set r i v) (rest / 1024) (i + 1)
-    unfolding fields net_at
-    moving-next p l {v} e =
-        let x = rest % 1024 in
-        let h : x < 1024 = omega arith in
-        let q = p x h in
-        let b : v < 1024 =
-        rw e
-        (⊎_elim
-        (λ (t : ltb i (count_of c) ≡ true). rw t q)
-        (λ (t : ltb i (count_of c) ≡ false). rw t h)
-        (true-or-false (ltb i (count_of c)))) in
-        let n = count_of c - (i + 1) in
-        let k : 4 - i ≡ suc (4 - (i + 1)) = omega arith in
-        let left = moved_slots ns n (fields (4 - (i + 1)) (rest / 1024)) in
-        record {
-          most = omega arith;
-          long = length-set r i v ∙ w.long;
-          below = set_below r i v 1024 w.below b;
-          slots =
-              ap (λ (z : ℕ). take z (set r i v) ++ left) (add-one i)
-              ∙ ap (λ (z : List ℕ). z ++ left) (take-suc-set r i v (omega (arith, w.long)))
-              ∙ append_snoc (take i r) v left
-              ∙ ap (λ (z : ℕ). take i r ++ (z ∷ left)) e
-              ∙ ap (λ (z : List ℕ). take i r ++ z) (sym (moved_slots-cons ns (count_of c) i x (fields (4 - (i + 1)) (rest / 1024))))
-              ∙ ap (λ (z : ℕ). take i r ++ moved_slots ns (count_of c - i) (fields z rest)) (sym k)
-              ∙ w.slots;
-        }
-
-    pub moving-all : 4 ≤ i → (r ≡ (moved ns (gate_in c)).slots) × Below 1024 r
-    unfolding fields
-    moving-all l =
-        let e : i ≡ 4 = omega (arith, w.most) in
-        let n = count_of c - 4 in
-        let z : moved_slots ns n [] ≡ [] = rw (take-nil {A = ℕ} n, drop-nil {A = ℕ} n) in (
-          sym (append-nil r)
-              ∙ ap (λ (k : List ℕ). r ++ k) (sym z)
-              ∙ ap (λ (k : List ℕ). k ++ moved_slots ns n []) (sym (take-length r) ∙ ap (λ (k : ℕ). take k r) w.long)
-              ∙ (rw e at w.slots),
-          w.below,
-        )
-
-  -- the gate with these slots
-  pub gate-moved : {r : List ℕ} → r ≡ (moved ns (gate_in c)).slots → gate_with (kind_of c) (count_of c) r ≡ moved ns (gate_in c)
-  unfolding moved gate_in
-  gate-moved e = rw e
+-- the gate in the number c, its used slots at their new numbers
+pub moved-packed : (ns : List ℕ) (c d : ℕ)
+    → packed d (gate_with (kind_of c) (count_of c) (mapped (λ o. get_or ns o 0) (min 4 (count_of c)) (fields 4 (c / 131072))))
+    ≡ packed d (moved ns (gate_in c))
+unfolding moved gate_in operands unused fields net_at
+moved-packed ns c d =
+    let t = take-min (count_of c) (fields 4 (c / 131072)) refl in
+    rw (t.0, t.1)
 
 -- ---- the loop that numbers and puts them
+
+-- what an old side keeps, and how long its array of gates is
+pub record OldHeld (o : OldSide) : Type 0 where
+  pub inputs : o.inputs ≤ 20
+  pub targets : o.targets ≤ 4
+  pub count : o.count ≤ 400
+  pub long : length o.gates ≡ 800
+  pub good : gates_good (old_base o) (old_gates o) ≡ true
+  pub marks : (i : ℕ) → i < old_base o + o.count
+      → get_or o.marks i 0 ≡ net_at (fanout o.inputs o.targets (old_gates o)) i
+
+pub old-held : (o : OldSide) → length o.gates ≡ 800 → OldHeld o
+old-held o l =
+    record { inputs = o.inputs_bound; targets = o.targets_bound; count = o.count_bound; long = l; good = o.good; marks = o.led }
 
 module _ (o : OldSide) (h : OldHeld o) where
   pub length-old : length (old_gates o) ≡ o.count
@@ -431,21 +380,26 @@ module _ (o : OldSide) (b : ℕ) (new : NewSide) where
 -- ---- the trees
 
 -- nets at their numbers are nets
-pub moved-nets : (k : ℕ) (ns is js : List ℕ) → k ≤ length is → take k js ≡ map (λ o. get_or ns o 0) (take k is)
-    → Nets k is → Nets 1024 ns → Nets k js
-moved-nets k ns is js l e p q i h =
+pub moved-nets : (k : ℕ) (ns is : List ℕ) {js : List ℕ} → k ≤ length is → js ≡ map (λ o. get_or ns o 0) (take k is)
+    → Nets k is → Nets 1024 ns → Nets k (js ++ drop k is)
+moved-nets k ns is {js} l e p q i h =
     let f : ℕ → ℕ = λ o. get_or ns o 0 in
-    let n : i < length (map f (take k is)) = omega (arith, length-map (take k is) f, length-take-le k is l) in
-    let x : get_or js i 0 ≡ get_or ns (get_or is i 0) 0 =
-    sym (get_or-take k js i 0 h)
-    ∙ ap (λ (xs : List ℕ). get_or xs i 0) e
-    ∙ get_or-defaults (map f (take k is)) i 0 (f 0) n
+    let xs : List ℕ = map f (take k is) in
+    let n : i < length xs = omega (arith, length-map (take k is) f, length-take-le k is l) in
+    let x : get_or (js ++ drop k is) i 0 ≡ get_or ns (get_or is i 0) 0 =
+    ap (λ (ys : List ℕ). get_or (ys ++ drop k is) i 0) e
+    ∙ get_or-append xs (drop k is) 0 i n
+    ∙ get_or-defaults xs i 0 (f 0) n
     ∙ get_or-map f (take k is) i 0
     ∙ ap f (get_or-take k is i 0 h) in
     rw x (q (get_or is i 0) (p i h))
 
-pub trees-placed : (n m k : ℕ) (nets : List ℕ) (a b : NewSide) {tb is : List ℕ}
-    → take k is ≡ map (λ o. get_or a.numbers o 0) (take k nets)
-    → TreesPut m k n is tb a.count a.numbers a.gates b.count b.numbers b.gates
+pub trees-placed : (n m k : ℕ) (nets : List ℕ) (a b : NewSide) {tb js : List ℕ} → k ≤ length nets
+    → js ≡ map (λ o. get_or a.numbers o 0) (take k nets)
+    → TreesPut m k n (js ++ drop k nets) tb a.count a.numbers a.gates b.count b.numbers b.gates
     → TreesPlaced n m (take k nets) (take (2 ^ k) tb) a b
-trees-placed n m k nets a b e w = record { gates = rw e at w.gates; nets = rw e at w.nets }
+trees-placed n m k nets a b {tb} {js} l e w =
+    let f : ℕ → ℕ = λ o. get_or a.numbers o 0 in
+    let t : take k (js ++ drop k nets) ≡ map f (take k nets) =
+    ap (λ (ys : List ℕ). take k (ys ++ drop k nets)) e ∙ take-mapped f k nets l in
+    record { gates = rw t at w.gates; nets = rw t at w.nets }

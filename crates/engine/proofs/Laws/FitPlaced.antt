@@ -19,17 +19,17 @@ use Rattle.records.specs.Netlist.{net_at}
 use Rattle.records.specs.Job.{Job}
 use Rattle.records.specs.Refusal.{gates_good, netlists_good, old_nets}
 use Rattle.records.specs.declared.sheet.Support.{Support}
-use Rattle.records.proofs.Laws.Bytes.{and_both, length-up_from, length-placed}
+use Rattle.records.proofs.Laws.Bytes.{and_both, length-up_from}
 use Rattle.engine.specs.Choice.{keep}
 use Rattle.engine.specs.Fit.{led, gate_indices, rank, Trees, trees, new_free_net, new_nets, moved_gates, fitted}
 use Rattle.engine.specs.Inner.Packed.{packed_from}
-use Rattle.engine.specs.Inner.Tree.{Nets, GateRoom, GatesPut, trees_size}
-use Rattle.engine.specs.Inner.Renumber.{old_gates, old_base, with_mark, InputsNumbered, Numbered, moved_from, MarkedPlaced, indices_with}
+use Rattle.engine.specs.Inner.Tree.{Nets, GateRoom, GatesPut, trees_size, InputsNumbered}
+use Rattle.engine.specs.Inner.Renumber.{old_gates, old_base, with_mark, Numbered, moved_from, MarkedPlaced, indices_with}
 use Rattle.engine.specs.Inner.Fitting.{numbered_trees, TreesPlaced, old_job, side_job, Fittable, patched_count, GatesPlaced}
 use Rattle.engine.specs.declared.renumber.OldSide.{OldSide}
 use Rattle.engine.specs.declared.renumber.NewSide.{NewSide}
 use Rattle.engine.proofs.Laws.Choice.{mem-keep, mem_below, mem-up_from, map-agree, true-or-false}
-use Rattle.engine.proofs.Laws.FitCode.{keep_append, up_from-append, indices_with-most, length-old, numbered-nets, length-moved_from, moved-agree}
+use Rattle.engine.proofs.Laws.FitCode.{OldHeld, keep_append, up_from-append, indices_with-most, length-old, numbered-nets, length-moved_from, moved-agree}
 use Rattle.engine.proofs.Laws.FitNets.{mark-cases, mark-target, old_net, old_gate, operand_below, operand-unmarked}
 use Rattle.engine.proofs.Laws.FitNets.{NetCase, input, target, gate, net-case, mem-indices, mem-at}
 use Rattle.engine.proofs.Laws.FitNets.{number-input, number-target, number-free, number-led, number-support}
@@ -270,7 +270,7 @@ old_job-good : (n m : ℕ) (gs : List Gate) (os : List ℕ) → gates_good (n + 
 unfolding netlists_good gates_good
 old_job-good n m gs os e = and_both (gates_good (n + m) gs) true e refl
 
-module _ {o : OldSide} {s : Support} {table : List ℕ} (h : Fittable o s table) where
+module _ {o : OldSide} {s : Support} {table : List ℕ} (v : OldHeld o) (h : Fittable o s table) where
   abbrev job : Job
   job = side_job o []
 
@@ -281,21 +281,21 @@ module _ {o : OldSide} {s : Support} {table : List ℕ} (h : Fittable o s table)
   entries = take (2 ^ s.len) table
 
   pub gate-count : length job.old.gates ≡ o.count
-  gate-count = length-old o h.held
+  gate-count = length-old o v
 
   pub net-count : old_nets job ≡ old_base o + o.count
   unfolding old_nets
   net-count = ap (λ (k : ℕ). old_base o + k) gate-count
 
   net-most : old_nets job ≤ 424
-  net-most = let w = h.held in omega (arith, net-count, w.inputs, w.targets, w.count)
+  net-most = let w = v in omega (arith, net-count, w.inputs, w.targets, w.count)
 
   side-marks : MarksOf job o.marks
   unfolding led
-  side-marks i l = h.held.marks i (omega (arith, net-count))
+  side-marks i l = v.marks i (omega (arith, net-count))
 
   pub side-good : netlists_good job ≡ true
-  side-good = old_job-good o.inputs o.targets (old_gates o) [] h.held.good
+  side-good = old_job-good o.inputs o.targets (old_gates o) [] v.good
 
   -- the support's nets are nets
   pub support-nets : Nets s.len s.nets
@@ -308,7 +308,7 @@ module _ {o : OldSide} {s : Support} {table : List ℕ} (h : Fittable o s table)
 
   pub free-room : {cs : List ℕ} → length cs ≡ 400 → GateRoom o.inputs (0 + length (with_mark o 0)) cs
   free-room l =
-      let w = h.held in
+      let w = v in
       let m = indices_with-most o.marks (old_base o) 0 o.count in
       record { long = l; room = omega (arith, w.count); nets = omega (arith, w.inputs, w.count) }
 
@@ -329,14 +329,14 @@ module _ {o : OldSide} {s : Support} {table : List ℕ} (h : Fittable o s table)
     free-most = omega (arith, free-count, indices-all job, gate-count)
 
     pub free-nets : Nets 1024 n₁.numbers
-    free-nets = let w = h.held in numbered-nets w₁.numbered (omega (arith, w.inputs, w.count)) w₀.nets
+    free-nets = let w = v in numbered-nets w₁.numbered (omega (arith, w.inputs, w.count)) w₀.nets
 
     pub trees-room : GateRoom o.inputs (n₁.count + trees_size o.targets 0 s.len table) n₁.gates
     trees-room =
         record {
           long = w₁.gates.long ∙ room;
           room = omega (arith, free-most);
-          nets = omega (arith, free-most, h.held.inputs);
+          nets = omega (arith, free-most, v.inputs);
         }
 
     module _ {n₂ : NewSide} (w₂ : TreesPlaced o.inputs o.targets support entries n₁ n₂) where
@@ -356,7 +356,7 @@ module _ {o : OldSide} {s : Support} {table : List ℕ} (h : Fittable o s table)
           record {
             long = w₂.gates.long ∙ w₁.gates.long ∙ room;
             room = omega (arith, grown, free-most);
-            nets = omega (arith, grown, free-most, h.held.inputs);
+            nets = omega (arith, grown, free-most, v.inputs);
           }
 
       -- the trees' nets are nets
@@ -376,17 +376,10 @@ module _ {o : OldSide} {s : Support} {table : List ℕ} (h : Fittable o s table)
       tree-nets = length-nets o.targets 0 (o.inputs + length (gate_indices job 0)) (map (new_free_net job) support) entries
 
       tree-room : o.inputs + length (trees job support entries).nets ≤ length n₁.numbers
-      tree-room = let w = h.held in omega (arith, tree-nets, w₁.numbered.long, w₀.long, w.inputs, w.targets)
+      tree-room = let w = v in omega (arith, tree-nets, w₁.numbered.long, w₀.long, w.inputs, w.targets)
 
       grown-numbers : n₂.numbers ≡ placed n₁.numbers o.inputs (trees job support entries).nets
       grown-numbers = w₂.nets ∙ ap (λ (x : Trees). placed n₁.numbers o.inputs x.nets) same
-
-      pub grown-long : length n₂.numbers ≡ 1024
-      grown-long =
-          ap length grown-numbers
-          ∙ length-placed n₁.numbers o.inputs (trees job support entries).nets tree-room
-          ∙ w₁.numbered.long
-          ∙ w₀.long
 
       pub grown-nets : Nets 1024 n₂.numbers
       grown-nets i l =

@@ -8,7 +8,7 @@ use native.Mathlib.Omega.{arith}
 use borrow.Author.Tests.{le-leb, lt-leb, ne_eqb, ltb-true}
 use lib.Dec.{leb, ltb}
 use lib.ListN.{length, get_or, take, drop, length-drop}
-use lib.Seq.{length-take-le, get_or-take, take_all}
+use lib.Seq.{length-take-le, take_all}
 use Rattle.records.specs.Gate.{Gate}
 use Rattle.records.specs.Netlist.{net_at}
 use Rattle.records.specs.Job.{Job, Candidate, job_of}
@@ -28,7 +28,8 @@ use Rattle.engine.specs.Inner.Sheet.{BytesPut}
 use Rattle.engine.specs.Fit.{led, gate_indices, new_free_gate, new_free_net, trees, new_gate, new_nets, moved_gates, fitted, fitted_bytes, fits, longest_fit}
 use Rattle.engine.specs.Compare.{pair_tests}
 use Rattle.engine.specs.Reply.{fit_tests, fit_number, fit_reply, fitted_buffer}
-use Rattle.engine.specs.Inner.Renumber.{gate_in, old_gates, old_base, OldHeld, unpacked}
+use Rattle.engine.specs.Inner.Packed.{gate_in, unpacked}
+use Rattle.engine.specs.Inner.Renumber.{old_gates, old_base}
 use Rattle.engine.specs.Inner.Fitting.{old_job, side_job, GatesPlaced, Fittable, patched_count, FitGives, patch_number, sheet_fit_number, OldOf}
 use Rattle.engine.specs.Inner.Netlist.{netlist_bytes}
 use Rattle.engine.specs.declared.fitting.FitReply.{FitReply}
@@ -37,6 +38,7 @@ use Rattle.engine.specs.declared.renumber.OldSide.{OldSide}
 use Rattle.engine.proofs.Laws.Choice.{map-agree, all_true}
 use Rattle.engine.proofs.Laws.Compare.{failing-append}
 use Rattle.engine.proofs.Laws.FitNets.{old-good, length-fitted, fitted-good, place_of, mem-at}
+use Rattle.engine.proofs.Laws.FitCode.{OldHeld}
 use Rattle.engine.proofs.Laws.FitPlaced.{indices-all, gate-count, net-count, side-good, trees-count}
 use Rattle.engine.proofs.Laws.Fitted.{support-free}
 use Rattle.engine.proofs.Laws.Loaded.{refused-number, refused-job, accepted-job}
@@ -74,7 +76,7 @@ module _ (n m : ℕ) (gs : List Gate) (os : List ℕ) (is t : List ℕ) where
 
 -- ---- a patch
 
-module _ {o : OldSide} {s : Support} {table : List ℕ} (h : Fittable o s table) where
+module _ {o : OldSide} {s : Support} {table : List ℕ} (v : OldHeld o) (h : Fittable o s table) where
   abbrev job : Job
   job = side_job o []
 
@@ -85,7 +87,7 @@ module _ {o : OldSide} {s : Support} {table : List ℕ} (h : Fittable o s table)
   entries = take (2 ^ s.len) table
 
   patched-count : length (fitted job support entries).gates ≡ patched_count o s table
-  patched-count = omega (arith, length-fitted job support entries, indices-all job, gate-count h, trees-count h)
+  patched-count = omega (arith, length-fitted job support entries, indices-all job, gate-count v h, trees-count v h)
 
   module _ (os : List ℕ) where
     fits_count : fits (side_job o os) support entries ≡ leb (patched_count o s table) 400
@@ -110,42 +112,34 @@ module _ {o : OldSide} {s : Support} {table : List ℕ} (h : Fittable o s table)
     patched-gates os =
         ap (map gate_in) w.gates
         ∙ gates-unpacked o.inputs (fitted job support entries).gates
-        (fitted-good job support entries (side-good h) h.free)
+        (fitted-good job support entries (side-good v h) h.free)
         (fitted-formed job support entries (formed-in (take o.count o.gates)))
-        (omega (arith, patched-count, h.held.inputs))
+        (omega (arith, patched-count, v.inputs))
         ∙ sym (bare-gates o.inputs o.targets (old_gates o) os support entries)
 
-    patched-outputs : (os nets : List ℕ) (count : ℕ) → count ≤ length os
-        → ((i : ℕ) → i < count → get_or os i 0 < old_base o + o.count)
-        → take count nets ≡ map (λ i. get_or r.numbers i 0) (take count os)
-        → take count nets ≡ map (net_at (new_nets (side_job o (take count os)) support entries)) (take count os)
-    patched-outputs os nets count c l e =
+    patched-outputs : (os nets : List ℕ) → ((i : ℕ) → i < length os → get_or os i 0 < old_base o + o.count)
+        → nets ≡ map (λ i. get_or r.numbers i 0) os → nets ≡ map (net_at (new_nets (side_job o os) support entries)) os
+    patched-outputs os nets l e =
         e
-        ∙ map-agree (λ i. get_or r.numbers i 0) (net_at (new_nets job support entries)) (take count os)
-        (λ i m. w.numbers i (below i m))
-        ∙ ap (λ (ns : List ℕ). map (net_at ns) (take count os))
-        (sym (bare-nets o.inputs o.targets (old_gates o) (take count os) support entries))
+        ∙ map-agree (λ i. get_or r.numbers i 0) (net_at (new_nets job support entries)) os (λ i m. w.numbers i (below i m))
+        ∙ ap (λ (ns : List ℕ). map (net_at ns) os) (sym (bare-nets o.inputs o.targets (old_gates o) os support entries))
       where
-        below : (i : ℕ) → Mem i (take count os) → i < old_nets job
-        below i m =
-            let p = place_of m in
-            let n : p.0 < count = omega (arith, p.1, length-take-le count os c) in
-            let q : get_or os p.0 0 ≡ i = sym (get_or-take count os p.0 0 n) ∙ p.2 in
-            omega (arith, l p.0 n, net-count h)
+        below : (i : ℕ) → Mem i os → i < old_nets job
+        below i m = let p = place_of m in omega (arith, l p.0 p.1, p.2, net-count v h)
 
-    pub patch-accepted : (os nets d : List ℕ) (count len : ℕ) {e : List ℕ} → count ≤ length os
-        → ((i : ℕ) → i < count → get_or os i 0 < old_base o + o.count)
-        → take count nets ≡ map (λ i. get_or r.numbers i 0) (take count os)
-        → BytesPut d 0 (netlist_bytes o.inputs (unpacked r.count r.gates) (take count nets)) e len
-        → FitGives (patch_number (side_job o (take count os)) support entries)
-        (fitted_bytes (side_job o (take count os)) support entries) d (record { number = 0; len = len }) e
-    patch-accepted os nets d count len {e} c l q p =
-        let j = side_job o (take count os) in
-        let n : patch_number j support entries ≡ 0 = rw (fits_count (take count os), le-leb (patched_count o s table) 400 fit) in
-        let b : netlist_bytes o.inputs (unpacked r.count r.gates) (take count nets) ≡ fitted_bytes j support entries =
-        ap (λ (gs : List Gate). netlist_bytes o.inputs gs (take count nets)) (patched-gates (take count os))
-        ∙ ap (netlist_bytes o.inputs (fitted j support entries).gates) (patched-outputs os nets count c l q)
-        ∙ sym (bytes-netlist o.inputs o.targets (old_gates o) (take count os) support entries) in
+    pub patch-accepted : (os nets d : List ℕ) (len : ℕ) {e : List ℕ}
+        → ((i : ℕ) → i < length os → get_or os i 0 < old_base o + o.count)
+        → nets ≡ map (λ i. get_or r.numbers i 0) os
+        → BytesPut d 0 (netlist_bytes o.inputs (unpacked r.count r.gates) nets) e len
+        → FitGives (patch_number (side_job o os) support entries)
+        (fitted_bytes (side_job o os) support entries) d (record { number = 0; len = len }) e
+    patch-accepted os nets d len {e} l q p =
+        let j = side_job o os in
+        let n : patch_number j support entries ≡ 0 = rw (fits_count os, le-leb (patched_count o s table) 400 fit) in
+        let b : netlist_bytes o.inputs (unpacked r.count r.gates) nets ≡ fitted_bytes j support entries =
+        ap (λ (gs : List Gate). netlist_bytes o.inputs gs nets) (patched-gates os)
+        ∙ ap (netlist_bytes o.inputs (fitted j support entries).gates) (patched-outputs os nets l q)
+        ∙ sym (bytes-netlist o.inputs o.targets (old_gates o) os support entries) in
         gives-accepted (fitted_bytes j support entries) d (patch_number j support entries) len n (rw b at p)
 
 -- ---- the old side of a job
@@ -183,28 +177,12 @@ module _ {j : Job} {o : OldSide} (g : PartsGood j) (w : OldOf j o) where
   side_same : (os : List ℕ) → side_job o os ≡ old_job j.inputs j.targets j.old.gates os
   side_same os = rw (old-same, w.inputs, w.targets)
 
-  old-held : OldHeld o
-  unfolding counts_of side_counts_of led old_nets
-  old-held =
-      let n = within in
-      record {
-        inputs = omega (arith, n.inputs, w.inputs);
-        targets = omega (arith, n.targets, w.targets);
-        count = omega (arith, n.old.gates, w.count);
-        long = w.long;
-        good = rw (old-same, w.inputs, w.targets) (old-good j g.gates);
-        marks = λ i l. rw (old-same, w.inputs, w.targets) (w.marks i (omega (arith, w.inputs, w.targets, w.count)));
-      }
-
   -- the outputs' nets are among the old ones
-  pub outputs-old : (os : List ℕ) {count : ℕ} → count ≡ length j.old.outputs
-      → take (length j.old.outputs) os ≡ j.old.outputs
-      → (i : ℕ) → i < count → get_or os i 0 < old_base o + o.count
+  pub outputs-old : (os : List ℕ) → os ≡ j.old.outputs → (i : ℕ) → i < length os → get_or os i 0 < old_base o + o.count
   unfolding old_nets
-  outputs-old os e f i l =
-      let n : i < length j.old.outputs = omega arith in
-      let q : get_or j.old.outputs i 0 ≡ get_or os i 0 =
-      ap (λ (xs : List ℕ). get_or xs i 0) (sym f) ∙ get_or-take (length j.old.outputs) os i 0 n in
+  outputs-old os f i l =
+      let q : get_or j.old.outputs i 0 ≡ get_or os i 0 = ap (λ (xs : List ℕ). get_or xs i 0) (sym f) in
+      let n : i < length j.old.outputs = omega (arith, ap length f) in
       let b =
       ltb-true (get_or j.old.outputs i 0) (old_nets j)
       (all_true (λ k. ltb k (old_nets j)) j.old.outputs (old-outputs-below j g) (get_or j.old.outputs i 0)
@@ -213,13 +191,17 @@ module _ {j : Job} {o : OldSide} (g : PartsGood j) (w : OldOf j o) where
 
 -- ---- a sheet
 
-pub outputs-count : {j : Job} {parts : JobParts} → PartsOf j parts → parts.counts.old.outputs ≡ length j.old.outputs
+pub outputs-taken : {j : Job} {parts : JobParts} → PartsOf j parts → take parts.counts.old.outputs parts.outputs ≡ j.old.outputs
 unfolding counts_of side_counts_of
-outputs-count q = ap (λ (c : Counts). c.old.outputs) q.counts
+outputs-taken {j} {parts} q = ap (λ (c : Counts). take c.old.outputs parts.outputs) q.counts ∙ q.outputs
 
-pub outputs-most : {j : Job} {parts : JobParts} → PartsOf j parts → parts.counts.old.outputs ≤ 32
+pub outputs-few : {j : Job} {parts : JobParts} → PartsOf j parts → parts.counts.old.outputs ≤ 32
 unfolding counts_of side_counts_of
-outputs-most {j} q = let n = job-within j q.good in omega (arith, outputs-count q, n.old.outputs)
+outputs-few {j} q = let n = job-within j q.good in omega (arith, ap (λ (c : Counts). c.old.outputs) q.counts, n.old.outputs)
+
+pub outputs-most : {j : Job} {parts : JobParts} → PartsOf j parts → length (take parts.counts.old.outputs parts.outputs) ≤ 32
+unfolding counts_of side_counts_of
+outputs-most {j} q = let n = job-within j q.good in omega (arith, ap length (outputs-taken q), n.old.outputs)
 
 -- an accepted sheet passes both of its tests
 sheet-passes : (m : ℕ) (cs : List Candidate) (p : List ℕ) → first_failing (sheet_tests m cs p) ≡ 0
@@ -271,7 +253,6 @@ module _ {j : Job} {parts : JobParts} (q : PartsOf j parts) (p : List ℕ) {a : 
       pub sheet-fittable : Fittable o a.support part
       sheet-fittable =
           record {
-            held = old-held q.good w;
             few = parts-few q p e z;
             long = read.long;
             entries = omega (arith, part-long);
@@ -285,17 +266,14 @@ module _ {j : Job} {parts : JobParts} (q : PartsOf j parts) (p : List ℕ) {a : 
       part-all : take (2 ^ a.support.len) part ≡ (patch_of p).table
       part-all = take_all (2 ^ a.support.len) part (omega (arith, part-long)) ∙ part-table
 
-      pub sheet-accepted : (os : List ℕ) {d f : List ℕ} {count : ℕ} {r : FitReply}
-          → count ≡ length j.old.outputs → take (length j.old.outputs) os ≡ j.old.outputs
-          → FitGives
-          (patch_number (side_job o (take count os)) (take a.support.len a.support.nets) (take (2 ^ a.support.len) part))
-          (fitted_bytes (side_job o (take count os)) (take a.support.len a.support.nets) (take (2 ^ a.support.len) part))
+      pub sheet-accepted : (os : List ℕ) {d f : List ℕ} {r : FitReply} → os ≡ j.old.outputs
+          → FitGives (patch_number (side_job o os) (take a.support.len a.support.nets) (take (2 ^ a.support.len) part))
+          (fitted_bytes (side_job o os) (take a.support.len a.support.nets) (take (2 ^ a.support.len) part))
           d r f
           → FitGives (sheet_fit_number j p) (fitted_bytes j (patch_of p).support (patch_of p).table) d r f
-      sheet-accepted os {d} {f} {count} {r} c v u =
+      sheet-accepted os {d} {f} {r} x u =
           let is = (patch_of p).support in
           let t = (patch_of p).table in
-          let x : take count os ≡ j.old.outputs = ap (λ (n : ℕ). take n os) c ∙ v in
           rw (accepted-number, ← fits-seen j is t, ← bytes-seen j is t)
           (rw (x, read.nets, part-all, side_same q.good w j.old.outputs) at u)
 

@@ -11,14 +11,14 @@ use native.Mathlib.Omega.{arith}
 use borrow.Author.Tests.{eq-eqb, eqb-true}
 use lib.Bits.{bit_and, bit_or}
 use lib.Dec.{eqb}
-use lib.ListN.{length, get_or, take, set, replicate, length-set, length-replicate}
+use lib.ListN.{length, get_or, take, replicate}
 use lib.Pow.{pow_pos, pow_mono}
 use Rattle.records.specs.Job.{Job}
 use Rattle.engine.specs.Choice.{any, or_zero}
 use Rattle.engine.specs.Eval.{bit}
 use Rattle.engine.specs.Rectify.{rectifies, Listed}
 use Rattle.engine.specs.Support.{candidate_nets}
-use Rattle.engine.specs.Inner.Guess.{ListTo, OfListed, BlockGuessed, BlockShown, BlockListed}
+use Rattle.engine.specs.Inner.Guess.{ListTo, listed_pair, OfListed, BlockGuessed, BlockShown, BlockListed}
 use Rattle.engine.specs.Inner.Kernel.{row_value, FirstZero}
 use Rattle.engine.specs.Inner.List.{lowest, listed_from, listed_of, start_list}
 use Rattle.engine.specs.Inner.Masks.{rectifiers}
@@ -32,7 +32,7 @@ use Rattle.engine.proofs.Laws.Compare.{LookedUp, one-true}
 use Rattle.engine.proofs.Laws.Eval.{bit-lt}
 use Rattle.engine.proofs.Laws.Kernel.{row-replicate}
 use Rattle.engine.proofs.Laws.Leaves.{get_or-zeros}
-use Rattle.engine.proofs.Laws.List.{set_holds, zero-listed, listed-cases, listed_from-still}
+use Rattle.engine.proofs.Laws.List.{zero-listed, listed-cases, listed_from-still}
 use Rattle.engine.proofs.Laws.Note.{any_next, either-one, row_value-lt}
 use Rattle.engine.proofs.Laws.Plan.{reads_of, block-free}
 use Rattle.engine.proofs.Laws.Rows.{bit-pow}
@@ -52,11 +52,11 @@ pub set-none : (vs : List ℕ) → SetOf vs 0
 set-none vs v h e = let f : ⊥ = omega (arith, bit-zero v) in absurd f
 
 pub set_next : (list : List ℕ) (i s : ℕ) → i < length list → get_or list i 0 < 16 → SetOf (take i list) s
-    → SetOf (take (i + 1) list) (bit_or s (1 * 2 ^ get_or list i 0 % 65536))
+    → SetOf (take (i + 1) list) (bit_or s (1 * 2 ^ get_or list i 0 % 18446744073709551616))
 set_next list i s l h p v k e =
     let u = get_or list i 0 in
     let m : 2 ^ u ≤ 2 ^ 15 = pow_mono {j = 15} (omega arith) in
-    let q : 1 * 2 ^ u % 65536 ≡ 2 ^ u = omega arith in
+    let q : 1 * 2 ^ u % 18446744073709551616 ≡ 2 ^ u = omega arith in
     any_next (eqb v) list i l
     (⊎_elim
     (λ (a : bit v s ≡ 1). inl (p v k a))
@@ -79,18 +79,6 @@ halves : {a b : ℕ} → a < 16 → b < 16 → ((a + 16 * b) % 16 ≡ a) × ((a 
 halves h k = (omega arith, omega arith)
 
 module _ (s : ℕ) where
-  -- two of these
-  abbrev BothIn : ℕ → Type 0
-  BothIn e = ZeroOrIn s (e % 16) × ZeroOrIn s (e / 16 % 16)
-
-  -- a table of such entries
-  pub record TableIn (t : List ℕ) : Type 0 where
-    pub long : length t ≡ 1024
-    pub entries : (r : ℕ) → BothIn (get_or t r 0)
-
-  pub table_none : TableIn (replicate 1024 0)
-  table_none = record { long = length-replicate {A = ℕ} 1024 0; entries = λ r. rw (get_or-zeros 1024 r) (inl refl, inl refl) }
-
   -- the smallest vector that is in both sets, 0 where there is none
   abbrev lowest_of : ℕ → ℕ
   lowest_of x = or_zero (lowest (bit_and x s))
@@ -106,25 +94,23 @@ module _ (s : ℕ) where
       rw (ap or_zero q.1) (inr (l.0, omega (arith, l.1, bit-and v x s, bit-lt v s))))
       (none_or_some (lowest (bit_and x s)))
 
-  pub table-next : (t : List ℕ) (r x y : ℕ) → TableIn t → TableIn (set t r (lowest_of x + 16 * lowest_of y))
-  table-next t r x y h =
-      let e = lowest_of x + 16 * lowest_of y in
+  pair-in : (x : ℕ) → ZeroOrIn s (listed_pair s x % 16) × ZeroOrIn s (listed_pair s x / 16 % 16)
+  unfolding listed_pair
+  pair-in x =
+      let y = x / 2 ^ 16 in
       let q = halves (lowest-lt (bit_and x s)) (lowest-lt (bit_and y s)) in
-      record {
-        long = length-set t r e ∙ h.long;
-        entries = set_holds BothIn t r e h.entries (rw q.0 (lowest-both x), rw q.1 (lowest-both y));
-      }
+      (rw q.0 (lowest-both x), rw q.1 (lowest-both y))
 
-  pub table-listed : (v : Vectors) {t : List ℕ} → SetOf (take v.len v.list) s → TableIn t → OfListed v t
-  unfolding listed_of
-  table-listed v {t} p h =
-      let listed : (u : ℕ) → ZeroOrIn s u → ZeroOrListed v u =
-      λ u. ⊎_elim (λ (e : u ≡ 0). inl e) (λ (e : (u < 16) × (bit u s ≡ 1)). inr (p u e.0 e.1)) in
-      record { long = h.long; first = λ r. listed _ (h.entries r).0; second = λ r. listed _ (h.entries r).1 }
+pub table-listed : (s : ℕ) (v : Vectors) (f : ℕ → ℕ) {t : List ℕ} → SetOf (listed_of v).vectors s
+    → ((r : ℕ) → r < 1024 → get_or t r 0 ≡ listed_pair s (f r)) → OfListed v t
+table-listed s v f {t} p h =
+    let listed : (u : ℕ) → ZeroOrIn s u → ZeroOrListed v u =
+    λ u. ⊎_elim (λ (e : u ≡ 0). inl e) (λ (e : (u < 16) × (bit u s ≡ 1)). inr (p u e.0 e.1)) in
+    record { first = λ r l. rw (h r l) (listed _ (pair-in s (f r)).0); second = λ r l. rw (h r l) (listed _ (pair-in s (f r)).1) }
 
 -- vector 0 twice at every reading
 pub zeros-listed : (v : Vectors) → OfListed v (replicate 1024 0)
-zeros-listed v = table-listed 0 v (set-none _) (table_none 0)
+zeros-listed v = record { first = λ r l. inl (rw (get_or-zeros 1024 r)); second = λ r l. inl (rw (get_or-zeros 1024 r)) }
 
 -- ---- inputs that listed vectors rectify
 
@@ -172,8 +158,8 @@ list-guessed readings {table} b count {j} {is} {v} g q f o =
     let r = gathered readings y % 1024 in
     let e = get_or table r 0 in
     ⊎_elim
-    (λ (t : rectifies j (1024 * b + y) (e % 16) ≡ true). (e % 16, o.first r, t))
-    (λ (t : rectifies j (1024 * b + y) (e / 16 % 16) ≡ true). (e / 16 % 16, o.second r, t))
+    (λ (t : rectifies j (1024 * b + y) (e % 16) ≡ true). (e % 16, o.first r (omega arith), t))
+    (λ (t : rectifies j (1024 * b + y) (e / 16 % 16) ≡ true). (e / 16 % 16, o.second r (omega arith), t))
     (g j is q b f y h))
 
 -- ---- a block driven by a table
@@ -217,14 +203,13 @@ module _ {p : Plan} (readings table entries : List ℕ) (l : LookedUp readings t
 -- ---- a block at listed vectors, one after the other
 
 -- a vector that is listed, by its place
-pub any_at : (list : List ℕ) (n i : ℕ) → i < n → i < length list → any (eqb (get_or list i 0)) (take n list) ≡ true
+pub any_at : (vs : List ℕ) (i : ℕ) → i < length vs → any (eqb (get_or vs i 0)) vs ≡ true
 unfolding any
-any_at [] n i h l = let f : ⊥ = omega arith in absurd f
-any_at (x ∷ xs) zero i h l = let f : ⊥ = omega arith in absurd f
-any_at (x ∷ xs) (suc n) zero h l = or_left (eqb x x) (any (eqb x) (take n xs)) (eq-eqb x x refl)
-any_at (x ∷ xs) (suc n) (suc i) h l =
+any_at [] i l = let f : ⊥ = omega arith in absurd f
+any_at (x ∷ xs) zero l = or_left (eqb x x) (any (eqb x) xs) (eq-eqb x x refl)
+any_at (x ∷ xs) (suc i) l =
     let u = get_or xs i 0 in
-    or_right (eqb u x) (any (eqb u) (take n xs)) (any_at xs n i (omega arith) (omega arith))
+    or_right (eqb u x) (any (eqb u) xs) (any_at xs i (omega arith))
 
 module _ (p : Plan) (before vs : List ℕ) where
   -- the row says 1 only of inputs that one of the vectors vs rectifies

@@ -13,7 +13,7 @@ use native.Mathlib.Omega.{arith}
 use borrow.Author.Tests.{eqb-true, eqb-false, ltb-true, ltb-false}
 use lib.Dec.{eqb, ltb}
 use lib.ListN.{length, get_or, take, set, length-set, length-append, get_or-map, get_or-eq_default}
-use lib.Seq.{get_or-take, get_or-set_same, get_or-set_other, take-set-lt, take-take}
+use lib.Seq.{get_or-take, get_or-set_same, get_or-set_other, take-set-lt}
 use Rattle.records.specs.Bytes.{all}
 use Rattle.records.specs.Gate.{Gate, gate_of, operands, gate_value}
 use Rattle.records.specs.Netlist.{net_at, extended, value_of, values}
@@ -24,16 +24,14 @@ use Rattle.records.proofs.Laws.Bytes.{and_both, all_cons}
 use Rattle.records.proofs.Laws.Gate.{gate_good-parts}
 use Rattle.engine.specs.Eval.{bits}
 use Rattle.engine.specs.Fit.{moved}
-use Rattle.engine.specs.Inner.Packed.{fields, packed, packed_from, formed}
-use Rattle.engine.specs.Inner.Renumber.{gate_in, InputsNumbered}
+use Rattle.engine.specs.Inner.Packed.{fields, packed, packed_from, formed, gate_in}
+use Rattle.engine.specs.Inner.Tree.{InputsNumbered}
 use Rattle.engine.specs.Inner.Tree.{Nets}
-use Rattle.engine.specs.Inner.Miter.{on_operands, SameGates, miter_gates, miter_goldens, miter_nets, miter_values, codes, MiterRoom, MiterOf, MergedOf}
+use Rattle.engine.specs.Inner.Miter.{on_operands, SameGates, miter_gates, miter_goldens, miter_nets, miter_values, codes, PairsOf, MiterOf, MergedOf}
 use Rattle.engine.specs.Inner.Merge.{Packs, StandsFor, MergedIn, Chained, GatesMerged}
 use Rattle.engine.specs.declared.merge.MergedGates.{MergedGates}
 use Rattle.engine.specs.declared.miter.Miter.{Miter}
 use Rattle.engine.proofs.Laws.Choice.{true-or-false, all_true, map-agree}
-use Rattle.engine.proofs.Laws.EvalWords.{map-take}
-use Rattle.engine.proofs.Laws.FitCode.{moved-nets}
 use Rattle.engine.proofs.Laws.FitGates.{no_gate, good-at, Local, net_at-extended, consistent-extended}
 use Rattle.engine.proofs.Laws.FitNets.{all-mapped, operands-renumbered, renumbered-good}
 use Rattle.engine.proofs.Laws.Fitted.{length-bits}
@@ -342,22 +340,9 @@ merged-self {j} {m} q =
           };
     }
 
--- the miter with other gates and nets of the outputs
-abbrev pub replaced : Miter → List ℕ → List ℕ → List ℕ → Miter
-replaced m cs os gos =
-    record {
-      inputs = m.inputs;
-      targets = m.targets;
-      count = m.count;
-      gates = cs;
-      outs = m.outs;
-      outputs = os;
-      goldens = gos;
-    }
-
 module _ {m : Miter} {g : MergedGates} (w : GatesMerged (m.inputs + m.targets) m.count m.gates g) {j : Job}
     (q : MiterOf j m) where
-  miter-merged : MergedIn (j.inputs + j.targets) m.count (miter_gates j) g.gates g.stands
+  pub miter-merged : MergedIn (j.inputs + j.targets) m.count (miter_gates j) g.gates g.stands
   unfolding codes
   miter-merged =
       rw (q.inputs, q.targets) at
@@ -395,59 +380,17 @@ module _ {m : Miter} {g : MergedGates} (w : GatesMerged (m.inputs + m.targets) m
         all-mapped (net_at g.stands) (miter_nets j) is
         (λ i t. let s = net-stands i t in omega (arith, s.1.before))
 
-module _ {m : Miter} (room : MiterRoom m) {g : MergedGates} (w : GatesMerged (m.inputs + m.targets) m.count m.gates g) where
-  -- the nets that stand for some
-  abbrev Moved : List ℕ → List ℕ → Type 0
-  Moved is ks = take 32 ks ≡ map (λ o. get_or g.stands o 0) (take 32 is)
-
-  module _ (os gos : List ℕ) (d : Moved m.outputs os) (e : Moved m.goldens gos) where
-    pub merged-room : length os ≡ 32 → length gos ≡ 32 → MiterRoom (replaced m g.gates os gos)
-    merged-room k l =
-        let a = below-of-nets 32 os k (moved-nets 32 g.stands m.outputs os (omega (arith, room.outputs)) d (λ i h. (room.below i).0) w.nets) in
-        let b = below-of-nets 32 gos l (moved-nets 32 g.stands m.goldens gos (omega (arith, room.goldens)) e (λ i h. (room.below i).1) w.nets) in
-        record {
-          gates = w.long;
-          outputs = k;
-          goldens = l;
-          below = λ i. (a i, b i);
-          count = room.count;
-          outs = room.outs;
-          inputs = room.inputs;
-          targets = room.targets;
-        }
-
-    -- the first of them
-    moved-first : (is ks : List ℕ) → Moved is ks → (xs : List ℕ) → take m.outs is ≡ xs → take m.outs ks ≡ map (net_at g.stands) xs
-    unfolding net_at
-    moved-first is ks h xs z =
-        let f : ℕ → ℕ = λ o. get_or g.stands o 0 in
-        sym (take-take m.outs 32 ks room.outs)
-        ∙ ap (take m.outs) h
-        ∙ sym (map-take f m.outs (take 32 is))
-        ∙ ap (map f) (take-take m.outs 32 is room.outs ∙ z)
-
-    pub merged-of : {j : Job} → MiterOf j m → MergedOf j (replaced m g.gates os gos)
-    merged-of {j} q =
-        let c = miter-merged w q in
-        let a = outputs-nets j q.good in
-        let b = goldens-nets j q.good in
-        let r = moved-first m.outputs os d j.old.outputs q.outputs in
-        let s = moved-first m.goldens gos e (miter_goldens j) q.goldens in
-        record {
-          good = q.good;
-          inputs = q.inputs;
-          targets = q.targets;
-          count = q.count;
-          merged = c.merged;
-          same = c.same;
-          gates = c.gates;
-          pairs =
-              record {
-                olds = rw r (nets-below w q j.old.outputs a);
-                goldens = rw s (nets-below w q (miter_goldens j) b);
-                equal =
-                    λ x v.
-                    rw (r, s, nets-same w q j.old.outputs a x v, nets-same w q (miter_goldens j) b x v)
-                    (sym (rectifies-miter j q.good x v));
-              };
-        }
+  -- the nets that stand for the outputs
+  pub moved-pairs : PairsOf j (map (λ o. get_or g.stands o 0) (take m.outs m.outputs)) (map (λ o. get_or g.stands o 0) (take m.outs m.goldens))
+  unfolding net_at
+  moved-pairs =
+      let a = outputs-nets j q.good in
+      let b = goldens-nets j q.good in
+      record {
+        olds = rw q.outputs (nets-below j.old.outputs a);
+        goldens = rw q.goldens (nets-below (miter_goldens j) b);
+        equal =
+            λ x v.
+            rw (q.outputs, q.goldens, nets-same j.old.outputs a x v, nets-same (miter_goldens j) b x v)
+            (sym (rectifies-miter j q.good x v));
+      }

@@ -25,7 +25,8 @@ use Rattle.engine.specs.Choice.{same}
 use Rattle.engine.specs.Eval.{bits, number_of, old_values, old_outputs, golden_outputs}
 use Rattle.engine.specs.Rectify.{rectifies}
 use Rattle.engine.specs.Support.{reading, candidate_nets}
-use Rattle.engine.specs.Inner.Miter.{shifted_net, shifted, shift_of, miter_gates, miter_goldens, miter_nets, miter_values}
+use Rattle.engine.specs.Inner.Miter.{shift_of, miter_gates, miter_goldens, miter_nets, miter_values}
+use Rattle.engine.specs.Inner.Shifted.{shifted_net, shifted}
 use Rattle.engine.proofs.Laws.Choice.{true-or-false, all_true, all-of-members, all-below-more, map-agree}
 use Rattle.engine.proofs.Laws.FitGates.{no_gate, good-append, good-at, value_of-local, Consistent, consistent-right, net_at-extended, consistent-extended}
 use Rattle.engine.proofs.Laws.FitNets.{get_or-defaults, all-mapped, renumbered-good, old-good}

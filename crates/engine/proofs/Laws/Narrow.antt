@@ -10,13 +10,13 @@ use native.Mathlib.Omega.{arith}
 use borrow.Author.Tests.{ltb-true, ltb-false, lt-ltb, le-ltb}
 use lib.Dec.{ltb, lit<}
 use lib.Bits.{bit_xor}
-use lib.ListN.{length, get_or, set, take, drop, replicate, length-map, length-set, get_or-map}
+use lib.ListN.{length, get_or, set, take, drop, replicate, length-map, length-set, length-take, get_or-map, get_or-eq_default}
 use lib.Pow.{pow_pos, pow_mono}
-use lib.Seq.{get_or-set_same, get_or-set_other}
+use lib.Seq.{get_or-set_same, get_or-set_other, get_or-take, take-length}
 use Rattle.records.specs.Bytes.{all}
 use Rattle.records.specs.Netlist.{net_at}
 use Rattle.records.specs.Job.{Job}
-use Rattle.records.specs.Claims.{PartsGood}
+use Rattle.records.specs.Claims.{Below, PartsGood}
 use Rattle.records.specs.Refusal.{candidate_good}
 use Rattle.engine.specs.Choice.{same}
 use Rattle.engine.specs.Eval.{bit, number_of}
@@ -39,7 +39,7 @@ use Rattle.engine.proofs.Laws.Choice.{true-or-false, not-both, all-of-members}
 use Rattle.engine.proofs.Laws.Eval.{bit-lt}
 use Rattle.engine.proofs.Laws.Kernel.{bit-sum, bit-applied, row-replicate, left, left-all, left-next, left-none}
 use Rattle.engine.proofs.Laws.Plan.{leaves_of, base, leaf-value, leaf-input, leaf-target, values_agree, free-agrees}
-use Rattle.engine.proofs.Laws.PlanCode.{evaluated-next}
+use Rattle.engine.proofs.Laws.PlanCode.{evaluated-next, evaluated-end}
 use Rattle.engine.proofs.Laws.Run.{keep_all}
 use Rattle.engine.proofs.Laws.ReadingSets.{sets_more}
 use Rattle.engine.proofs.Laws.Search.{rectifies-low, rectifiers-low, reading-low, noted-sets, list-noted}
@@ -89,12 +89,25 @@ map-set f [] i x = refl
 map-set f (z ∷ xs) zero x = refl
 map-set f (z ∷ xs) (suc i) x = ap (λ (l : List ℕ). f z ∷ l) (map-set f xs i x)
 
-pub run-next : (gates words : List ℕ) (count i r y : ℕ) → count ≤ length gates → i < count
-    → bit y r ≡ code_value (values_at words y) (get_or gates i 0)
-    → evaluated code_value (values_at (set words (own (get_or gates i 0)) r) y) (drop (i + 1) (take count gates))
-    ≡ evaluated code_value (values_at words y) (drop i (take count gates))
-run-next gates words count i r y h l e =
-    rw (map-set (bit y) words (own (get_or gates i 0)) r, e) (evaluated-next code_value (values_at words y) gates count i h l)
+module _ (gates words : List ℕ) where
+  pub run-next : (i r y : ℕ) → i < length gates → bit y r ≡ code_value (values_at words y) (get_or gates i 0)
+      → evaluated code_value (values_at (set words (own (get_or gates i 0)) r) y) (drop (i + 1) gates)
+      ≡ evaluated code_value (values_at words y) (drop i gates)
+  run-next i r y l e =
+      rw (map-set (bit y) words (own (get_or gates i 0)) r, e)
+      (rw (take-length gates) at (evaluated-next code_value (values_at words y) gates (length gates) i (omega arith) l))
+
+  -- no gate more
+  pub run-end : (i y : ℕ) → length gates ≤ i → evaluated code_value (values_at words y) (drop i gates) ≡ values_at words y
+  run-end i y l = rw (take-length gates) at (evaluated-end code_value (values_at words y) gates (length gates) i (omega arith) l)
+
+-- a front of nets is below what they are below
+pub below_front : (n k : ℕ) (xs : List ℕ) → 0 < n → Below n xs → Below n (take k xs)
+below_front n k xs p h i =
+    ⊎_elim
+    (λ (e : k - i ≡ 0). rw (get_or-eq_default (take k xs) 0 {n = i} (omega (arith, length-take k xs))) p)
+    (λ (e : 0 < k - i). rw (get_or-take k xs i 0 (omega arith)) (h i))
+    (eq-zero-or-pos (k - i))
 
 -- ---- leaves
 

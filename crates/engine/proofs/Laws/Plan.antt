@@ -21,7 +21,8 @@ use Rattle.engine.specs.Eval.{bit, bits}
 use Rattle.engine.specs.Inner.Imply.{Binary}
 use Rattle.engine.specs.Inner.Packed.{own, packed_from, code_value, evaluated}
 use Rattle.engine.specs.Inner.Kernel.{value_in, column, Ran, NetSet, NetsSet}
-use Rattle.engine.specs.Inner.Miter.{shifted, shift_of, miter_gates, miter_nets, miter_values, SameGates}
+use Rattle.engine.specs.Inner.Miter.{shift_of, miter_gates, miter_nets, miter_values, SameGates}
+use Rattle.engine.specs.Inner.Shifted.{shifted}
 use Rattle.engine.specs.Inner.Plan.{marks_of, marked, fanned, led_by, Closed, Agrees, BlockAt, BlockFree, ReadsOf, PlannedOf}
 use Rattle.engine.specs.declared.plan.Plan.{Plan}
 use Rattle.engine.proofs.Laws.Choice.{true-or-false, not-both, all_true, all-of-members}

@@ -23,7 +23,8 @@ use Rattle.records.specs.Claims.{PartsGood}
 use Rattle.records.proofs.Laws.Bytes.{and_right, and-false-right, false_of, all_cons, length-tabulate}
 use Rattle.engine.specs.Choice.{keep}
 use Rattle.engine.specs.Inner.Packed.{own, packed, packed_from, formed, evaluated}
-use Rattle.engine.specs.Inner.Miter.{shifted_net, shifted, shift_of, miter_gates, miter_nets, SameGates, MergedOf}
+use Rattle.engine.specs.Inner.Miter.{shift_of, miter_gates, miter_nets, SameGates, MergedOf}
+use Rattle.engine.specs.Inner.Shifted.{shifted_net, shifted}
 use Rattle.engine.specs.Inner.Plan.{code_mark, marks_of, marked, Closed, leaves_from, marks_from, picked, list_at, lists_to, live_marks, ListPut, ListsUpTo, PlanLists, ReadsOf, PlannedOf, TurnsOf}
 use Rattle.records.specs.declared.sheet.Support.{Support}
 use Rattle.engine.specs.declared.miter.Miter.{Miter}
@@ -37,7 +38,7 @@ use Rattle.engine.proofs.Laws.Plan.{candidate-free}
 use Rattle.engine.proofs.Laws.PlanCode.{length-leaves_from, get_or-leaves_from, ends-length}
 use Rattle.engine.proofs.Laws.PlanLive.{live-os, live-gs, live-is, live_marks-closed}
 use Rattle.engine.proofs.Laws.Run.{run-part, keep-ext, keep_all, own-within, good-first, good-rest}
-use Rattle.engine.proofs.Laws.Unpacked.{length-packed_from}
+use Rattle.engine.proofs.Laws.MiterCode.{length-packed_from}
 
 -- ---- marks found
 

@@ -1,19 +1,19 @@
 -- Laws of the sheets' bytes: put one after the other, how many they are, and that a patch's are those of its definition. Assumes nothing.
-use Prim.Native.Nat.{ℕ, ◌+◌, ◌*◌, ◌/◌, ◌%◌, ◌^◌, ◌≤◌, ◌<◌}
+use Prim.Native.Nat.{ℕ, ◌+◌, ◌*◌, ◌/◌, ◌%◌, ◌≤◌, ◌<◌}
 use mathlib.Core.Path.{◌≡◌, refl, sym, ◌∙◌, ap}
 use mathlib.Core.List.{List, [], ◌∷◌, ◌++◌, append-nil}
 use mathlib.Core.Bool.{true}
-use native.Mathlib.Nat.{zero-add, one-mul, mod-eq_of_lt}
-use native.Mathlib.Numerals.{add-one}
 use native.Mathlib.Omega.{arith}
-use lib.ListN.{length, get_or, take, set, length-append}
-use lib.Pow.{pow-lt, pow_mono}
-use lib.Seq.{length-take-le, take-append_seam, drop-append_seam}
-use Rattle.records.specs.Bytes.{flat, byte_pair, placed, field, whole, nth}
+use lib.ListN.{length, get_or, take, length-append}
+use lib.Seq.{take_at, take-length, take-append_seam, drop-append_seam}
+use borrow.Rule.Slice.PartMut.{put_mid}
+use Rattle.std.specs.Int.{w16, w32, to_be_bytes}
+use Rattle.std.proofs.lemmas.List.{take_more}
+use Rattle.std.proofs.lemmas.Slice.{take-put_mid}
+use Rattle.records.specs.Bytes.{flat, byte_pair, field, whole, nth}
 use Rattle.records.specs.Job.{Job}
 use Rattle.records.specs.Sheet.{notes_tag}
-use Rattle.records.proofs.Laws.Bytes.{take-placed}
-use Rattle.records.proofs.Laws.Job.{Put, sets-placed, placed-then, tabulate-get_or, length-field, length-byte_pair, length-outputs}
+use Rattle.records.proofs.Laws.Job.{placed-then, flat-snoc, length-field, length-byte_pair, length-outputs}
 use Rattle.records.proofs.Laws.Front.{nth-behind, whole_append, whole-front}
 use Rattle.records.proofs.Laws.RoundTrip.{fits-field, body-field, rest-field}
 use Rattle.records.proofs.Laws.Put.{FieldPut, put-field-put}
@@ -21,33 +21,26 @@ use Rattle.engine.specs.Support.{table_of, notes_of, cost}
 use Rattle.engine.specs.Verdict.{four_bytes, patch_sheet, longest_choose}
 use Rattle.engine.specs.Inner.Sheet.{BytesPut, patch_bytes}
 
--- ---- numbers as bytes
+-- ---- pieces of one size, put one after the other
 
--- the code's power of two
-pub shl-pow : (n : ℕ) → n ≤ 10 → 1 * 2 ^ n % 2 ^ 64 ≡ 2 ^ n
-shl-pow n h =
-    let l : 2 ^ n < 2 ^ 64 = pow-lt {j = 64} (omega arith) in
-    ap (λ (k : ℕ). k % 2 ^ 64) (one-mul (2 ^ n)) ∙ mod-eq_of_lt l
+module _ {A : Type 0} (f : A → List ℕ) (k : ℕ) (xs : List A) (i : ℕ) (bytes : List ℕ) (e : take (k * i) bytes ≡ flat f (take i xs)) where
+  pub pieces-next : (d : A) (n : ℕ) {ys : List ℕ} → i < length xs → length bytes ≡ k * length xs → ys ≡ f (get_or xs i d) → length ys ≡ k
+      → take (k * (i + 1)) (put_mid (k * i) n bytes ys) ≡ flat f (take (i + 1) xs)
+  pieces-next d n {ys} h l q m =
+      let x = get_or xs i d in
+      take-put_mid (k * i) n bytes ys (k * (i + 1)) (grind (arith, m)) (grind (arith, l, h))
+      ∙ ap (λ (l : List ℕ). l ++ ys) e
+      ∙ ap (λ (l : List ℕ). flat f (take i xs) ++ l) q
+      ∙ sym (flat-snoc f (take i xs) x)
+      ∙ ap (flat f) (sym (take_more xs i d h))
 
-pub pow-table : (n : ℕ) → n ≤ 10 → 2 ^ n ≤ 1024
-pow-table n h = pow_mono h
-
-pub pair-placed : (d : List ℕ) (at x : ℕ) {r : List ℕ} → r ≡ byte_pair x → at + 2 ≤ length d
-    → set (set d at (get_or r 0 0)) (at + 1) (get_or r 1 0) ≡ placed d at (byte_pair x)
-unfolding byte_pair
-pair-placed d at x e h = rw (e, add-one) (sets-placed d at (x / 256 ∷ x % 256 ∷ []) h)
-
-pub length-nets : (ns : List ℕ) (n : ℕ) → n ≤ length ns → length (flat byte_pair (take n ns)) ≡ 2 * n
-length-nets ns n h = length-outputs (take n ns) ∙ ap (λ (k : ℕ). 2 * k) (length-take-le n ns h)
-
--- the pairs of n numbers at the start of a list
-pub pairs-take : (d₀ : List ℕ) {d : List ℕ} (ns : List ℕ) (n : ℕ) → n ≤ length ns → 2 * n ≤ length d₀
-    → Put byte_pair (λ k. get_or ns k 0) d₀ 0 d n → take (2 * n) d ≡ flat byte_pair (take n ns)
-pairs-take d₀ {d} ns n h m w =
-    let xs : List ℕ = flat byte_pair (take n ns) in
-    let l : 0 + length xs ≡ 2 * n = zero-add (length xs) ∙ length-nets ns n h in
-    let e : d ≡ placed d₀ 0 xs = w.1 ∙ ap (λ (r : List ℕ). placed d₀ 0 (flat byte_pair r)) (tabulate-get_or ns n h) in
-    ap (λ (k : ℕ). take k d) (sym l) ∙ ap (λ (r : List ℕ). take (0 + length xs) r) e ∙ take-placed d₀ 0 xs (omega arith)
+  pub pieces-all : i ≡ length xs → length bytes ≡ k * length xs → bytes ≡ flat f xs
+  pieces-all h l =
+      sym (take-length bytes)
+      ∙ ap (λ (n : ℕ). take n bytes) (l ∙ ap (λ (n : ℕ). k * n) (sym h))
+      ∙ e
+      ∙ ap (λ (n : ℕ). flat f (take n xs)) h
+      ∙ ap (flat f) (take-length xs)
 
 -- ---- bytes put one after the other
 
@@ -66,6 +59,13 @@ pub field-bytes : (d : List ℕ) {d' : List ℕ} (at t : ℕ) {r : ℕ} (xs : Li
 field-bytes d at t {r} xs {ys} e h l w =
     let v = put-field-put d at ys t r h l (rw e at w) in
     record { bytes = v.1; end = v.0 }
+
+-- a field of the first bytes of an array, which were put there
+pub field-front : {d d' : List ℕ} {at r n : ℕ} {ys : List ℕ} (t : ℕ) (zs xs : List ℕ) → ys ≡ xs → length xs ≡ n
+    → BytesPut d at (field t (take n (ys ++ zs))) d' r → BytesPut d at (field t xs) d' r
+field-front {d} {d'} {at} {r} {n} {ys} t zs xs e h w =
+    let q : take n (ys ++ zs) ≡ xs = ap (λ (l : List ℕ). take n (l ++ zs)) e ∙ take_at xs zs n h in
+    rw q at w
 
 -- ---- a field behind whole fields
 
@@ -92,12 +92,11 @@ length-four_bytes x = refl
 
 -- where a field ends
 module _ {d d' : List ℕ} {at r : ℕ} (t : ℕ) where
-  pub support-end : (ns : List ℕ) (n : ℕ) → n ≤ length ns → BytesPut d at (field t (flat byte_pair (take n ns))) d' r
-      → r ≡ at + 3 + 2 * n
-  support-end ns n h w = omega (arith, w.end, length-field t (flat byte_pair (take n ns)), length-nets ns n h)
+  pub nets-end : (ns : List ℕ) → BytesPut d at (field t (flat byte_pair ns)) d' r → r ≡ at + 3 + 2 * length ns
+  nets-end ns w = omega (arith, w.end, length-field t (flat byte_pair ns), length-outputs ns)
 
-  pub list-end : (xs : List ℕ) (n : ℕ) → n ≤ length xs → BytesPut d at (field t (take n xs)) d' r → r ≡ at + 3 + n
-  list-end xs n h w = omega (arith, w.end, length-field t (take n xs), length-take-le n xs h)
+  pub bytes-end : (xs : List ℕ) → BytesPut d at (field t xs) d' r → r ≡ at + 3 + length xs
+  bytes-end xs w = omega (arith, w.end, length-field t xs)
 
   pub number-end : (x : ℕ) → BytesPut d at (field t (four_bytes x)) d' r → r ≡ at + 7
   number-end x w = omega (arith, w.end, length-field t (four_bytes x), length-four_bytes x)
@@ -140,3 +139,17 @@ pub patch_bytes-sheet : (j : Job) (is : List ℕ) {t : List ℕ} {c : ℕ} {ns :
     → patch_bytes is t c ns ≡ patch_sheet j is
 unfolding patch_bytes patch_sheet
 patch_bytes-sheet j is e f g = rw (e, f, g)
+
+-- ---- numbers as bytes
+
+pub pair-bytes : (x : ℕ) → x < 65536 → to_be_bytes w16 x ≡ byte_pair x
+unfolding byte_pair
+pair-bytes x h = let e : x / 256 % 256 ≡ x / 256 = omega arith in rw e
+
+pub word-bytes : (x : ℕ) → x < 4294967296 → to_be_bytes w32 x ≡ four_bytes x
+unfolding four_bytes byte_pair
+word-bytes x h =
+    let a : x / 16777216 % 256 ≡ x / 65536 / 256 = omega arith in
+    let b : x / 256 % 256 ≡ x % 65536 / 256 = omega arith in
+    let c : x % 256 ≡ x % 65536 % 256 = omega arith in
+    rw (a, b, c)

@@ -1,7 +1,7 @@
 -- Laws of the gates in packed numbers (specs/Fitting, gate_in): good gates packed are those gates again; those of a patched netlist
 -- have four slots. Assumes nothing.
 use Prim.Native.Nat.{ℕ, zero, suc, ◌+◌, ◌-◌, ◌^◌, ◌≤◌, ◌<◌}
-use mathlib.Core.Path.{◌≡◌, refl, ap}
+use mathlib.Core.Path.{◌≡◌, refl}
 use mathlib.Core.List.{List, [], ◌∷◌, ◌++◌, map}
 use mathlib.Core.Bool.{true}
 use native.Mathlib.Omega.{arith}
@@ -14,8 +14,7 @@ use Rattle.records.specs.Refusal.{gate_good, gates_good}
 use Rattle.records.proofs.Laws.Bytes.{all_cons}
 use Rattle.engine.specs.Tree.{constant, column, builds_low, builds_high, tree}
 use Rattle.engine.specs.Fit.{trees_from, trees, new_free_net, new_nets, gate_indices, moved, moved_gates, fitted}
-use Rattle.engine.specs.Inner.Packed.{fields, packed, packed_from, formed}
-use Rattle.engine.specs.Inner.Renumber.{gate_in}
+use Rattle.engine.specs.Inner.Packed.{fields, packed, packed_from, formed, gate_in}
 use Rattle.engine.proofs.Laws.Choice.{all_append}
 use Rattle.engine.proofs.Laws.FitGates.{no_gate}
 use Rattle.engine.proofs.Laws.FitTree.{TreeCase, zeros, ones, halves, halved, built, built-case, tree-case}
@@ -40,11 +39,6 @@ gates-unpacked d (g ∷ gs) e f h =
       gate_in-packed d g (good-first d g gs e) t.0 (omega arith),
       gates-unpacked (suc d) gs (good-rest d g gs e) t.1 (omega arith),
     )
-
-pub length-packed_from : (d : ℕ) (gs : List Gate) → length (packed_from d gs) ≡ length gs
-unfolding packed_from
-length-packed_from d [] = refl
-length-packed_from d (g ∷ gs) = ap suc (length-packed_from (suc d) gs)
 
 -- ---- the gates of a patched netlist have four slots
 

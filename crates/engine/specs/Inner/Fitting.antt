@@ -24,7 +24,7 @@ use Rattle.engine.specs.Inner.Tree.{GatesPut, trees_size}
 use Rattle.engine.specs.declared.fitting.FitReply.{FitReply}
 use Rattle.engine.specs.declared.renumber.OldSide.{OldSide}
 use Rattle.engine.specs.declared.renumber.NewSide.{NewSide}
-use Rattle.engine.specs.Inner.Renumber.{OldHeld, old_gates}
+use Rattle.engine.specs.Inner.Renumber.{old_gates}
 
 -- ---- the trees
 
@@ -54,7 +54,6 @@ side_job o os = old_job o.inputs o.targets (old_gates o) os
 
 -- .. with a support of nets that no target leads to and a table over it
 pub record Fittable (o : OldSide) (s : Support) (table : List ℕ) : Type 0 where
-  pub held : OldHeld o
   pub few : s.len ≤ 10
   pub long : s.len ≤ length s.nets
   pub entries : 2 ^ s.len ≤ length table

@@ -6,7 +6,7 @@
 --   MergedIn d n gs cs ns     the first n numbers of cs are gates that may stand for the gates gs, and the numbers ns have for each net
 --                         one that stands for it
 --   GatesMerged d n cs r  the struct r has such gates and nets for what the first n numbers of cs are
---   PairsKept os gs n r   the struct r has the first n pairs of the nets os and gs but for some that are one net
+--   PairsKept os gs r     the struct r has the pairs of the nets os and gs but for some that are one net
 --   Backward xs           each number of xs is at most its index: a chain goes back
 --   Chained n hs xs       .. and each number of hs is at most n: the chains are of the first n gates
 use Rattle.std.specs.Prelude.{ℕ, ◌+◌, ◌≤◌, ◌<◌, ◌≡◌, List, map, true, length, get_or, take}
@@ -44,14 +44,11 @@ pub record GatesMerged (d n : ℕ) (cs : List ℕ) (r : MergedGates) : Type 0 wh
   pub nets : Nets 1024 r.stands
   pub merged : (gs : List Gate) → Packs d n cs gs → MergedIn d n gs r.gates r.stands
 
-pub record PairsKept (os gs : List ℕ) (n : ℕ) (r : Pairs) : Type 0 where
-  pub few : r.count ≤ n
-  pub olds : length r.outputs ≡ 32
-  pub goldens : length r.goldens ≡ 32
-  pub below : (k : ℕ) → 0 < k → ((i : ℕ) → i < n → (get_or os i 0 < k) × (get_or gs i 0 < k))
+pub record PairsKept (os gs : List ℕ) (r : Pairs) : Type 0 where
+  pub few : r.count ≤ length os
+  pub below : (k : ℕ) → 0 < k → ((i : ℕ) → i < length os → (get_or os i 0 < k) × (get_or gs i 0 < k))
       → (i : ℕ) → (get_or r.outputs i 0 < k) × (get_or r.goldens i 0 < k)
-  pub equal : (f : ℕ → ℕ) → same (map f (take r.count r.outputs)) (map f (take r.count r.goldens))
-      ≡ same (map f (take n os)) (map f (take n gs))
+  pub equal : (f : ℕ → ℕ) → same (map f (take r.count r.outputs)) (map f (take r.count r.goldens)) ≡ same (map f os) (map f gs)
 
 abbrev pub Backward : List ℕ → Type 0
 Backward xs = (i : ℕ) → get_or xs i 0 ≤ i

@@ -1,8 +1,6 @@
 -- One netlist of both circuits (the field's miter): inputs, targets, old gates, golden gates (src/miter.rt). No public contract cites
 -- this file. Assumes nothing.
 --
---   shifted_net n s i    golden net i in the miter: an input keeps its number, a gate's net stands s further on
---   shifted n s g        golden gate g there: its used operands shifted
 --   shift_of j           by how much
 --   miter_gates j, miter_goldens j     the gates of both netlists, old first; the golden outputs' nets
 --   miter_nets j         how many nets
@@ -11,37 +9,25 @@
 --   on_operands F vs g   F of gate g's kind and of what vs has at its operands
 --   SameGates d gs hs    the gates hs may stand for the gates gs, over d leaves: whatever depends on a gate's kind and on what its operands
 --                        have comes out the same at every net
---   GateFits g s         gate g, its used operands shifted by s, fits into one number
---   GatesFit ..          so do the first k gates, and there are places for them
---   CodesPut ..          .. which stand there, from place at on, and drive the nets from base on
---   NetsFit, NetsShifted ..     nets that may be shifted, and these shifted
 --   SomeParts p          p are the parts of some good job
---   MiterRoom m          lengths and bounds of the struct m
 --   MiterOf j m          the struct m has the miter of the good job j
 --   PairsOf j os gs      the values of the nets os and gs are the same, pair by pair, exactly when the vector rectifies the input
 --   MergedOf j m         .. gates that may stand for the miter's, and such nets
-use Rattle.std.specs.Prelude.{ℕ, ◌+◌, ◌≤◌, ◌<◌, ◌≡◌, List, ◌++◌, map, true, cond, ltb, length, get_or, take}
+use Rattle.std.specs.Prelude.{ℕ, ◌+◌, ◌≡◌, List, ◌++◌, map, true, ltb, length, take}
 use Rattle.records.specs.Bytes.{all}
-use Rattle.records.specs.Gate.{Gate, operands, unused}
+use Rattle.records.specs.Gate.{Gate, operands}
 use Rattle.records.specs.Netlist.{net_at, extended, values}
 use Rattle.records.specs.Refusal.{gates_good}
 use Rattle.records.specs.Job.{Job}
-use Rattle.records.specs.Service.{struct_slots, gates_in, no_gate}
-use Rattle.records.specs.Claims.{Below, PartsGood}
+use Rattle.records.specs.Claims.{PartsGood}
 use Rattle.records.specs.Parts.{PartsOf}
-use Rattle.records.specs.declared.gate.Gate.{Gate as GateStruct}
 use Rattle.records.specs.declared.loading.JobParts.{JobParts}
 use Rattle.engine.specs.Choice.{same}
 use Rattle.engine.specs.Eval.{bits}
 use Rattle.engine.specs.Rectify.{rectifies}
 use Rattle.engine.specs.Inner.Packed.{packed_from, formed}
+use Rattle.engine.specs.Inner.Shifted.{shifted_net, shifted}
 use Rattle.engine.specs.declared.miter.Miter.{Miter}
-
-unfoldable pub shifted_net : ℕ → ℕ → ℕ → ℕ
-shifted_net n s i = cond (ltb i n) i (i + s)
-
-unfoldable pub shifted : ℕ → ℕ → Gate → Gate
-shifted n s g = record { kind = g.kind; count = g.count; slots = map (shifted_net n s) (operands g) ++ unused g }
 
 unfoldable pub shift_of : Job → ℕ
 shift_of j = j.targets + length j.old.gates
@@ -75,46 +61,9 @@ pub record SameGates (d : ℕ) (gs hs : List Gate) : Type 0 where
 
 -- ---- the struct
 
-pub record GateFits (g : GateStruct) (s : ℕ) : Type 0 where
-  pub kind : g.kind < 10
-  pub count : g.count ≤ 4
-  pub slots : (i : ℕ) → get_or (struct_slots g) i 0 + s < 1024
-
-pub record GatesFit (gs : List GateStruct) (k s base at : ℕ) (out : List ℕ) : Type 0 where
-  pub held : length gs ≡ 400
-  pub long : length out ≡ 800
-  pub few : k ≤ 400
-  pub room : at + k ≤ 800
-  pub nets : base + k ≤ 1024
-  pub gates : (i : ℕ) → i < k → GateFits (get_or gs i no_gate) s
-
-pub record CodesPut (gs : List GateStruct) (k n s base at : ℕ) (before after : List ℕ) : Type 0 where
-  pub long : length after ≡ 800
-  pub codes : take (at + k) after ≡ take at before ++ packed_from base (map (shifted n s) (gates_in k gs))
-
-pub record NetsFit (is : List ℕ) (k s : ℕ) : Type 0 where
-  pub held : length is ≡ 32
-  pub few : k ≤ 32
-  pub below : (i : ℕ) → i < k → get_or is i 0 + s < 1024
-
-pub record NetsShifted (is : List ℕ) (k n s : ℕ) (r : List ℕ) : Type 0 where
-  pub long : length r ≡ 32
-  pub below : Below 1024 r
-  pub nets : take k r ≡ map (shifted_net n s) (take k is)
-
 pub record SomeParts (p : JobParts) : Type 0 where
   pub job : Job
   pub parts : PartsOf job p
-
-pub record MiterRoom (m : Miter) : Type 0 where
-  pub gates : length m.gates ≡ 800
-  pub outputs : length m.outputs ≡ 32
-  pub goldens : length m.goldens ≡ 32
-  pub below : (i : ℕ) → (get_or m.outputs i 0 < 1024) × (get_or m.goldens i 0 < 1024)
-  pub count : m.count ≤ 800
-  pub outs : m.outs ≤ 32
-  pub inputs : m.inputs ≤ 20
-  pub targets : m.targets ≤ 4
 
 pub record MiterOf (j : Job) (m : Miter) : Type 0 where
   pub good : PartsGood j

@@ -5,6 +5,7 @@
 --                     it has (3), the net that it drives (10), the nets of its operands (10 each)
 --   slots_number ss   operand slots as one number, ten bits each
 --   gate_with k n ss  the gate of kind k with n operands and the slots ss
+--   gate_in c, unpacked n cs    the gate in the number c; those in the first n of the numbers cs
 --   packed d g        gate g, driving net d, in one number
 --   packed_from d gs  the gates gs, which drive d, d + 1, ..
 --   formed g          gate g has all its operand slots
@@ -13,7 +14,7 @@
 --   folded op vs      the operation over the values vs, first to last; 0 of none
 --   code_value vs c   the value of the packed gate c where the nets have the values vs
 --   evaluated F vs cs     what is known of the nets once the packed gates cs, one after the other, have set their own by F
-use Rattle.std.specs.Prelude.{ℕ, zero, suc, ◌+◌, ◌*◌, ◌/◌, ◌%◌, min, max, List, [], ◌∷◌, map, Bool, cond, eqb, length, set}
+use Rattle.std.specs.Prelude.{ℕ, zero, suc, ◌+◌, ◌*◌, ◌/◌, ◌%◌, min, max, List, [], ◌∷◌, map, Bool, cond, eqb, length, take, set}
 use Rattle.records.specs.Gate.{Gate, slot_count}
 use Rattle.records.specs.Netlist.{net_at}
 
@@ -39,6 +40,12 @@ slots_number (s ∷ ss) = s + 1024 * slots_number ss
 
 abbrev pub gate_with : ℕ → ℕ → List ℕ → Gate
 gate_with k n ss = record { kind = k; count = n; slots = ss }
+
+unfoldable pub gate_in : ℕ → Gate
+gate_in c = record { kind = kind_of c; count = count_of c; slots = fields slot_count (c / 131072) }
+
+abbrev pub unpacked : ℕ → List ℕ → List Gate
+unpacked n cs = map gate_in (take n cs)
 
 unfoldable pub packed : ℕ → Gate → ℕ
 packed d g = g.kind + 16 * g.count + 128 * d + 131072 * slots_number g.slots

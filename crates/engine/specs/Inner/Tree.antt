@@ -7,6 +7,7 @@
 --   JoinRoom ..             there is room for the gates that join two halves behind their trees
 --   trees_size m j k tb     how many gates the trees of the m targets from target j on have, over k nets and the table tb
 --   Nets k ns               each of the first k numbers of ns is one of 1,024 nets
+--   InputsNumbered n ns     the first n nets, the inputs, have their own numbers in ns
 --   GateRoom base n cs      the places cs hold n gates, and the net base + i of each gate i is one of 1,024
 --   GatesPut base ..        the gates gs now stand behind the first count gates, r gates in all; gate i drives net base + i
 --   support_trees ..        the trees of m targets over the first k nets of is and the table tb, the first gate driving net next
@@ -49,6 +50,11 @@ trees_size (suc m) j k tb = tree_size k (column_part tb 0 k j) + trees_size m (s
 
 abbrev pub Nets : ℕ → List ℕ → Type 0
 Nets k ns = (i : ℕ) → i < k → get_or ns i 0 < 1024
+
+pub record InputsNumbered (n : ℕ) (after : List ℕ) : Type 0 where
+  pub long : length after ≡ 1024
+  pub inputs : (i : ℕ) → i < n → get_or after i 0 ≡ i
+  pub nets : Nets 1024 after
 
 pub record GateRoom (base n : ℕ) (cs : List ℕ) : Type 0 where
   pub long : length cs ≡ 400

@@ -10,7 +10,7 @@ use Rattle.engine.proofs.choosing.choose_job.Goals as goal
 pub reading_sets-met-requires : goal.reading_sets-met-requires
 reading_sets-met-requires c =
     let p = c.requires.0.parts in
-    (c.merged_miter-miter.ensures.miter_room, record { long = p.nets-long; below = c.requires.1; few = parts-few p })
+    record { below = c.requires.1; few = parts-few p }
 
 pub reading_count-requires : goal.reading_count-requires
 reading_count-requires c = parts-few c.requires.0.parts
@@ -20,7 +20,7 @@ shared_ref_as_front-first_empty c = omega (arith, c.reading_count.ensures, readi
 
 pub returns-in-Some : goal.returns-in-Some
 returns-in-Some c j p =
-    let met = c.reading_sets-met.ensures j (c.merged_miter-miter.ensures.merged_of j p) (parts-nets p) in
+    let met = c.reading_sets-met.ensures j (c.merged_miter-miter.ensures j p) (parts-nets p) in
     let b = rule-blind p met c.reading_count.ensures c.in-Some.reading (rw c.first_empty.ensures at c.in-Some.is) in
     c.rule_blind.ensures j b.1 b.2
 
@@ -45,11 +45,11 @@ see_skipped-requires c =
     let p = c.requires.0.parts in
     let few = parts-few p in
     let b = below-taken c.args.job.nets (omega arith) (omega (arith, p.nets-long)) c.requires.1 in
-    (c.merged_miter-miter.ensures.miter_room, c.best_support-best.ensures.held_support.1 b)
+    c.best_support-best.ensures.held_support.1 b
 
 pub returns : goal.returns
 returns c j p =
-    let m = c.merged_miter-miter.ensures.merged_of j p in
+    let m = c.merged_miter-miter.ensures j p in
     let met = c.reading_sets-met.ensures j m (parts-nets p) in
     let q = rule-sound p met c.reading_count.ensures (rw c.first_empty.ensures at c.in_default.is) refl refl refl m.targets in
     let best = c.best_support-best.ensures.chosen_of j q in

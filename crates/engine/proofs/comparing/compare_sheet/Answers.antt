@@ -37,7 +37,7 @@ merged_miter-requires c =
 pub plan_of-plan-requires : goal.plan_of-plan-requires
 plan_of-plan-requires c =
     let z = c.if-answer-ne0.false in
-    (c.merged_miter.ensures.miter_room, parts-read c.requires.parts _ c.read_sheet-answer.ensures z, omega arith)
+    (parts-read c.requires.parts _ c.read_sheet-answer.ensures z, omega arith)
 
 pub returns : goal.returns
 returns c j q =
@@ -46,6 +46,6 @@ returns c j q =
     compared-sheet q _ e z _ c.reading_count.ensures c.table_of-table.ensures
     (c.first_difference.ensures j _
     (record {
-      planned = (c.plan_of-plan.ensures j _ (c.merged_miter.ensures.merged_of j q) (parts-sheet q _ e z).nets (parts-good q _ e z)).0;
+      planned = (c.plan_of-plan.ensures j _ (c.merged_miter.ensures j q) (parts-sheet q _ e z).nets (parts-good q _ e z)).0;
       free = parts-good q _ e z;
     }))

@@ -2,7 +2,7 @@
 use Prim.Native.Nat.{◌+◌, ◌≤◌}
 use native.Mathlib.Omega.{arith}
 use lib.ListN.{length}
-use Rattle.engine.proofs.Laws.FitSheet.{outputs-count, outputs-most, outputs-old}
+use Rattle.engine.proofs.Laws.FitSheet.{outputs-taken, outputs-few, outputs-most, outputs-old}
 use Rattle.engine.proofs.Laws.FitSheet.{sheet-refused, sheet-fittable, sheet-accepted}
 use Rattle.engine.proofs.Laws.PartsSheet.{parts-sheet, parts-few}
 use Rattle.engine.proofs.fitting.fit_sheet.Goals as goal
@@ -29,25 +29,28 @@ ended c =
 pub overflow_add-end : goal.overflow_add-end
 overflow_add-end c = omega (arith, ended (goal.at.overflow_add-end c).After-reading_count)
 
-pub slice_bounds-fit_patch-end : goal.slice_bounds-fit_patch-end
-slice_bounds-fit_patch-end c = omega (arith, ended (goal.at.slice_bounds-fit_patch-end c).After-reading_count)
+pub shared_ref_as_front-fit_patch : goal.shared_ref_as_front-fit_patch
+shared_ref_as_front-fit_patch c = outputs-few c.requires.0.parts
+
+pub slice_bounds-fit_patch-end-2 : goal.slice_bounds-fit_patch-end-2
+slice_bounds-fit_patch-end-2 c = omega (arith, ended (goal.at.slice_bounds-fit_patch-end-2 c).After-reading_count)
 
 pub fit_patch-requires : goal.fit_patch-requires
 fit_patch-requires c =
     let a = c.args in
     let q = c.requires.0.parts in
-    let w = c.requires.0.old in record {
+    let w = c.requires.0.old in
+    let e = outputs-taken q in
+    record {
       fittable = (
         sheet-fittable q a.sheet.now c.read_sheet-answer.ensures c.if-answer-ne0.false w _ c.reading_count.ensures,
         c.requires.1,
       );
-      count_bound = (outputs-most q, outputs-old q.good w a.job.outputs (outputs-count q) q.outputs);
+      outputs_bound = (outputs-most q, outputs-old q.good w _ e);
     }
 
 pub returns : goal.returns
 returns c j q w =
     let a = c.args in
-    sheet-accepted q a.sheet.now c.read_sheet-answer.ensures c.if-answer-ne0.false w _ c.reading_count.ensures a.job.outputs
-    (outputs-count q)
-    q.outputs
+    sheet-accepted q a.sheet.now c.read_sheet-answer.ensures c.if-answer-ne0.false w _ c.reading_count.ensures _ (outputs-taken q)
     c.fit_patch.ensures

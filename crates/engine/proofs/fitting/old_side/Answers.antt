@@ -2,21 +2,42 @@
 use mathlib.Core.Path.{sym}
 use native.Mathlib.Omega.{arith}
 use lib.Seq.{length-take-le}
-use Rattle.engine.proofs.Laws.OldSide.{gates-count, gates-most, old_of}
+use Rattle.engine.proofs.Laws.OldSide.{gates-count, gates-most, front-codes, front-forms, front-good, old-marks, front-marks}
 use Rattle.engine.proofs.fitting.old_side.Goals as goal
 
-pub slice_bounds-gates-end : goal.slice_bounds-gates-end
-slice_bounds-gates-end c = omega (arith, gates-most c.requires.parts)
+pub shared_ref_as_front-mark_from : goal.shared_ref_as_front-mark_from
+shared_ref_as_front-mark_from c = omega (arith, gates-most c.requires.parts)
 
 pub slice_bounds-mark_from-end : goal.slice_bounds-mark_from-end
-slice_bounds-mark_from-end c = sym (length-take-le c.args.job.counts.old.gates _ (omega (arith, gates-most c.requires.parts)))
+slice_bounds-mark_from-end c = sym (length-take-le c.args.job.now.counts.old.gates _ (omega (arith, gates-most c.requires.parts)))
 
 pub mark_from-marks-requires : goal.mark_from-marks-requires
 mark_from-marks-requires c =
-    let r = c.miter_of-miter.ensures.miter_room in
-    omega (arith, r.inputs, r.targets)
+    let m = c.of_parts-miter.result in
+    omega (arith, m.inputs_bound, m.targets_bound)
+
+pub invariant_of-result : goal.invariant_of-result
+invariant_of-result c =
+    let q = c.requires.parts in
+    let m = c.of_parts-miter.result in
+    let w = c.of_parts-miter.ensures c.requires.job q in
+    record {
+      inputs_bound = m.inputs_bound;
+      targets_bound = m.targets_bound;
+      count_bound = gates-most q;
+      good = front-good w (gates-count q);
+      led = front-marks w (gates-count q) c.mark_from-marks.ensures;
+    }
 
 pub returns : goal.returns
 returns c j q =
-    let e = c.miter_of-miter.ensures in
-    old_of (e.miter_of j q) e.miter_room (gates-count q) c.mark_from-marks.ensures
+    let w = c.of_parts-miter.ensures j q in
+    record {
+      inputs = w.inputs;
+      targets = w.targets;
+      count = gates-count q;
+      long = omega arith;
+      gates = front-codes w (gates-count q);
+      forms = front-forms w;
+      marks = old-marks w (gates-count q) c.mark_from-marks.ensures;
+    }

@@ -1,13 +1,17 @@
 -- `engine::fitting::place_trees` meets its contract. Assumes nothing.
-use Rattle.engine.proofs.Laws.FitCode.{moved-nets}
+use native.Mathlib.Omega.{arith}
+use Rattle.engine.proofs.Laws.FitCode.{moved-nets, trees-placed}
 use Rattle.engine.proofs.fitting.place_trees.Goals as goal
 
-pub put_trees-count-requires : goal.put_trees-count-requires
-put_trees-count-requires c =
-    let a = c.args in
+pub put_trees-new-requires-clause-k_bound : goal.put_trees-new-requires-clause-k_bound
+put_trees-new-requires-clause-k_bound c =
+    let s = c.args.support.now in
     let l = c.requires.len_bound in
-    let t = c.requires.targets_bound in record {
-      k_bound = (l.0, l.2, t.0, moved-nets a.support.len a.new.numbers a.support.nets _ l.1 c.move_nets.ensures l.3 t.3);
-      targets_bound = (t.1, t.2);
-      gate_room = c.requires.gate_room;
-    }
+    let t = c.requires.targets_bound in
+    (l.0, l.1, t.0, moved-nets s.len c.args.new.now.numbers s.nets (omega (arith, l.0)) c.move_nets.ensures l.2 t.2)
+
+pub returns : goal.returns
+returns c =
+    let a = c.args in
+    let s = a.support.now in
+    trees-placed a.inputs a.targets s.len s.nets a.new.now _ (omega (arith, c.requires.len_bound.0)) c.move_nets.ensures c.put_trees-new.ensures

@@ -9,5 +9,5 @@ returns-then-skipped-eq0-clause-unseen c j is m e good g = none-skipped g c.if-s
 
 pub next_unseen-requires : goal.next_unseen-requires
 next_unseen-requires c =
-    let m = readings-many c.requires.1.few in
+    let m = readings-many c.requires.few in
     (omega arith, omega (arith, c.reading_count-count.ensures))

@@ -4,7 +4,7 @@ use Prim.Native.Nat.{◌-◌, ◌≤◌}
 use mathlib.Core.Path.{refl, sym, ◌∙◌, ap}
 use native.Mathlib.Omega.{arith}
 use lib.Seq.{get_or-set_same}
-use Rattle.engine.specs.Inner.Renumber.{gate_in}
+use Rattle.engine.specs.Inner.Packed.{gate_in}
 use Rattle.engine.proofs.Laws.Loaded.{below-zeros}
 use Rattle.engine.proofs.Laws.Merge.{merging-none, merging-moved, merging-stands, merging-place}
 use Rattle.engine.proofs.merge.merge_gates.Goals as goal
@@ -12,7 +12,7 @@ use Rattle.engine.proofs.merge.merge_gates.Goals.{then-k-gt0, else-k-gt0}
 
 pub loop-i-init : goal.loop-i-init
 loop-i-init c =
-    merging-none c.requires.2 c.number_inputs-stands.ensures
+    merging-none c.told-gates c.number_inputs-stands.ensures
     (record { heads = below-zeros 1 1024 (omega arith); next = λ k. omega (arith, below-zeros 1 800 (omega arith) k) })
 
 pub loop-i-preserved : goal.loop-i-preserved

@@ -2,5 +2,5 @@
 use Rattle.engine.proofs.Laws.Merge.{merged-self}
 use Rattle.engine.proofs.merge.merged_miter.Goals as goal
 
-pub returns-then-job-lt-LEAST_TO_MERGE-clause-merged_of : goal.returns-then-job-lt-LEAST_TO_MERGE-clause-merged_of
-returns-then-job-lt-LEAST_TO_MERGE-clause-merged_of c j p = merged-self (c.miter_of.ensures.miter_of j p)
+pub returns-then-miter-lt-LEAST_TO_MERGE : goal.returns-then-miter-lt-LEAST_TO_MERGE
+returns-then-miter-lt-LEAST_TO_MERGE c j p = merged-self (c.of_parts-miter.ensures j p)

@@ -1,26 +1,16 @@
--- `engine::miter::shift_nets` meets its contract: after i turns the first i nets stand shifted. Assumes nothing.
+-- `engine::miter::shift_nets` meets its contract. Assumes nothing.
 use native.Mathlib.Omega.{arith}
-use lib.ListN.{get_or}
-use Rattle.engine.proofs.Laws.MiterCode.{nets-none, nets-next, net-lt}
+use Rattle.engine.specs.Inner.Shifted.{shifted_net}
+use Rattle.engine.proofs.Laws.InPlace.{mapped-at, mapped-next, mapped-all}
 use Rattle.engine.proofs.miter.shift_nets.Goals as goal
 
-pub loop-i-init : goal.loop-i-init
-loop-i-init c = let a = c.args in (omega arith, nets-none a.nets a.inputs a.shift)
+pub shift_net-requires : goal.shift_net-requires
+shift_net-requires c =
+    let l = c.loop-net in
+    omega (arith, mapped-at (shifted_net c.args.inputs c.args.shift) l.net-index c.args.nets.now l.invariant, c.requires l.net-index)
 
-pub overflow_cast-r : goal.overflow_cast-r
-overflow_cast-r c =
-    let a = c.args in
-    let l = c.loop-i in
-    let h = c.requires.below l.i (omega arith) in
-    omega (arith, net-lt a.inputs a.shift (get_or a.nets l.i 0) c.shift_net.ensures h)
+pub loop-net-preserved : goal.loop-net-preserved
+loop-net-preserved c = mapped-next _ c.loop-net.net-index c.args.nets.now c.loop-net.invariant c.loop-net-test.true c.shift_net.ensures.0
 
-pub loop-i-preserved : goal.loop-i-preserved
-loop-i-preserved c =
-    let a = c.args in
-    let l = c.loop-i in
-    let h = c.requires.below l.i (omega arith) in (
-      omega arith,
-      nets-next a.nets a.inputs a.shift l.r l.i c.shift_net.result (omega arith) (omega arith) l.invariant.1
-          c.shift_net.ensures
-          (net-lt a.inputs a.shift (get_or a.nets l.i 0) c.shift_net.ensures h),
-    )
+pub returns : goal.returns
+returns c = mapped-all _ c.loop-net.net-index c.args.nets.now c.loop-net.invariant (omega (arith, c.loop-net.auto.net-index-end))

@@ -1,7 +1,8 @@
--- `engine::miter::shift_nets` meets its contract: after i turns the first i nets stand shifted. Assumes nothing.
-use Prim.Native.Nat.{◌≤◌}
-use Rattle.engine.specs.Inner.Miter.{NetsShifted}
+-- `engine::miter::shift_nets` meets its contract: at each turn the nets before it stand shifted. Assumes nothing.
+use mathlib.Core.Path.{◌≡◌}
+use Rattle.engine.specs.Inner.Shifted.{shifted_net}
+use Rattle.engine.proofs.Laws.InPlace.{mapped}
 use Rattle.engine.proofs.miter.shift_nets.Given as goal
 
-abbrev pub invariant-loop-i : goal.invariant-loop-i
-invariant-loop-i l = (l.i ≤ l.count) × NetsShifted l.nets l.i l.inputs l.shift l.r
+abbrev pub invariant-loop-net : goal.invariant-loop-net
+invariant-loop-net l = l.nets ≡ mapped (shifted_net l.inputs l.shift) l.net-index l.initial.nets

@@ -1,10 +1,9 @@
 -- `engine::narrow::eval_vector` meets its contract: the leaves loaded, and all gates run. Assumes nothing.
-use mathlib.Core.Path.{◌∙◌}
+use native.Mathlib.Omega.{arith}
 use Rattle.engine.proofs.Laws.Narrow.{values-run}
 use Rattle.engine.proofs.narrow.eval_vector.Goals as goal
 
 pub returns : goal.returns
-returns c =
-    let d = c.load_leaves in
-    let long = d.ensures.long ∙ c.requires.4 in
-    (c.run_words.ensures.long ∙ long, λ j q. values-run c.args.vector q long d.ensures c.run_words.ensures)
+returns c j q =
+    let d = c.load_leaves.ensures in
+    values-run c.args.vector q (omega (arith, d.long)) d c.run_words.ensures

@@ -17,7 +17,7 @@ pub returns : goal.returns
 returns c =
     let w = c.word_masks-masks in
     λ j q.
-    list-of-masks j (omega (arith, c.requires.1, q.inputs)) (c.word_masks-masks.ensures.result_len.1 j q) c.start.ensures
+    list-of-masks j (omega (arith, c.requires, q.inputs)) (c.word_masks-masks.ensures.masks j q) c.start.ensures
     (subst (λ (k : ℕ). ListNoted w.result 0 k c.start.result c.list_block.result)
-    (size_of c.args.miter.inputs c.requires.1 ∙ ap (λ (n : ℕ). 2 ^ n) q.inputs)
+    (size_of c.args.miter.now.inputs c.requires ∙ ap (λ (n : ℕ). 2 ^ n) q.inputs)
     c.list_block.ensures)

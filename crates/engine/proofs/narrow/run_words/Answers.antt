@@ -3,27 +3,23 @@
 use mathlib.Core.Path.{sym, ◌∙◌}
 use native.Mathlib.Omega.{arith}
 use lib.ListN.{length-set}
-use Rattle.engine.specs.Inner.Packed.{code_value}
-use Rattle.engine.specs.Inner.Narrow.{values_at}
-use Rattle.engine.proofs.Laws.Narrow.{run-next}
-use Rattle.engine.proofs.Laws.PlanCode.{evaluated-end}
+use Rattle.engine.proofs.Laws.Narrow.{run-next, run-end}
 use Rattle.engine.proofs.narrow.run_words.Goals as goal
 
-pub loop-i-preserved : goal.loop-i-preserved
-loop-i-preserved c =
-    let l = c.loop-i in
+pub loop-gate-preserved : goal.loop-gate-preserved
+loop-gate-preserved c =
+    let l = c.loop-gate in
     let a = c.args in (
       length-set l.words _ _ ∙ l.invariant.0,
       λ y h.
-          run-next a.gates.now l.words a.count l.i _ y (omega arith) (omega arith) (c.gate_word-r.ensures y h) ∙ l.invariant.1 y h,
+          run-next a.gates.now l.words l.gate-index _ y (omega arith) (c.gate_word-r.ensures y h) ∙ l.invariant.1 y h,
     )
 
 pub returns : goal.returns
 returns c =
     let a = c.args in
-    let l = c.loop-i in
+    let l = c.loop-gate in
     record {
       long = l.invariant.0;
-      values = λ y h.
-          sym (evaluated-end code_value (values_at l.words y) a.gates.now a.count l.i (omega arith) (omega arith)) ∙ l.invariant.1 y h;
+      values = λ y h. sym (run-end a.gates.now l.words l.gate-index y (omega arith)) ∙ l.invariant.1 y h;
     }

@@ -2,13 +2,13 @@
 -- Assumes nothing.
 use Prim.Native.Nat.{ℕ, ◌<◌}
 use mathlib.Core.Path.{◌≡◌}
-use lib.ListN.{length, take, drop}
+use lib.ListN.{length, drop}
 use Rattle.engine.specs.Inner.Packed.{code_value, evaluated}
 use Rattle.engine.specs.Inner.Narrow.{values_at}
 use Rattle.engine.proofs.narrow.run_words.Given as goal
 
-abbrev pub invariant-loop-i : goal.invariant-loop-i
-invariant-loop-i l =
+abbrev pub invariant-loop-gate : goal.invariant-loop-gate
+invariant-loop-gate l =
     (length l.words ≡ length l.initial.words)
     × ((y : ℕ) → y < 64
-    → evaluated code_value (values_at l.words y) (drop l.i (take l.count l.gates)) ≡ evaluated code_value (values_at l.initial.words y) (take l.count l.gates))
+    → evaluated code_value (values_at l.words y) (drop l.gate-index l.gates) ≡ evaluated code_value (values_at l.initial.words y) l.gates)

@@ -15,19 +15,19 @@ use Rattle.engine.proofs.narrow.word_masks.Goals as goal
 
 pub loop-step-init : goal.loop-step-init
 loop-step-init c =
-    let v = shl_exact 1 c.args.miter.targets 64 (lit< tt) (omega (arith, c.requires.0.targets)) ∙ one-mul (2 ^ c.args.miter.targets) in
-    (c.requires.2, refl, omega arith, v, λ j q. words-none j c.args.miter _)
+    let v = shl_exact 1 c.args.miter.now.targets 64 (lit< tt) (omega (arith, c.args.miter.now.targets_bound)) ∙ one-mul (2 ^ c.args.miter.now.targets) in
+    (omega arith, refl, omega arith, v, λ j q. words-none j c.args.miter.now _)
 
 pub vector_at-v-requires : goal.vector_at-v-requires
 vector_at-v-requires c =
     let step-few : c.loop-step.step < 16 =
-    omega (arith, c.loop-step.invariant.3, vectors-many c.requires.0.targets) in
+    omega (arith, c.loop-step.invariant.3, vectors-many c.args.miter.now.targets_bound) in
     (lit< tt, step-few)
 
 pub set_row-requires : goal.set_row-requires
 set_row-requires c =
     let step-few : c.loop-step.step < 16 =
-    omega (arith, c.loop-step.invariant.3, vectors-many c.requires.0.targets) in
+    omega (arith, c.loop-step.invariant.3, vectors-many c.args.miter.now.targets_bound) in
     let v = c.vector_at-v in
     let l = c.loop-step in
     omega (arith, v.ensures, ordered-lt 0 (lit< tt) l.step step-few)
@@ -35,29 +35,29 @@ set_row-requires c =
 pub loop-step-preserved : goal.loop-step-preserved
 loop-step-preserved c =
     let step-few : c.loop-step.step < 16 =
-    omega (arith, c.loop-step.invariant.3, vectors-many c.requires.0.targets) in
+    omega (arith, c.loop-step.invariant.3, vectors-many c.args.miter.now.targets_bound) in
     let e = c.eval_vector in
-    let m = c.args.miter in
+    let m = c.args.miter.now in
     let v = c.vector_at-v in (
-      c.eval_vector.ensures.0,
+      omega arith,
       c.set_row.ensures.long ∙ c.loop-step.invariant.1,
       omega arith,
       c.loop-step.invariant.3,
       λ j q.
-          words-next j m c.loop-step.step v.result c.equal_word-r.result q c.requires.1 step-few v.ensures
+          words-next j m c.loop-step.step v.result c.equal_word-r.result q c.requires step-few v.ensures
           (c.loop-step.invariant.4 j q)
-          (c.eval_vector.ensures.1 j (narrow-of q c.requires.1))
+          (c.eval_vector.ensures j (narrow-of q c.requires))
           c.equal_word-r.ensures
           c.set_row.ensures,
     )
 
 pub returns : goal.returns
 returns c =
-    let m = c.args.miter in
+    let m = c.args.miter.now in
     let e : c.loop-step.step ≡ 2 ^ m.targets = omega (arith, c.loop-step.invariant.3, c.loop-step.invariant.2) in
     let all : (j : Job) → MergedOf j m → _ =
-    λ j q. words-all j m q c.requires.0.targets (subst (λ (k : ℕ). WordsTo j m k c.loop-step.words c.loop-step.masks) e (c.loop-step.invariant.4 j q)) in
+    λ j q. words-all j m q c.args.miter.now.targets_bound (subst (λ (k : ℕ). WordsTo j m k c.loop-step.words c.loop-step.masks) e (c.loop-step.invariant.4 j q)) in
     record {
-      result_len = (c.loop-step.invariant.1, λ j q. (all j q).0);
-      by_index = λ j q. (all j q).1;
+      masks = λ j q. (all j q).0;
+      words = λ j q. (all j q).1;
     }

@@ -1,17 +1,27 @@
--- `engine::netlist::put_code` meets its contract. The invariant: with the slots that are left in the number rest put behind the first i
--- pairs of bytes, all are put. Assumes nothing.
+-- `engine::netlist::put_code` meets its contract. Assumes nothing.
+use Prim.Native.Nat.{◌-◌}
+use mathlib.Core.Path.{◌≡◌, ◌∙◌, ap}
 use native.Mathlib.Omega.{arith}
-use Rattle.engine.proofs.Laws.Fitting.{putting-none, putting-next, putting-all}
+use lib.ListN.{length, set, length-set, drop}
+use Rattle.std.proofs.lemmas.List.{length-take, length-drop}
+use Rattle.records.specs.Bytes.{flat, byte_pair}
+use Rattle.engine.specs.Inner.Packed.{fields}
+use Rattle.engine.proofs.Laws.Fitting.{code-put}
 use Rattle.engine.proofs.netlist.put_code.Goals as goal
 
-pub loop-i-init : goal.loop-i-init
-loop-i-init c = let a = c.args in putting-none a.bytes.now a.at a.c c.requires.1
-
-pub loop-i-preserved : goal.loop-i-preserved
-loop-i-preserved c =
-    putting-next c.loop-i.invariant (omega arith) c.requires.0 c.two_bytes-pair.ensures
+pub put_pairs-requires : goal.put_pairs-requires
+unfolding fields
+put_pairs-requires c =
+    let bs = c.args.bytes.now in
+    let ds = set (set bs 0 c.kind_of.result) 1 c.count_of.result in
+    let m : length ds ≡ 10 = length-set (set bs 0 c.kind_of.result) 1 c.count_of.result ∙ length-set bs 0 c.kind_of.result ∙ c.requires in
+    let k : length c.slots_in.result ≡ 4 = ap length c.slots_in.ensures in
+    omega (arith, m, k, length-take (length ds - 2) (drop 2 ds), length-drop 2 ds)
 
 pub returns : goal.returns
 returns c =
-    let a = c.args in
-    putting-all a.bytes.now a.at a.c (omega arith) c.loop-i.invariant (omega arith)
+    let bs = c.args.bytes.now in
+    let m : length (set (set bs 0 c.kind_of.result) 1 c.count_of.result) ≡ 10 =
+    length-set (set bs 0 c.kind_of.result) 1 c.count_of.result ∙ length-set bs 0 c.kind_of.result ∙ c.requires in
+    code-put bs c.args.c _ c.requires (omega (arith, m)) c.kind_of.ensures c.count_of.ensures
+    (c.put_pairs.ensures ∙ ap (flat byte_pair) c.slots_in.ensures)

@@ -9,7 +9,7 @@ returns c j is o e h =
     let le = c.live_marks-live.ensures in
     let u = c.lists_of-ends.ensures in (
       planned o a.reads e h record { inputs = refl; targets = refl; outs = refl; outputs = refl; goldens = refl; reads = refl } le
-          a.turns c.requires.2 u,
+          a.turns c.requires.1 u,
       turned o a.reads e h record { inputs = refl; targets = refl; outs = refl; outputs = refl; goldens = refl; reads = refl } le
-          a.turns c.requires.2 u,
+          a.turns c.requires.1 u,
     )

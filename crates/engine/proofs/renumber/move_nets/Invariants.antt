@@ -1,11 +1,8 @@
--- `engine::renumber::move_nets` meets its contract. The invariant: the first i places hold the new numbers of the first i nets.
--- Assumes nothing.
-use Prim.Native.Nat.{◌≤◌}
+-- `engine::renumber::move_nets` meets its contract: at each turn the nets before it stand at their new numbers. Assumes nothing.
 use mathlib.Core.Path.{◌≡◌}
-use mathlib.Core.List.{map}
-use lib.ListN.{length, get_or, take}
+use lib.ListN.{get_or}
+use Rattle.engine.proofs.Laws.InPlace.{mapped}
 use Rattle.engine.proofs.renumber.move_nets.Given as goal
 
-abbrev pub invariant-loop-i : goal.invariant-loop-i
-invariant-loop-i l =
-    (l.i ≤ l.count) × (length l.out ≡ length l.initial.out) × (take l.i l.out ≡ map (λ o. get_or l.numbers o 0) (take l.i l.nets))
+abbrev pub invariant-loop-net : goal.invariant-loop-net
+invariant-loop-net l = l.nets ≡ mapped (λ o. get_or l.numbers o 0) l.net-index l.initial.nets

@@ -1,11 +1,8 @@
 -- `engine::sheet::put_number` meets its contract. Assumes nothing.
+use mathlib.Core.Path.{◌∙◌}
 use native.Mathlib.Omega.{arith}
-use Rattle.engine.proofs.Laws.Sheet.{field-bytes, length-four_bytes}
+use Rattle.engine.proofs.Laws.Sheet.{word-bytes}
 use Rattle.engine.proofs.sheet.put_number.Goals as goal
 
 pub returns : goal.returns
-returns c =
-    let a = c.args in
-    let f = c.four_bytes-bytes in
-    let n = length-four_bytes a.x in
-    field-bytes a.reply.now a.at a.tag f.result f.ensures (omega arith) (omega arith) c.put_field.ensures
+returns c = let e = c.to_be_bytes.ensures ∙ word-bytes c.args.x (omega arith) in rw e at c.put_bytes.ensures

@@ -10,7 +10,7 @@ use Rattle.records.proofs.Laws.Gate.{gate_value-nil}
 use Rattle.engine.specs.Ternary.{ternary_value}
 use Rattle.engine.proofs.Laws.Ternary.{knowns, length-knowns, ternaries-knowns, ternary_value-high, known-none, known-back, fold-inverts}
 use Rattle.engine.proofs.ternary.ternary_value.Goals as goal
-use Rattle.engine.proofs.ternary.ternary_value.Goals.{else-count-lt4, else-plain-eq4, then-count-lt4, then-plain-eq4}
+use Rattle.engine.proofs.ternary.ternary_value.Goals.{else-plain-eq-AND, then-plain-eq-AND}
 
 pub returns-then-kind-gt9 : goal.returns-then-kind-gt9
 returns-then-kind-gt9 c =
@@ -29,15 +29,14 @@ unfolding gate_value conj
 loop-i-init c =
     let x = c.args in
     let k = x.kind in
-    let none : c.if-plain-eq4.r ≡ gate_value (plain_of k) [] =
-    elim c.if-plain-eq4.branch [
-      | then-plain-eq4 w ↦ rw (w.if-plain-eq4.true, w.r-is)
-      | else-plain-eq4 w ↦ w.r-is ∙ sym (gate_value-nil (plain_of k) (even k) w.if-plain-eq4.false)
+    let none : c.if-plain-eq-AND.r ≡ gate_value (plain_of k) [] =
+    elim c.if-plain-eq-AND.branch [
+      | then-plain-eq-AND w ↦ rw (w.if-plain-eq-AND.true, w.r-is)
+      | else-plain-eq-AND w ↦ w.r-is ∙ sym (gate_value-nil (plain_of k) (even k) w.if-plain-eq-AND.false)
     ] in
-    let m = length-knowns x.count x.operands in
-    let all : c.if-count-lt4.i ≡ length (knowns x.count x.operands) =
-    elim c.if-count-lt4.branch [ then-count-lt4 w ↦ omega arith | else-count-lt4 w ↦ omega arith ] in
-    (omega arith, known-none (plain_of k) (even k) x.count x.operands c.if-count-lt4.i c.if-plain-eq4.r all none)
+    let all : c.min-used.result ≡ length (knowns x.count x.operands) =
+    omega (arith, c.min-used.ensures, length-knowns x.count x.operands) in
+    (omega arith, known-none (plain_of k) (even k) x.count x.operands c.min-used.result c.if-plain-eq-AND.r all none)
 
 pub loop-i-preserved : goal.loop-i-preserved
 loop-i-preserved c =
@@ -47,7 +46,7 @@ loop-i-preserved c =
     let more = known-back (plain_of k) (even k) x.count x.operands t.i t.r (omega arith) t.invariant.0 t.invariant.1 in (
       omega arith,
       c.ternary_entry-r.ensures
-          ∙ rw (c.ternary_table-table.ensures, c.wide.ensures, c.wide-in-loop-i.ensures) more,
+          ∙ rw c.ternary_table-table.ensures more,
     )
 
 pub returns-then-kind-eq1 : goal.returns-then-kind-eq1
@@ -58,6 +57,6 @@ returns-then-kind-eq1 c =
     let r : c.loop-i.r ≡ ternary_value (plain_of x.kind) vs = rw z at c.loop-i.invariant.1 in
     let k : x.kind ≡ suc (plain_of x.kind) = omega arith in
     c.ternary_entry.ensures
-    ∙ rw (c.ternary_table.ensures, c.wide-then-kind-eq1.ensures, r)
+    ∙ rw (c.ternary_table.ensures, r)
     (sym (fold-inverts (plain_of x.kind) vs (even x.kind) (omega arith) (ternaries-knowns x.count x.operands)))
     ∙ ap (λ (n : ℕ). ternary_value n vs) (sym k)

@@ -68,4 +68,4 @@ returns c =
     let e : l.i ≡ length is = omega arith in
     let p = l.invariant.1 in
     let t = take-length is in
-    (record { len = rw (e, t) at p.long; nets = rw (e, t) at p.nets }, λ b. record { long = p.places; below = p.below b; few = omega (arith, p.most) })
+    (record { len = rw (e, t) at p.long; nets = rw (e, t) at p.nets }, λ b. record { below = p.below b; few = omega (arith, p.most) })
