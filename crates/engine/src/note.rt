@@ -106,9 +106,9 @@ pub(super) fn sort_block(
 }
 
 // The set of the vectors that rectify input y of the block.
-fn gather_rows(masks: &[u64; ROWS], y: usize) -> usize
+fn gather_rows(masks: &[u64; ROWS], y: usize) -> u16
     requires { y < 1024 }
-    ensures { (result ≡ gathered masks.now y) × (result < 65536) }
+    ensures { result ≡ gathered masks.now y }
 {
     let w = y / WORD;
     let b = y % WORD;
@@ -116,7 +116,7 @@ fn gather_rows(masks: &[u64; ROWS], y: usize) -> usize
     for i in (0..VECTORS).rev() {
         r = 2 * r + ((masks[ROW * i + w] >> b) % 2) as usize;
     }
-    r
+    r as u16
 }
 
 // The row that has a 1 where a listed vector rectifies the input.
