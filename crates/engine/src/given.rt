@@ -3,6 +3,7 @@ ghost use Rattle.std.specs.Prelude.{◌≡◌, true, List, ℕ, ◌/◌, ◌<◌
 ghost use Rattle.records.specs.Bytes.{all as all'};
 ghost use Rattle.records.specs.Job.{Job};
 ghost use Rattle.records.specs.Refusal.{candidate_good};
+ghost use Rattle.engine.specs.Eval.{bit};
 ghost use Rattle.engine.specs.Inner.Miter.{MergedOf};
 ghost use Rattle.engine.specs.Inner.Plan.{NetsRead};
 ghost use Rattle.engine.specs.Inner.Search.{BlockRange};
