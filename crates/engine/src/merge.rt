@@ -21,7 +21,7 @@ pub struct MergedGates {
     pub stands: [u16; NETS],
 }
 
-// Nets that are compared, an old one and a golden one, count pairs.
+// Nets that are compared, an old one and a golden one, count pairs: two lists, as in a miter.
 #[derive(Drop)]
 pub struct Pairs {
     pub count: usize,

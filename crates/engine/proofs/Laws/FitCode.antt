@@ -30,7 +30,7 @@ use Rattle.engine.specs.declared.renumber.NewSide.{NewSide}
 use Rattle.engine.specs.declared.renumber.OldSide.{OldSide}
 use Rattle.engine.proofs.Laws.Choice.{true-or-false, length-keep-le, mem-keep, mem_below, map-agree, all_true}
 use Rattle.engine.proofs.Laws.FitGates.{no_gate, good-at}
-use Rattle.engine.proofs.Laws.InPlace.{mapped, take-mapped, below-map}
+use Rattle.engine.proofs.Laws.InPlace.{mapped, below-map}
 use Rattle.engine.proofs.Laws.Tree.{gates-put-one, gates-put-append, gates-put-same, room-kept, room-less}
 
 -- ---- keep
@@ -378,30 +378,16 @@ module _ (o : OldSide) (b : ℕ) (new : NewSide) where
 
 -- ---- the trees
 
--- the first k nets at their numbers: as many nets
-module _ (k : ℕ) (ns is : List ℕ) {js : List ℕ} (l : k ≤ length is) (e : js ≡ map (λ o. get_or ns o 0) (take k is)) where
-  moved-front : take k (js ++ drop k is) ≡ map (λ o. get_or ns o 0) (take k is)
-  moved-front = ap (λ (ys : List ℕ). take k (ys ++ drop k is)) e ∙ take-mapped (λ o. get_or ns o 0) k is l
+-- nets at their numbers are nets
+pub moved-nets : (ns is : List ℕ) {js : List ℕ} → js ≡ map (λ o. get_or ns o 0) is → Below 1024 is → Nets 1024 ns → Below 1024 js
+moved-nets ns is e p q = rw e (below-map 1024 (λ o. get_or ns o 0) is (omega arith) (λ i h. q (get_or is i 0) (p i)))
 
-  pub moved-long : length (take k (js ++ drop k is)) ≡ k
-  moved-long = ap length moved-front ∙ length-map (take k is) (λ o. get_or ns o 0) ∙ length-take-le k is l
-
-  pub moved-nets : Nets k is → Nets 1024 ns → Below 1024 (take k (js ++ drop k is))
-  moved-nets p q =
-      rw moved-front
-      (below-map 1024 (λ o. get_or ns o 0) (take k is) (omega arith)
-      (λ i h.
-      let m : i < k = omega (arith, length-take-le k is l) in
-      q (get_or (take k is) i 0) (rw (get_or-take k is i 0 m) (p i m))))
-
-pub trees-placed : (n m k : ℕ) (nets : List ℕ) (a b : NewSide) {tb js : List ℕ} → k ≤ length nets
-    → js ≡ map (λ o. get_or a.numbers o 0) (take k nets) → let is = take k (js ++ drop k nets) in
-    TreesPut m (length is) n is tb a.count a.numbers a.gates b.count b.numbers b.gates
-    → TreesPlaced n m (take k nets) (take (2 ^ k) tb) a b
-trees-placed n m k nets a b {tb} {js} l e w =
+pub trees-placed : (n m : ℕ) (nets : List ℕ) (a b : NewSide) {tb js : List ℕ} → length tb ≡ 2 ^ length nets
+    → js ≡ map (λ o. get_or a.numbers o 0) nets → TreesPut m (length js) n js tb a.count a.numbers a.gates b.count b.numbers b.gates
+    → TreesPlaced n m nets tb a b
+trees-placed n m nets a b {tb} {js} l e w =
     let f : ℕ → ℕ = λ o. get_or a.numbers o 0 in
-    let is : List ℕ = map f (take k nets) in
-    let i : length is ≡ k = length-map (take k nets) f ∙ length-take-le k nets l in
-    let v : TreesPut m (length is) n is tb a.count a.numbers a.gates b.count b.numbers b.gates = rw (moved-front k a.numbers nets l e) at w in
-    let x : take (length is) is ≡ is = take-length is in
-    record { gates = rw (x, i) at v.gates; nets = rw (x, i) at v.nets }
+    let i : length js ≡ length nets = ap length e ∙ length-map nets f in
+    let x : take (length js) js ≡ map f nets = take-length js ∙ e in
+    let t : take (2 ^ length js) tb ≡ tb = take_all (2 ^ length js) tb (omega (arith, l, ap (λ (k : ℕ). 2 ^ k) i)) in
+    record { gates = rw (x, t) at w.gates; nets = rw (x, t) at w.nets }

@@ -1,7 +1,7 @@
 -- One netlist of both circuits (the field's miter): inputs, targets, old gates, golden gates (src/miter.rt). No public contract cites
 -- this file. Assumes nothing.
 --
---   shift_of j           by how much
+--   shift_of j           how far golden gates stand behind their own nets
 --   miter_gates j, miter_goldens j     the gates of both netlists, old first; the golden outputs' nets
 --   miter_nets j         how many nets
 --   miter_values j x v   the value of each net at input x and vector v
