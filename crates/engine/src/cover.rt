@@ -111,14 +111,19 @@ fn cube_row(plan: &Plan, cube: Cube, words: &[u64; WORDS]) -> [u64; ROW]
     r
 }
 
-// Whether an input of a block gives a reading of the cover.
+// Whether an input of a block gives a reading of the cube.
+fn gives_cube(plan: &Plan, cube: Cube, words: &[u64; WORDS]) -> bool
+    ensures { result ≡ false → (y : ℕ) → y < 1024 → InCube cube (reading_in words.now (take plan.now.reads.len plan.now.reads.nets) y) → ⊥ }
+{
+    !zero_row(cube_row(plan, cube, words))
+}
+
+// .. of the cover
 pub(super) fn gives_cover(plan: &Plan, cover: &Cover, words: &[u64; WORDS]) -> bool
     ensures { result ≡ false → GivesNone cover.now words.now (take plan.now.reads.len plan.now.reads.nets) }
 {
-    for cube in cover.cubes() {
-        if !zero_row(cube_row(plan, *cube, words)) {
-            return true;
-        }
-    }
-    false
+    cover
+        .cubes()
+        .iter()
+        .any(|cube| gives_cube(plan, *cube, words))
 }
