@@ -1,9 +1,9 @@
--- `engine::note::meet` meets its contract. Assumes nothing.
+-- `engine::note::Meet::step` meets its contract. Assumes nothing.
 use Prim.Native.Nat.{◌%◌}
 use mathlib.Core.Path.{refl}
 use Rattle.engine.specs.Inner.Note.{narrowed}
 use Rattle.engine.proofs.Laws.Note.{kept}
-use Rattle.engine.proofs.note.meet.Goals as goal
+use Rattle.engine.proofs.note.MeetStep.step.Goals as goal
 
 pub returns-then-now-was : goal.returns-then-now-was
 unfolding narrowed
