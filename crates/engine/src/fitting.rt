@@ -1,5 +1,6 @@
 // The service fit.
 ghost use Rattle.std.specs.Prelude.{◌≡◌, [], ℕ, ◌+◌, ◌^◌, ◌≤◌, ◌<◌, length, get_or, take};
+ghost use Rattle.records.specs.Claims.{Below};
 ghost use Rattle.records.specs.Job.{Job};
 ghost use Rattle.records.specs.Sheet.{patch_of};
 ghost use Rattle.records.specs.Parts.{PartsOf};
@@ -26,23 +27,22 @@ pub struct FitReply {
     pub len: usize,
 }
 
-// A tree for each target, over the support's nets at their new numbers, behind the new gates. The targets get the nets of their
-// trees as their numbers.
-fn place_trees(table: &[u8], support: &Support, inputs: usize, targets: usize, new: &mut NewSide)
-    requires len_bound { (support.now.len ≤ 10) × (2 ^ support.now.len ≤ length table.now) × Nets support.now.len support.now.nets }
+// A tree for each target, over the nets at their new numbers, behind the new gates. The targets get the nets of their trees as their
+// numbers.
+fn place_trees(table: &[u8], nets: &[u16], inputs: usize, targets: usize, new: &mut NewSide)
+    requires nets_bound { (length nets.now ≤ 10) × (length table.now ≡ 2 ^ length nets.now) × Below 1024 nets.now }
     requires targets_bound { (targets ≤ 4) × (inputs + targets ≤ 1024) × Nets 1024 new.old.numbers }
-    requires gate_room { GateRoom inputs (new.old.count + trees_size targets 0 support.now.len table.now) new.old.gates }
-    ensures { TreesPlaced inputs targets (take support.now.len support.now.nets)
-        (take (2 ^ support.now.len) table.now) new.old new.new }
+    requires gate_room { GateRoom inputs (new.old.count + trees_size targets 0 (length nets.now) table.now) new.old.gates }
+    ensures { TreesPlaced inputs targets nets.now table.now new.old new.new }
 {
-    let len = support.len;
-    let mut nets = support.nets;
-    move_nets(&mut nets[..len], &new.numbers);
+    let mut places = [0u16; CANDIDATES];
+    let moved = &mut places[..nets.len()];
+    moved.copy_from_slice(nets);
+    move_nets(moved, &new.numbers);
     new.count = put_trees(
         table,
-        len,
+        moved,
         targets,
-        nets,
         inputs,
         new.count,
         &mut new.numbers,
@@ -51,10 +51,9 @@ fn place_trees(table: &[u8], support: &Support, inputs: usize, targets: usize, n
 }
 
 // The gates of the patched netlist and each old net's new number.
-fn place_gates(old: &OldSide, support: &Support, table: &[u8]) -> NewSide
-    requires { Fittable old.now support.now table.now × (patched_count old.now support.now table.now ≤ 400) }
-    ensures { GatesPlaced (side_job old.now []) (take support.now.len support.now.nets)
-        (take (2 ^ support.now.len) table.now) result }
+fn place_gates(old: &OldSide, nets: &[u16], table: &[u8]) -> NewSide
+    requires { Fittable old.now nets.now table.now × (patched_count old.now nets.now table.now ≤ 400) }
+    ensures { GatesPlaced (side_job old.now []) nets.now table.now result }
 {
     let mut new = NewSide {
         count: 0,
@@ -62,39 +61,35 @@ fn place_gates(old: &OldSide, support: &Support, table: &[u8]) -> NewSide
         gates: [0; GATES],
     };
     new.place_marked(old, 0);
-    place_trees(table, support, old.inputs, old.targets, &mut new);
+    place_trees(table, nets, old.inputs, old.targets, &mut new);
     new.place_marked(old, 1);
     new
 }
 
-// The reply to a patch that can be fitted to the old side with these outputs, and its netlist, or number 9.
+// The reply to a patch, a support of nets and a table, that can be fitted to the old side with these outputs, and its netlist, or number 9.
 fn fit_patch(
     old: &OldSide,
     outputs: &[u16],
-    support: &Support,
+    nets: &[u16],
     table: &[u8],
     reply: &mut [u8],
 ) -> FitReply
-    requires fittable { Fittable old.now support.now table.now × (4075 ≤ length reply.old) }
+    requires fittable { Fittable old.now nets.now table.now × (4075 ≤ length reply.old) }
     requires outputs_bound { (length outputs.now ≤ 32)
         × ((i : ℕ) → i < length outputs.now → get_or outputs.now i 0 < old_base old.now + old.now.count) }
-    ensures { FitGives
-        (patch_number (side_job old.now outputs.now) (take support.now.len support.now.nets)
-        (take (2 ^ support.now.len) table.now))
-        (fitted_bytes (side_job old.now outputs.now) (take support.now.len support.now.nets)
-        (take (2 ^ support.now.len) table.now))
-        reply.old result reply.new }
+    ensures { FitGives (patch_number (side_job old.now outputs.now) nets.now table.now)
+        (fitted_bytes (side_job old.now outputs.now) nets.now table.now) reply.old result reply.new }
 {
-    let size = trees_size(table, support.len, old.targets);
+    let size = trees_size(table, nets.len(), old.targets);
     if GATES < old.count + size {
         return FitReply { number: 9, len: 0 };
     }
-    let new = place_gates(old, support, table);
+    let new = place_gates(old, nets, table);
     let mut places = [0u16; OUTPUTS];
-    let nets = &mut places[..outputs.len()];
-    nets.copy_from_slice(outputs);
-    move_nets(nets, &new.numbers);
-    let len = put_netlist(reply, old.inputs, &new.gates[..new.count], nets);
+    let moved = &mut places[..outputs.len()];
+    moved.copy_from_slice(outputs);
+    move_nets(moved, &new.numbers);
+    let len = put_netlist(reply, old.inputs, &new.gates[..new.count], moved);
     FitReply { number: 0, len }
 }
 
@@ -120,12 +115,13 @@ fn fit_sheet(old: &OldSide, job: &JobParts, sheet: &[u8], reply: &mut [u8]) -> F
             len: 0,
         };
     }
+    let support = answer.support;
     let start = answer.table;
-    let end = start + reading_count(answer.support.len);
+    let end = start + reading_count(support.len);
     fit_patch(
         old,
         &job.outputs[..counts.old.outputs],
-        &answer.support,
+        &support.nets[..support.len],
         &sheet[start..end],
         reply,
     )

@@ -10,7 +10,7 @@ ghost use Rattle.engine.specs.Inner.Merge.{Backward, GatesMerged, PairsKept};
 
 use super::limits::{LEAST_TO_MERGE, MITER_GATES, NETS};
 use super::miter::Miter;
-use super::packed::{NET, NET_AT, SLOTS_AT};
+use super::packed::{NET, form_of, slots_number};
 use super::renumber::{move_nets, moved_code, number_inputs};
 use records::{JobParts, OUTPUTS};
 
@@ -33,15 +33,15 @@ pub struct Pairs {
 fn place_of(c: u64) -> usize
     ensures { result < 1024 }
 {
-    let x = c / SLOTS_AT;
-    ((x ^ (x >> 9) ^ (x >> 18) ^ (x >> 27) ^ (c % NET_AT)) % NET) as usize
+    let x = slots_number(c);
+    ((x ^ (x >> 9) ^ (x >> 18) ^ (x >> 27) ^ form_of(c)) % NET) as usize
 }
 
 // Whether two packed gates have one kind, count and operands.
 fn alike(a: u64, b: u64) -> bool
     ensures { result ≡ true → gate_in a ≡ gate_in b }
 {
-    (a % NET_AT == b % NET_AT) & (a / SLOTS_AT == b / SLOTS_AT)
+    (form_of(a) == form_of(b)) & (slots_number(a) == slots_number(b))
 }
 
 // One more than the index of the last gate alike c in the chain whose last gate is at from - 1; 0 where there is none.

@@ -1,6 +1,6 @@
 // A gate in one number, from the lowest bit on: its kind (4 bits), how many operands it has (3), the net that it drives (10), and
 // what stands in its four operand slots (10 each).
-ghost use Rattle.std.specs.Prelude.{◌≡◌, ◌/◌, ◌<◌};
+ghost use Rattle.std.specs.Prelude.{◌≡◌, ◌/◌, ◌%◌, ◌<◌};
 ghost use Rattle.records.specs.Claims.{Below};
 ghost use Rattle.engine.specs.Inner.Packed.{fields, kind_of, count_of, gate_with, packed, operands_of};
 ghost use Rattle.engine.specs.Inner.Operands.{operands_left};
@@ -25,6 +25,7 @@ const THIRD_AT: u64 = NET * SECOND_AT;
 
 const FOURTH_AT: u64 = NET * THIRD_AT;
 
+// The gate of this kind with count operands, which drives net own, in one number.
 pub(super) fn pack(kind: u8, count: u8, own: usize, slots: [u16; SLOTS]) -> u64
     requires { (kind < 16) × (count < 8) × (own < 1024) × Below 1024 slots }
     ensures { result ≡ packed own (gate_with kind count slots) }
@@ -46,6 +47,20 @@ pub(super) fn count_of(c: u64) -> u8
     ensures { result ≡ count_of c }
 {
     (c / COUNT_AT % COUNTS) as u8
+}
+
+// Its kind and count, as one number.
+pub(super) fn form_of(c: u64) -> u64
+    ensures { result ≡ c % 128 }
+{
+    c % NET_AT
+}
+
+// Its operand slots, as one number.
+pub(super) fn slots_number(c: u64) -> u64
+    ensures { result ≡ c / 131072 }
+{
+    c / SLOTS_AT
 }
 
 // What stands in its operand slots.

@@ -1,6 +1,7 @@
 // Multiplexer trees: packed gates put behind those of a netlist, a tree over each target's column of a table.
-ghost use Rattle.std.specs.Prelude.{◌≡◌, [], ◌∷◌, ℕ, ◌+◌, ◌-◌, ◌^◌, ◌≤◌, ◌<◌, eqb, length, get_or, take, drop};
+ghost use Rattle.std.specs.Prelude.{◌≡◌, [], ◌∷◌, ℕ, ◌+◌, ◌-◌, ◌^◌, ◌≤◌, ◌<◌, eqb, length, get_or};
 ghost use Rattle.records.specs.Bytes.{all};
+ghost use Rattle.records.specs.Claims.{Below};
 ghost use Rattle.engine.specs.Choice.{same};
 ghost use Rattle.engine.specs.Eval.{bit, bits, number_of};
 ghost use Rattle.records.specs.Gate.{gate_of};
@@ -11,7 +12,7 @@ ghost use Rattle.engine.specs.declared.tree.Join.TheVariants.{Both};
 use super::limits::NETS;
 use super::packed::pack;
 use super::table::reading_count;
-use records::{CANDIDATES, GATES};
+use records::GATES;
 
 // How the halves of a column, which differ, are joined: the gate that chooses, and the half that has a tree of its own, where one
 // has. A half that is all 0 or all 1 has none (card 2 of document 02).
@@ -96,128 +97,112 @@ fn put_join(
     }
 }
 
-// The bit of target t in the entry at place i.
-fn table_bit(table: &[u8], i: usize, t: usize) -> u8
-    requires { (i < length table.now) × (t < 8) }
-    ensures { result ≡ bit t (get_or table.now i 0) }
+// The bit of target t in an entry.
+fn bit_of(entry: u8, t: usize) -> u8
+    requires { t < 8 }
+    ensures { result ≡ bit t entry }
 {
-    (table[i] >> t) % 2
+    (entry >> t) % 2
 }
 
-// Whether the column of target t is x at each of the count entries from place at on.
-fn column_is(table: &[u8], at: usize, count: usize, t: usize, x: u8) -> bool
-    requires { (at + count ≤ length table.now) × (t < 8) }
-    ensures { result ≡ all (eqb x) (column (take count (drop at table.now)) t) }
+// Whether the column of target t is x at each entry.
+fn column_is(table: &[u8], t: usize, x: u8) -> bool
+    requires { t < 8 }
+    ensures { result ≡ all (eqb x) (column table.now t) }
 {
-    for i in 0..count {
-        if table_bit(table, at + i, t) != x {
-            return false;
-        }
-    }
-    true
+    table.iter().all(|e| bit_of(*e, t) == x)
 }
 
-// Whether the column of target t has the same bits at the half entries from place at on and at the half entries behind them.
-fn halves_equal(table: &[u8], at: usize, half: usize, t: usize) -> bool
-    requires { (at + half + half ≤ length table.now) × (t < 8) }
-    ensures { result ≡ same (column (take half (drop at table.now)) t)
-        (column (take half (drop (at + half) table.now)) t) }
+// Whether the column of target t has the same bits in both halves.
+fn halves_equal(low: &[u8], high: &[u8], t: usize) -> bool
+    requires { (t < 8) × (length high.now ≡ length low.now) }
+    ensures { result ≡ same (column low.now t) (column high.now t) }
 {
-    let high = at + half;
-    for i in 0..half {
-        if table_bit(table, at + i, t) != table_bit(table, high + i, t) {
-            return false;
-        }
-    }
-    true
+    low.iter()
+        .zip(high)
+        .all(|(a, b)| bit_of(*a, t) == bit_of(*b, t))
 }
 
-// How the two halves of half entries each, from place at on, are joined in the column of target t.
-fn join_of(table: &[u8], at: usize, half: usize, t: usize) -> Join
-    requires { (at + half + half ≤ length table.now) × (t < 8) }
-    ensures { result ≡ join_of (column (take half (drop at table.now)) t)
-        (column (take half (drop (at + half) table.now)) t) }
+// How the halves are joined in the column of target t.
+fn join_of(low: &[u8], high: &[u8], t: usize) -> Join
+    requires { t < 8 }
+    ensures { result ≡ join_of (column low.now t) (column high.now t) }
 {
-    let high = at + half;
-    if column_is(table, at, half, t, 0) {
-        if column_is(table, high, half, t, 1) {
+    if column_is(low, t, 0) {
+        if column_is(high, t, 1) {
             return Join::Buf;
         }
         return Join::AndHigh;
     }
-    if column_is(table, at, half, t, 1) {
-        if column_is(table, high, half, t, 0) {
+    if column_is(low, t, 1) {
+        if column_is(high, t, 0) {
             return Join::Not;
         }
         return Join::OrHigh;
     }
-    if column_is(table, high, half, t, 0) {
+    if column_is(high, t, 0) {
         return Join::AndLow;
     }
-    if column_is(table, high, half, t, 1) {
+    if column_is(high, t, 1) {
         return Join::OrLow;
     }
     Join::Both
 }
 
-// Whether the low half has a tree.
-fn builds_low(join: Join) -> bool
-    ensures { result ≡ builds_low join }
-{
-    match join {
-        Join::AndLow | Join::OrLow | Join::Both => true,
-        _ => false,
+impl Join {
+    // Whether the low half has a tree.
+    fn builds_low(self) -> bool
+        ensures { result ≡ builds_low self }
+    {
+        matches!(self, Join::AndLow | Join::OrLow | Join::Both)
+    }
+
+    // Whether the high half has one.
+    fn builds_high(self) -> bool
+        ensures { result ≡ builds_high self }
+    {
+        matches!(self, Join::AndHigh | Join::OrHigh | Join::Both)
+    }
+
+    // How many gates join the halves.
+    fn size(self) -> usize
+        ensures { result ≡ join_size self }
+    {
+        match self {
+            Join::AndLow | Join::OrHigh => 2,
+            Join::Both => 4,
+            _ => 1,
+        }
     }
 }
 
-// Whether the high half has one.
-fn builds_high(join: Join) -> bool
-    ensures { result ≡ builds_high join }
+// How the tree over k nets and the column of target t at the first 2 ^ k entries starts.
+fn tree_start(table: &[u8], k: usize, t: usize) -> TreeStart
+    requires { TablePart table.now k t }
+    ensures { result ≡ tree_start k (column_part table.now 0 k t) }
 {
-    match join {
-        Join::AndHigh | Join::OrHigh | Join::Both => true,
-        _ => false,
-    }
-}
-
-// How many gates join the halves.
-fn join_size(join: Join) -> usize
-    ensures { result ≡ join_size join }
-{
-    match join {
-        Join::AndLow | Join::OrHigh => 2,
-        Join::Both => 4,
-        _ => 1,
-    }
-}
-
-// How the tree over k nets and the column of target t, at the 2 ^ k entries from place at on, starts.
-fn tree_start(table: &[u8], at: usize, k: usize, t: usize) -> TreeStart
-    requires { TablePart table.now at k t }
-    ensures { result ≡ tree_start k (column_part table.now at k t) }
-{
-    let size = reading_count(k);
-    if column_is(table, at, size, t, 0) {
+    let table = &table[..reading_count(k)];
+    if column_is(table, t, 0) {
         return TreeStart::Constant(0);
     }
-    if column_is(table, at, size, t, 1) {
+    if column_is(table, t, 1) {
         return TreeStart::Constant(1);
     }
-    let half = size / 2;
-    if halves_equal(table, at, half, t) {
+    let (low, high) = table.split_at(table.len() / 2);
+    if halves_equal(low, high, t) {
         return TreeStart::Equal;
     }
-    TreeStart::Split(join_of(table, at, half, t))
+    TreeStart::Split(join_of(low, high, t))
 }
 
-// The column of target t at the 2 ^ k entries from place at on, as one number: bit i is that of entry at + i.
-fn column_word(table: &[u8], at: usize, k: usize, t: usize) -> u64
-    requires { TablePart table.now at k t × (k ≤ 6) }
-    ensures { result ≡ number_of (column_part table.now at k t) }
+// The column of target t at the first 2 ^ k entries, as one number: bit i is that of entry i.
+fn column_word(table: &[u8], k: usize, t: usize) -> u64
+    requires { TablePart table.now k t × (k ≤ 6) }
+    ensures { result ≡ number_of (column_part table.now 0 k t) }
 {
     let mut w = 0u64;
     for i in (0..reading_count(k)).rev() {
-        w = 2 * w + table_bit(table, at + i, t) as u64;
+        w = 2 * w + bit_of(table[i], t) as u64;
     }
     w
 }
@@ -264,118 +249,116 @@ fn word_size(w: u64, k: usize) -> usize
         return word_size(low, k - 1);
     }
     let join = word_join(low, high, ones);
-    let below = if builds_low(join) {
+    let below = if join.builds_low() {
         word_size(low, k - 1)
     } else {
         0
     };
-    let above = if builds_high(join) {
+    let above = if join.builds_high() {
         word_size(high, k - 1)
     } else {
         0
     };
-    below + above + join_size(join)
+    below + above + join.size()
 }
 
-// How many gates that tree has. It calls itself on each half of the column; one of up to 64 entries becomes a number, for which each is
-// read once, and above that each is read at most five times a net.
-fn tree_size(table: &[u8], at: usize, k: usize, t: usize) -> usize
-    requires { TablePart table.now at k t }
-    ensures { result ≡ tree_size k (column_part table.now at k t) }
+// How many gates the tree over k nets and the column of target t at the first 2 ^ k entries has. It calls itself on each half of the column;
+// one of up to 64 entries becomes a number, for which each is read once, and above that each is read at most five times a net.
+fn tree_size(table: &[u8], k: usize, t: usize) -> usize
+    requires { TablePart table.now k t }
+    ensures { result ≡ tree_size k (column_part table.now 0 k t) }
 {
     if k <= 6 {
-        return word_size(column_word(table, at, k, t), k);
+        return word_size(column_word(table, k, t), k);
     }
-    let start = tree_start(table, at, k, t);
+    let start = tree_start(table, k, t);
     match start {
         TreeStart::Constant(_) => 1,
-        TreeStart::Equal => tree_size(table, at, k - 1, t),
+        TreeStart::Equal => tree_size(table, k - 1, t),
         TreeStart::Split(join) => {
             let half = reading_count(k - 1);
-            let low = if builds_low(join) {
-                tree_size(table, at, k - 1, t)
+            let low = if join.builds_low() {
+                tree_size(table, k - 1, t)
             } else {
                 0
             };
-            let high = if builds_high(join) {
-                tree_size(table, at + half, k - 1, t)
+            let high = if join.builds_high() {
+                tree_size(&table[half..], k - 1, t)
             } else {
                 0
             };
-            low + high + join_size(join)
+            low + high + join.size()
         }
     }
 }
 
-// The tree over the first k nets of the support and the column of target t at the 2 ^ k entries from place at on, put behind the
-// first count gates; gate i drives net base + i. The builder calls itself on each half of the column.
+// The tree over k nets and the column of target t at the first 2 ^ k entries, put behind the first count gates; gate i drives net base + i.
+// The builder calls itself on each half of the column.
 pub(super) fn put_tree(
     table: &[u8],
-    at: usize,
-    k: usize,
     t: usize,
-    support: [u16; CANDIDATES],
+    nets: &[u16],
     base: usize,
     count: usize,
     gates: &mut [u64; GATES],
 ) -> usize
-    requires table_part { TablePart table.now at k t × Nets k support }
-    requires gate_room { GateRoom base (count + tree_size k (column_part table.now at k t)) gates.old }
+    requires table_part { TablePart table.now (length nets.now) t × Below 1024 nets.now }
+    requires gate_room { GateRoom base (count + tree_size (length nets.now) (column_part table.now 0 (length nets.now) t)) gates.old }
     ensures { GatesPut base count gates.old
-        (tree k (base + count) support (column_part table.now at k t)) result gates.new }
+        (tree (length nets.now) (base + count) nets.now (column_part table.now 0 (length nets.now) t)) result gates.new }
 {
-    let start = tree_start(table, at, k, t);
+    let k = nets.len();
+    let start = tree_start(table, k, t);
     match start {
         TreeStart::Constant(kind) => add_gate(kind, 0, 0, 0, base, count, gates),
-        TreeStart::Equal => put_tree(table, at, k - 1, t, support, base, count, gates),
+        TreeStart::Equal => put_tree(table, t, &nets[..k - 1], base, count, gates),
         TreeStart::Split(join) => {
             let half = reading_count(k - 1);
             let mut low = count;
-            if builds_low(join) {
-                low = put_tree(table, at, k - 1, t, support, base, count, gates);
+            if join.builds_low() {
+                low = put_tree(table, t, &nets[..k - 1], base, count, gates);
             }
             let mut high = low;
-            if builds_high(join) {
-                high = put_tree(table, at + half, k - 1, t, support, base, low, gates);
+            if join.builds_high() {
+                high = put_tree(&table[half..], t, &nets[..k - 1], base, low, gates);
             }
-            put_join(join, support[k - 1], base, low, high, gates)
+            put_join(join, nets[k - 1], base, low, high, gates)
         }
     }
 }
 
-// How many gates the trees of all targets have.
+// How many gates the trees of all targets have, over k nets and the first 2 ^ k entries of a table.
 pub(super) fn trees_size(table: &[u8], k: usize, targets: usize) -> usize
     requires { (k ≤ 10) × (2 ^ k ≤ length table.now) × (targets ≤ 4) }
     ensures { result ≡ trees_size targets 0 k table.now }
 {
     let mut sum = 0usize;
     for t in 0..targets {
-        sum += tree_size(table, 0, k, t);
+        sum += tree_size(table, k, t);
     }
     sum
 }
 
-// The trees of all targets, one after the other behind the first count gates, over the first k nets of the support; gate i drives
-// net base + i. The net of each tree is the number of its target afterwards, from place base on.
+// The trees of all targets, one after the other behind the first count gates, over the nets; gate i drives net base + i. The net of
+// each tree is the number of its target afterwards, from place base on.
 pub(super) fn put_trees(
     table: &[u8],
-    k: usize,
+    nets: &[u16],
     targets: usize,
-    support: [u16; CANDIDATES],
     base: usize,
     count: usize,
     numbers: &mut [u16; NETS],
     gates: &mut [u64; GATES],
 ) -> usize
-    requires k_bound { (k ≤ 10) × (2 ^ k ≤ length table.now) × (targets ≤ 4) × Nets k support }
-    requires targets_bound { (base + targets ≤ 1024) × (length numbers.old ≡ 1024) }
-    requires gate_room { GateRoom base (count + trees_size targets 0 k table.now) gates.old }
-    ensures { TreesPut targets k base support table.now count numbers.old gates.old result
+    requires nets_bound { (length nets.now ≤ 10) × (2 ^ length nets.now ≤ length table.now) × Below 1024 nets.now }
+    requires targets_bound { (targets ≤ 4) × (base + targets ≤ 1024) }
+    requires gate_room { GateRoom base (count + trees_size targets 0 (length nets.now) table.now) gates.old }
+    ensures { TreesPut targets (length nets.now) base nets.now table.now count numbers.old gates.old result
         numbers.new gates.new }
 {
     let mut next = count;
     for t in 0..targets {
-        next = put_tree(table, 0, k, t, support, base, next, gates);
+        next = put_tree(table, t, nets, base, next, gates);
         numbers[base + t] = (base + next - 1) as u16;
     }
     next

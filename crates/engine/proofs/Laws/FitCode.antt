@@ -8,9 +8,9 @@ use native.Mathlib.Nat.{add-zero, zero-add}
 use native.Mathlib.Omega.{arith}
 use borrow.Author.Tests.{eq-eqb, ne_eqb, eqb-true, eqb-false, ltb-true, ltb-false}
 use lib.Dec.{eqb, ltb}
-use lib.ListN.{length, get_or, take, drop, set, replicate, length-set, length-append, length-map, length-replicate, get_or-append, get_or-map}
+use lib.ListN.{length, get_or, take, drop, set, replicate, length-set, length-append, length-map, length-replicate, get_or-map}
 use lib.ListN.{get_or-replicate}
-use lib.Seq.{length-take-le, get_or-take, get_or-set_same, get_or-set_other}
+use lib.Seq.{take-length, length-take-le, get_or-take, get_or-set_same, get_or-set_other}
 use Rattle.std.proofs.lemmas.List.{take_all, drop_all}
 use Rattle.records.specs.Bytes.{up_from}
 use Rattle.records.specs.Gate.{Gate, gate_of, operands, unused}
@@ -30,8 +30,7 @@ use Rattle.engine.specs.declared.renumber.NewSide.{NewSide}
 use Rattle.engine.specs.declared.renumber.OldSide.{OldSide}
 use Rattle.engine.proofs.Laws.Choice.{true-or-false, length-keep-le, mem-keep, mem_below, map-agree, all_true}
 use Rattle.engine.proofs.Laws.FitGates.{no_gate, good-at}
-use Rattle.engine.proofs.Laws.FitNets.{get_or-defaults}
-use Rattle.engine.proofs.Laws.InPlace.{mapped, take-mapped}
+use Rattle.engine.proofs.Laws.InPlace.{mapped, below-map}
 use Rattle.engine.proofs.Laws.Tree.{gates-put-one, gates-put-append, gates-put-same, room-kept, room-less}
 
 -- ---- keep
@@ -380,26 +379,15 @@ module _ (o : OldSide) (b : ℕ) (new : NewSide) where
 -- ---- the trees
 
 -- nets at their numbers are nets
-pub moved-nets : (k : ℕ) (ns is : List ℕ) {js : List ℕ} → k ≤ length is → js ≡ map (λ o. get_or ns o 0) (take k is)
-    → Nets k is → Nets 1024 ns → Nets k (js ++ drop k is)
-moved-nets k ns is {js} l e p q i h =
-    let f : ℕ → ℕ = λ o. get_or ns o 0 in
-    let xs : List ℕ = map f (take k is) in
-    let n : i < length xs = omega (arith, length-map (take k is) f, length-take-le k is l) in
-    let x : get_or (js ++ drop k is) i 0 ≡ get_or ns (get_or is i 0) 0 =
-    ap (λ (ys : List ℕ). get_or (ys ++ drop k is) i 0) e
-    ∙ get_or-append xs (drop k is) 0 i n
-    ∙ get_or-defaults xs i 0 (f 0) n
-    ∙ get_or-map f (take k is) i 0
-    ∙ ap f (get_or-take k is i 0 h) in
-    rw x (q (get_or is i 0) (p i h))
+pub moved-nets : (ns is : List ℕ) {js : List ℕ} → js ≡ map (λ o. get_or ns o 0) is → Below 1024 is → Nets 1024 ns → Below 1024 js
+moved-nets ns is e p q = rw e (below-map 1024 (λ o. get_or ns o 0) is (omega arith) (λ i h. q (get_or is i 0) (p i)))
 
-pub trees-placed : (n m k : ℕ) (nets : List ℕ) (a b : NewSide) {tb js : List ℕ} → k ≤ length nets
-    → js ≡ map (λ o. get_or a.numbers o 0) (take k nets)
-    → TreesPut m k n (js ++ drop k nets) tb a.count a.numbers a.gates b.count b.numbers b.gates
-    → TreesPlaced n m (take k nets) (take (2 ^ k) tb) a b
-trees-placed n m k nets a b {tb} {js} l e w =
+pub trees-placed : (n m : ℕ) (nets : List ℕ) (a b : NewSide) {tb js : List ℕ} → length tb ≡ 2 ^ length nets
+    → js ≡ map (λ o. get_or a.numbers o 0) nets → TreesPut m (length js) n js tb a.count a.numbers a.gates b.count b.numbers b.gates
+    → TreesPlaced n m nets tb a b
+trees-placed n m nets a b {tb} {js} l e w =
     let f : ℕ → ℕ = λ o. get_or a.numbers o 0 in
-    let t : take k (js ++ drop k nets) ≡ map f (take k nets) =
-    ap (λ (ys : List ℕ). take k (ys ++ drop k nets)) e ∙ take-mapped f k nets l in
-    record { gates = rw t at w.gates; nets = rw t at w.nets }
+    let i : length js ≡ length nets = ap length e ∙ length-map nets f in
+    let x : take (length js) js ≡ map f nets = take-length js ∙ e in
+    let t : take (2 ^ length js) tb ≡ tb = take_all (2 ^ length js) tb (omega (arith, l, ap (λ (k : ℕ). 2 ^ k) i)) in
+    record { gates = rw (x, t) at w.gates; nets = rw (x, t) at w.nets }

@@ -18,7 +18,6 @@ use Rattle.records.specs.Gate.{Gate, operands}
 use Rattle.records.specs.Netlist.{net_at}
 use Rattle.records.specs.Job.{Job}
 use Rattle.records.specs.Refusal.{gates_good, netlists_good, old_nets}
-use Rattle.records.specs.declared.sheet.Support.{Support}
 use Rattle.records.proofs.Laws.Bytes.{and_both, length-up_from}
 use Rattle.engine.specs.Choice.{keep}
 use Rattle.engine.specs.Fit.{led, gate_indices, rank, Trees, trees, new_free_net, new_nets, moved_gates, fitted}
@@ -29,6 +28,9 @@ use Rattle.engine.specs.Inner.Fitting.{numbered_trees, TreesPlaced, old_job, sid
 use Rattle.engine.specs.declared.renumber.OldSide.{OldSide}
 use Rattle.engine.specs.declared.renumber.NewSide.{NewSide}
 use Rattle.engine.proofs.Laws.Choice.{mem-keep, mem_below, mem-up_from, map-agree, true-or-false}
+use Rattle.std.proofs.lemmas.List.{take_all}
+use Rattle.records.specs.Claims.{Below}
+use Rattle.engine.proofs.Laws.InPlace.{below-all}
 use Rattle.engine.proofs.Laws.FitCode.{OldHeld, keep_append, up_from-append, indices_with-most, length-old, numbered-nets, length-moved_from, moved-agree}
 use Rattle.engine.proofs.Laws.FitNets.{mark-cases, mark-target, old_net, old_gate, operand_below, operand-unmarked}
 use Rattle.engine.proofs.Laws.FitNets.{NetCase, input, target, gate, net-case, mem-indices, mem-at}
@@ -270,15 +272,9 @@ old_job-good : (n m : ℕ) (gs : List Gate) (os : List ℕ) → gates_good (n + 
 unfolding netlists_good gates_good
 old_job-good n m gs os e = and_both (gates_good (n + m) gs) true e refl
 
-module _ {o : OldSide} {s : Support} {table : List ℕ} (v : OldHeld o) (h : Fittable o s table) where
+module _ {o : OldSide} {is table : List ℕ} (v : OldHeld o) (h : Fittable o is table) where
   abbrev job : Job
   job = side_job o []
-
-  abbrev support : List ℕ
-  support = take s.len s.nets
-
-  abbrev entries : List ℕ
-  entries = take (2 ^ s.len) table
 
   pub gate-count : length job.old.gates ≡ o.count
   gate-count = length-old o v
@@ -298,13 +294,13 @@ module _ {o : OldSide} {s : Support} {table : List ℕ} (v : OldHeld o) (h : Fit
   side-good = old_job-good o.inputs o.targets (old_gates o) [] v.good
 
   -- the support's nets are nets
-  pub support-nets : Nets s.len s.nets
-  support-nets i l =
-      let m = h.free (get_or support i 0) (mem-at support i (omega (arith, length-take-le s.len s.nets h.long))) in
-      rw (get_or-take s.len s.nets i 0 l) at (let p : get_or support i 0 < 1024 = omega (arith, m.0, net-most) in p)
+  pub support-nets : Below 1024 is
+  support-nets = below-all 1024 is (omega arith) (λ i l. omega (arith, (h.free (get_or is i 0) (mem-at is i l)).0, net-most))
 
-  pub trees-count : length (trees job support entries).gates ≡ trees_size o.targets 0 s.len table
-  trees-count = length-patch job support table (length-take-le s.len s.nets h.long)
+  pub trees-count : length (trees job is table).gates ≡ trees_size o.targets 0 (length is) table
+  trees-count =
+      ap (λ (t : List ℕ). length (trees job is t).gates) (sym (take_all (2 ^ length is) table (omega (arith, h.entries))))
+      ∙ length-patch job is table refl
 
   pub free-room : {cs : List ℕ} → length cs ≡ 400 → GateRoom o.inputs (0 + length (with_mark o 0)) cs
   free-room l =
@@ -312,7 +308,7 @@ module _ {o : OldSide} {s : Support} {table : List ℕ} (v : OldHeld o) (h : Fit
       let m = indices_with-most o.marks (old_base o) 0 o.count in
       record { long = l; room = omega (arith, w.count); nets = omega (arith, w.inputs, w.count) }
 
-  module _ (fit : patched_count o s table ≤ 400) {d₀ cs₀ : List ℕ} {n₁ : NewSide} (w₀ : InputsNumbered o.inputs d₀)
+  module _ (fit : patched_count o is table ≤ 400) {d₀ cs₀ : List ℕ} {n₁ : NewSide} (w₀ : InputsNumbered o.inputs d₀)
       (room : length cs₀ ≡ 400) (w₁ : MarkedPlaced o 0 (record { count = 0; numbers = d₀; gates = cs₀ }) n₁) where
     free-numbered : Numbered o.marks (old_base o) 0 (length job.old.gates) o.inputs d₀ n₁.numbers
     free-numbered = rw gate-count (rw (add-zero o.inputs) at w₁.numbered)
@@ -331,7 +327,7 @@ module _ {o : OldSide} {s : Support} {table : List ℕ} (v : OldHeld o) (h : Fit
     pub free-nets : Nets 1024 n₁.numbers
     free-nets = let w = v in numbered-nets w₁.numbered (omega (arith, w.inputs, w.count)) w₀.nets
 
-    pub trees-room : GateRoom o.inputs (n₁.count + trees_size o.targets 0 s.len table) n₁.gates
+    pub trees-room : GateRoom o.inputs (n₁.count + trees_size o.targets 0 (length is) table) n₁.gates
     trees-room =
         record {
           long = w₁.gates.long ∙ room;
@@ -339,14 +335,14 @@ module _ {o : OldSide} {s : Support} {table : List ℕ} (v : OldHeld o) (h : Fit
           nets = omega (arith, free-most, v.inputs);
         }
 
-    module _ {n₂ : NewSide} (w₂ : TreesPlaced o.inputs o.targets support entries n₁ n₂) where
-      same : numbered_trees o.inputs o.targets n₁.count n₁.numbers support entries ≡ trees job support entries
-      same = trees-same job support entries o.marks side-marks w₀.inputs free-numbered n₁.count free-count h.free
+    module _ {n₂ : NewSide} (w₂ : TreesPlaced o.inputs o.targets is table n₁ n₂) where
+      same : numbered_trees o.inputs o.targets n₁.count n₁.numbers is table ≡ trees job is table
+      same = trees-same job is table o.marks side-marks w₀.inputs free-numbered n₁.count free-count h.free
 
-      grown-put : GatesPut o.inputs n₁.count n₁.gates (trees job support entries).gates n₂.count n₂.gates
+      grown-put : GatesPut o.inputs n₁.count n₁.gates (trees job is table).gates n₂.count n₂.gates
       grown-put = gates-put-same w₂.gates (ap (λ (x : Trees). x.gates) same)
 
-      grown : n₂.count ≡ n₁.count + trees_size o.targets 0 s.len table
+      grown : n₂.count ≡ n₁.count + trees_size o.targets 0 (length is) table
       grown = grown-put.end ∙ ap (λ (k : ℕ). n₁.count + k) trees-count
 
       pub rest-room : GateRoom o.inputs (n₂.count + length (with_mark o 1)) n₂.gates
@@ -360,30 +356,30 @@ module _ {o : OldSide} {s : Support} {table : List ℕ} (v : OldHeld o) (h : Fit
           }
 
       -- the trees' nets are nets
-      tree-net : (i : ℕ) → i < o.targets → get_or (trees job support entries).nets i 0 < 1024
+      tree-net : (i : ℕ) → i < o.targets → get_or (trees job is table).nets i 0 < 1024
       unfolding trees
       tree-net i l =
           omega (
             arith,
-            trees-below o.targets 0 (o.inputs + length (gate_indices job 0)) (map (new_free_net job) support) entries i l,
+            trees-below o.targets 0 (o.inputs + length (gate_indices job 0)) (map (new_free_net job) is) table i l,
             grown-put.end,
             free-count,
             rest-room.nets,
           )
 
-      tree-nets : length (trees job support entries).nets ≡ o.targets
+      tree-nets : length (trees job is table).nets ≡ o.targets
       unfolding trees
-      tree-nets = length-nets o.targets 0 (o.inputs + length (gate_indices job 0)) (map (new_free_net job) support) entries
+      tree-nets = length-nets o.targets 0 (o.inputs + length (gate_indices job 0)) (map (new_free_net job) is) table
 
-      tree-room : o.inputs + length (trees job support entries).nets ≤ length n₁.numbers
+      tree-room : o.inputs + length (trees job is table).nets ≤ length n₁.numbers
       tree-room = let w = v in omega (arith, tree-nets, w₁.numbered.long, w₀.long, w.inputs, w.targets)
 
-      grown-numbers : n₂.numbers ≡ placed n₁.numbers o.inputs (trees job support entries).nets
+      grown-numbers : n₂.numbers ≡ placed n₁.numbers o.inputs (trees job is table).nets
       grown-numbers = w₂.nets ∙ ap (λ (x : Trees). placed n₁.numbers o.inputs x.nets) same
 
       pub grown-nets : Nets 1024 n₂.numbers
       grown-nets i l =
-          let ns = (trees job support entries).nets in
+          let ns = (trees job is table).nets in
           rw grown-numbers
           (⊎_elim
           (λ (t : ltb i o.inputs ≡ true).
@@ -416,11 +412,11 @@ module _ {o : OldSide} {s : Support} {table : List ℕ} (v : OldHeld o) (h : Fit
             gates-put-same w₃.gates
             (ap (moved_from (old_gates o) n₃.numbers) (rw gate-count at (indices_with-indices job o.marks side-marks 1)))
 
-        pub gates-placed : GatesPlaced job support entries n₃
+        pub gates-placed : GatesPlaced job is table n₃
         gates-placed =
             let l : old_nets job ≤ length d₀ = omega (arith, net-most, w₀.long) in
             let p =
-            all-put job support entries o.marks side-marks l h.free w₀.inputs free-numbered free-count w₂.nets
+            all-put job is table o.marks side-marks l h.free w₀.inputs free-numbered free-count w₂.nets
             grown-put.end
             rest-numbered
             side-good
@@ -428,10 +424,10 @@ module _ {o : OldSide} {s : Support} {table : List ℕ} (v : OldHeld o) (h : Fit
             grown-put
             rest_put in
             record {
-              count = p.end ∙ zero-add (length (fitted job support entries).gates);
-              gates = p.gates ∙ ap (λ (k : ℕ). packed_from k (fitted job support entries).gates) (add-zero o.inputs);
+              count = p.end ∙ zero-add (length (fitted job is table).gates);
+              gates = p.gates ∙ ap (λ (k : ℕ). packed_from k (fitted job is table).gates) (add-zero o.inputs);
               numbers =
-                  new-number job support entries o.marks side-marks l h.free w₀.inputs free-numbered free-count w₂.nets
+                  new-number job is table o.marks side-marks l h.free w₀.inputs free-numbered free-count w₂.nets
                   grown-put.end
                   rest-numbered;
             }

@@ -8,7 +8,7 @@ use native.Mathlib.Omega.{arith}
 use borrow.Author.Tests.{le-leb, lt-leb, ne_eqb, ltb-true}
 use lib.Dec.{leb, ltb}
 use lib.ListN.{length, get_or, take, drop, length-drop}
-use lib.Seq.{length-take-le, take_all}
+use lib.Seq.{length-take-le}
 use Rattle.records.specs.Gate.{Gate}
 use Rattle.records.specs.Netlist.{net_at}
 use Rattle.records.specs.Job.{Job, Candidate, job_of}
@@ -21,7 +21,6 @@ use Rattle.records.specs.Inner.{Within}
 use Rattle.records.specs.declared.field.Check.TheVariants as Check
 use Rattle.records.specs.declared.job.Counts.{Counts}
 use Rattle.records.specs.declared.loading.JobParts.{JobParts}
-use Rattle.records.specs.declared.sheet.Support.{Support}
 use Rattle.records.specs.declared.sheet.SheetReply.{SheetReply}
 use Rattle.records.proofs.Laws.Accepted.{passes-of-none, job-accepts}
 use Rattle.engine.specs.Inner.Sheet.{BytesPut}
@@ -76,53 +75,47 @@ module _ (n m : ℕ) (gs : List Gate) (os : List ℕ) (is t : List ℕ) where
 
 -- ---- a patch
 
-module _ {o : OldSide} {s : Support} {table : List ℕ} (v : OldHeld o) (h : Fittable o s table) where
+module _ {o : OldSide} {is table : List ℕ} (v : OldHeld o) (h : Fittable o is table) where
   abbrev job : Job
   job = side_job o []
 
-  abbrev support : List ℕ
-  support = take s.len s.nets
-
-  abbrev entries : List ℕ
-  entries = take (2 ^ s.len) table
-
-  patched-count : length (fitted job support entries).gates ≡ patched_count o s table
-  patched-count = omega (arith, length-fitted job support entries, indices-all job, gate-count v h, trees-count v h)
+  patched-count : length (fitted job is table).gates ≡ patched_count o is table
+  patched-count = omega (arith, length-fitted job is table, indices-all job, gate-count v h, trees-count v h)
 
   module _ (os : List ℕ) where
-    fits_count : fits (side_job o os) support entries ≡ leb (patched_count o s table) 400
+    fits_count : fits (side_job o os) is table ≡ leb (patched_count o is table) 400
     unfolding fits
     fits_count =
         ap (λ (k : ℕ). leb k 400)
-        (ap length (bare-gates o.inputs o.targets (old_gates o) os support entries) ∙ patched-count)
+        (ap length (bare-gates o.inputs o.targets (old_gates o) os is table) ∙ patched-count)
 
-    pub patch-refused : (d : List ℕ) → 400 < patched_count o s table
-        → FitGives (patch_number (side_job o os) support entries) (fitted_bytes (side_job o os) support entries) d
+    pub patch-refused : (d : List ℕ) → 400 < patched_count o is table
+        → FitGives (patch_number (side_job o os) is table) (fitted_bytes (side_job o os) is table) d
         (record { number = 9; len = 0 }) d
     patch-refused d l =
-        let n : patch_number (side_job o os) support entries ≡ 9 = rw (fits_count, lt-leb (patched_count o s table) 400 l) in
-        rw n (gives-refused (fitted_bytes (side_job o os) support entries) d 9 (λ z. let f : ⊥ = omega arith in f))
+        let n : patch_number (side_job o os) is table ≡ 9 = rw (fits_count, lt-leb (patched_count o is table) 400 l) in
+        rw n (gives-refused (fitted_bytes (side_job o os) is table) d 9 (λ z. let f : ⊥ = omega arith in f))
 
-  module _ (fit : patched_count o s table ≤ 400) {r : NewSide} (w : GatesPlaced job support entries r) where
+  module _ (fit : patched_count o is table ≤ 400) {r : NewSide} (w : GatesPlaced job is table r) where
     pub gates-few : r.count ≤ 400
     gates-few = omega (arith, w.count, patched-count)
 
     -- the numbers in the places are the patched netlist's gates
-    patched-gates : (os : List ℕ) → unpacked r.count r.gates ≡ (fitted (side_job o os) support entries).gates
+    patched-gates : (os : List ℕ) → unpacked r.count r.gates ≡ (fitted (side_job o os) is table).gates
     patched-gates os =
         ap (map gate_in) w.gates
-        ∙ gates-unpacked o.inputs (fitted job support entries).gates
-        (fitted-good job support entries (side-good v h) h.free)
-        (fitted-formed job support entries (formed-in (take o.count o.gates)))
+        ∙ gates-unpacked o.inputs (fitted job is table).gates
+        (fitted-good job is table (side-good v h) h.free)
+        (fitted-formed job is table (formed-in (take o.count o.gates)))
         (omega (arith, patched-count, v.inputs))
-        ∙ sym (bare-gates o.inputs o.targets (old_gates o) os support entries)
+        ∙ sym (bare-gates o.inputs o.targets (old_gates o) os is table)
 
     patched-outputs : (os nets : List ℕ) → ((i : ℕ) → i < length os → get_or os i 0 < old_base o + o.count)
-        → nets ≡ map (λ i. get_or r.numbers i 0) os → nets ≡ map (net_at (new_nets (side_job o os) support entries)) os
+        → nets ≡ map (λ i. get_or r.numbers i 0) os → nets ≡ map (net_at (new_nets (side_job o os) is table)) os
     patched-outputs os nets l e =
         e
-        ∙ map-agree (λ i. get_or r.numbers i 0) (net_at (new_nets job support entries)) os (λ i m. w.numbers i (below i m))
-        ∙ ap (λ (ns : List ℕ). map (net_at ns) os) (sym (bare-nets o.inputs o.targets (old_gates o) os support entries))
+        ∙ map-agree (λ i. get_or r.numbers i 0) (net_at (new_nets job is table)) os (λ i m. w.numbers i (below i m))
+        ∙ ap (λ (ns : List ℕ). map (net_at ns) os) (sym (bare-nets o.inputs o.targets (old_gates o) os is table))
       where
         below : (i : ℕ) → Mem i os → i < old_nets job
         below i m = let p = place_of m in omega (arith, l p.0 p.1, p.2, net-count v h)
@@ -131,16 +124,16 @@ module _ {o : OldSide} {s : Support} {table : List ℕ} (v : OldHeld o) (h : Fit
         → ((i : ℕ) → i < length os → get_or os i 0 < old_base o + o.count)
         → nets ≡ map (λ i. get_or r.numbers i 0) os
         → BytesPut d 0 (netlist_bytes o.inputs (unpacked r.count r.gates) nets) e len
-        → FitGives (patch_number (side_job o os) support entries)
-        (fitted_bytes (side_job o os) support entries) d (record { number = 0; len = len }) e
+        → FitGives (patch_number (side_job o os) is table)
+        (fitted_bytes (side_job o os) is table) d (record { number = 0; len = len }) e
     patch-accepted os nets d len {e} l q p =
         let j = side_job o os in
-        let n : patch_number j support entries ≡ 0 = rw (fits_count os, le-leb (patched_count o s table) 400 fit) in
-        let b : netlist_bytes o.inputs (unpacked r.count r.gates) nets ≡ fitted_bytes j support entries =
+        let n : patch_number j is table ≡ 0 = rw (fits_count os, le-leb (patched_count o is table) 400 fit) in
+        let b : netlist_bytes o.inputs (unpacked r.count r.gates) nets ≡ fitted_bytes j is table =
         ap (λ (gs : List Gate). netlist_bytes o.inputs gs nets) (patched-gates os)
-        ∙ ap (netlist_bytes o.inputs (fitted j support entries).gates) (patched-outputs os nets l q)
-        ∙ sym (bytes-netlist o.inputs o.targets (old_gates o) os support entries) in
-        gives-accepted (fitted_bytes j support entries) d (patch_number j support entries) len n (rw b at p)
+        ∙ ap (netlist_bytes o.inputs (fitted j is table).gates) (patched-outputs os nets l q)
+        ∙ sym (bytes-netlist o.inputs o.targets (old_gates o) os is table) in
+        gives-accepted (fitted_bytes j is table) d (patch_number j is table) len n (rw b at p)
 
 -- ---- the old side of a job
 
@@ -250,12 +243,14 @@ module _ {j : Job} {parts : JobParts} (q : PartsOf j parts) (p : List ℕ) {a : 
           ap (λ (i : ℕ). length (take i (drop a.table p))) n
           ∙ length-take-le (2 ^ a.support.len) (drop a.table p) (omega (arith, read.end, length-drop a.table p))
 
-      pub sheet-fittable : Fittable o a.support part
+      few : length (take a.support.len a.support.nets) ≡ a.support.len
+      few = length-take-le a.support.len a.support.nets read.long
+
+      pub sheet-fittable : Fittable o (take a.support.len a.support.nets) part
       sheet-fittable =
           record {
-            few = parts-few q p e z;
-            long = read.long;
-            entries = omega (arith, part-long);
+            few = omega (arith, few, parts-few q p e z);
+            entries = part-long ∙ ap (λ (n : ℕ). 2 ^ n) (sym few);
             free =
                 λ i m.
                 rw (side_same q.good w [])
@@ -263,19 +258,16 @@ module _ {j : Job} {parts : JobParts} (q : PartsOf j parts) (p : List ℕ) {a : 
                 (support-free j q.good.candidates (patch_of p) both.1 i (subst (Mem i) read.nets m)));
           }
 
-      part-all : take (2 ^ a.support.len) part ≡ (patch_of p).table
-      part-all = take_all (2 ^ a.support.len) part (omega (arith, part-long)) ∙ part-table
-
       pub sheet-accepted : (os : List ℕ) {d f : List ℕ} {r : FitReply} → os ≡ j.old.outputs
-          → FitGives (patch_number (side_job o os) (take a.support.len a.support.nets) (take (2 ^ a.support.len) part))
-          (fitted_bytes (side_job o os) (take a.support.len a.support.nets) (take (2 ^ a.support.len) part))
+          → FitGives (patch_number (side_job o os) (take a.support.len a.support.nets) part)
+          (fitted_bytes (side_job o os) (take a.support.len a.support.nets) part)
           d r f
           → FitGives (sheet_fit_number j p) (fitted_bytes j (patch_of p).support (patch_of p).table) d r f
       sheet-accepted os {d} {f} {r} x u =
           let is = (patch_of p).support in
           let t = (patch_of p).table in
           rw (accepted-number, ← fits-seen j is t, ← bytes-seen j is t)
-          (rw (x, read.nets, part-all, side_same q.good w j.old.outputs) at u)
+          (rw (x, read.nets, part-table, side_same q.good w j.old.outputs) at u)
 
 -- ---- a job's bytes and a sheet's
 

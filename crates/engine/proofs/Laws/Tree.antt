@@ -14,6 +14,7 @@ use lib.ListN.{drop_of_length-le, take-append-drop, get_or-map}
 use lib.Seq.{append_snoc, drop-cons, drop-drop, drop-set-lt, take-nil, take-suc-set, take-take, length-take-le}
 use lib.Seq.{get_or-take, get_or-drop, ext_get_or}
 use lib.Pow.{pow_pos, pow_mono}
+use Rattle.std.proofs.Common.{IsTrue, EachIndex}
 use Rattle.records.specs.Bytes.{all, placed}
 use Rattle.records.specs.Gate.{Gate}
 use Rattle.records.specs.Job.{Job}
@@ -113,13 +114,6 @@ module _ (tb : List ℕ) (at n t : ℕ) (h : at + n ≤ length tb) where
       ∙ get_or-map (bit t) (take n (drop at tb)) i 0
       ∙ ap (bit t) (get_or-take n (drop at tb) i 0 l ∙ get_or-drop at tb i 0)
 
--- a turn of a loop that tests until a test fails: w is what the whole decides, f what is left, g what is left afterwards
-pub test-stops : (b g : Bool) {w f : Bool} → f ≡ w → f ≡ (b && g) → b ≡ false → false ≡ w
-test-stops b g i t e = sym (sym i ∙ t ∙ ap (λ (a : Bool). a && g) e)
-
-pub test-goes : (b g : Bool) {w f : Bool} → f ≡ w → f ≡ (b && g) → b ≡ true → g ≡ w
-test-goes b g i t e = sym (sym i ∙ t ∙ ap (λ (a : Bool). a && g) e)
-
 module _ (tb : List ℕ) (at n t : ℕ) (h : at + n ≤ length tb) where
   -- the column's test at place i
   pub all-turn : (x i : ℕ) → i < n
@@ -136,31 +130,8 @@ module _ (tb : List ℕ) (at n t : ℕ) (h : at + n ≤ length tb) where
   all_end x i l =
       ap (all (eqb x)) (drop_of_length-le (column (take n (drop at tb)) t) {i = i} (omega (arith, length-column tb at n t h)))
 
--- two columns compared at place i
+-- two columns compared
 module _ (tb : List ℕ) (at bt n t : ℕ) (h : at + n ≤ length tb) (k : bt + n ≤ length tb) where
-  pub same_turn : (i : ℕ) → i < n
-      → same (drop i (column (take n (drop at tb)) t)) (drop i (column (take n (drop bt tb)) t))
-      ≡ (eqb (bit t (get_or tb (at + i) 0)) (bit t (get_or tb (bt + i) 0))
-      && same (drop (i + 1) (column (take n (drop at tb)) t)) (drop (i + 1) (column (take n (drop bt tb)) t)))
-  unfolding same
-  same_turn i l =
-      let c : List ℕ = column (take n (drop at tb)) t in
-      let d : List ℕ = column (take n (drop bt tb)) t in
-      let e = drop-cons c i 0 (omega (arith, length-column tb at n t h)) in
-      let f = drop-cons d i 0 (omega (arith, length-column tb bt n t k)) in
-      rw (add-one i, sym (get_or-column tb at n t h i l), sym (get_or-column tb bt n t k i l))
-      (ap (λ (l : List ℕ). same l (drop i d)) e ∙ ap (same (get_or c i 0 ∷ drop (suc i) c)) f)
-
-  pub same_end : (i : ℕ) → n ≤ i
-      → same (drop i (column (take n (drop at tb)) t)) (drop i (column (take n (drop bt tb)) t)) ≡ true
-  unfolding same
-  same_end i l =
-      let c : List ℕ = column (take n (drop at tb)) t in
-      let d : List ℕ = column (take n (drop bt tb)) t in
-      let e = drop_of_length-le c {i = i} (omega (arith, length-column tb at n t h)) in
-      let f = drop_of_length-le d {i = i} (omega (arith, length-column tb bt n t k)) in
-      ap (λ (l : List ℕ). same l (drop i d)) e ∙ ap (same []) f
-
   -- they are the same exactly when the bits agree at every place
   pub same-iff-bits : (same (column (take n (drop at tb)) t) (column (take n (drop bt tb)) t) ≡ true)
       ↔ ((i : ℕ) → i < n → bit t (get_or tb (at + i) 0) ≡ bit t (get_or tb (bt + i) 0))
@@ -179,6 +150,51 @@ module _ (tb : List ℕ) (at bt n t : ℕ) (h : at + n ≤ length tb) (k : bt + 
             let b : i < n = omega arith in
             get_or-column tb at n t h i b ∙ f i b ∙ sym (get_or-column tb bt n t k i b))),
       )
+
+-- what two tests of whole columns give, entry by entry
+bool-of-iff : (a b : Bool) → (a ≡ true) ↔ (b ≡ true) → a ≡ b
+bool-of-iff true b h = sym (h.0 refl)
+bool-of-iff false true h = h.1 refl
+bool-of-iff false false h = refl
+
+bits-at : (xs : List ℕ) (t i : ℕ) → get_or (column xs t) i 0 ≡ bit t (get_or xs i 0)
+unfolding column
+bits-at xs t i = ap (get_or (map (bit t) xs) i) (sym (bit-zero t)) ∙ get_or-map (bit t) xs i 0
+
+length-bits : (xs : List ℕ) (t : ℕ) → length (column xs t) ≡ length xs
+unfolding column
+length-bits xs t = length-map xs (bit t)
+
+all-each : (x : ℕ) (cs : List ℕ) → ((i : ℕ) → i < length cs → get_or cs i 0 ≡ x) → all (eqb x) cs ≡ true
+unfolding all
+all-each x [] h = refl
+all-each x (c ∷ cs) h = and_both (eqb x c) (all (eqb x) cs) (eq-eqb x c (sym (h 0 (omega arith)))) (all-each x cs (λ i l. h (suc i) (omega arith)))
+
+each-all : (x : ℕ) (cs : List ℕ) → all (eqb x) cs ≡ true → (i : ℕ) → i < length cs → get_or cs i 0 ≡ x
+unfolding all
+each-all x [] e i l = let f : ⊥ = omega arith in absurd f
+each-all x (c ∷ cs) e zero l = sym (eqb-true x c (and_left (eqb x c) (all (eqb x) cs) e))
+each-all x (c ∷ cs) e (suc i) l = each-all x cs (and_right (eqb x c) (all (eqb x) cs) e) i (omega arith)
+
+pub column-each : (xs : List ℕ) (t x : ℕ) {b : Bool} → IsTrue b ↔ EachIndex xs (λ k. bit t (get_or xs k 0) ≡ x) → b ≡ all (eqb x) (column xs t)
+column-each xs t x {b} h =
+    let n = length-bits xs t in
+    bool-of-iff b (all (eqb x) (column xs t)) (
+      λ e. all-each x (column xs t) (λ i l. bits-at xs t i ∙ h.0 e i (omega arith)),
+      λ e. h.1 (λ i l. sym (bits-at xs t i) ∙ each-all x (column xs t) e i (omega arith)),
+    )
+
+pub same-each : (xs ys : List ℕ) (t : ℕ) {b : Bool} → length ys ≡ length xs
+    → IsTrue b ↔ EachIndex xs (λ k. bit t (get_or xs k 0) ≡ bit t (get_or ys k 0)) → b ≡ same (column xs t) (column ys t)
+same-each xs ys t {b} l h =
+    let c : List ℕ = column xs t in
+    let d : List ℕ = column ys t in
+    let m = length-bits xs t in
+    let n = length-bits ys t in
+    bool-of-iff b (same c d) (
+      λ e. (same-iff-equal c d).1 (ext_get_or 0 c d (omega arith) (λ i k. bits-at xs t i ∙ h.0 e i (omega arith) ∙ sym (bits-at ys t i))),
+      λ e. h.1 (λ i k. sym (bits-at xs t i) ∙ ap (λ (zs : List ℕ). get_or zs i 0) (same_true c d e) ∙ bits-at ys t i),
+    )
 
 -- ---- the halves of a column
 
@@ -219,10 +235,10 @@ unfolding tree_start start_by
 start-one zero col z o = rw z
 start-one (suc k) col z o = rw (z, o)
 
--- a test of m entries that gave b, where m is n
-pub column-tested : (tb : List ℕ) (at t x : ℕ) {m n : ℕ} {r b : Bool} → m ≡ n
-    → r ≡ all (eqb x) (column (take m (drop at tb)) t) → r ≡ b → all (eqb x) (column (take n (drop at tb)) t) ≡ b
-column-tested tb at t x e p q = ap (λ (i : ℕ). all (eqb x) (column (take i (drop at tb)) t)) (sym e) ∙ sym p ∙ q
+-- a test of the first m entries that gave b, where m is n
+pub column-tested : (tb : List ℕ) (t x : ℕ) {m n : ℕ} {r b : Bool} → m ≡ n
+    → r ≡ all (eqb x) (column (take m tb) t) → r ≡ b → all (eqb x) (column (take n tb) t) ≡ b
+column-tested tb t x e p q = ap (λ (i : ℕ). all (eqb x) (column (take i tb) t)) (sym e) ∙ sym p ∙ q
 
 -- a bit that is not 0 is 1
 pub single-bit : (tb : List ℕ) (at t : ℕ) → at + 1 ≤ length tb → all (eqb 0) (column (take 1 (drop at tb)) t) ≡ false
@@ -236,16 +252,22 @@ single-bit tb at t h z =
     let e : 1 ≡ b = omega (arith, bit-lt t (get_or tb (at + 0) 0)) in
     all-turn tb at 1 t h 1 0 (omega arith) ∙ and_both _ _ (eq-eqb 1 b e) (all_end tb at 1 t h 1 1 (omega arith))
 
-pub start-halves : (tb : List ℕ) (at k t half : ℕ) → at + 2 ^ k ≤ length tb → half ≡ 2 ^ k / 2
-    → all (eqb 0) (column_part tb at k t) ≡ false → all (eqb 1) (column_part tb at k t) ≡ false
-    → let low = column (take half (drop at tb)) t in
-    let high = column (take half (drop (at + half) tb)) t in
-    tree_start k (column_part tb at k t) ≡ cond (same low high) TreeStart.Equal (TreeStart.Split (join_of low high))
-unfolding tree_start start_by
-start-halves tb at zero t half h e z o = absurd (not-both (single-bit tb at t h z) o)
-start-halves tb at (suc k) t half h e z o =
+-- a column with bits of both kinds has halves
+pub start-deep : (tb : List ℕ) (k t : ℕ) → 2 ^ k ≤ length tb → all (eqb 0) (column_part tb 0 k t) ≡ false
+    → all (eqb 1) (column_part tb 0 k t) ≡ false → 0 < k
+start-deep tb zero t h z o = absurd (not-both (single-bit tb 0 t (omega arith) z) o)
+start-deep tb (suc k) t h z o = omega arith
+
+pub start-halves : (tb : List ℕ) (k t : ℕ) {half : ℕ} {low high : List ℕ} → 2 ^ k ≤ length tb → half ≡ 2 ^ k / 2
+    → low ≡ take half (take (2 ^ k) tb) → high ≡ drop half (take (2 ^ k) tb)
+    → all (eqb 0) (column_part tb 0 k t) ≡ false → all (eqb 1) (column_part tb 0 k t) ≡ false
+    → tree_start k (column_part tb 0 k t)
+    ≡ cond (same (column low t) (column high t)) TreeStart.Equal (TreeStart.Split (join_of (column low t) (column high t)))
+unfolding tree_start start_by column
+start-halves tb zero t h e l r z o = absurd (not-both (single-bit tb 0 t (omega arith) z) o)
+start-halves tb (suc k) t {half} h e l r z o =
     let n : half ≡ 2 ^ k = omega (arith, two-pow-succ k) in
-    rw (z, o, n, column-low tb at t k, column-high tb at t k)
+    rw (l, r, z, o, n, map-take (bit t) (2 ^ k) (take (2 ^ suc k) tb), sym (drop-map (bit t) (2 ^ k) (take (2 ^ suc k) tb)))
 
 -- ---- the tree by its start
 
@@ -515,20 +537,31 @@ pub half-small : (b : Bool) (k : ℕ) (col : List ℕ) → k ≤ 10 → built_si
 half-small b k col h = omega (arith, built_size-le b (tree_size k col), tree_size-small k col h)
 
 -- the halves of a part of the table
-pow-halves : (k : ℕ) → 0 < k → 2 ^ k ≡ 2 ^ (k - 1) + 2 ^ (k - 1)
+pub pow-halves : (k : ℕ) → 0 < k → 2 ^ k ≡ 2 ^ (k - 1) + 2 ^ (k - 1)
 pow-halves zero h = let f : ⊥ = omega arith in absurd f
 pow-halves (suc k) h = rw (sub-one (suc k)) (two-pow-succ k)
 
-pub part_low : {tb : List ℕ} {at k t : ℕ} → TablePart tb at k t → 0 < k → TablePart tb at (k - 1) t
-part_low {tb} {at} {k} {t} p h =
+pub part_low : {tb : List ℕ} {k t : ℕ} → TablePart tb k t → 0 < k → TablePart tb (k - 1) t
+part_low {tb} {k} {t} p h =
     let e = pow-halves k h in
-    record { most = omega arith; within = omega (arith, p.within); target = p.target }
+    record { most = omega (arith, p.most); within = omega (arith, p.within); target = p.target }
 
-pub part-high : {tb : List ℕ} {at k t half : ℕ} → TablePart tb at k t → 0 < k → half ≡ 2 ^ (k - 1)
-    → TablePart tb (at + half) (k - 1) t
-part-high {tb} {at} {k} {t} {half} p h e =
+-- the part from place half on
+pub part-high : {tb : List ℕ} {k t half : ℕ} → TablePart tb k t → 0 < k → half ≡ 2 ^ (k - 1)
+    → TablePart (take (length tb - half) (drop half tb)) (k - 1) t
+part-high {tb} {k} {t} {half} p h e =
     let q = pow-halves k h in
-    record { most = omega arith; within = omega (arith, p.within); target = p.target }
+    record {
+      most = omega (arith, p.most);
+      within = omega (arith, p.within, length-take (length tb - half) (drop half tb), length-drop half tb);
+      target = p.target;
+    }
+
+pub column-rest : (tb : List ℕ) (k t half : ℕ) → half + 2 ^ k ≤ length tb
+    → column_part (take (length tb - half) (drop half tb)) 0 k t ≡ column_part tb (0 + half) k t
+column-rest tb k t half h =
+    ap (λ (xs : List ℕ). column xs t) (take-take (2 ^ k) (length tb - half) (drop half tb) (omega arith))
+    ∙ ap (λ (i : ℕ). column (take (2 ^ k) (drop i tb)) t) (sym (zero-add half))
 
 -- ---- trees put
 
@@ -665,6 +698,11 @@ length-trees (suc m) j k next is tb e =
     ∙ omega (arith, length-trees m (suc j) k (next + length gs) is tb e)
 
 -- .. of a job and k nets, whose table stands at the start of tb
+pub tree-front : (n next : ℕ) (is : List ℕ) (col : ℕ → List ℕ) → n ≤ length is
+    → tree (length (take n is)) next (take n is) (col (length (take n is))) ≡ tree n next is (col n)
+tree-front n next is col h =
+    ap (λ (m : ℕ). tree m next (take n is) (col m)) (length-take-le n is h) ∙ tree-take n n next is (col n) (omega arith)
+
 pub length-patch : (j : Job) (is tb : List ℕ) {k : ℕ} → length is ≡ k
     → length (trees j is (take (2 ^ k) tb)).gates ≡ trees_size j.targets 0 k tb
 unfolding trees

@@ -6,6 +6,7 @@ use mathlib.Core.List.{List}
 use mathlib.Core.Bool.{Bool, true, false}
 use native.Mathlib.Nat.{pow-suc, mod-lt, mod-eq_of_lt, two-pow-succ}
 use native.Mathlib.Numerals.{add-one}
+use native.Mathlib.Nat.{zero-add}
 use native.Mathlib.Omega.{arith}
 use borrow.Author.Tests.{eqb-true, eq-eqb}
 use lib.Bits.{bit_and, and_mask}
@@ -196,16 +197,16 @@ halves-word k w h few e =
 pub word_fits : (k : ℕ) → k ≤ 6 → 2 ^ 2 ^ k ≤ 18446744073709551616
 word_fits k h = pow_mono {j = 64} (pow_mono {j = 6} h)
 
-module _ {tb : List ℕ} {at k t : ℕ} (p : TablePart tb at k t) where
+module _ {tb : List ℕ} {k t : ℕ} (p : TablePart tb k t) where
   abbrev col : List ℕ
-  col = column_part tb at k t
+  col = column_part tb 0 k t
 
   column-bits : Bits col
   unfolding column
-  column-bits = bits-map (bit t) (bit-lt t) (take (2 ^ k) (drop at tb))
+  column-bits = bits-map (bit t) (bit-lt t) (take (2 ^ k) tb)
 
   long : length col ≡ 2 ^ k
-  long = length-column tb at (2 ^ k) t p.within
+  long = length-column tb 0 (2 ^ k) t (omega (arith, p.within))
 
   pub column-lt : number_of col < 2 ^ 2 ^ k
   column-lt = rw long at (number_of-lt column-bits)
@@ -214,11 +215,11 @@ module _ {tb : List ℕ} {at k t : ℕ} (p : TablePart tb at k t) where
   bits-column = rw long at (bits-number_of column-bits)
 
   -- the entries from place i on
-  pub column-turn : (i : ℕ) → i < 2 ^ k → number_of (drop i col) ≡ 2 * number_of (drop (i + 1) col) + bit t (get_or tb (at + i) 0)
+  pub column-turn : (i : ℕ) → i < 2 ^ k → number_of (drop i col) ≡ 2 * number_of (drop (i + 1) col) + bit t (get_or tb i 0)
   unfolding number_of
   column-turn i l =
       rw (add-one i)
-      (ap number_of (drop-cons col i 0 (omega (arith, long))) ∙ omega (arith, get_or-column tb at (2 ^ k) t p.within i l))
+      (ap number_of (drop-cons col i 0 (omega (arith, long))) ∙ omega (arith, get_or-column tb 0 (2 ^ k) t (omega (arith, p.within)) i l, ap (λ (n : ℕ). bit t (get_or tb n 0)) (zero-add i)))
 
   pub column-end : number_of (drop (2 ^ k) col) ≡ 0
   unfolding number_of

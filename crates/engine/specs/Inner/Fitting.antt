@@ -17,7 +17,6 @@ use Rattle.records.specs.Refusal.{first_failing, old_nets}
 use Rattle.records.specs.Sheet.{patch_of, sheet_tests}
 use Rattle.records.specs.Parts.{PartsOf}
 use Rattle.records.specs.declared.loading.JobParts.{JobParts}
-use Rattle.records.specs.declared.sheet.Support.{Support}
 use Rattle.engine.specs.Fit.{led, Trees, trees_from, new_nets, fitted, fits}
 use Rattle.engine.specs.Inner.Packed.{packed_from, formed}
 use Rattle.engine.specs.Inner.Tree.{GatesPut, trees_size}
@@ -53,15 +52,14 @@ abbrev pub side_job : OldSide → List ℕ → Job
 side_job o os = old_job o.inputs o.targets (old_gates o) os
 
 -- .. with a support of nets that no target leads to and a table over it
-pub record Fittable (o : OldSide) (s : Support) (table : List ℕ) : Type 0 where
-  pub few : s.len ≤ 10
-  pub long : s.len ≤ length s.nets
-  pub entries : 2 ^ s.len ≤ length table
-  pub free : (i : ℕ) → Mem i (take s.len s.nets) → (i < old_nets (side_job o [])) × (net_at (led (side_job o [])) i ≡ 0)
+pub record Fittable (o : OldSide) (is table : List ℕ) : Type 0 where
+  pub few : length is ≤ 10
+  pub entries : length table ≡ 2 ^ length is
+  pub free : (i : ℕ) → Mem i is → (i < old_nets (side_job o [])) × (net_at (led (side_job o [])) i ≡ 0)
 
 -- the gates that the patched netlist has
-abbrev pub patched_count : OldSide → Support → List ℕ → ℕ
-patched_count o s table = o.count + trees_size o.targets 0 s.len table
+abbrev pub patched_count : OldSide → List ℕ → List ℕ → ℕ
+patched_count o is table = o.count + trees_size o.targets 0 (length is) table
 
 -- all of them stand at the start of the places, and each old net has its number
 pub record GatesPlaced (j : Job) (is table : List ℕ) (r : NewSide) : Type 0 where

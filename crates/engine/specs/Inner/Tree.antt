@@ -1,7 +1,7 @@
 -- Building multiplexer trees: gates put into the places of a netlist (src/tree.rt). No public contract cites this file. Assumes nothing.
 --
 --   column_part tb at k t   the column of target t at the 2 ^ k entries of the table tb from place at on
---   TablePart tb at k t     those entries stand in the table, and t is a bit of a byte
+--   TablePart tb k t        the table has 2 ^ k entries or more, and t is a bit of a byte
 --   tree_start k col           how the tree over k nets and the column col starts
 --   join_size j             how many gates join two halves
 --   JoinRoom ..             there is room for the gates that join two halves behind their trees
@@ -25,9 +25,9 @@ use Rattle.engine.specs.declared.tree.TreeStart.{TreeStart}
 abbrev pub column_part : List ℕ → ℕ → ℕ → ℕ → List ℕ
 column_part tb at k t = column (take (2 ^ k) (drop at tb)) t
 
-pub record TablePart (tb : List ℕ) (at k t : ℕ) : Type 0 where
+pub record TablePart (tb : List ℕ) (k t : ℕ) : Type 0 where
   pub most : k ≤ 10
-  pub within : at + 2 ^ k ≤ length tb
+  pub within : 2 ^ k ≤ length tb
   pub target : t < 8
 
 -- the tests of a column: all 0, all 1, equal halves

@@ -20,7 +20,7 @@ overflow_add-old c =
     omega (
       arith,
       c.trees_size-size.ensures,
-      trees_size-le a.old.now.targets 0 a.support.now.len a.table.now h.few,
+      trees_size-le a.old.now.targets 0 (length a.nets.now) a.table.now h.few,
       a.old.now.targets_bound,
       a.old.now.count_bound,
     )
@@ -34,7 +34,7 @@ returns-then-old-size-gt-GATES c =
 -- there is room for the gates
 few : (c : After-place_gates-new) → c.place_gates-new.result.count ≤ 400
 few c =
-    let fitting : patched_count c.args.old.now c.args.support.now c.args.table.now ≤ 400 = omega (arith, c.trees_size-size.ensures) in
+    let fitting : patched_count c.args.old.now c.args.nets.now c.args.table.now ≤ 400 = omega (arith, c.trees_size-size.ensures) in
     gates-few (old-held c.args.old.now (omega arith)) c.requires.fittable.0 fitting c.place_gates-new.ensures
 
 pub move_nets-requires : goal.move_nets-requires
@@ -60,7 +60,7 @@ put_netlist-len-requires c =
 
 pub returns : goal.returns
 returns c =
-    let fitting : patched_count c.args.old.now c.args.support.now c.args.table.now ≤ 400 = omega (arith, c.trees_size-size.ensures) in
+    let fitting : patched_count c.args.old.now c.args.nets.now c.args.table.now ≤ 400 = omega (arith, c.trees_size-size.ensures) in
     let a = c.args in
     patch-accepted (old-held a.old.now (omega arith)) c.requires.fittable.0 fitting c.place_gates-new.ensures a.outputs.now c.move_nets.new.nets a.reply.now _
     c.requires.outputs_bound.1

@@ -32,8 +32,12 @@ overflow_add-end c = omega (arith, ended (goal.at.overflow_add-end c).After-read
 pub shared_ref_as_front-fit_patch : goal.shared_ref_as_front-fit_patch
 shared_ref_as_front-fit_patch c = outputs-few c.requires.0.parts
 
-pub slice_bounds-fit_patch-end-2 : goal.slice_bounds-fit_patch-end-2
-slice_bounds-fit_patch-end-2 c = omega (arith, ended (goal.at.slice_bounds-fit_patch-end-2 c).After-reading_count)
+pub shared_ref_as_front-fit_patch-2 : goal.shared_ref_as_front-fit_patch-2
+shared_ref_as_front-fit_patch-2 c =
+    parts-few c.requires.0.parts c.args.sheet.now c.read_sheet-answer.ensures c.if-answer-ne0.false
+
+pub slice_bounds-fit_patch-end-3 : goal.slice_bounds-fit_patch-end-3
+slice_bounds-fit_patch-end-3 c = omega (arith, ended (goal.at.slice_bounds-fit_patch-end-3 c).After-reading_count)
 
 pub fit_patch-requires : goal.fit_patch-requires
 fit_patch-requires c =

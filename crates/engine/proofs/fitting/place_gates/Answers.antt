@@ -17,7 +17,7 @@ place_trees-requires c =
     let h = p.0 in
     let v = old-held c.args.old.now (omega arith) in
     let l = length-replicate {A = ℕ} 400 0 in record {
-      len_bound = (h.few, h.entries, support-nets v h);
+      nets_bound = (h.few, h.entries, support-nets v h);
       targets_bound = (
         c.args.old.now.targets_bound,
         omega (arith, c.args.old.now.inputs_bound, c.args.old.now.targets_bound),

@@ -1,5 +1,5 @@
 -- `engine::merge::alike` meets its contract. Assumes nothing.
-use Prim.Native.Nat.{◌/◌, ◌%◌}
+use mathlib.Core.Path.{sym, ◌∙◌}
 use lib.Dec.{eqb}
 use borrow.Author.Tests.{eqb-true}
 use Rattle.records.proofs.Laws.Bytes.{and_left, and_right}
@@ -8,8 +8,9 @@ use Rattle.engine.proofs.merge.alike.Goals as goal
 
 pub returns : goal.returns
 returns c =
-    let a = c.args.a in
-    let b = c.args.b in
-    let k = eqb (a % 128) (b % 128) in
-    let n = eqb (a / 131072) (b / 131072) in
-    λ e. alike_same a b (eqb-true (a % 128) (b % 128) (and_left k n e)) (eqb-true (a / 131072) (b / 131072) (and_right k n e))
+    let k = eqb c.form_of.result c.form_of-2.result in
+    let n = eqb c.slots_number.result c.slots_number-2.result in
+    λ e.
+    alike_same c.args.a c.args.b
+    (sym c.form_of.ensures ∙ eqb-true c.form_of.result c.form_of-2.result (and_left k n e) ∙ c.form_of-2.ensures)
+    (sym c.slots_number.ensures ∙ eqb-true c.slots_number.result c.slots_number-2.result (and_right k n e) ∙ c.slots_number-2.ensures)

@@ -1,12 +1,13 @@
 -- `engine::tree::tree_size` meets its contract: it calls itself on each half, and the number of nets falls, until the column is one number. Assumes nothing.
-use Prim.Native.Nat.{ℕ, ◌+◌, ◌-◌, ◌^◌, ◌<◌}
+use Prim.Native.Nat.{ℕ, ◌+◌, ◌-◌, ◌^◌, ◌≤◌, ◌<◌}
+use lib.ListN.{length}
 use mathlib.Core.Logic.{inl, inr}
 use mathlib.Core.Path.{◌≡◌, sym, ◌∙◌, ap}
 use native.Mathlib.Omega.{arith}
 use Rattle.engine.specs.Eval.{bits}
 use Rattle.engine.specs.Tree.{builds_low, builds_high, tree_size}
 use Rattle.engine.specs.Inner.Tree.{column_part}
-use Rattle.engine.proofs.Laws.Tree.{size-constant, size-equal, size-split, built_size, half-came, half-small}
+use Rattle.engine.proofs.Laws.Tree.{column-rest, pow-halves, size-constant, size-equal, size-split, built_size, half-came, half-small}
 use Rattle.engine.proofs.Laws.TreeWord.{column-lt, bits-column}
 use Rattle.engine.proofs.Laws.Join.{join_size-bounds}
 use Rattle.engine.proofs.tree.+tree_size.Goals as goal
@@ -26,11 +27,11 @@ returns-in-Constant t c = sym (size-constant c.args.k _ _ (sym c.in-Constant.ens
 pub returns-in-Equal : goal.returns-in-Equal
 returns-in-Equal t c =
     let a = c.args in
-    c.tree_size.ensures ∙ sym (size-equal a.table.now a.at a.k a.t (sym c.in-Equal.ensures))
+    c.tree_size.ensures ∙ sym (size-equal a.table.now 0 a.k a.t (sym c.in-Equal.ensures))
 
 -- how many gates each half has
 low-size : (t : ℕ) (c : Joined-builds_low t) → let a = c.args in
-    c.if-builds_low.low ≡ built_size (builds_low c.in-Split.join) (tree_size (a.k - 1) (column_part a.table.now a.at (a.k - 1) a.t))
+    c.if-builds_low.low ≡ built_size (builds_low c.in-Split.join) (tree_size (a.k - 1) (column_part a.table.now 0 (a.k - 1) a.t))
 low-size t c =
     half-came (builds_low c.in-Split.join) _ c.builds_low.ensures
     (elim c.if-builds_low.branch [
@@ -40,11 +41,14 @@ low-size t c =
 
 high-size : (t : ℕ) (c : Joined-builds_high t) → let a = c.args in
     c.if-builds_high.high
-    ≡ built_size (builds_high c.in-Split.join) (tree_size (a.k - 1) (column_part a.table.now (a.at + c.reading_count-half.result) (a.k - 1) a.t))
+    ≡ built_size (builds_high c.in-Split.join) (tree_size (a.k - 1) (column_part a.table.now (0 + c.reading_count-half.result) (a.k - 1) a.t))
 high-size t c =
+    let a = c.args in
+    let fits : c.reading_count-half.result + 2 ^ (a.k - 1) ≤ length a.table.now =
+    omega (arith, c.reading_count-half.ensures, pow-halves a.k (omega arith), c.requires.within) in
     half-came (builds_high c.in-Split.join) _ c.builds_high.ensures
     (elim c.if-builds_high.branch [
-      | then-builds_high w ↦ inl (w.if-builds_high.true, w.high-is ∙ w.tree_size-high.ensures)
+      | then-builds_high w ↦ inl (w.if-builds_high.true, w.high-is ∙ w.tree_size-high.ensures ∙ ap (tree_size (a.k - 1)) (column-rest a.table.now (a.k - 1) a.t c.reading_count-half.result fits))
       | else-builds_high w ↦ inr (w.if-builds_high.false, w.high-is)
     ])
 
@@ -69,5 +73,5 @@ pub returns-after-builds_high : goal.returns-after-builds_high
 returns-after-builds_high t c =
     let a = c.args in
     let d = goal.at.returns-after-builds_high t c in
-    rw (low-size t d.Joined-builds_low, high-size t d.Joined-builds_high, c.join_size.ensures)
-    (sym (size-split a.table.now a.at a.k a.t _ _ (sym c.in-Split.ensures) c.reading_count-half.ensures))
+    rw (low-size t d.Joined-builds_low, high-size t d.Joined-builds_high, c.size.ensures)
+    (sym (size-split a.table.now 0 a.k a.t _ _ (sym c.in-Split.ensures) c.reading_count-half.ensures))

@@ -105,4 +105,4 @@ returns t c =
     rw e at
     (split-size k c.args.w (rw e c.requires.1) (λ q. c.if-low-high.false (h.low ∙ q ∙ sym h.high)) joined (low-size t d.Joined-builds_low h)
     (high-size t d.Joined-builds_high h)
-    c.join_size.ensures)
+    c.size.ensures)

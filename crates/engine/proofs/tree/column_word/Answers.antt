@@ -17,8 +17,8 @@ loop-i-init c =
 -- one entry more
 turn : (c : In-loop-i) → let a = c.args in
     let l = c.loop-i in
-    let n = number_of (drop (l.i - 1) (column_part a.table.now a.at a.k a.t)) in
-    (n ≡ 2 * l.w + bit a.t (get_or a.table.now (a.at + (l.i - 1)) 0)) × (n < 18446744073709551616)
+    let n = number_of (drop (l.i - 1) (column_part a.table.now 0 a.k a.t)) in
+    (n ≡ 2 * l.w + bit a.t (get_or a.table.now (l.i - 1) 0)) × (n < 18446744073709551616)
 turn c =
     let l = c.loop-i in
     let e : l.i - 1 + 1 ≡ l.i = omega arith in
@@ -30,10 +30,10 @@ pub overflow_mul-w : goal.overflow_mul-w
 overflow_mul-w c = omega (arith, turn (goal.at.overflow_mul-w c).In-loop-i)
 
 pub overflow_add-w : goal.overflow_add-w
-overflow_add-w c = omega (arith, turn (goal.at.overflow_add-w c).In-loop-i, c.table_bit.ensures)
+overflow_add-w c = omega (arith, turn (goal.at.overflow_add-w c).In-loop-i, c.bit_of.ensures)
 
 pub loop-i-preserved : goal.loop-i-preserved
 loop-i-preserved c =
     let p = (turn (goal.at.loop-i-preserved c).In-loop-i).0 in
-    let b = c.table_bit.ensures in
+    let b = c.bit_of.ensures in
     (omega (arith, c.loop-i.invariant.0), omega arith)

@@ -7,4 +7,4 @@ use Rattle.engine.specs.Inner.Tree.{column_part}
 use Rattle.engine.proofs.tree.column_word.Given as goal
 
 abbrev pub invariant-loop-i : goal.invariant-loop-i
-invariant-loop-i l = (l.i ≤ 2 ^ l.k) × (l.w ≡ number_of (drop l.i (column_part l.table l.at l.k l.t)))
+invariant-loop-i l = (l.i ≤ 2 ^ l.k) × (l.w ≡ number_of (drop l.i (column_part l.table 0 l.k l.t)))

@@ -2,15 +2,14 @@
 -- Assumes nothing.
 use Prim.Native.Nat.{◌+◌, ◌≤◌, ◌<◌}
 use native.Mathlib.Omega.{arith}
-use lib.ListN.{length}
 use Rattle.engine.proofs.Laws.Tree.{growing-room, growing-net, growing-next, growing-all}
 use Rattle.engine.proofs.tree.put_trees.Goals as goal
 use Rattle.engine.proofs.tree.put_trees.Goals.{After-put_tree-next}
 
 pub put_tree-next-requires : goal.put_tree-next-requires
 put_tree-next-requires c =
-    let p = c.requires.k_bound in record {
-      table_part = (record { most = p.0; within = omega (arith, p.1); target = omega (arith, p.2) }, p.3);
+    let p = c.requires.nets_bound in record {
+      table_part = (record { most = p.0; within = p.1; target = omega (arith, c.requires.targets_bound.0) }, p.2);
       gate_room = growing-room c.loop-t.invariant c.loop-t-test.true c.requires.gate_room;
     }
 
@@ -29,10 +28,7 @@ overflow_cast-numbers c = let n = net (goal.at.overflow_cast-numbers c).After-pu
 
 pub loop-t-preserved : goal.loop-t-preserved
 loop-t-preserved c =
-    let n : c.args.k ≤ length c.args.support = omega (arith, c.requires.k_bound.0) in
-    growing-next c.loop-t.invariant c.loop-t-test.true n (omega (arith, c.requires.targets_bound.0)) c.put_tree-next.ensures
+    growing-next c.loop-t.invariant c.loop-t-test.true (omega arith) (omega (arith, c.requires.targets_bound.1)) c.put_tree-next.ensures
 
 pub returns : goal.returns
-returns c =
-    let n : c.args.k ≤ length c.args.support = omega (arith, c.requires.k_bound.0) in
-    growing-all c.loop-t.invariant (omega arith) n
+returns c = growing-all c.loop-t.invariant (omega arith) (omega arith)

@@ -17,7 +17,7 @@ loop-t-init c =
 pub tree_size-sum-requires : goal.tree_size-sum-requires
 tree_size-sum-requires c =
     let p = c.requires in
-    record { most = p.0; within = omega (arith, p.1); target = omega arith }
+    record { most = p.0; within = p.1; target = omega arith }
 
 pub overflow_add-sum : goal.overflow_add-sum
 overflow_add-sum c =

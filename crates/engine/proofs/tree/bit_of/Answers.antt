@@ -1,7 +1,7 @@
--- `engine::tree::table_bit` meets its contract. Assumes nothing.
+-- `engine::tree::bit_of` meets its contract. Assumes nothing.
 use Rattle.engine.specs.Eval.{bit}
 use mathlib.Core.Path.{refl}
-use Rattle.engine.proofs.tree.table_bit.Goals as goal
+use Rattle.engine.proofs.tree.bit_of.Goals as goal
 
 pub returns : goal.returns
 unfolding bit

@@ -1,11 +1,11 @@
--- `engine::tree::join_size` meets its contract. Assumes nothing.
+-- `engine::tree::Join::size` meets its contract. Assumes nothing.
 use mathlib.Core.Path.{◌≡◌, refl}
 use native.Mathlib.Omega.{arith}
 use Rattle.engine.specs.Tree.{join_gates}
 use Rattle.engine.specs.Inner.Tree.{join_size}
 use Rattle.engine.specs.declared.tree.Join.{Join}
 use Rattle.engine.specs.declared.tree.Join.TheVariants.{Buf, Not, AndHigh, AndLow, OrHigh, OrLow, Both}
-use Rattle.engine.proofs.tree.join_size.Goals as goal
+use Rattle.engine.proofs.tree.Join.size.Goals as goal
 
 one : (j : Join) → (j ≡ AndLow → ⊥) → (j ≡ OrHigh → ⊥) → (j ≡ Both → ⊥) → 1 ≡ join_size j
 unfolding join_size join_gates
@@ -26,4 +26,4 @@ unfolding join_size join_gates
 returns-in-Both c = grind arith
 
 pub returns-in_default : goal.returns-in_default
-returns-in_default c = one c.args.join c.in_default.not-AndLow c.in_default.not-OrHigh c.in_default.not-Both
+returns-in_default c = one c.args.self c.in_default.not-AndLow c.in_default.not-OrHigh c.in_default.not-Both
