@@ -254,7 +254,7 @@ module _ {j : Job} {is : List ℕ} {p : Plan} (long : length p.gates ≡ 2400) (
 -- a reading in a cube has its values
 cube-has : (p : Plan) (u : Cube) (vs : List ℕ) → Binary vs → InCube u (plan_reading p vs) → CubeHas p u vs
 unfolding net_at
-cube-has p u vs b m k l c = sym (number_bit (net_at vs) b p.reads.nets p.reads.len k (omega (arith, p.few_reads, p.reads_long)) l) ∙ m k c
+cube-has p u vs b m k l c = sym (number_bit (net_at vs) b p.reads.nets p.reads.len k (omega (arith, p.reads_bound, p.reads_long)) l) ∙ m k c
 
 -- .. so that none is in a cube that is refuted
 pub none_in : (p : Plan) (u : Cube) → ((vs : List ℕ) → PlanValues p vs → CubeHas p u vs → ⊥) → (vs : List ℕ) → PlanValues p vs

@@ -454,7 +454,7 @@ module _ {j : Job} {v : Priced} (h : Choosable j v) where
       ∙ rw (← v.weighed) (take-length v.weights.now)
 
   pub all-sets : SetsOf j (candidate_nets j) v.sets.now
-  all-sets = record { targets = omega (arith, h.targets, v.few_targets); sets = h.sets.sets }
+  all-sets = record { targets = omega (arith, h.targets, v.targets_bound); sets = h.sets.sets }
 
   pub all-priced : PricedOf j v
   all-priced =

@@ -1,5 +1,5 @@
 -- The gates of a miter in the lists that a walk evaluates: those that outputs or readings need, in two lists, for no target leads to the
--- first ones, and, for each target, those that it leads to (src/plan.rt). No public contract cites this file. Assumes nothing.
+-- first ones, and, for each target, those that it leads to (src/plan.rt, src/planning.rt). No public contract cites this file. Assumes nothing.
 --
 --   code_mark vs c            the mark of the packed gate c where the nets have the marks vs: 1 if an operand has one, else 0
 --   marks_of base from k gs   1 for each net that a path of gates leads to from one of the k leaves from .. on, else 0

@@ -21,7 +21,7 @@ loop-k-preserved c =
           rw w.r-is
           (λ y h m.
           w.keep_value.ensures y h
-          ∙ cube-next c.args.words.now p.reads.nets p.reads.len c.args.cube y l.k (omega (arith, p.few_reads, p.reads_long)) (omega arith) w.if-care-k-eq1.true m
+          ∙ cube-next c.args.words.now p.reads.nets p.reads.len c.args.cube y l.k (omega (arith, p.reads_bound, p.reads_long)) (omega arith) w.if-care-k-eq1.true m
           (l.invariant y h m))
       | else-care-k-eq1 w ↦ rw w.r-is l.invariant
     ]

@@ -8,7 +8,7 @@ use Rattle.engine.proofs.Laws.Searching.{block-small, block-rows}
 use Rattle.engine.proofs.given.see_block.Goals as goal
 
 pub free_block-requires : goal.free_block-requires
-free_block-requires c = block-small c.requires.0 c.args.plan.now.few_inputs
+free_block-requires c = block-small c.requires.0 c.args.plan.now.inputs_bound
 
 pub returns-then-not-gives_cover : goal.returns-then-not-gives_cover
 returns-then-not-gives_cover c =
@@ -20,4 +20,4 @@ returns c =
     let e = c.read_rows-readings in
     let b = block-rows p c.free_block.ensures e.ensures in
     let n : c.div_ceil.result ≡ (c.args.count + 63) / 64 = omega (arith, c.div_ceil.ensures) in
-    block-seen c.args.b c.args.count e.result _ _ _ p.few_reads c.requires.0 b (rw n at c.meet_block.ensures)
+    block-seen c.args.b c.args.count e.result _ _ _ p.reads_bound c.requires.0 b (rw n at c.meet_block.ensures)

@@ -13,12 +13,12 @@ use Rattle.engine.proofs.given.see_inputs.Goals as goal
 use Rattle.engine.proofs.given.see_inputs.Goals.{In-loop-b, Joined-is_due, then-is_due, else-is_due}
 
 pub next_unseen-next-requires : goal.next_unseen-next-requires
-next_unseen-next-requires c = (omega arith, omega (arith, c.reading_count-count.ensures, readings-many c.args.plan.now.few_reads))
+next_unseen-next-requires c = (omega arith, omega (arith, c.reading_count-count.ensures, readings-many c.args.plan.now.reads_bound))
 
 pub loop-b-init : goal.loop-b-init
 loop-b-init c =
     let p = c.args.plan.now in (
-      seeing-none p c.args.skipped p.few_inputs p.few_reads (omega arith) c.reading_count-count.ensures c.next_unseen-next.ensures,
+      seeing-none p c.args.skipped p.inputs_bound p.reads_bound (omega arith) c.reading_count-count.ensures c.next_unseen-next.ensures,
       c.new-covering.ensures,
     )
 
@@ -58,7 +58,7 @@ loop-b-preserved c =
     let l = block-lt (goal.at.loop-b-preserved c).In-loop-b in
     let e = c.see_block.ensures in
     let s = seeing-next i l c.block_inputs-inputs.ensures (eqb-true _ 1 (search rules)) e c.next_unseen-next-in-loop-b.ensures in
-    (s, record { left = given-kept o.left c.args.plan.now.few_reads i.long e; never = o.never })
+    (s, record { left = given-kept o.left c.args.plan.now.reads_bound i.long e; never = o.never })
 
 pub returns : goal.returns
 returns c = let i = c.loop-b.invariant in (seeing-all i.0 i.1.left (inl (omega (arith, c.loop-b-test.false, c.div_ceil-b-end.ensures))), i.0.same)
