@@ -1,6 +1,7 @@
 // Jobs of at most six inputs: one word a net has its values at all inputs, bit y that at input y, and no list of gates is made. Where six
-// inputs are not used, the 64 places of a word repeat those of the inputs there are.
-ghost use Rattle.std.specs.Prelude.{◌≡◌, map, cond, ℕ, ◌%◌, ◌^◌, ◌≤◌, ◌<◌, length, take};
+// inputs are not used, the 64 places of a word repeat those of the inputs there are. (The kernel with a parameter for the words of a net
+// would not be plainer: what it says of scenario y is at word 16 * i + y / 64, and a product of two variables is beyond linear arithmetic.)
+ghost use Rattle.std.specs.Prelude.{◌≡◌, map, cond, ℕ, ◌%◌, ◌^◌, ◌≤◌, ◌<◌, length, get_or, take};
 ghost use Rattle.records.specs.Claims.{Below};
 ghost use Rattle.records.specs.Job.{Job};
 ghost use Rattle.records.specs.Netlist.{net_at};
