@@ -1,7 +1,8 @@
 // The choice of the support. It works on sets of vectors alone: place r of a support's sets holds the vectors that rectify every
 // input giving reading r of its nets. Bit 16 of a set is 1 where no input that was looked at gives the reading; it is joined like a vector.
-ghost use Rattle.std.specs.Prelude.{◌≡◌, true, ℕ, ◌-◌, ◌^◌, ◌≤◌, ◌<◌, List, length, sum};
+ghost use Rattle.std.specs.Prelude.{◌≡◌, true, ℕ, ◌-◌, ◌^◌, ◌≤◌, ◌<◌, List, length, sum, eqb};
 ghost use Rattle.records.specs.Job.{Job};
+ghost use Rattle.engine.specs.Eval.{bit};
 ghost use Rattle.engine.specs.Support.{sound, candidate_nets, patch_gates, chosen};
 ghost use Rattle.records.specs.Claims.{Below};
 ghost use Rattle.engine.specs.Inner.Plan.{NetsRead};
@@ -55,14 +56,21 @@ fn sum_weights(weights: &[u16]) -> u32
     weights.iter().map(|w| u32::from(*w)).sum()
 }
 
+// Whether candidate i is in a set.
+fn has(set: usize, i: usize) -> bool
+    requires { i < 64 }
+    ensures { result ≡ eqb (bit i set) 1 }
+{
+    (set >> i) % 2 == 1
+}
+
 // Whether of two sets a has the lowest candidate in which they differ.
 fn low_first(a: usize, b: usize) -> bool
     ensures { result ≡ low_first 10 a b }
 {
     for i in 0..CANDIDATES {
-        let x = (a >> i) % 2;
-        if x != (b >> i) % 2 {
-            return x == 1;
+        if has(a, i) != has(b, i) {
+            return has(a, i);
         }
     }
     false
@@ -90,13 +98,13 @@ fn patch_gates(sets: &[u32], len: usize, targets: usize) -> usize
 impl Priced<'_> {
     // The nets of a set.
     fn support_of(&self, set: usize) -> Support
-        ensures { PickedNets self.now.nets.now set result × (Below 1024 self.now.nets.now → NetsRead result.nets result.len) }
+        ensures { PickedNets self.now.nets.now set result × (Below 1024 self.now.nets.now → NetsRead result) }
     {
         let mut picks = [0u16; CANDIDATES];
         let mut len = 0usize;
-        for i in 0..self.nets.len() {
-            if (set >> i) % 2 == 1 {
-                picks[len] = self.nets[i];
+        for (i, net) in self.nets.iter().enumerate() {
+            if has(set, i) {
+                picks[len] = *net;
                 len += 1;
             }
         }
@@ -112,7 +120,7 @@ impl Priced<'_> {
         let mut sets = *self.sets;
         let mut len = self.nets.len();
         for i in (0..self.nets.len()).rev() {
-            if (set >> i) % 2 == 0 {
+            if !has(set, i) {
                 let with = sets;
                 leave_out(&with, len, i, &mut sets);
                 len -= 1;
@@ -126,11 +134,11 @@ impl Priced<'_> {
         ensures set_value { result.set ≡ pick.set }
         ensures counted_of { (j : Job) → PricedOf j self.now → PickOf j pick → CountedOf j result }
     {
-        if 0 < pick.gates {
+        if pick.gates.is_some() {
             return pick;
         }
         let mut counted = pick;
-        counted.gates = patch_gates(&self.sets_of(pick.set), pick.len, self.targets);
+        counted.gates = Some(patch_gates(&self.sets_of(pick.set), pick.len, self.targets));
         counted
     }
 
@@ -148,7 +156,7 @@ impl Priced<'_> {
         }
         let was = self.counted(best);
         let mut now = from;
-        now.gates = patch_gates(sets, from.len, self.targets);
+        now.gates = Some(patch_gates(sets, from.len, self.targets));
         if precedes(now, was) { now } else { was }
     }
 
@@ -174,7 +182,7 @@ impl Priced<'_> {
                 set: 2 * from.set,
                 cost: from.cost,
                 len: from.len - 1,
-                gates: 0,
+                gates: None,
             };
             found = self.best_from(best, without, place, fewer, rest);
         }
@@ -182,7 +190,7 @@ impl Priced<'_> {
             set: 2 * from.set + 1,
             cost: from.cost + u32::from(self.weights[place]),
             len: from.len,
-            gates: 0,
+            gates: None,
         };
         self.best_from(found, with, place, sets, room)
     }
@@ -191,7 +199,7 @@ impl Priced<'_> {
     // as many more as the entries of their tables that the count of their gates reads.
     pub(super) fn best_support(&self) -> Chosen
         ensures held_support { HeldSupport result.support
-            × (Below 1024 self.now.nets.now → NetsRead result.support.nets result.support.len) }
+            × (Below 1024 self.now.nets.now → NetsRead result.support) }
         ensures chosen_of { (j : Job) → Choosable j self.now → ChosenOf j result.support result.cost result.sets
             × ((k : ℕ) → GivenBits j (candidate_nets j) self.now.sets.now k → GivenBits j (chosen j) result.sets k) }
     {
@@ -200,13 +208,13 @@ impl Priced<'_> {
             set: reading_count(count) - 1,
             cost: sum_weights(self.weights),
             len: count,
-            gates: 0,
+            gates: None,
         };
         let none = Pick {
             set: 0,
             cost: 0,
             len: count,
-            gates: 0,
+            gates: None,
         };
         let mut room = [0u32; READINGS];
         let sets = self.sets;

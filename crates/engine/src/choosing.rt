@@ -89,12 +89,12 @@ fn rule_patch(support: Support, cost: u32, sets: &[u32; READINGS], reply: &mut [
 
 // The sets of all readings of these nets, over all inputs of a miter.
 fn reading_sets(miter: &Miter, reads: Support) -> Met
-    requires { NetsRead reads.nets reads.len }
+    requires { NetsRead reads }
     ensures { (j : Job) → MergedOf j miter.now → take reads.len reads.nets ≡ candidate_nets j
         → SetsTo j (2 ^ j.inputs) result.skipped result.sets }
 {
     if miter.inputs <= WORD_INPUTS {
-        return sets_of_words(miter, reads.nets, reads.len);
+        return sets_of_words(miter, reads);
     }
     sets_of_inputs(&plan_of(miter, reads, miter.targets))
 }

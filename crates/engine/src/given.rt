@@ -1,21 +1,21 @@
 // Which readings of a support inputs give. A reading is unseen while no input looked at gives it: bit 16 of its set is 1.
-ghost use Rattle.std.specs.Prelude.{◌≡◌, true, List, ℕ, ◌<◌, take};
+ghost use Rattle.std.specs.Prelude.{◌≡◌, true, List, ℕ, ◌/◌, ◌<◌, eqb, take};
 ghost use Rattle.records.specs.Bytes.{all as all'};
 ghost use Rattle.records.specs.Job.{Job};
 ghost use Rattle.records.specs.Refusal.{candidate_good};
+ghost use Rattle.engine.specs.Eval.{bit};
 ghost use Rattle.engine.specs.Inner.Miter.{MergedOf};
 ghost use Rattle.engine.specs.Inner.Plan.{NetsRead};
 ghost use Rattle.engine.specs.Inner.Search.{BlockRange};
 ghost use Rattle.engine.specs.Inner.Best.{GivenBits};
 ghost use Rattle.engine.specs.Inner.Imply.{NoneGives};
-ghost use Rattle.engine.specs.Inner.Given.{GivenCover, BlockSeen, Unseen, SameVectors, AllSeen};
+ghost use Rattle.engine.specs.Inner.Given.{GivenCover, Covered, BlockSeen, Unseen, SameVectors, AllSeen};
 
-use super::cover::{
-    Cover, all_readings, cover_of, gives_cover, next_unseen, no_cubes, unseen_count,
-};
-use super::imply::{Sorted, sort_cubes};
+use super::cover::{cover_of, gives_cover, next_unseen, unseen_count};
+use super::cube::Cover;
+use super::imply::unrefuted;
 use super::leaves::{block_inputs, read_rows};
-use super::limits::{BLOCK, RANGE, READINGS, RENEWALS, ROWS, SPLITS, TESTED, WORDS};
+use super::limits::{BLOCK, RANGE, READINGS, RENEWALS, ROWS, SPLITS, TESTED, WORD, WORDS};
 use super::miter::Miter;
 use super::note::meet_block;
 use super::plan::Plan;
@@ -31,41 +31,36 @@ fn see_block(
     plan: &Plan,
     b: usize,
     count: usize,
-    cover: Cover,
+    cover: &Cover,
     words: &mut [u64; WORDS],
     sets: &mut [u32; READINGS],
 )
-    requires { BlockRange plan.now.inputs b count × GivenCover plan.now sets.old cover }
+    requires { BlockRange plan.now.inputs b count × GivenCover plan.now sets.old cover.now }
     ensures { BlockSeen plan.now b count sets.old sets.new }
 {
     free_block(plan, b, words);
-    if !gives_cover(plan.reads.nets, plan.reads.len, cover, words) {
+    if !gives_cover(plan, cover, words) {
         return;
     }
     let readings = read_rows(plan, words);
-    meet_block([!0u64; ROWS], readings, (count + 63) / 64, sets);
+    meet_block([!0u64; ROWS], readings, count.div_ceil(WORD), sets);
 }
 
-// A cover of the unseen readings that an input may still give, and cubes that none gives: those of never, and those that are refuted here. Few
-// cubes that are not refuted at once are worth a longer look.
-fn given_cover(plan: &Plan, sets: &[u32; READINGS], never: Cover) -> Sorted
-    requires { NoneGives plan.now never }
-    ensures { GivenCover plan.now sets.now result.left × NoneGives plan.now result.never }
+// A cover of the unseen readings that an input may still give, none of them in a cube of never, which no input gives: the cubes that are refuted here
+// go there. Few cubes that are not refuted at once are worth a longer look.
+fn given_cover(plan: &Plan, sets: &[u32; READINGS], never: &mut Cover) -> Cover
+    requires { NoneGives plan.now never.old }
+    ensures { GivenCover plan.now sets.now result × NoneGives plan.now never.new }
 {
     let cover = cover_of(sets, plan.reads.len, never);
-    let first = sort_cubes(plan, cover, never, 1);
-    let left = first.left;
-    let refuted = first.never;
+    let left = unrefuted(plan, &cover, 1, never);
     if TESTED < left.count {
-        return Sorted {
-            left: all_readings(),
-            never: refuted,
-        };
+        return Cover::all();
     }
-    sort_cubes(plan, left, refuted, SPLITS)
+    unrefuted(plan, &left, SPLITS, never)
 }
 
-// Such a cover, how many readings were unseen when it was made, and how often it may be made anew.
+// Such a cover and such cubes, how many readings were unseen when it was made, and how often it may be made anew.
 #[derive(Drop)]
 struct Covering {
     left: Cover,
@@ -74,41 +69,50 @@ struct Covering {
     renewals: usize,
 }
 
-fn covering_of(plan: &Plan, sets: &[u32; READINGS], never: Cover, renewals: usize) -> Covering
-    requires { NoneGives plan.now never }
-    ensures { GivenCover plan.now sets.now result.left × NoneGives plan.now result.never }
-{
-    let cubes = given_cover(plan, sets, never);
-    let left = cubes.left;
-    let never = cubes.never;
-    Covering {
-        left,
-        never,
-        unseen: unseen_count(sets),
-        renewals,
+impl Covering {
+    fn new(plan: &Plan, sets: &[u32; READINGS]) -> Self
+        ensures { Covered plan.now sets.now result }
+    {
+        let mut never = Cover::empty();
+        let left = given_cover(plan, sets, &mut never);
+        Covering {
+            left,
+            never,
+            unseen: unseen_count(sets),
+            renewals: RENEWALS,
+        }
+    }
+
+    // It is made anew where fewer readings are unseen than when it was made.
+    fn renew(&mut self, plan: &Plan, sets: &[u32; READINGS])
+        requires { Covered plan.now sets.now self.old }
+        ensures { Covered plan.now sets.now self.new }
+    {
+        if self.renewals == 0 {
+            return;
+        }
+        let unseen = unseen_count(sets);
+        if unseen == self.unseen {
+            return;
+        }
+        self.left = given_cover(plan, sets, &mut self.never);
+        self.unseen = unseen;
+        self.renewals -= 1;
     }
 }
 
-// .. made anew, where fewer readings are unseen than when it was made
-fn renewed(plan: &Plan, sets: &[u32; READINGS], old: Covering) -> Covering
-    requires { GivenCover plan.now sets.now old.left × NoneGives plan.now old.never }
-    ensures { GivenCover plan.now sets.now result.left × NoneGives plan.now result.never }
-{
-    if old.renewals == 0 {
-        return old;
-    }
-    if unseen_count(sets) == old.unseen {
-        return old;
-    }
-    covering_of(plan, sets, old.never, old.renewals - 1)
-}
-
-// Whether it is time for that: before block 0, 1, 2, 4, 8 or 16 of a range that was skipped.
-fn is_due(skipped: usize, b: usize) -> bool
+// Whether block b is of a range that was skipped.
+fn is_skipped(skipped: usize, b: usize) -> bool
     requires { b < 1024 }
+    ensures { result ≡ eqb (bit (b / 32) skipped) 1 }
 {
+    (skipped >> (b / RANGE)) % 2 == 1
+}
+
+// Whether it is time for a new cover: before block 0, 1, 2, 4, 8 or 16 of a range.
+fn is_due(b: usize) -> bool {
     let r = b % RANGE;
-    (r & (r + RANGE - 1) == 0) & ((skipped >> (b / RANGE)) % 2 == 1)
+    r == 0 || r.is_power_of_two()
 }
 
 // The sets after the inputs of the ranges that were skipped. It ends where no reading is unseen, or none of those that are can be given.
@@ -119,31 +123,24 @@ fn see_inputs(plan: &Plan, skipped: usize, sets: &mut [u32; READINGS])
     let count = reading_count(plan.reads.len);
     let size = 1usize << plan.inputs;
     let mut words = [0u64; WORDS];
-    let mut covering = covering_of(plan, sets, no_cubes(), RENEWALS);
+    let mut covering = Covering::new(plan, sets);
     let mut next = next_unseen(sets, 0, count);
-    let mut b = 0usize;
-    while BLOCK * b < size {
-        if next == count {
+    for b in 0..size.div_ceil(BLOCK) {
+        let Some(first) = next else {
             return;
+        };
+        if !is_skipped(skipped, b) {
+            continue;
         }
-        if is_due(skipped, b) {
-            covering = renewed(plan, sets, covering);
+        if is_due(b) {
+            covering.renew(plan, sets);
         }
         if covering.left.count == 0 {
             return;
         }
-        if (skipped >> (b / RANGE)) % 2 == 1 {
-            see_block(
-                plan,
-                b,
-                block_inputs(size - BLOCK * b),
-                covering.left,
-                &mut words,
-                sets,
-            );
-            next = next_unseen(sets, next, count);
-        }
-        b += 1;
+        let inputs = block_inputs(size - BLOCK * b);
+        see_block(plan, b, inputs, &covering.left, &mut words, sets);
+        next = next_unseen(sets, first, count);
     }
 }
 
@@ -156,7 +153,7 @@ pub(super) fn see_skipped(
     skipped: usize,
     sets: &mut [u32; READINGS],
 )
-    requires { NetsRead support.nets support.len }
+    requires { NetsRead support }
     ensures unseen { (j : Job) (is : List ℕ) → MergedOf j miter.now → take support.len support.nets ≡ is
         → all' (candidate_good j) is ≡ true → GivenBits j is sets.old skipped → Unseen j is sets.new }
     ensures same_vectors { SameVectors sets.old sets.new }
@@ -165,7 +162,7 @@ pub(super) fn see_skipped(
         return;
     }
     let count = reading_count(support.len);
-    if next_unseen(sets, 0, count) == count {
+    if next_unseen(sets, 0, count).is_none() {
         return;
     }
     let plan = reads_of(miter, support);

@@ -65,7 +65,7 @@ fn rule_list(list: Vectors, reply: &mut [u8]) -> JudgedSheet
 
 // The vector list over all inputs of a miter; of the nets read the tables are made (see guess.rt).
 fn vector_list(miter: &Miter, reads: Support) -> Vectors
-    requires { NetsRead reads.nets reads.len }
+    requires { NetsRead reads }
     ensures { (j : Job) → MergedOf j miter.now → take reads.len reads.nets ≡ candidate_nets j → ListTo j (2 ^ j.inputs) result }
 {
     if miter.inputs <= WORD_INPUTS {

@@ -18,7 +18,8 @@ pub(super) fn block_inputs(left: usize) -> usize
     left.min(BLOCK)
 }
 
-// The row r becomes that of net i. (The kernel's store has one caller, so that it is part of the kernel's loop.)
+// The row r becomes that of net i. (With copy_from_slice rows that are made anew would be copied twice. The kernel's store has one caller,
+// so that it is part of the kernel's loop.)
 pub(super) fn set_row(i: usize, r: [u64; ROW], words: &mut [u64])
     requires { 16 * i + 16 ≤ length words.old }
     ensures { NetSet i (row_value r) words.old words.new }

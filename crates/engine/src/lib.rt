@@ -8,6 +8,7 @@ mod best;
 mod choosing;
 mod comparing;
 mod cover;
+mod cube;
 mod drive;
 mod fitting;
 mod given;

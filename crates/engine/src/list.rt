@@ -38,7 +38,7 @@ impl Vectors {
     }
 
     // Whether a listed vector is in the set.
-    fn meets(&self, set: usize) -> bool
+    fn meets(&self, set: u16) -> bool
         ensures { result ≡ any (λ v. eqb (bit v set) 1) (listed_of self.now).vectors }
     {
         for v in self.listed() {
@@ -59,8 +59,7 @@ impl Vectors {
     }
 
     // What an input does that the vectors of this set rectify.
-    pub(super) fn step(&mut self, set: usize, input: usize)
-        requires { set < 65536 }
+    pub(super) fn step(&mut self, set: u16, input: usize)
         ensures { listed_of self.new ≡ list_step (listed_of self.old) set input }
     {
         if self.stuck.is_some() || self.meets(set) {
@@ -71,7 +70,7 @@ impl Vectors {
             return;
         }
         if self.len < VECTORS {
-            self.append(lowest_of(set));
+            self.append(lowest_of(usize::from(set)));
         }
     }
 }

@@ -1,5 +1,6 @@
 // Jobs of at most six inputs: one word a net has its values at all inputs, bit y that at input y, and no list of gates is made. Where six
-// inputs are not used, the 64 places of a word repeat those of the inputs there are.
+// inputs are not used, the 64 places of a word repeat those of the inputs there are. (The kernel with a parameter for the words of a net
+// would not be plainer: what it says of scenario y is at word 16 * i + y / 64, and a product of two variables is beyond linear arithmetic.)
 ghost use Rattle.std.specs.Prelude.{◌≡◌, map, cond, ℕ, ◌%◌, ◌^◌, ◌≤◌, ◌<◌, length, take};
 ghost use Rattle.records.specs.Claims.{Below};
 ghost use Rattle.records.specs.Job.{Job};
@@ -25,7 +26,7 @@ use super::note::{list_block, meet_block};
 use super::packed::{COUNT_AT, COUNTS, NET, NET_AT, SLOTS_AT};
 use super::search::{Met, all_vectors};
 use super::word::{broadcast, input_word};
-use records::CANDIDATES;
+use records::Support;
 
 // The word of leaf i at a vector: an input's, or that of a target behind the inputs.
 fn leaf_word(inputs: usize, vector: usize, i: usize) -> u64
@@ -139,14 +140,14 @@ pub(super) fn list_of_words(miter: &Miter) -> Vectors
     list_block(masks, 0, 1usize << miter.inputs, Vectors::start())
 }
 
-// The sets of all readings of the first reads nets, over all inputs of a miter with six at most.
-pub(super) fn sets_of_words(miter: &Miter, nets: [u16; CANDIDATES], reads: usize) -> Met
-    requires { (miter.now.inputs ≤ 6) × NetsRead nets reads }
-    ensures { (j : Job) → MergedOf j miter.now → take reads nets ≡ candidate_nets j → SetsTo j (2 ^ j.inputs) result.skipped result.sets }
+// The sets of all readings of these nets, over all inputs of a miter with six at most.
+pub(super) fn sets_of_words(miter: &Miter, reads: Support) -> Met
+    requires { (miter.now.inputs ≤ 6) × NetsRead reads }
+    ensures { (j : Job) → MergedOf j miter.now → take reads.len reads.nets ≡ candidate_nets j → SetsTo j (2 ^ j.inputs) result.skipped result.sets }
 {
     let mut words = [0u64; NETS];
     let masks = word_masks(miter, &mut words);
-    let readings = read_words(&nets[..reads], &words);
+    let readings = read_words(&reads.nets[..reads.len], &words);
     let mut sets = [UNSEEN + all_vectors(miter.targets) as u32; READINGS];
     meet_block(masks, readings, 1, &mut sets);
     Met { sets, skipped: 0 }

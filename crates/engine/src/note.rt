@@ -1,9 +1,10 @@
 // What a block of 1,024 inputs adds to the search: its rows of masks say which vectors rectify each input, its rows of readings what the
 // candidates give there. The sets of vectors are narrowed by all of its inputs; the vector list is stepped only at inputs that no listed
 // vector rectifies.
-ghost use Rattle.std.specs.Prelude.{◌≡◌, ◌+◌, ◌*◌, ◌/◌, ◌%◌, ◌^◌, ◌≤◌, ◌<◌};
+ghost use Rattle.std.specs.Prelude.{List, ⊤, ◌≡◌, ℕ, ◌+◌, ◌*◌, ◌/◌, ◌%◌, ◌^◌, ◌≤◌, ◌<◌, length, get_or, take};
+ghost use Rattle.std.specs.Int.Bits.{bit_or};
 ghost use Rattle.engine.specs.Inner.List.{listed_of};
-ghost use Rattle.engine.specs.Inner.Note.{narrowed, sets_from, gathered, ColumnMet, Joined, CoveredTo, ListNoted};
+ghost use Rattle.engine.specs.Inner.Note.{narrowed, sets_from, gathered, Stepped, Joined, CoveredTo, ListNoted};
 
 use super::leaves::row_of;
 use super::limits::{READING, READINGS, ROW, ROWS, SET, VECTORS, WORD};
@@ -11,44 +12,77 @@ use super::list::Vectors;
 use super::turn::transpose;
 use super::word::{first_zero, join_rows};
 
-// The sets with the one of a reading cut down to its part in a set of vectors.
-fn meet(reading: u64, set: u64, sets: &mut [u32; READINGS])
-    ensures { sets.new ≡ narrowed sets.old (reading % 1024) (set % 65536) }
-{
-    let at = (reading % READING) as usize;
-    let was = sets[at];
-    let now = was & ((set % SET) as u32);
-    if now != was {
-        sets[at] = now;
+// What one input does to the sets of vectors of all readings: the low bits of two words have its reading, and the set of the vectors that
+// rectify it.
+trait Step {
+    ghost gives: { List ℕ → ℕ → ℕ → List ℕ → Type 0 } = { λ before reading set after. ⊤ };
+
+    fn step(reading: u64, set: u64, sets: &mut [u32; READINGS])
+        ensures { gives sets.old (reading % 1024) (set % 65536) sets.new };
+}
+
+// The set of the reading is cut down to its part in the input's.
+struct Meet;
+
+impl Step for Meet {
+    ghost gives = { λ before reading set after. after ≡ narrowed before reading set };
+
+    fn step(reading: u64, set: u64, sets: &mut [u32; READINGS]) {
+        let at = (reading % READING) as usize;
+        let was = sets[at];
+        let now = was & ((set % SET) as u32);
+        if now != was {
+            sets[at] = now;
+        }
     }
 }
 
-// .. for the four readings and sets that two words hold
-fn meet_four(readings: u64, masks: u64, sets: &mut [u32; READINGS])
-    ensures { sets.new ≡ narrowed (narrowed (narrowed (narrowed sets.old
-        (readings % 1024) (masks % 65536)) (readings / 2 ^ 16 % 1024) (masks / 2 ^ 16 % 65536))
-        (readings / 2 ^ 32 % 1024) (masks / 2 ^ 32 % 65536)) (readings / 2 ^ 48 % 1024) (masks / 2 ^ 48 % 65536) }
-{
-    meet(readings, masks, sets);
-    meet(readings >> 16, masks >> 16, sets);
-    meet(readings >> 32, masks >> 32, sets);
-    meet(readings >> 48, masks >> 48, sets);
+// An input narrows the first set of its reading, in the low half of its place, where it leaves it a vector, else the second.
+struct Sort;
+
+impl Step for Sort {
+    fn step(reading: u64, set: u64, sets: &mut [u32; READINGS]) {
+        let at = (reading % READING) as usize;
+        let mask = (set % SET) as u32;
+        let both = sets[at];
+        sets[at] = if both & mask != 0 {
+            both & (mask | 0xffff_0000)
+        } else {
+            both & ((mask << 16) | 0xffff)
+        };
+    }
 }
 
-// The sets after the 64 scenarios of column w. Transposed, a word has the sets, or the readings, of four of them.
-fn meet_column(masks: &[u64; ROWS], readings: &[u64; ROWS], w: usize, sets: &mut [u32; READINGS])
-    requires { w < 16 }
-    ensures { ColumnMet masks.now readings.now w sets.old sets.new }
+// A step for each scenario of a block's first columns. Transposed, a word has the sets, or the readings, of four of them.
+fn step_block<S: Step>(
+    mut masks: [u64; ROWS],
+    mut readings: [u64; ROWS],
+    columns: usize,
+    sets: &mut [u32; READINGS],
+)
+    requires { columns ≤ 16 }
+    ensures { Stepped S.gives (gathered masks) (gathered readings) (64 * columns) sets.old sets.new }
 {
-    for i in 0..ROW {
-        meet_four(readings[ROW * i + w], masks[ROW * i + w], sets);
+    transpose(&mut masks, columns);
+    transpose(&mut readings, columns);
+    for w in 0..columns {
+        for i in 0..ROW {
+            let at = ROW * i + w;
+            for quarter in 0..4usize {
+                S::step(
+                    readings[at] >> (16 * quarter),
+                    masks[at] >> (16 * quarter),
+                    sets,
+                );
+            }
+        }
     }
 }
 
 // The sets after the scenarios of a block's first columns.
 pub(super) fn meet_block(
-    mut masks: [u64; ROWS],
-    mut readings: [u64; ROWS],
+    masks: [u64; ROWS],
+    readings: [u64; ROWS],
     columns: usize,
     sets: &mut [u32; READINGS],
 )
@@ -56,56 +90,25 @@ pub(super) fn meet_block(
     ensures { sets.new
         ≡ sets_from (gathered masks) (λ y. gathered readings y % 1024) sets.old 0 (64 * columns) }
 {
-    transpose(&mut masks, columns);
-    transpose(&mut readings, columns);
-    for w in 0..columns {
-        meet_column(&masks, &readings, w, sets);
-    }
+    step_block::<Meet>(masks, readings, columns, sets);
 }
 
-// An input narrows the first set of its reading, in the low half of its place, where it leaves it a vector, else the second.
-fn sort(reading: u64, set: u64, sets: &mut [u32; READINGS]) {
-    let at = (reading % READING) as usize;
-    let mask = (set % SET) as u32;
-    let both = sets[at];
-    sets[at] = if both & mask != 0 {
-        both & (mask | 0xffff_0000)
-    } else {
-        both & ((mask << 16) | 0xffff)
-    };
-}
-
-// .. for the 64 scenarios of column w of turned rows
-fn sort_column(masks: &[u64; ROWS], readings: &[u64; ROWS], w: usize, sets: &mut [u32; READINGS])
-    requires { w < 16 }
-{
-    for i in 0..WORD {
-        let at = ROW * (i / 4) + w;
-        let by = 16 * (i % 4);
-        sort(readings[at] >> by, masks[at] >> by, sets);
-    }
-}
-
-// .. for the scenarios of a block's first columns
+// The first and second sets after the scenarios of a block's first columns.
 pub(super) fn sort_block(
-    mut masks: [u64; ROWS],
-    mut readings: [u64; ROWS],
+    masks: [u64; ROWS],
+    readings: [u64; ROWS],
     columns: usize,
     sets: &mut [u32; READINGS],
 )
     requires { columns ≤ 16 }
 {
-    transpose(&mut masks, columns);
-    transpose(&mut readings, columns);
-    for w in 0..columns {
-        sort_column(&masks, &readings, w, sets);
-    }
+    step_block::<Sort>(masks, readings, columns, sets);
 }
 
 // The set of the vectors that rectify input y of the block.
-fn gather_rows(masks: &[u64; ROWS], y: usize) -> usize
+fn gather_rows(masks: &[u64; ROWS], y: usize) -> u16
     requires { y < 1024 }
-    ensures { (result ≡ gathered masks.now y) × (result < 65536) }
+    ensures { result ≡ gathered masks.now y }
 {
     let w = y / WORD;
     let b = y % WORD;
@@ -113,7 +116,7 @@ fn gather_rows(masks: &[u64; ROWS], y: usize) -> usize
     for i in (0..VECTORS).rev() {
         r = 2 * r + ((masks[ROW * i + w] >> b) % 2) as usize;
     }
-    r
+    r as u16
 }
 
 // The row that has a 1 where a listed vector rectifies the input.

@@ -12,15 +12,15 @@ pub struct Priced<'a> {
     pub targets: usize,
     ghost few: { length nets.now ≤ 10 },
     ghost weighed: { length weights.now ≡ length nets.now },
-    ghost few_targets: { targets ≤ 4 },
+    ghost targets_bound: { targets ≤ 4 },
 }
 
-// A set of these nets, bit i for net i, its cost, how many nets it has, and how many gates its patch, 0 until they are counted.
+// A set of these nets, bit i for net i, its cost, how many nets it has, and how many gates its patch, once they are counted.
 #[derive(Clone, Copy)]
 pub struct Pick {
     pub set: usize,
     pub cost: u32,
     pub len: usize,
-    pub gates: usize,
+    pub gates: Option<usize>,
     ghost few: { len ≤ 10 },
 }

@@ -7,7 +7,8 @@ use records::{OUTPUTS, Support};
 
 // What the search needs: counts, the nets of the outputs in both circuits, the nets that are read, and the lists of gates with their ends.
 // Before ends[0] stand the live gates that no target leads to, from there to ends[1] the others; those that target t leads to are
-// gates[ends[t + 1]..ends[t + 2]].
+// gates[ends[t + 1]..ends[t + 2]]. It is made once a job, and lent. (That the places of the nets read are ten, their type says, but only to
+// who has the support itself in hand.)
 #[derive(Drop)]
 pub struct Plan {
     pub inputs: usize,
@@ -18,13 +19,13 @@ pub struct Plan {
     pub reads: Support,
     pub ends: [usize; LISTS],
     pub gates: [u64; LISTED],
-    ghost few_inputs: { inputs ≤ 20 },
-    ghost few_targets: { targets ≤ 4 },
-    ghost few_outs: { outs ≤ 32 },
-    ghost few_reads: { reads.len ≤ 10 },
+    ghost inputs_bound: { inputs ≤ 20 },
+    ghost targets_bound: { targets ≤ 4 },
+    ghost outs_bound: { outs ≤ 32 },
+    ghost reads_bound: { reads.len ≤ 10 },
     ghost reads_long: { length reads.nets ≡ 10 },
     ghost outputs_below: { Below 1024 outputs },
     ghost goldens_below: { Below 1024 goldens },
     ghost reads_below: { Below 1024 reads.nets },
-    ghost within: { (t : ℕ) → get_or ends t 0 ≤ 2400 },
+    ghost ends_bound: { (t : ℕ) → get_or ends t 0 ≤ 2400 },
 }

@@ -149,7 +149,7 @@ fn live_marks(gates: &[u64], outputs: &[u16], goldens: &[u16], reads: &[u16]) ->
 // The plan of a search over a miter's inputs where these nets are read, with lists for so many targets: all of them, or none where no target
 // is set by itself.
 pub(super) fn plan_of(miter: &Miter, reads: Support, turns: usize) -> Plan
-    requires { NetsRead reads.nets reads.len × (turns ≤ miter.now.targets) }
+    requires { NetsRead reads × (turns ≤ miter.now.targets) }
     ensures { (j : Job) (is : List ℕ) → MergedOf j miter.now → take reads.len reads.nets ≡ is → all (candidate_good j) is ≡ true
         → PlannedOf j is result × (turns ≡ miter.now.targets → TurnsOf j is result) }
 {
@@ -177,7 +177,7 @@ pub(super) fn plan_of(miter: &Miter, reads: Support, turns: usize) -> Plan
 // The plan of a walk over a miter's inputs that reads these nets and compares no outputs: its gates lead to these nets, and no target leads
 // to them.
 pub(super) fn reads_of(miter: &Miter, reads: Support) -> Plan
-    requires { NetsRead reads.nets reads.len }
+    requires { NetsRead reads }
     ensures { (j : Job) (is : List ℕ) → MergedOf j miter.now → take reads.len reads.nets ≡ is
         → all (candidate_good j) is ≡ true → ReadsOf j is result }
 {

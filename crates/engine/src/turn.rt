@@ -13,7 +13,7 @@ fn power(e: u64) -> usize
     1 << e
 }
 
-// The share of bit e in a row's number.
+// The share of bit e in a row's number. (Written i & power(e), the compiler unrolls no stage.)
 fn moved(e: u64, i: usize) -> usize
     requires { (e < 4) × (i < 16) }
     ensures { Moved e i result }

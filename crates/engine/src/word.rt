@@ -45,8 +45,8 @@ pub(super) fn lowest_of(set: usize) -> usize
 pub(super) fn first_zero(row: [u64; ROW]) -> usize
     ensures { FirstZero row result }
 {
-    for w in 0..ROW {
-        let ones = row[w].trailing_ones() as usize;
+    for (w, word) in row.iter().enumerate() {
+        let ones = word.trailing_ones() as usize;
         if ones < WORD {
             return WORD * w + ones;
         }

@@ -5,7 +5,7 @@ use Rattle.records.specs.Bytes.{up_from, tabulate, all, flat, byte_pair, word, p
 use Rattle.records.specs.Gate.{slot_count}
 use Rattle.records.specs.Netlist.{net_at}
 use Rattle.records.specs.Job.{Candidate, Job, gate_size, net_size, candidate_size, gate_bytes, job_whole, job_of, job_bytes}
-use Rattle.records.specs.Refusal.{max_inputs, max_targets, max_gates, max_outputs, max_candidates, longest_job, first_failing, netlists_good, ascending, job_tests, job_refusal}
+use Rattle.records.specs.Refusal.{max_inputs, max_targets, max_gates, max_outputs, max_candidates, longest_job, first_failing, ascending, job_tests, job_refusal}
 use Rattle.records.specs.Sheet.{sheet_tags, notes_tag, is_candidate, cost_of}
 use Rattle.records.specs.Service.{Places, gates_in, counts_of, no_counts, ReadReply, held, job_from, write_told, write_reply, written_bytes}
 unfoldable pub use Rattle.records.specs.Service.{check_of, struct_slots, no_gate, no_gates}
@@ -120,11 +120,6 @@ pub record Laid (s : List ℕ) (c : Counts) : Type 0 where
   pub whole : job_whole s ≡ true
   pub counts : c ≡ counts_of (job_of s)
   pub within : Within c
-
--- .. and its gates are good
-pub record LaidGates (s : List ℕ) (c : Counts) : Type 0 where
-  pub laid : Laid s c
-  pub good : netlists_good (job_of s) ≡ true
 
 unfoldable pub checked_of : List ℕ → ReadReply
 checked_of s =

@@ -28,15 +28,23 @@ pub struct FieldReader<'a> {
 pub fn wide(x: u8) -> usize
     ensures { result ≡ x }
 {
-    x as usize
+    usize::from(x)
 }
 
 // The two-byte number at a position.
+pub(super) fn u16_at(s: &[u8], at: usize) -> u16
+    requires { at + 1 < length s.now }
+    ensures { result ≡ word s.now at }
+{
+    u16::from_be_bytes([s[at], s[at + 1]])
+}
+
+// .. as a position or a count
 pub(super) fn word_at(s: &[u8], at: usize) -> usize
     requires { at + 1 < length s.now }
     ensures { result ≡ word s.now at }
 {
-    256 * wide(s[at]) + wide(s[at + 1])
+    usize::from(u16_at(s, at))
 }
 
 // The field with this tag that stands whole at a position, if one does.

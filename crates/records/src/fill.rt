@@ -3,17 +3,7 @@ ghost use Rattle.std.specs.Prelude.{◌≡◌, ◌+◌, ◌*◌, ◌≤◌, leng
 ghost use Rattle.records.specs.Bytes.{placed};
 ghost use Rattle.records.specs.Inner.{word_column};
 
-use super::field::word_at;
-
-// All of src to the start of buf.
-pub(super) fn copy(src: &[u8], buf: &mut [u8])
-    requires { length src.now ≤ length buf.old }
-    ensures { buf.new ≡ placed buf.old 0 src.now }
-{
-    for i in 0..src.len() {
-        buf[i] = src[i];
-    }
-}
+use super::field::u16_at;
 
 // The two-byte numbers that stand from offset on, size bytes apart, count of them.
 pub(super) fn fill_words(s: &[u8], size: usize, offset: usize, count: usize, places: &mut [u16])
@@ -22,7 +12,7 @@ pub(super) fn fill_words(s: &[u8], size: usize, offset: usize, count: usize, pla
 {
     let mut at = offset;
     for i in 0..count {
-        places[i] = (word_at(s, at) % 65536) as u16;
+        places[i] = u16_at(s, at);
         at += size;
     }
 }

@@ -5,7 +5,7 @@ ghost use Rattle.records.specs.Job.{gate_bytes};
 ghost use Rattle.records.specs.Service.{gate_from};
 ghost use Rattle.records.specs.Inner.{struct_at, structs_at, gates_bytes};
 
-use super::field::word_at;
+use super::field::u16_at;
 use super::gate::Gate;
 use super::limits::GATE_SIZE;
 use super::put::put_word;
@@ -18,10 +18,10 @@ pub(super) fn gate_at(s: &[u8], at: usize) -> Gate
     Gate {
         kind: s[at],
         count: s[at + 1],
-        first: (word_at(s, at + 2) % 65536) as u16,
-        second: (word_at(s, at + 4) % 65536) as u16,
-        third: (word_at(s, at + 6) % 65536) as u16,
-        fourth: (word_at(s, at + 8) % 65536) as u16,
+        first: u16_at(s, at + 2),
+        second: u16_at(s, at + 4),
+        third: u16_at(s, at + 6),
+        fourth: u16_at(s, at + 8),
     }
 }
 

@@ -1,9 +1,9 @@
 // A job's bytes: its shape, its counts, and the first number that applies.
-ghost use Rattle.std.specs.Prelude.{◌≡◌, length};
+ghost use Rattle.std.specs.Prelude.{◌≡◌, true};
 ghost use Rattle.records.specs.Job.{job_of};
 ghost use Rattle.records.specs.Refusal.{netlists_good, outputs_good, candidates_good};
 ghost use Rattle.records.specs.Service.{read_told};
-ghost use Rattle.records.specs.Inner.{check_of, lens_in, counted_from, counts_within, Within, shape_of, starts_of, Laid, LaidGates, checked_of};
+ghost use Rattle.records.specs.Inner.{check_of, lens_in, counted_from, counts_within, Within, shape_of, starts_of, Laid, checked_of};
 
 use super::candidate::check_candidates;
 use super::field::{Check, Span, walked, wide};
@@ -26,6 +26,23 @@ pub struct Counts {
     pub old: SideCounts,
     pub golden: SideCounts,
     pub candidates: usize,
+}
+
+// How many places are lent for the parts of a job.
+#[derive(Clone, Copy)]
+pub struct Room {
+    pub old: SideCounts,
+    pub golden: SideCounts,
+    pub nets: usize,
+    pub weights: usize,
+}
+
+// The bytes of a whole job, and its counts, which are within their ranges.
+#[derive(Clone, Copy)]
+pub struct LaidJob<'a> {
+    pub bytes: &'a [u8],
+    pub counts: Counts,
+    ghost laid: { Laid bytes.now counts },
 }
 
 // Where the bytes of fields 2 to 6 start, and where the last one's end.
@@ -113,61 +130,52 @@ pub(super) fn starts_of(c: Counts) -> Starts
     }
 }
 
-fn check_netlists(job: &[u8], c: Counts) -> Check
-    requires { Laid job.now c }
-    ensures { result ≡ check_of (netlists_good (job_of job.now)) }
-{
-    let at = starts_of(c);
-    let a = at.old;
-    let b = at.outputs - 3;
-    let first = check_gates(&job[a..b], c.inputs + c.targets);
-    let Check::Passed = first else {
-        return Check::Failed;
-    };
-    let d = at.golden;
-    let e = at.goldens - 3;
-    check_gates(&job[d..e], c.inputs)
-}
-
-fn check_all_outputs(job: &[u8], c: Counts) -> Check
-    requires { Laid job.now c }
-    ensures { result ≡ check_of (outputs_good (job_of job.now)) }
-{
-    let at = starts_of(c);
-    let old = c.old;
-    let golden = c.golden;
-    let first = check_outputs(
-        job,
-        at.outputs,
-        old.outputs,
-        c.inputs + c.targets + old.gates,
-    );
-    let Check::Passed = first else {
-        return Check::Failed;
-    };
-    let second = check_outputs(job, at.goldens, golden.outputs, c.inputs + golden.gates);
-    let Check::Passed = second else {
-        return Check::Failed;
-    };
-    if old.outputs == golden.outputs {
-        Check::Passed
-    } else {
-        Check::Failed
+impl LaidJob<'_> {
+    // Number 4: whether each gate may drive its net.
+    fn check_netlists(&self) -> Check
+        ensures { result ≡ check_of (netlists_good (job_of self.now.bytes.now)) }
+    {
+        let c = self.counts;
+        let at = starts_of(c);
+        let old = &self.bytes[at.old..at.outputs - 3];
+        let Check::Passed = check_gates(old, c.inputs + c.targets) else {
+            return Check::Failed;
+        };
+        check_gates(&self.bytes[at.golden..at.goldens - 3], c.inputs)
     }
-}
 
-fn check_all_candidates(job: &[u8], c: Counts) -> Check
-    requires { LaidGates job.now c }
-    ensures { result ≡ check_of (candidates_good (job_of job.now)) }
-{
-    let at = starts_of(c);
-    let old = c.old;
-    let a = at.old;
-    let b = at.outputs - 3;
-    let marks = fanout_marks(&job[a..b], c.inputs, c.targets);
-    let d = at.candidates;
-    let e = at.end;
-    check_candidates(&job[d..e], c.inputs + c.targets + old.gates, &marks)
+    // Number 5: whether the output nets exist, as many on both sides.
+    fn check_all_outputs(&self) -> Check
+        ensures { result ≡ check_of (outputs_good (job_of self.now.bytes.now)) }
+    {
+        let c = self.counts;
+        let at = starts_of(c);
+        let old = &self.bytes[at.outputs..at.golden - 3];
+        let Check::Passed = check_outputs(old, c.inputs + c.targets + c.old.gates) else {
+            return Check::Failed;
+        };
+        let golden = &self.bytes[at.goldens..at.candidates - 3];
+        let Check::Passed = check_outputs(golden, c.inputs + c.golden.gates) else {
+            return Check::Failed;
+        };
+        if c.old.outputs == c.golden.outputs {
+            Check::Passed
+        } else {
+            Check::Failed
+        }
+    }
+
+    // Number 6: whether the candidates ascend, exist, and are neither targets nor led to by one.
+    fn check_all_candidates(&self) -> Check
+        requires { netlists_good (job_of self.now.bytes.now) ≡ true }
+        ensures { result ≡ check_of (candidates_good (job_of self.now.bytes.now)) }
+    {
+        let c = self.counts;
+        let at = starts_of(c);
+        let marks = fanout_marks(&self.bytes[at.old..at.outputs - 3], c.inputs, c.targets);
+        let candidates = &self.bytes[at.candidates..at.end];
+        check_candidates(candidates, c.inputs + c.targets + c.old.gates, &marks)
+    }
 }
 
 // The counts of an accepted job, or the first refusal that applies, each tested over the whole job before the next.
@@ -180,13 +188,14 @@ pub(super) fn check_job(job: &[u8]) -> Result<Counts, Refusal>
     let Check::Passed = check_counts(counts) else {
         return Err(Refusal::Counts);
     };
-    let Check::Passed = check_netlists(job, counts) else {
+    let laid = LaidJob { bytes: job, counts };
+    let Check::Passed = laid.check_netlists() else {
         return Err(Refusal::Gates);
     };
-    let Check::Passed = check_all_outputs(job, counts) else {
+    let Check::Passed = laid.check_all_outputs() else {
         return Err(Refusal::Outputs);
     };
-    let Check::Passed = check_all_candidates(job, counts) else {
+    let Check::Passed = laid.check_all_candidates() else {
         return Err(Refusal::Candidates);
     };
     Ok(counts)

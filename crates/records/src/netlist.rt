@@ -2,10 +2,10 @@
 ghost use Rattle.std.specs.Prelude.{◌≡◌, true, ℕ, ◌+◌, ◌*◌, ◌/◌, ◌≤◌, ◌<◌, max, length, get_or, take, ltb};
 ghost use Rattle.records.specs.Bytes.{all};
 ghost use Rattle.records.specs.Netlist.{mark_of, fanout};
-ghost use Rattle.records.specs.Job.{gates_of};
+ghost use Rattle.records.specs.Job.{gates_of, nets_of};
 ghost use Rattle.records.specs.Refusal.{gates_good};
 ghost use Rattle.records.specs.Service.{gate_from};
-ghost use Rattle.records.specs.Inner.{check_of, leaf_marks, word_column, struct_slots};
+ghost use Rattle.records.specs.Inner.{check_of, leaf_marks, struct_slots};
 
 use super::field::{Check, word_at};
 use super::gate::{Gate, gate_good, slots_of};
@@ -17,8 +17,7 @@ pub(super) fn check_gates(s: &[u8], base: usize) -> Check
     requires { base < 65536 }
     ensures { result ≡ check_of (gates_good base (gates_of s.now)) }
 {
-    let count = s.len() / GATE_SIZE;
-    for i in 0..count {
+    for i in 0..s.len() / GATE_SIZE {
         if !gate_good(gate_at(s, GATE_SIZE * i), base + i) {
             return Check::Failed;
         }
@@ -26,24 +25,17 @@ pub(super) fn check_gates(s: &[u8], base: usize) -> Check
     Check::Passed
 }
 
-// Whether each output, of which count stand from a position on, is below nets.
-pub(super) fn check_outputs(s: &[u8], at: usize, count: usize, nets: usize) -> Check
-    requires { at + 2 * count ≤ length s.now }
-    ensures { result ≡ check_of (all (λ i. ltb i nets) (word_column s.now 2 at count)) }
+// The output check: whether each net of the output field's bytes is below nets.
+pub(super) fn check_outputs(s: &[u8], nets: usize) -> Check
+    ensures { result ≡ check_of (all (λ i. ltb i nets) (nets_of s.now)) }
 {
-    for i in 0..count {
-        let net = word_at(s, 2 * i + at);
+    for i in 0..s.len() / 2 {
+        let net = word_at(s, 2 * i);
         if nets <= net {
             return Check::Failed;
         }
     }
     Check::Passed
-}
-
-fn greater(a: u8, b: u8) -> u8
-    ensures { result ≡ max a b }
-{
-    if a < b { b } else { a }
 }
 
 // The mark of a gate: 1 where a used operand is marked.
@@ -54,7 +46,7 @@ fn gate_mark(marks: &[u8; NETS], gate: Gate) -> u8
     let slots = slots_of(gate);
     let mut r = 0u8;
     for i in (0..gate.count as usize).rev() {
-        r = greater(marks[slots[i] as usize], r);
+        r = marks[slots[i] as usize].max(r);
     }
     r
 }
@@ -62,7 +54,7 @@ fn gate_mark(marks: &[u8; NETS], gate: Gate) -> u8
 // The marks of inputs and targets: 0 and 1.
 fn leaf_marks(inputs: usize, targets: usize) -> [u8; NETS]
     requires { inputs + targets ≤ 424 }
-    ensures { (length result ≡ 424) × (take (inputs + targets) result ≡ leaf_marks inputs targets) }
+    ensures { take (inputs + targets) result ≡ leaf_marks inputs targets }
 {
     let mut marks = [0u8; NETS];
     for i in 0..targets {
@@ -78,11 +70,9 @@ pub(super) fn fanout_marks(s: &[u8], inputs: usize, targets: usize) -> [u8; NETS
     ensures { take (inputs + targets + length s.now / 10) result ≡ fanout inputs targets (gates_of s.now) }
 {
     let mut marks = leaf_marks(inputs, targets);
-    let count = s.len() / GATE_SIZE;
     let base = inputs + targets;
-    for i in 0..count {
-        let m = gate_mark(&marks, gate_at(s, GATE_SIZE * i));
-        marks[base + i] = m;
+    for i in 0..s.len() / GATE_SIZE {
+        marks[base + i] = gate_mark(&marks, gate_at(s, GATE_SIZE * i));
     }
     marks
 }

@@ -6,7 +6,6 @@ ghost use Rattle.records.specs.Service.{side_places, places, field_fits};
 ghost use Rattle.records.specs.Inner.{spread, SidePut, SideDone, JobPut, JobDone, GatesPut};
 ghost use Rattle.records.specs.declared.gate.Gate.{Gate as GateStruct};
 
-use super::fill::copy;
 use super::job::{Counts, SideCounts};
 use super::limits::{CANDIDATE_SIZE, GATE_SIZE, LONGEST_JOB};
 
@@ -53,7 +52,7 @@ pub fn put_field(buf: &mut [u8], at: usize, tag: u8, bytes: &[u8]) -> usize
         return at;
     }
     let a = put_head(buf, at, tag, len);
-    copy(bytes, &mut buf[a..]);
+    buf[a..a + len].copy_from_slice(bytes);
     a + len
 }
 
@@ -62,8 +61,7 @@ pub(super) fn put_word(buf: &mut [u8], at: usize, x: u16)
     requires { at + 2 ≤ length buf.old }
     ensures { buf.new ≡ placed buf.old at (byte_pair x) }
 {
-    buf[at] = (x / 256 % 256) as u8;
-    buf[at + 1] = (x % 256) as u8;
+    buf[at..at + 2].copy_from_slice(&x.to_be_bytes());
 }
 
 // The bytes with a field's tag and length.

@@ -8,55 +8,30 @@ use super::field::Check;
 use super::fill::fill_words;
 use super::gate::Gate;
 use super::gates::fill_gates;
-use super::job::{Counts, check_job, starts_of};
+use super::job::{Counts, Room, SideCounts, check_job, starts_of};
 use super::limits::{CANDIDATE_SIZE, CANDIDATES, GATES, OUTPUTS};
 use super::refusal::Refusal;
 
-// Whether so many places are enough for every job.
-fn check_room(
-    old: usize,
-    old_outputs: usize,
-    golden: usize,
-    golden_outputs: usize,
-    nets: usize,
-    weights: usize,
-) -> Check
-    ensures { result ≡ check_of (room old old_outputs golden golden_outputs nets weights) }
+// Whether the places lent are enough for every job.
+fn check_room(lent: Room) -> Check
+    ensures { result ≡ check_of (room
+        lent.old.gates lent.old.outputs lent.golden.gates lent.golden.outputs lent.nets lent.weights) }
 {
-    if old < GATES {
-        return Check::Failed;
+    let old = (GATES <= lent.old.gates) & (OUTPUTS <= lent.old.outputs);
+    let golden = (GATES <= lent.golden.gates) & (OUTPUTS <= lent.golden.outputs);
+    if old & golden & (CANDIDATES <= lent.nets) & (CANDIDATES <= lent.weights) {
+        Check::Passed
+    } else {
+        Check::Failed
     }
-    if old_outputs < OUTPUTS {
-        return Check::Failed;
-    }
-    if golden < GATES {
-        return Check::Failed;
-    }
-    if golden_outputs < OUTPUTS {
-        return Check::Failed;
-    }
-    if nets < CANDIDATES {
-        return Check::Failed;
-    }
-    if weights < CANDIDATES {
-        return Check::Failed;
-    }
-    Check::Passed
 }
 
-// What read answers where there are so many places.
-fn check_read(
-    job: &[u8],
-    old: usize,
-    old_outputs: usize,
-    golden: usize,
-    golden_outputs: usize,
-    nets: usize,
-    weights: usize,
-) -> Result<Counts, Refusal>
-    ensures { read_told result ≡ reply_in (room old old_outputs golden golden_outputs nets weights) job.now }
+// What read answers where so many places are lent.
+fn check_read(job: &[u8], lent: Room) -> Result<Counts, Refusal>
+    ensures { read_told result ≡ reply_in (room
+        lent.old.gates lent.old.outputs lent.golden.gates lent.golden.outputs lent.nets lent.weights) job.now }
 {
-    let Check::Passed = check_room(old, old_outputs, golden, golden_outputs, nets, weights) else {
+    let Check::Passed = check_room(lent) else {
         return Err(Refusal::Room);
     };
     check_job(job)
@@ -114,15 +89,19 @@ pub fn read(
         nets.old weights.old)
         job.now }
 {
-    let checked = check_read(
-        job,
-        old.len(),
-        old_outputs.len(),
-        golden.len(),
-        golden_outputs.len(),
-        nets.len(),
-        weights.len(),
-    );
+    let lent = Room {
+        old: SideCounts {
+            gates: old.len(),
+            outputs: old_outputs.len(),
+        },
+        golden: SideCounts {
+            gates: golden.len(),
+            outputs: golden_outputs.len(),
+        },
+        nets: nets.len(),
+        weights: weights.len(),
+    };
+    let checked = check_read(job, lent);
     let counts = checked?;
     let at = starts_of(counts);
     fill_gates(job, at.old, counts.old.gates, old);

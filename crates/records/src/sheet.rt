@@ -5,7 +5,7 @@ ghost use Rattle.records.specs.Sheet.{quad};
 ghost use Rattle.records.specs.Service.{candidates_from, sheet_told, sheet_reply};
 ghost use Rattle.records.specs.Inner.{check_of, start_of, starts_in, lens_in, spanned_from, sheet_shape_of, notes_at, sheet_room, found_in, word_column, support_of, ten_places};
 
-use super::field::{Check, Span, field_at, walked, wide, word_at};
+use super::field::{Check, Span, field_at, u16_at, walked, wide, word_at};
 use super::limits::{CANDIDATES, TARGETS};
 use super::refusal::Refusal;
 
@@ -106,8 +106,7 @@ fn find(nets: &[u16], count: usize, net: usize) -> Option<usize>
     ensures { result ≡ found_in (take count nets.now) net }
 {
     for i in 0..count {
-        let x = nets[i] as usize;
-        if x == net {
+        if usize::from(nets[i]) == net {
             return Some(i);
         }
     }
@@ -130,7 +129,7 @@ fn support_cost(s: &[u8], long: usize, count: usize, nets: &[u16], weights: &[u1
         let Some(place) = find(nets, count, net) else {
             return None;
         };
-        sum += weights[place] as u32;
+        sum += u32::from(weights[place]);
         least = net + 1;
     }
     Some(sum)
@@ -171,7 +170,7 @@ fn quad_at(s: &[u8], at: usize) -> u32
     requires { at + 4 ≤ length s.now }
     ensures { result ≡ quad (drop at s.now) }
 {
-    (65536 * (word_at(s, at) % 65536) + word_at(s, at + 2) % 65536) as u32
+    u32::from_be_bytes([s[at], s[at + 1], s[at + 2], s[at + 3]])
 }
 
 // The support of a sheet that has len nets, from position 3 on.
@@ -181,7 +180,7 @@ fn support_from(s: &[u8], len: usize) -> Support
 {
     let mut nets = [0u16; CANDIDATES];
     for i in 0..len {
-        nets[i] = (word_at(s, 2 * i + 3) % 65536) as u16;
+        nets[i] = u16_at(s, 2 * i + 3);
     }
     Support { nets, len }
 }

@@ -5,46 +5,32 @@ ghost use Rattle.records.specs.Inner.{check_of, holds, write_tests_number, Gates
 ghost use Rattle.records.specs.declared.gate.Gate.{Gate as GateStruct};
 
 use super::field::Check;
-use super::fill::copy;
 use super::gate::Gate;
 use super::gates::put_gates;
-use super::job::{Counts, check_counts, check_job, starts_of};
+use super::job::{Counts, Room, SideCounts, check_counts, check_job, starts_of};
 use super::limits::LONGEST_JOB;
 use super::put::put_rest;
 use super::refusal::Refusal;
 
-// Whether the counts are at most these numbers of places.
-fn check_held(
-    counts: Counts,
-    old: usize,
-    old_outputs: usize,
-    golden: usize,
-    golden_outputs: usize,
-    nets: usize,
-    weights: usize,
-) -> Check
-    ensures { result ≡ check_of (holds counts old old_outputs golden golden_outputs nets weights) }
+// Whether the counts are at most the numbers of places lent.
+fn check_held(counts: Counts, lent: Room) -> Check
+    ensures { result ≡ check_of (holds counts
+        lent.old.gates lent.old.outputs lent.golden.gates lent.golden.outputs lent.nets lent.weights) }
 {
-    let first = (counts.old.gates <= old) & (counts.old.outputs <= old_outputs);
-    let second = (counts.golden.gates <= golden) & (counts.golden.outputs <= golden_outputs);
-    if first & second & (counts.candidates <= nets) & (counts.candidates <= weights) {
-        return Check::Passed;
+    let old = (counts.old.gates <= lent.old.gates) & (counts.old.outputs <= lent.old.outputs);
+    let golden = (counts.golden.gates <= lent.golden.gates)
+        & (counts.golden.outputs <= lent.golden.outputs);
+    if old & golden & (counts.candidates <= lent.nets) & (counts.candidates <= lent.weights) {
+        Check::Passed
+    } else {
+        Check::Failed
     }
-    Check::Failed
 }
 
-// Whether a job with these counts can be written to a buffer of so many bytes from so many places.
-fn check_write(
-    counts: Counts,
-    size: usize,
-    old: usize,
-    old_outputs: usize,
-    golden: usize,
-    golden_outputs: usize,
-    nets: usize,
-    weights: usize,
-) -> Result<(), Refusal>
-    ensures { told_number result ≡ write_tests_number counts size (holds counts old old_outputs golden golden_outputs nets weights) }
+// Whether a job with these counts can be written to a buffer of so many bytes from the places lent.
+fn check_write(counts: Counts, size: usize, lent: Room) -> Result<(), Refusal>
+    ensures { told_number result ≡ write_tests_number counts size (holds counts
+        lent.old.gates lent.old.outputs lent.golden.gates lent.golden.outputs lent.nets lent.weights) }
 {
     if size < LONGEST_JOB {
         return Err(Refusal::Room);
@@ -52,16 +38,7 @@ fn check_write(
     let Check::Passed = check_counts(counts) else {
         return Err(Refusal::Counts);
     };
-    let held = check_held(
-        counts,
-        old,
-        old_outputs,
-        golden,
-        golden_outputs,
-        nets,
-        weights,
-    );
-    let Check::Passed = held else {
+    let Check::Passed = check_held(counts, lent) else {
         return Err(Refusal::Counts);
     };
     Ok(())
@@ -92,7 +69,7 @@ fn write_rest(
     let bytes = &job.bytes[..job.len];
     let checked = check_job(bytes);
     checked?;
-    copy(bytes, buf);
+    buf[..job.len].copy_from_slice(bytes);
     Ok(job.len)
 }
 
@@ -122,16 +99,19 @@ pub fn write(
         nets.now weights.now)
         buf.old }
 {
-    check_write(
-        counts,
-        buf.len(),
-        old.len(),
-        old_outputs.len(),
-        golden.len(),
-        golden_outputs.len(),
-        nets.len(),
-        weights.len(),
-    )?;
+    let lent = Room {
+        old: SideCounts {
+            gates: old.len(),
+            outputs: old_outputs.len(),
+        },
+        golden: SideCounts {
+            gates: golden.len(),
+            outputs: golden_outputs.len(),
+        },
+        nets: nets.len(),
+        weights: weights.len(),
+    };
+    check_write(counts, buf.len(), lent)?;
     let at = starts_of(counts);
     let mut scratch = [0u8; LONGEST_JOB];
     put_gates(old, counts.old.gates, at.old, &mut scratch);

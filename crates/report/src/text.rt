@@ -3,12 +3,14 @@ ghost use Rattle.std.specs.Prelude.{◌≡◌, ℕ, [], ◌∷◌, ◌++◌, ◌
 ghost use Rattle.arrayvec.specs.ArrayVec.{array_vec_len};
 ghost use Rattle.records.specs.Bytes.{nth, word as word'};
 ghost use Rattle.records.specs.Job.{nets_of};
+ghost use Rattle.records.specs.Service.{number_of};
 ghost use Rattle.records.specs.Sheet.{quad};
-ghost use Rattle.report.specs.Text.{digits, number, line, unfixable_word, blind_word, patch_text, value_text, refused_text, rectify_text, longest_text, printed_length, printed_bytes};
+ghost use Rattle.report.specs.Text.{number, line, unfixable_word, blind_word, patch_text, value_text, refused_text, rectify_text, longest_text, printed_length, printed_bytes};
 ghost use Rattle.report.specs.Inner.{PatchSheet, BlindSheet, UnfixableSheet, ChoiceSheet, patch_sheet_text, choice_text, pair};
 
 use arrayvec::ArrayVec;
 use engine::{LONGEST_CHOOSE, LONGEST_JUDGE, choose, judge};
+use records::Refusal;
 
 // The buffer that rectify_text asks for (specs/Text.antt).
 pub const LONGEST_TEXT: usize = 8366;
@@ -48,26 +50,15 @@ impl Shown for [u8; 2] {
     }
 }
 
-// The digits of x.
-fn put_digits(text: &mut Text, x: usize)
-    requires { array_vec_len text.old + length (digits x) ≤ longest_text }
-    ensures { text.new.items ≡ text.old.items ++ digits x }
-{
-    if x < 10 {
-        text.push(b'0' + x as u8);
-        return;
-    }
-    put_digits(text, x / 10);
-    text.push(b'0' + (x % 10) as u8);
-}
-
 // A space and the digits of x.
 fn put_number(text: &mut Text, x: usize)
     requires { array_vec_len text.old + length (number x) ≤ longest_text }
     ensures { text.new.items ≡ text.old.items ++ number x }
 {
+    let mut buffer = itoa::Buffer::new();
+    let digits = buffer.format(x).as_bytes();
     text.push(b' ');
-    put_digits(text, x);
+    text.try_extend_from_slice(digits).unwrap();
 }
 
 // A line: a word and numbers.
@@ -82,12 +73,12 @@ fn put_line<T: Shown>(text: &mut Text, word: &[u8], values: &[T])
     text.push(b'\n');
 }
 
-// The text of a refusal with this number.
-fn put_refusal(text: &mut Text, number: u8)
+// The text of a refusal.
+fn put_refusal(text: &mut Text, refusal: Refusal)
     requires { text.old.items ≡ [] }
-    ensures { text.new.items ≡ refused_text number }
+    ensures { text.new.items ≡ refused_text (number_of refusal) }
 {
-    put_line(text, b"refused", &[number]);
+    put_line(text, b"refused", &[u8::from(refusal)]);
 }
 
 // The two-byte number at a position.
@@ -198,21 +189,21 @@ fn put_verdict(text: &mut Text, job: &[u8])
     ensures { text.new.items ≡ rectify_text job.now }
 {
     if 65535 < job.len() {
-        return put_refusal(text, 2);
+        return put_refusal(text, Refusal::Fields);
     }
     let mut first = [0u8; LONGEST_JUDGE];
-    let judged = judge(job, &mut first);
-    if judged.number != 0 {
-        return put_refusal(text, judged.number);
-    }
+    let judged = match judge(job, &mut first) {
+        Ok(judged) => judged,
+        Err(refusal) => return put_refusal(text, refusal),
+    };
     let m = judged.len;
     if first[0] == 20 {
         return put_unfixable(text, &first[..m]);
     }
     let mut second = [0u8; LONGEST_CHOOSE];
-    let found = choose(job, &mut second);
-    let n = found.len;
-    put_choice(text, &second[..n], &first[3..m]);
+    // Choose accepts what judge accepts.
+    let chosen = choose(job, &mut second).unwrap();
+    put_choice(text, &second[..chosen.len], &first[3..m]);
 }
 
 // What the program `rectify` prints for a job's bytes: judge's verdict where it is unfixable, else choose's with judge's vector list. Where

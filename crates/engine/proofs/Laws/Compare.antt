@@ -77,7 +77,7 @@ module _ {p : Plan} (table vectors : List ℕ) {b : ℕ} {words readings row aft
       → gathered vectors y ≡ driven_by j is table (1024 * b + y)
   unfolding driven_by
   vector-driven j is q y h =
-      let n : length is ≤ 10 = omega (arith, ap length q.planned.nets, length-take p.reads.len p.reads.nets, p.few_reads) in
+      let n : length is ≤ 10 = omega (arith, ap length q.planned.nets, length-take p.reads.len p.reads.nets, p.reads_bound) in
       let few : 2 ^ length is ≤ 1024 = pow_mono {j = 10} n in
       let small : reading j is (1024 * b + y) < 1024 = omega (arith, reading-lt j is (1024 * b + y)) in
       looked y h

@@ -1,41 +1,52 @@
 -- Laws of covers by cubes (specs/Inner/Cover). Assumes nothing.
 use Prim.Native.Nat.{ℕ, ◌+◌, ◌-◌, ◌*◌, ◌/◌, ◌%◌, ◌^◌, min, ◌≤◌, ◌<◌}
-use mathlib.Core.Path.{◌≡◌, refl, sym, ◌∙◌, ap}
+use mathlib.Core.Path.{◌≡◌, sym, ◌∙◌, ap}
 use mathlib.Core.Logic.{◌⊎◌, inl, inr, ⊎_elim}
 use mathlib.Core.List.{List, map}
-use mathlib.Core.Bool.{Bool, true, false, cond}
+use mathlib.Core.Bool.{Bool, false, cond}
 use native.Mathlib.Omega.{arith}
-use borrow.Author.Tests.{eq-eqb, ltb-true, ltb-false}
+use borrow.Author.Tests.{eq-eqb, eqb-false}
 use lib.Bits.{bit_and, bit_xor}
-use lib.Dec.{eqb, ltb}
-use lib.ListN.{length, get_or, take, set, replicate, length-set, length-replicate}
+use lib.Dec.{eqb}
+use lib.ListN.{length, get_or, take, set, replicate}
 use lib.Seq.{get_or-set_same, get_or-set_other, get_or-take, length-take-le}
+use Rattle.std.specs.Prelude.{Option, Some, None, MatchOption}
 use Rattle.engine.specs.Eval.{bit, number_of}
-use Rattle.engine.specs.Inner.Cover.{NextUnseen, InCube, CoverHeld, InCover, CubeAdded, CoverTo, reading_in}
+use Rattle.engine.specs.Inner.Cover.{NextUnseen, InCube, no_cube, InCover, CubeAdded, CoverTo, reading_in}
 use Rattle.engine.specs.Inner.Kernel.{Filled, row_value, value_in}
-use Rattle.engine.specs.declared.cover.Cover.{Cover}
-use Rattle.engine.proofs.Laws.Choice.{true-or-false}
+use Rattle.engine.specs.declared.cube.Cover.{Cover}
+use Rattle.engine.specs.declared.cube.Cube.{Cube}
 use Rattle.engine.proofs.Laws.Eval.{bit-lt, bits-map}
 use Rattle.engine.proofs.Laws.Fill.{fill-at}
 use Rattle.engine.proofs.Laws.Kernel.{bit-sum}
-use Rattle.engine.proofs.Laws.Leaves.{get_or-zeros, bit_kept}
-use Rattle.engine.proofs.Laws.List.{set_below, eq-or-below}
+use Rattle.engine.proofs.Laws.Leaves.{bit_kept}
+use Rattle.engine.proofs.Laws.List.{eq-or-below}
 use Rattle.engine.proofs.Laws.Reordered.{mapped_at}
 use Rattle.engine.proofs.Laws.Rows.{value_in-lt}
 use Rattle.engine.proofs.Laws.Shift.{bit_shifted}
 use Rattle.engine.proofs.Laws.VectorSets.{bit-number_of}
 use Rattle.engine.proofs.Laws.Word.{bit-zero, bit-and}
 
+-- ---- the next unseen reading
+
+pub next-of : (ss : List ℕ) (at n : ℕ) (o : Option ℕ) → at ≤ n → let Seen = λ (k : ℕ). eqb (bit 16 (get_or ss k 0)) 1 ≡ false in
+    MatchOption o ((k : ℕ) → at ≤ k → k < n → Seen k) (λ i. (at ≤ i) × (i < n) × Unit {0} × ((k : ℕ) → at ≤ k → k < i → Seen k))
+    → NextUnseen ss at n o
+next-of ss at n None h m =
+    record { past = h; most = omega arith; seen = λ q l k. omega (arith, eqb-false _ 1 (m q l k), bit-lt 16 (get_or ss q 0)) }
+next-of ss at n (Some i) h m =
+    record { past = m.0; most = omega (arith, m.1); seen = λ q l k. omega (arith, eqb-false _ 1 (m.3 q l k), bit-lt 16 (get_or ss q 0)) }
+
 -- ---- cubes
 
-pub in-cube : (value care q : ℕ) → bit_and (bit_xor q value) care ≡ 0 → InCube value care q
-in-cube value care q e k h =
-    let z : min (bit k (bit_xor q value)) (bit k care) ≡ 0 = sym (bit-and k (bit_xor q value) care) ∙ ap (bit k) e ∙ bit-zero k in
-    omega (arith, bit-sum k q value, bit-lt k q, bit-lt k value)
+pub in-cube : (u : Cube) (q : ℕ) → bit_and (bit_xor q u.value) u.care ≡ 0 → InCube u q
+in-cube u q e k h =
+    let z : min (bit k (bit_xor q u.value)) (bit k u.care) ≡ 0 = sym (bit-and k (bit_xor q u.value) u.care) ∙ ap (bit k) e ∙ bit-zero k in
+    omega (arith, bit-sum k q u.value, bit-lt k q, bit-lt k u.value)
 
 -- a cube that asks for nothing has every reading
-pub in_all : (value q : ℕ) → InCube value 0 q
-in_all value q k h = let f : ⊥ = omega (arith, bit-zero k) in absurd f
+pub in_all : (q : ℕ) → InCube no_cube q
+in_all q k h = let f : ⊥ = omega (arith, bit-zero k) in absurd f
 
 -- ---- where a block's readings are in a cube
 
@@ -59,84 +70,60 @@ number_bit f b nets reads k h l =
     ∙ ap f (get_or-take reads nets k 0 l)
 
 -- one net more of those that the cube asks for
-pub cube-next : (words nets : List ℕ) (reads value care y k : ℕ) {v : ℕ} → reads ≤ length nets → k < reads → bit k care ≡ 1
-    → InCube value care (reading_in words (take reads nets) y) → v ≡ 1
-    → cond (eqb (value_in words y (get_or nets k 0)) (bit 0 (value / 2 ^ k))) v 0 ≡ 1
-cube-next words nets reads value care y k {v} h l c m o =
+pub cube-next : (words nets : List ℕ) (reads : ℕ) (u : Cube) (y k : ℕ) {v : ℕ} → reads ≤ length nets → k < reads → bit k u.care ≡ 1
+    → InCube u (reading_in words (take reads nets) y) → v ≡ 1
+    → cond (eqb (value_in words y (get_or nets k 0)) (bit 0 (u.value / 2 ^ k))) v 0 ≡ 1
+cube-next words nets reads u y k {v} h l c m o =
     let a = value_in words y (get_or nets k 0) in
-    let b = bit 0 (value / 2 ^ k) in
-    let s : a ≡ b = sym (number_bit (value_in words y) (value_in-lt words y) nets reads k h l) ∙ m k c ∙ bit_shifted k value in
+    let b = bit 0 (u.value / 2 ^ k) in
+    let s : a ≡ b = sym (number_bit (value_in words y) (value_in-lt words y) nets reads k h l) ∙ m k c ∙ bit_shifted k u.value in
     ap (λ (t : Bool). cond t v 0) (eq-eqb a b s) ∙ o
 
 -- ---- covers
 
-pub cube-added : (c : Cover) (value care : ℕ) → CoverHeld c → c.count < 64 → value < 1024 → care < 1024
-    → CubeAdded c value care
-    (record { count = c.count + 1; values = set c.values c.count value; cares = set c.cares c.count care })
-cube-added c value care h l v k =
+pub cube-added : {c d : Cover} (u : Cube) → length c.cubes ≡ 64 → c.count < 64 → d.count ≡ c.count + 1 → d.cubes ≡ set c.cubes c.count u
+    → CubeAdded c u d
+cube-added {c} {d} u long l e s =
     let n = c.count in
-    let is : get_or (set c.values n value) n 0 ≡ value = get_or-set_same c.values n value 0 (omega (arith, h.values)) in
-    let cares : get_or (set c.cares n care) n 0 ≡ care = get_or-set_same c.cares n care 0 (omega (arith, h.cares)) in
+    let is : get_or d.cubes n no_cube ≡ u = rw s (get_or-set_same c.cubes n u no_cube (omega arith)) in
     record {
-      held = record {
-        few = omega arith;
-        values = length-set c.values n value ∙ h.values;
-        cares = length-set c.cares n care ∙ h.cares;
-        values-below = set_below c.values n value 1024 h.values-below v;
-        cares-below = set_below c.cares n care 1024 h.cares-below k;
-      };
-      count = refl;
-      added = λ q m. record { place = n; within = omega arith; cube = rw (is, cares) m };
+      count = e;
+      added = λ q m. record { place = n; within = omega arith; cube = rw is m };
       kept = λ r m.
           let p = m.place in
-          let o : p ≡ n → ⊥ = λ e. omega (arith, m.within) in
+          let o : p ≡ n → ⊥ = λ f. omega (arith, m.within) in
           record {
             place = p;
             within = omega (arith, m.within);
-            cube =
-                rw (get_or-set_other c.values n p value 0 o, get_or-set_other c.cares n p care 0 o) m.cube;
+            cube = rw (s, get_or-set_other c.cubes n p u no_cube o) m.cube;
           };
       only = λ q m.
           let p = m.place in
           ⊎_elim
-          (λ (e : p ≡ n). inr (rw (e, is, cares) at m.cube))
-          (λ (l : p < n).
-          let o : p ≡ n → ⊥ = λ e. omega arith in
-          inl record {
-            place = p;
-            within = l;
-            cube =
-                rw (get_or-set_other c.values n p value 0 o, get_or-set_other c.cares n p care 0 o) at m.cube;
-          })
-          (eq-or-below p n m.within);
+          (λ (f : p ≡ n). inr (rw (f, is) at m.cube))
+          (λ (k : p < n).
+          let o : p ≡ n → ⊥ = λ f. omega arith in
+          inl record { place = p; within = k; cube = rw (s, get_or-set_other c.cubes n p u no_cube o) at m.cube })
+          (eq-or-below p n (omega (arith, m.within)));
     }
+
+-- a reading of a cover is in one of its cubes
+pub cubes-at : {c : Cover} {us : List Cube} {n q : ℕ} → us ≡ take c.count c.cubes → length c.cubes ≡ 64 → length us ≤ n → InCover c q
+    → (k : ℕ) × (k < n) × InCube (get_or us k no_cube) q
+cubes-at {c} e l h m =
+    let k = m.place in
+    let t : length (take c.count c.cubes) ≡ c.count = length-take-le c.count c.cubes (omega (arith, c.few)) in
+    (k, omega (arith, m.within, ap length e), rw (e, get_or-take c.count c.cubes k no_cube m.within) m.cube)
 
 module _ (ss : List ℕ) {r : ℕ} {e c : Cover} where
-  pub cover-none : {n : ℕ} → NextUnseen ss 0 n r → CoverTo ss r e c
-  cover-none u q l o = let f : ⊥ = omega (arith, u.seen q (omega arith) l) in absurd f
+  -- one reading more
+  pub cover-next : CoverTo ss r e c → (bit 16 (get_or ss r 0) ≡ 1 → InCover e r ⊎ InCover c r) → CoverTo ss (r + 1) e c
+  cover-next a m q l o =
+      ⊎_elim (λ (i : q ≡ r). rw i (m (rw i at o))) (λ (b : q < r). a q b o) (eq-or-below q r l)
 
-  -- .. and the next, and those from there on to the next unseen one
-  pub cover-next : {n s : ℕ} → CoverTo ss r e c → InCover e r ⊎ InCover c r → NextUnseen ss (r + 1) n s → CoverTo ss s e c
-  cover-next a m u q l o =
-      ⊎_elim
-      (λ (t : ltb q (r + 1) ≡ true).
-      ⊎_elim (λ (i : q ≡ r). rw i m) (λ (b : q < r). a q b o) (eq-or-below q r (ltb-true q (r + 1) t)))
-      (λ (t : ltb q (r + 1) ≡ false). let f : ⊥ = omega (arith, u.seen q (ltb-false q (r + 1) t) l) in absurd f)
-      (true-or-false (ltb q (r + 1)))
-
-  pub cover-more : {k : ℕ} {d : Cover} → CoverTo ss r e c → CubeAdded c r k d → CoverTo ss r e d
+  pub cover-more : {u : Cube} {d : Cover} → CoverTo ss r e c → CubeAdded c u d → CoverTo ss r e d
   cover-more a m q l o = ⊎_elim inl (λ i. inr (m.kept q i)) (a q l o)
 
-pub zero-cubes : (n : ℕ) → n ≤ 64 → CoverHeld (record { count = n; values = replicate 64 0; cares = replicate 64 0 })
-zero-cubes n h =
-    record {
-      few = h;
-      values = length-replicate {A = ℕ} 64 0;
-      cares = length-replicate {A = ℕ} 64 0;
-      values-below = λ i. omega (arith, get_or-zeros 64 i);
-      cares-below = λ i. omega (arith, get_or-zeros 64 i);
-    }
-
 -- a cube that asks for nothing
-pub cover_all : (q : ℕ) → InCover (record { count = 1; values = replicate 64 0; cares = replicate 64 0 }) q
-cover_all q = record { place = 0; within = omega arith; cube = in_all 0 q }
+pub cover_all : {c : Cover} → c.count ≡ 1 → c.cubes ≡ replicate 64 no_cube → (q : ℕ) → InCover c q
+cover_all e s q = record { place = 0; within = omega arith; cube = rw s (in_all q) }

@@ -12,6 +12,7 @@ use lib.Dec.{eqb, ltb}
 use lib.ListN.{length, get_or, take, set, replicate, length-set, get_or-replicate, get_or-eq_default}
 use lib.Pow.{pow_pos, pow_mono}
 use lib.Seq.{get_or-set_same, get_or-set_other}
+use Rattle.std.specs.Prelude.{Option, Some, None, unwrap_or}
 use Rattle.records.specs.Bytes.{up_from, tabulate, all}
 use Rattle.records.proofs.Laws.Bytes.{tabulate-ext}
 use Rattle.records.specs.Job.{Job}
@@ -19,13 +20,13 @@ use Rattle.records.specs.Refusal.{candidate_good}
 use Rattle.engine.specs.Eval.{bit, number_of}
 use Rattle.engine.specs.Support.{reading}
 use Rattle.engine.specs.Inner.Best.{GivenBits}
-use Rattle.engine.specs.Inner.Cover.{NextUnseen, CoverHeld, InCover, reading_in, GivesNone}
+use Rattle.engine.specs.Inner.Cover.{NextUnseen, InCover, reading_in, GivesNone}
 use Rattle.engine.specs.Inner.Given.{GivenCover, GivenBy, BlockSeen, Unseen, SameVectors, AllSeen}
 use Rattle.engine.specs.Inner.Kernel.{value_in}
 use Rattle.engine.specs.Inner.Note.{narrowed, sets_from, gathered, filled}
 use Rattle.engine.specs.Inner.Plan.{ReadsOf}
 use Rattle.engine.specs.Inner.Search.{BlockRange, BlockLoaded, BlockRead}
-use Rattle.engine.specs.declared.cover.Cover.{Cover}
+use Rattle.engine.specs.declared.cube.Cover.{Cover}
 use Rattle.engine.specs.declared.plan.Plan.{Plan}
 use Rattle.engine.proofs.Laws.Choice.{true-or-false}
 use Rattle.engine.proofs.Laws.Eval.{bit-lt}
@@ -183,15 +184,14 @@ block-passed {p} {c} {words} {sets} b count range l o none =
     }
 
 module _ {p : Plan} {ss : List ℕ} {c : Cover} where
-  pub all-given : CoverHeld c → ((q : ℕ) → InCover c q) → GivenCover p ss c
-  all-given h a = record { held = h; covers = λ j is q good x u. a (reading j is x) }
+  pub all-given : ((q : ℕ) → InCover c q) → GivenCover p ss c
+  all-given a = record { covers = λ j is q good x u. a (reading j is x) }
 
   -- a cover stays one after a block, since no more readings are unseen
   pub given-kept : {b count : ℕ} {ts : List ℕ} → GivenCover p ss c → p.reads.len ≤ 10 → length ss ≡ 1024 → BlockSeen p b count ss ts
       → GivenCover p ts c
   given-kept {b} {count} {ts} g k l t =
       record {
-        held = g.held;
         covers = λ j is q good x u.
             let r = reading j is x in
             let z : bit 16 (get_or ss r 0) ≡ 0 → ⊥ =
@@ -224,10 +224,10 @@ pub record Seeing (p : Plan) (k : ℕ) (before : List ℕ) (count size b next : 
       → BitsTo j is k (min (1024 * b) size) before after × ((q : ℕ) → q < next → bit 16 (get_or after q 0) ≡ 0)
   pub same : SameVectors before after
 
-pub seeing-none : (p : Plan) (k : ℕ) {before : List ℕ} {count next : ℕ} → p.inputs ≤ 20 → p.reads.len ≤ 10
-    → length before ≡ 1024 → count ≡ 2 ^ p.reads.len → NextUnseen before 0 count next
-    → Seeing p k before count (1 * 2 ^ p.inputs % 18446744073709551616) 0 next before
-seeing-none p k {before} {count} {next} a b l c o =
+pub seeing-none : (p : Plan) (k : ℕ) {before : List ℕ} {count : ℕ} {o : Option ℕ} → p.inputs ≤ 20 → p.reads.len ≤ 10
+    → length before ≡ 1024 → count ≡ 2 ^ p.reads.len → NextUnseen before 0 count o
+    → Seeing p k before count (1 * 2 ^ p.inputs % 18446744073709551616) 0 (unwrap_or o count) before
+seeing-none p k {before} {count} a b l c o =
     let n : 2 ^ p.inputs ≤ 1048576 = pow_mono {j = 20} a in
     let m : 2 ^ p.reads.len ≤ 1024 = pow_mono {j = 10} b in
     let size = 1 * 2 ^ p.inputs % 18446744073709551616 in
@@ -282,10 +282,10 @@ module _ {p : Plan} {before mid : List ℕ} {k count size b next n : ℕ} (s : S
         (y.0, omega (arith, y.2), rw (range-of b y.0 y.1 (omega (arith, y.2))) a.0, y.3)),
   )
 
-  seeing-more : {after : List ℕ} {later : ℕ} → length after ≡ length mid → SameVectors mid after → NextUnseen after next count later
+  seeing-more : {after : List ℕ} {later : Option ℕ} → length after ≡ length mid → SameVectors mid after → NextUnseen after next count later
       → ((j : Job) (is : List ℕ) → ReadsOf j is p → all (candidate_good j) is ≡ true → (r : ℕ) → r < 1024
       → (bit 16 (get_or after r 0) ≡ 0) ↔ ((bit 16 (get_or mid r 0) ≡ 0) ⊎ SkippedHere j is r))
-      → Seeing p k before count size (b + 1) later after
+      → Seeing p k before count size (b + 1) (unwrap_or later count) after
   seeing-more {after} {later} g same o t =
       record {
         inputs = s.inputs;
@@ -324,8 +324,8 @@ module _ {p : Plan} {before mid : List ℕ} {k count size b next n : ℕ} (s : S
       }
 
   -- it is looked at
-  pub seeing-next : {after : List ℕ} {later : ℕ} → bit (b / 32) k ≡ 1 → BlockSeen p b n mid after
-      → NextUnseen after next count later → Seeing p k before count size (b + 1) later after
+  pub seeing-next : {after : List ℕ} {later : Option ℕ} → bit (b / 32) k ≡ 1 → BlockSeen p b n mid after
+      → NextUnseen after next count later → Seeing p k before count size (b + 1) (unwrap_or later count) after
   seeing-next i t o =
       seeing-more t.long t.same o
       (λ j is q good r l.
@@ -335,7 +335,7 @@ module _ {p : Plan} {before mid : List ℕ} {k count size b next n : ℕ} (s : S
   -- .. or passed, since its range was not skipped
   pub seeing-pass : (bit (b / 32) k ≡ 1 → ⊥) → Seeing p k before count size (b + 1) next mid
   seeing-pass i =
-      seeing-more refl (λ r v u. refl)
+      seeing-more {later = Some next} refl (λ r v u. refl)
       record { past = omega arith; most = s.most; seen = λ q u v. let f : ⊥ = omega arith in absurd f }
       (λ j is q good r l. (inl, ⊎_elim (λ z. z) (λ y. absurd (i y.0))))
 
@@ -391,5 +391,5 @@ module _ {j : Job} {is ss : List ℕ} {k : ℕ} (g : GivenBits j is ss k) where
   )
 
   -- .. and so they are where all readings are seen
-  pub all_seen : {n count next : ℕ} → length is ≤ n → count ≡ 2 ^ n → NextUnseen ss 0 count next → next ≡ count → Unseen j is ss
-  all_seen few c t d r h = (g.given r h, λ a. t.seen r (omega arith) (omega (arith, pow_mono few)))
+  pub all_seen : {n count : ℕ} {o : Option ℕ} → length is ≤ n → count ≡ 2 ^ n → NextUnseen ss 0 count o → o ≡ None → Unseen j is ss
+  all_seen few c t e r h = (g.given r h, λ a. t.seen r (omega arith) (rw e (omega (arith, pow_mono few))))

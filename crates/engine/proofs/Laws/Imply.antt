@@ -1,6 +1,6 @@
 -- Laws of what nets' values imply (specs/Inner/Imply): one net more is known; what a gate's net says of its operands; the values of a job's gates
 -- are such as the gates give; and the cubes that are left. Assumes nothing.
-use Prim.Native.Nat.{ℕ, suc, ◌+◌, ◌-◌, ◌/◌, ◌%◌, ◌^◌, ◌≤◌, ◌<◌}
+use Prim.Native.Nat.{ℕ, suc, ◌+◌, ◌/◌, ◌%◌, ◌^◌, ◌≤◌, ◌<◌}
 use mathlib.Core.Path.{◌≡◌, refl, sym, ◌∙◌, ap, subst}
 use mathlib.Core.Logic.{⊎_elim}
 use mathlib.Core.List.Memᴰ.{cases_cons}
@@ -11,9 +11,9 @@ use native.Mathlib.Nat.{add-zero, eq-zero-or-pos}
 use native.Mathlib.Omega.{arith}
 use borrow.Author.Tests.{eqb-true, eqb-false, eq-eqb}
 use lib.Dec.{eqb}
-use lib.ListN.{length, get_or, take, set, replicate, get_or-replicate}
+use lib.ListN.{length, get_or, set, replicate, get_or-replicate}
 use lib.Pow.{pow_mono}
-use lib.Seq.{set-set, get_or-set_same, get_or-set_other, get_or-take, length-take-le, slice}
+use lib.Seq.{set-set, get_or-set_same, get_or-set_other, slice}
 use Rattle.records.specs.Bytes.{all}
 use Rattle.records.specs.Gate.{Gate}
 use Rattle.records.specs.Netlist.{net_at, value_of, values}
@@ -22,14 +22,15 @@ use Rattle.records.specs.Refusal.{gate_good, gates_good, candidate_good}
 use Rattle.records.proofs.Laws.Bytes.{and_both, all_cons}
 use Rattle.engine.specs.Eval.{number_of}
 use Rattle.engine.specs.Support.{reading}
-use Rattle.engine.specs.Inner.Cover.{InCube, CoverHeld, CubeAdded, CoverOf}
+use Rattle.engine.specs.Inner.Cover.{InCube, CubeAdded, CoverTo}
 use Rattle.engine.specs.Inner.Given.{GivenCover}
-use Rattle.engine.specs.Inner.Imply.{Binary, Implied, Learns, AllHave, Forces, GateHas, ValuesOf, CubeHas, NoneGives, CubeSorted, Unrefuted}
+use Rattle.engine.specs.Inner.Imply.{Binary, Implied, Learns, AllHave, Forces, GateHas, CubeHas, PlanValues, plan_reading, NoneGives, Unrefuted}
 use Rattle.engine.specs.Inner.Miter.{miter_gates, miter_nets, miter_values}
 use Rattle.engine.specs.Inner.Packed.{own, packed, packed_from, formed, joined, folded, folded_from, operation, count_of, operands_of, fields, code_value}
 use Rattle.engine.specs.Inner.Plan.{fanned, ReadsOf}
 use Rattle.engine.specs.Inner.Ranges.{Completed}
-use Rattle.engine.specs.declared.cover.Cover.{Cover}
+use Rattle.engine.specs.declared.cube.Cover.{Cover}
+use Rattle.engine.specs.declared.cube.Cube.{Cube}
 use Rattle.engine.specs.declared.plan.Plan.{Plan}
 use Rattle.engine.proofs.Laws.BlockRows.{agree-reading}
 use Rattle.engine.proofs.Laws.Choice.{true-or-false, mem-keep}
@@ -41,7 +42,6 @@ use Rattle.engine.proofs.Laws.Miter.{miter-nets}
 use Rattle.engine.proofs.Laws.Packed.{packed-own, packed-value}
 use Rattle.engine.proofs.Laws.Partial.{gate-completes}
 use Rattle.engine.proofs.Laws.Plan.{leaves_of, base, length-leaves}
-use Rattle.engine.proofs.Laws.Packed.{fields-next}
 use Rattle.engine.proofs.Laws.Ranges.{ternary-follows}
 use Rattle.engine.proofs.Laws.Run.{good-first, good-rest, same-values}
 use Rattle.engine.proofs.Laws.Search.{first-few}
@@ -103,17 +103,14 @@ both-never {d = d} f g b e i l low high vs v m =
 
 -- ---- operands
 
-module _ (v : ℕ) (vs : List ℕ) (n rest : ℕ) (h : 0 < n) (a : AllHave v (fields n rest) vs) where
-  abbrev has_v : ℕ → Bool
-  has_v i = eqb (net_at vs i) v
+module _ (v : ℕ) (vs : List ℕ) {i : ℕ} {is ks : List ℕ} (e : ks ≡ i ∷ is) (a : AllHave v ks vs) where
+  parts : (eqb (net_at vs i) v ≡ true) × AllHave v is vs
+  parts = all_cons (λ (k : ℕ). eqb (net_at vs k) v) i is (rw e at a)
 
-  parts : (has_v (rest % 1024) ≡ true) × (AllHave v (fields (n - 1) (rest / 1024)) vs)
-  parts = all_cons has_v (rest % 1024) (fields (n - 1) (rest / 1024)) (rw (fields-next n rest h) at a)
+  pub first-has : net_at vs i ≡ v
+  first-has = eqb-true (net_at vs i) v parts.0
 
-  pub first-has : net_at vs (rest % 1024) ≡ v
-  first-has = eqb-true (net_at vs (rest % 1024)) v parts.0
-
-  pub rest-have : AllHave v (fields (n - 1) (rest / 1024)) vs
+  pub rest-have : AllHave v is vs
   rest-have = parts.1
 
 -- ---- what a gate's net says
@@ -229,26 +226,25 @@ module _ {j : Job} {is : List ℕ} {p : Plan} (long : length p.gates ≡ 2400) (
       subst (λ (ws : List ℕ). Consistent value_of ws (base j) q.merged) (same-values q.same (leaves_of j x 0) (length-leaves j x 0))
       (consistent-extended value_of value_of-local (leaves_of j x 0) q.merged (base j) (length-leaves j x 0) q.same.good)
 
-  pub job-values : ValuesOf p.gates (get_or p.ends 0 0) (miter_values j x 0)
+  pub job-values : PlanValues p (miter_values j x 0)
   unfolding miter_nets
   job-values = (
     binary,
     λ i l.
         let n : ℕ = get_or p.ends 0 0 in
-        let e : get_or (slice 0 n p.gates) i 0 ≡ get_or p.gates i 0 = get_or-take n p.gates i 0 l in
-        let t : length (slice 0 n p.gates) ≡ n = length-take-le n p.gates (omega (arith, p.within 0)) in
-        let m : Mem (get_or p.gates i 0) (slice 0 n p.gates) = rw e at (mem-at (slice 0 n p.gates) i (omega arith)) in
+        let g : ℕ = get_or (slice 0 n p.gates) i 0 in
+        let m : Mem g (slice 0 n p.gates) = mem-at (slice 0 n p.gates) i l in
         packed-gates (j.inputs + j.targets) q.merged (miter_values j x 0) q.same.good q.same.forms
         (omega (arith, miter-nets j q.good, q.same.long))
         binary
         consistent
-        (get_or p.gates i 0)
-        ((mem-keep (λ c. q.live (own c) && not (fanned j (own c))) (packed_from (j.inputs + j.targets) q.merged) (get_or p.gates i 0)).0
-        (rw q.free at m)).0,
+        g
+        ((mem-keep (λ c. q.live (own c) && not (fanned j (own c))) (packed_from (j.inputs + j.targets) q.merged) g).0
+        (subst (λ (cs : List ℕ). Mem g cs) q.free m)).0,
   )
 
   -- the nets read have in them the reading
-  pub job-reading : all (candidate_good j) is ≡ true → number_of (map (net_at (miter_values j x 0)) (take p.reads.len p.reads.nets)) ≡ reading j is x
+  pub job-reading : all (candidate_good j) is ≡ true → plan_reading p (miter_values j x 0) ≡ reading j is x
   job-reading f =
       ap (λ (os : List ℕ). number_of (map (net_at (miter_values j x 0)) os)) q.nets
       ∙ agree-reading j q.good is f q.live x (miter_values j x 0) (λ i l o. refl) q.live-nets
@@ -256,25 +252,28 @@ module _ {j : Job} {is : List ℕ} {p : Plan} (long : length p.gates ≡ 2400) (
 -- ---- the cubes that are left
 
 -- a reading in a cube has its values
-pub cube-has : (nets : List ℕ) (reads value care : ℕ) (vs : List ℕ) → reads ≤ length nets → Binary vs
-    → InCube value care (number_of (map (net_at vs) (take reads nets))) → CubeHas nets reads value care vs
+cube-has : (p : Plan) (u : Cube) (vs : List ℕ) → Binary vs → InCube u (plan_reading p vs) → CubeHas p u vs
 unfolding net_at
-cube-has nets reads value care vs h b m k l c = sym (number_bit (net_at vs) b nets reads k h l) ∙ m k c
+cube-has p u vs b m k l c = sym (number_bit (net_at vs) b p.reads.nets p.reads.len k (omega (arith, p.reads_bound, p.reads_long)) l) ∙ m k c
+
+-- .. so that none is in a cube that is refuted
+pub none_in : (p : Plan) (u : Cube) → ((vs : List ℕ) → PlanValues p vs → CubeHas p u vs → ⊥) → (vs : List ℕ) → PlanValues p vs
+    → InCube u (plan_reading p vs) → ⊥
+none_in p u f vs v m = f vs v (cube-has p u vs v.0 m)
 
 module _ {p : Plan} where
   -- .. of those that are left
   pub unrefuted-then : {c d e : Cover} → Unrefuted p c d → Unrefuted p d e → Unrefuted p c e
-  unrefuted-then f g = record { held = g.held; left = λ vs v m. g.left vs v (f.left vs v m) }
+  unrefuted-then f g = record { left = λ vs v m. g.left vs v (f.left vs v m) }
 
   -- no cubes: no values give one
-  pub no-cubes-given : {c : Cover} → CoverHeld c → c.count ≡ 0 → NoneGives p c
-  no-cubes-given h e = record { held = h; none = λ vs v m. omega (arith, m.within) }
+  pub no-cubes-given : {c : Cover} → c.count ≡ 0 → NoneGives p c
+  no-cubes-given e = record { none = λ vs v m. omega (arith, m.within) }
 
-  pub cover-given : {ss : List ℕ} {e c d : Cover} → length p.gates ≡ 2400 → CoverOf ss p.reads.len e c → NoneGives p e → Unrefuted p c d
+  pub cover-given : {ss : List ℕ} {e c d : Cover} → length p.gates ≡ 2400 → CoverTo ss (2 ^ p.reads.len) e c → NoneGives p e → Unrefuted p c d
       → GivenCover p ss d
   cover-given h o n m =
       record {
-        held = m.held;
         covers = λ j is q good x u.
             let k = first-few p.reads.len p.reads.nets q.nets in
             let few : reading j is x < 2 ^ p.reads.len = omega (arith, reading-lt j is x, pow_mono k) in
@@ -283,18 +282,10 @@ module _ {p : Plan} where
             ⊎_elim
             (λ i. absurd (n.none (miter_values j x 0) v (rw e i)))
             (λ i. rw e at (m.left (miter_values j x 0) v (rw e i)))
-            (o.covers (reading j is x) few u);
+            (o (reading j is x) few u);
       }
 
--- .. or refuted
-module _ (p : Plan) (value care : ℕ)
-    (f : (vs : List ℕ) → ValuesOf p.gates (get_or p.ends 0 0) vs → CubeHas p.reads.nets p.reads.len value care vs → ⊥) where
-  none_in : (vs : List ℕ) → ValuesOf p.gates (get_or p.ends 0 0) vs
-      → InCube value care (number_of (map (net_at vs) (take p.reads.len p.reads.nets))) → ⊥
-  none_in vs v m = f vs v (cube-has p.reads.nets p.reads.len value care vs (omega (arith, p.few_reads, p.reads_long)) v.0 m)
-
-  pub cube-refuted : {c : Cover} → CoverHeld c → CubeSorted p value care c c
-  cube-refuted l = record { held = l; count = omega arith; kept = λ r m. m; left = λ vs v m. absurd (none_in vs v m) }
-
-  pub none-added : {c d : Cover} → NoneGives p c → CubeAdded c value care d → NoneGives p d
-  none-added n a = record { held = a.held; none = λ vs v m. ⊎_elim (n.none vs v) (none_in vs v) (a.only _ m) }
+  -- one cube more that is refuted
+  pub none-added : {u : Cube} {c d : Cover} → ((vs : List ℕ) → PlanValues p vs → CubeHas p u vs → ⊥) → NoneGives p c → CubeAdded c u d
+      → NoneGives p d
+  none-added {u} f n a = record { none = λ vs v m. ⊎_elim (n.none vs v) (none_in p u f vs v) (a.only _ m) }

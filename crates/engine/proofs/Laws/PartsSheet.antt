@@ -111,5 +111,5 @@ module _ {j : Job} {parts : JobParts} (q : PartsOf j parts) (p : List ℕ) {s : 
         (below-append 1024 is (replicate (10 - length is) 0) (below-of-all 1024 (omega arith) is small)
         (below-zeros 1024 (10 - length is) (omega arith)))
 
-    pub parts-read : NetsRead s.support.nets s.support.len
-    parts-read = record { long = long; below = below; few = parts-few }
+    pub parts-read : NetsRead s.support
+    parts-read = record { below = below; few = parts-few }

@@ -5,14 +5,16 @@ use Prim.Native.Nat.{ℕ, suc, ◌+◌, ◌-◌, ◌*◌, ◌/◌, ◌%◌, ◌^
 use mathlib.Core.Path.{◌≡◌, refl, sym, ◌∙◌, ap}
 use mathlib.Core.Logic.{◌⊎◌, inl, inr, ⊎_elim}
 use mathlib.Core.List.{List, [], ◌∷◌, ◌++◌, map}
-use mathlib.Core.Bool.{Bool, true, false, ◌&&◌, ◌||◌}
+use mathlib.Core.Bool.{Bool, true, false, true≢false, ◌&&◌, ◌||◌}
 use native.Mathlib.Nat.{pow-suc, div-one, div-eq_of_lt}
 use native.Mathlib.Omega.{arith}
 use borrow.Author.Tests.{eqb-true}
 use lib.Dec.{ltb, eqb}
-use lib.Pow.{pow_pos, pow_mono, shr-shr}
+use lib.Pow.{pow_pos, shr-shr}
 use lib.ListN.{length, get_or, take, drop, length-append, length-map, length-take}
 use lib.Seq.{length-take-le, take-length, drop-length}
+use Rattle.std.specs.Prelude.{Some, None}
+use Rattle.std.specs.Option.{is_some}
 use Rattle.records.specs.Job.{Job, Candidate}
 use Rattle.records.specs.Refusal.{ascending}
 use Rattle.records.proofs.Laws.Bytes.{false_of}
@@ -24,7 +26,7 @@ use Rattle.engine.specs.declared.pick.Pick.{Pick}
 use Rattle.engine.specs.declared.pick.Priced.{Priced}
 use Rattle.engine.proofs.Laws.Best.{better-irrefl, better-trans, better-neither, chosen-unique}
 use Rattle.engine.proofs.Laws.Choice.{not-both, true-or-false}
-use Rattle.engine.proofs.Laws.Picked.{length-picked-le, picked_all, picked-subset, subset-picked, sum-from-le, open_none, open-all, open-among, open-suc, open_in, open-out, sum-in, sum-out, above-first, low-earlier, cost-picked, nets-from, weights-from, in-or-out}
+use Rattle.engine.proofs.Laws.Picked.{length-picked-le, picked_all, picked-subset, subset-picked, sum-from-le, open_none, open-all, open-among, open-suc, open_in, open-out, sum-in, sum-out, above-first, ranked, low-earlier, cost-picked, nets-from, weights-from, in-or-out}
 use Rattle.engine.proofs.Laws.Sets.{left-sets, left-given, left-sound, left-unsound}
 use Rattle.engine.proofs.Laws.Support.{sound-mono}
 
@@ -42,21 +44,15 @@ pub record Without (p r : Pick) : Type 0 where
   pub set : r.set ≡ 2 * p.set
   pub cost : r.cost ≡ p.cost
   pub len : r.len ≡ p.len - 1
-  pub gates : r.gates ≡ 0
+  pub gates : r.gates ≡ None
 
 pub record With (w : ℕ) (p r : Pick) : Type 0 where
   pub set : r.set ≡ 2 * p.set + 1
   pub cost : r.cost ≡ p.cost + w
   pub len : r.len ≡ p.len
-  pub gates : r.gates ≡ 0
+  pub gates : r.gates ≡ None
 
 module _ {i : ℕ} {p : Pick} (h : OpenPick i p) where
-  pub open-small : p.set < 1024
-  open-small =
-      let l : 10 - i ≤ 10 = omega arith in
-      let m : 2 ^ (10 - i) ≤ 2 ^ 10 = pow_mono l in
-      omega (arith, h.set)
-
   module _ {q : ℕ} (e : i ≡ suc q) where
     room : 2 ^ (10 - q) ≡ 2 ^ (10 - i) * 2
     room =
@@ -123,14 +119,13 @@ module _ (j : Job) where
   -- ---- where gates are counted
 
   -- a pick with gates has had them counted
-  pub counted-before : {p : Pick} → PickOf j p → 0 < p.gates → CountedOf j p
-  counted-before h l =
-      record { pick = h; gates = ⊎_elim (λ z. let f : ⊥ = omega arith in absurd f) (λ e. e) h.gates }
+  pub counted-before : {p : Pick} {n : ℕ} → PickOf j p → p.gates ≡ Some n → CountedOf j p
+  counted-before h l = record { pick = h; gates = ⊎_elim (λ z. absurd (true≢false (ap is_some (sym l ∙ z)))) (λ e. e) h.gates }
 
   pub counted-now : {p r : Pick} → PickOf j p → (r.set ≡ p.set) × (r.cost ≡ p.cost) × (r.len ≡ p.len)
-      → r.gates ≡ patch_gates j (at p.set) → CountedOf j r
+      → r.gates ≡ Some (patch_gates j (at p.set)) → CountedOf j r
   counted-now h s e =
-      let g = e ∙ ap (λ (t : ℕ). patch_gates j (at t)) (sym s.0) in
+      let g = e ∙ ap (λ (t : ℕ). Some (patch_gates j (at t))) (sym s.0) in
       record {
         pick = record {
           set = rw s.0 h.set;
@@ -155,7 +150,8 @@ module _ (j : Job) where
         let x = at a.set in
         let y = at b.set in
         rw (p.pick.cost, q.pick.cost, p.gates, q.gates, p.pick.len, q.pick.len)
-        (ap
+        (ranked (cost j x) (cost j y) (patch_gates j x) (patch_gates j y) (length x) (length y) (low_first 10 a.set b.set)
+        ∙ ap
         (λ (t : Bool).
         ltb (cost j x) (cost j y)
         || (eqb (cost j x) (cost j y)
@@ -458,7 +454,7 @@ module _ {j : Job} {v : Priced} (h : Choosable j v) where
       ∙ rw (← v.weighed) (take-length v.weights.now)
 
   pub all-sets : SetsOf j (candidate_nets j) v.sets.now
-  all-sets = record { targets = omega (arith, h.targets, v.few_targets); sets = h.sets.sets }
+  all-sets = record { targets = omega (arith, h.targets, v.targets_bound); sets = h.sets.sets }
 
   pub all-priced : PricedOf j v
   all-priced =
@@ -471,7 +467,7 @@ module _ {j : Job} {v : Priced} (h : Choosable j v) where
       }
 
   -- all candidates together are a sound support
-  pub all-pick : {p : Pick} → p.set ≡ 2 ^ n - 1 → p.cost ≡ sum v.weights.now → p.len ≡ n → p.gates ≡ 0 → PickOf j p
+  pub all-pick : {p : Pick} → p.set ≡ 2 ^ n - 1 → p.cost ≡ sum v.weights.now → p.len ≡ n → p.gates ≡ None → PickOf j p
   all-pick {p} s o l g =
       let a : picked (candidate_nets j) (2 ^ n - 1) ≡ candidate_nets j = rw nets-many at (picked_all (candidate_nets j)) in
       let b : picked (candidate_weights j) (2 ^ n - 1) ≡ candidate_weights j =
@@ -486,7 +482,7 @@ module _ {j : Job} {v : Priced} (h : Choosable j v) where
       }
 
   -- .. and all are open at first
-  pub all-open : {p : Pick} → p.set ≡ 0 → p.cost ≡ 0 → p.len ≡ n → p.gates ≡ 0 → OpenOf j n p v.sets.now
+  pub all-open : {p : Pick} → p.set ≡ 0 → p.cost ≡ 0 → p.len ≡ n → p.gates ≡ None → OpenOf j n p v.sets.now
   unfolding picked
   all-open {p} s o l g =
       let a : open_at (candidate_nets j) n p.set ≡ candidate_nets j = rw nets-many at (open-all (candidate_nets j) p.set) in

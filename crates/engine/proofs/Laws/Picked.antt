@@ -18,7 +18,7 @@ use mathlib.Core.List.{List, [], ◌∷◌, ◌++◌, map, map-map, append-nil, 
 use native.Mathlib.Nat.{pow-suc, div-one}
 use native.Mathlib.Numerals.{add-one}
 use native.Mathlib.Omega.{arith}
-use borrow.Author.Tests.{ltb-true, eqb-true, lt-ltb, eq-eqb}
+use borrow.Author.Tests.{ltb-true, eqb-true, eqb-false, lt-ltb, eq-eqb}
 use lib.Pow.{pow_pos, shr-shr}
 use lib.Dec.{ltb, eqb}
 use lib.ListN.{length, get_or, take, drop, set, length-append}
@@ -36,9 +36,8 @@ use Rattle.std.specs.List.{sum}
 use Rattle.std.proofs.lemmas.List.Sums.{sum_by-append, sum_by-cons}
 use Rattle.std.proofs.Common.{cond, Ordering, Less, Equal, Greater, is_lt, is_eq, nat_cmp}
 use Rattle.std.specs.Ordering.{ordering_then}
-use Rattle.engine.specs.declared.pick.Pick.{Pick}
-use Rattle.engine.specs.Inner.Best.{picked, low_first, before, open_at}
-use Rattle.engine.proofs.Laws.Choice.{map-agree}
+use Rattle.engine.specs.Inner.Best.{picked, low_first, open_at}
+use Rattle.engine.proofs.Laws.Choice.{map-agree, true-or-false}
 use Rattle.engine.proofs.Laws.Eval.{Bits, bits-nil, bits-cons, bit-lt}
 use Rattle.engine.proofs.Laws.Support.{subsets-among}
 
@@ -276,7 +275,7 @@ module _ (a b : ℕ) (t : Bool) where
 -- ---- two sets of ascending nets
 
 -- .. as orders that are joined decide it
-abbrev decided : Ordering → Bool → Bool
+abbrev pub decided : Ordering → Bool → Bool
 decided o t = is_lt o || (is_eq o && t)
 
 decided-then : (o p : Ordering) (t : Bool) → decided (ordering_then o p) t ≡ decided o (decided p t)
@@ -289,18 +288,24 @@ decided-cond true c t = refl
 decided-cond false true t = refl
 decided-cond false false t = refl
 
-pub before-order : (p q : Pick) → let o = ordering_then (ordering_then (nat_cmp p.cost q.cost) (nat_cmp p.gates q.gates)) (nat_cmp p.len q.len) in
-    decided o (low_first 10 p.set q.set) ≡ before p q
-unfolding before
-before-order p q =
-    let t = low_first 10 p.set q.set in
-    let n = nat_cmp p.len q.len in
-    decided-then (ordering_then (nat_cmp p.cost q.cost) (nat_cmp p.gates q.gates)) n t
-    ∙ decided-then (nat_cmp p.cost q.cost) (nat_cmp p.gates q.gates) (decided n t)
-    ∙ decided-cond (ltb p.cost q.cost) (eqb p.cost q.cost) (decided (nat_cmp p.gates q.gates) (decided n t))
-    ∙ ap (λ (u : Bool). ltb p.cost q.cost || (eqb p.cost q.cost && u))
-    (decided-cond (ltb p.gates q.gates) (eqb p.gates q.gates) (decided n t)
-    ∙ ap (λ (u : Bool). ltb p.gates q.gates || (eqb p.gates q.gates && u)) (decided-cond (ltb p.len q.len) (eqb p.len q.len) t))
+pub ranked : (c d m n k l : ℕ) (t : Bool) → decided (ordering_then (ordering_then (nat_cmp c d) (nat_cmp m n)) (nat_cmp k l)) t
+    ≡ (ltb c d || (eqb c d && (ltb m n || (eqb m n && (ltb k l || (eqb k l && t))))))
+ranked c d m n k l t =
+    decided-then (ordering_then (nat_cmp c d) (nat_cmp m n)) (nat_cmp k l) t
+    ∙ decided-then (nat_cmp c d) (nat_cmp m n) (decided (nat_cmp k l) t)
+    ∙ decided-cond (ltb c d) (eqb c d) (decided (nat_cmp m n) (decided (nat_cmp k l) t))
+    ∙ ap (λ (u : Bool). ltb c d || (eqb c d && u))
+    (decided-cond (ltb m n) (eqb m n) (decided (nat_cmp k l) t)
+    ∙ ap (λ (u : Bool). ltb m n || (eqb m n && u)) (decided-cond (ltb k l) (eqb k l) t))
+
+-- a candidate is in both sets, or in none
+pub in-both : (i a b : ℕ) → eqb (bit i a) 1 ≡ eqb (bit i b) 1 → a / 2 ^ i % 2 ≡ b / 2 ^ i % 2
+unfolding bit
+in-both i a b e =
+    ⊎_elim
+    (λ (o : eqb (a / 2 ^ i % 2) 1 ≡ true). eqb-true (a / 2 ^ i % 2) 1 o ∙ sym (eqb-true (b / 2 ^ i % 2) 1 (sym e ∙ o)))
+    (λ (o : eqb (a / 2 ^ i % 2) 1 ≡ false). omega (arith, eqb-false (a / 2 ^ i % 2) 1 o, eqb-false (b / 2 ^ i % 2) 1 (sym e ∙ o)))
+    (true-or-false (eqb (a / 2 ^ i % 2) 1))
 
 low_first-same : (n a b : ℕ) → a % 2 ≡ b % 2 → low_first (suc n) a b ≡ low_first n (a / 2) (b / 2)
 unfolding low_first

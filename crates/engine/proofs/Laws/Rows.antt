@@ -4,7 +4,7 @@ use Prim.Native.Nat.{ℕ, zero, suc, ◌+◌, ◌*◌, ◌/◌, ◌%◌, ◌^◌
 use mathlib.Core.Path.{◌≡◌, refl, sym, ◌∙◌, ap}
 use mathlib.Core.Logic.{◌↔◌}
 use mathlib.Core.List.{List}
-use native.Mathlib.Nat.{add-zero, zero-add, mod-lt, mod-eq_of_lt, mod-one, div-one, pow-suc}
+use native.Mathlib.Nat.{add-zero, zero-add, mod-lt, mod-eq_of_lt, mod-one, pow-suc}
 use native.Mathlib.Numerals.{add-one}
 use native.Mathlib.Omega.{arith}
 use lib.Bits.{bit_and}
@@ -13,7 +13,7 @@ use lib.Pow.{mod-pow-add}
 use Rattle.records.specs.Bytes.{up_from, tabulate}
 use Rattle.records.proofs.Laws.Bytes.{tabulate-ext}
 use Rattle.engine.specs.Eval.{bit, bits, number_of}
-use Rattle.engine.specs.Inner.Note.{narrowed, sets_from, gathered, ColumnMet}
+use Rattle.engine.specs.Inner.Note.{narrowed, sets_from, gathered, visited, Stepped}
 use Rattle.engine.specs.Inner.Kernel.{value_in}
 use Rattle.engine.specs.Inner.Search.{RowsSay}
 use Rattle.engine.specs.Inner.Turn.{TurnedAt, ColumnsTurned}
@@ -22,7 +22,7 @@ use Rattle.engine.proofs.Laws.Eval.{bit-lt}
 use Rattle.engine.proofs.Laws.Picked.{bit-first, bit-suc, bits-suc}
 use Rattle.engine.proofs.Laws.Shift.{bit-shr, bit-mod}
 use Rattle.engine.proofs.Laws.VectorSets.{bit-tabulate, tabulate-lt}
-use Rattle.engine.proofs.Laws.List.{narrowing, sets_from-append}
+use Rattle.engine.proofs.Laws.List.{narrowing}
 use Rattle.engine.proofs.Laws.Word.{bit-zero}
 
 -- ---- what the rows say of a scenario
@@ -147,125 +147,51 @@ sets_from-agree f g h k ss x y (suc n) e =
     let q : suc y + i ≡ y + suc i = omega arith in
     rw (p, q) (e (suc i) (omega arith))))
 
--- n counts the quarters of the words of column w
-unfoldable pub part : ℕ → List ℕ → ℕ → ℕ → ℕ
-part size ws w n = get_or ws (16 * (n / 4) + w) 0 / 2 ^ (16 * (n % 4)) % size
+-- one scenario more: a quarter of a turned word
+pub step-next : (R : List ℕ → ℕ → ℕ → List ℕ → Type 0) (n : ℕ) (x y ms rs : List ℕ) (w i k : ℕ) (ss ts us : List ℕ)
+    → ColumnsTurned n x ms → ColumnsTurned n y rs → w < n → i < 16 → k < 4
+    → Stepped R (gathered x) (gathered y) (64 * w + 4 * i + k) ss ts
+    → R ts (get_or rs (16 * i + w) 0 / 2 ^ (16 * k) % 1024) (get_or ms (16 * i + w) 0 / 2 ^ (16 * k) % 65536) us
+    → Stepped R (gathered x) (gathered y) (64 * w + 4 * i + (k + 1)) ss us
+step-next R n x y ms rs w i k ss ts us t u h hi hk p r =
+    let m : ℕ = 64 * w + 4 * i + k in
+    let e : 64 * w + 4 * i + (k + 1) ≡ suc m = omega arith in
+    let v : 64 * w + (16 * k + i) ≡ visited m = omega arith in
+    let f = quarter x ms w (t w h) k i hk hi ∙ ap (gathered x) v in
+    let g = mod-small (get_or rs (16 * i + w) 0 / 2 ^ (16 * k)) ∙ ap (λ (z : ℕ). z % 1024) (quarter y rs w (u w h) k i hk hi ∙ ap (gathered y) v) in
+    rw e (ts, p, rw (f, g) at r)
 
-part_at : (size : ℕ) (ws : List ℕ) (w i k : ℕ) → k < 4 → part size ws w (4 * i + k) ≡ get_or ws (16 * i + w) 0 / 2 ^ (16 * k) % size
-unfolding part
-part_at size ws w i k l =
-    let p : (4 * i + k) / 4 ≡ i = omega arith in
-    let q : (4 * i + k) % 4 ≡ k = omega arith in
-    rw (p, q)
+-- steps that narrow, in their order
+narrowed-met : (f g : ℕ → ℕ) (n : ℕ) (ss ts : List ℕ) → Stepped (λ before r s after. after ≡ narrowed before r s) f g n ss ts
+    → ts ≡ met (narrowing (λ k. f (visited k)) (λ k. g (visited k) % 1024)) ss (under (λ y. y) n)
+unfolding met under
+narrowed-met f g zero ss ts e = e
+narrowed-met f g (suc n) ss ts (us, p, e) =
+    e ∙ ap (λ (vs : List ℕ). narrowed vs (g (visited n) % 1024) (f (visited n))) (narrowed-met f g n ss us p)
 
-part-first : (size : ℕ) (ws : List ℕ) (w i : ℕ) → part size ws w (4 * i) ≡ get_or ws (16 * i + w) 0 % size
-unfolding part
-part-first size ws w i =
-    let p : 4 * i / 4 ≡ i = omega arith in
-    let q : 4 * i % 4 ≡ 0 = omega arith in
-    rw (p, q) (ap (λ (y : ℕ). y % size) (div-one (get_or ws (16 * i + w) 0)))
-
--- the scenario of quarter n among the 64 of a column, and the quarter of scenario y
-abbrev visit : ℕ → ℕ
-visit n = 16 * (n % 4) + n / 4
-
+-- the place of a scenario in the order
 abbrev turn_of : ℕ → ℕ
-turn_of y = 4 * (y % 16) + y / 16
+turn_of y = 64 * (y / 64) + (4 * (y % 16) + y % 64 / 16)
 
-visit-lt : (n : ℕ) → n < 64 → visit n < 64
-visit-lt n h = omega arith
+visit-lt : (c n : ℕ) → n < 64 * c → visited n < 64 * c
+visit-lt c n h = omega arith
 
-turn_of-lt : (y : ℕ) → y < 64 → turn_of y < 64
-turn_of-lt y h = omega arith
+turn_of-lt : (c y : ℕ) → y < 64 * c → turn_of y < 64 * c
+turn_of-lt c y h = omega arith
 
-visit-turn_of : (y : ℕ) → y < 64 → visit (turn_of y) ≡ y
-visit-turn_of y h = omega arith
+visit-turn_of : (y : ℕ) → visited (turn_of y) ≡ y
+visit-turn_of y = omega arith
 
-abbrev pub quarters : List ℕ → List ℕ → ℕ → List ℕ → ℕ → List ℕ
-quarters ms rs w ss n = met (narrowing (part 65536 ms w) (part 1024 rs w)) ss (under (λ y. y) n)
-
-pub quarters-none : (ms rs : List ℕ) (w : ℕ) (ss : List ℕ) → ss ≡ quarters ms rs w ss (4 * 0)
-unfolding met under
-quarters-none ms rs w ss = refl
-
-met-four : (step : List ℕ → ℕ → List ℕ) (a : List ℕ) (n : ℕ)
-    → met step a (under (λ y. y) (4 * (n + 1)))
-    ≡ step (step (step (step (met step a (under (λ y. y) (4 * n))) (4 * n)) (4 * n + 1)) (4 * n + 2)) (4 * n + 3)
-unfolding met under
-met-four step a n =
-    let e : 4 * (n + 1) ≡ suc (suc (suc (suc (4 * n)))) = omega arith in
-    let e1 : 4 * n + 1 ≡ suc (4 * n) = omega arith in
-    let e2 : 4 * n + 2 ≡ suc (suc (4 * n)) = omega arith in
-    let e3 : 4 * n + 3 ≡ suc (suc (suc (4 * n))) = omega arith in
-    rw (e, e1, e2, e3)
-
-pub quarters-next : (ms rs : List ℕ) (w : ℕ) (ss ts us : List ℕ) (i : ℕ) → ts ≡ quarters ms rs w ss (4 * i)
-    → us
-    ≡ narrowed (narrowed (narrowed (narrowed ts
-    (get_or rs (16 * i + w) 0 % 1024) (get_or ms (16 * i + w) 0 % 65536))
-    (get_or rs (16 * i + w) 0 / 2 ^ 16 % 1024) (get_or ms (16 * i + w) 0 / 2 ^ 16 % 65536))
-    (get_or rs (16 * i + w) 0 / 2 ^ 32 % 1024) (get_or ms (16 * i + w) 0 / 2 ^ 32 % 65536))
-    (get_or rs (16 * i + w) 0 / 2 ^ 48 % 1024) (get_or ms (16 * i + w) 0 / 2 ^ 48 % 65536)
-    → us ≡ quarters ms rs w ss (4 * (i + 1))
-quarters-next ms rs w ss ts us i p q =
-    q
-    ∙ rw (
-      met-four (narrowing (part 65536 ms w) (part 1024 rs w)) ss i,
-      ← p,
-      part-first 65536 ms w i,
-      part-first 1024 rs w i,
-      part_at 65536 ms w i 1 (omega arith),
-      part_at 65536 ms w i 2 (omega arith),
-      part_at 65536 ms w i 3 (omega arith),
-      part_at 1024 rs w i 1 (omega arith),
-      part_at 1024 rs w i 2 (omega arith),
-      part_at 1024 rs w i 3 (omega arith),
-    )
-
-part-gathered : (x y : List ℕ) (w n : ℕ) → TurnedAt x y w → n < 64 → part 65536 y w n ≡ gathered x (64 * w + visit n)
-unfolding part
-part-gathered x y w n t h = quarter x y w t (n % 4) (n / 4) (omega arith) (omega arith)
-
-part-reading : (x y : List ℕ) (w n : ℕ) → TurnedAt x y w → n < 64 → part 1024 y w n ≡ gathered x (64 * w + visit n) % 1024
-unfolding part
-part-reading x y w n t h =
-    mod-small (get_or y (16 * (n / 4) + w) 0 / 2 ^ (16 * (n % 4))) ∙ ap (λ (z : ℕ). z % 1024) (part-gathered x y w n t h)
-
-pub quarters-all : (ms rs : List ℕ) (w : ℕ) (ss : List ℕ) → ColumnMet ms rs w ss (quarters ms rs w ss 64)
-quarters-all ms rs w ss x y t u =
-    let f : ℕ → ℕ = λ s. gathered x (64 * w + s) in
-    let g : ℕ → ℕ = λ s. gathered y (64 * w + s) % 1024 in
-    met-along visit f g (part 65536 ms w) (part 1024 rs w) ss 64
-    (λ n l. (part-gathered x ms w n t l, part-reading y rs w n u l))
-    ∙ met-order f g visit (λ s. s) ss 64 64 (λ n l. (visit n, visit-lt n l, refl))
-    (λ s l. (turn_of s, turn_of-lt s l, visit-turn_of s l))
-    ∙ sym (sets_from-met f g ss 64)
-    ∙ sets_from-agree f g (gathered x) (λ s. gathered y s % 1024) ss 0 (64 * w) 64 (λ i l. rw (zero-add i) (refl, refl))
-
--- ---- the sets, column by column
-
--- the sets ts after the first k of n columns, from the sets ss
-abbrev pub ColumnsMet : ℕ → List ℕ → List ℕ → ℕ → List ℕ → List ℕ → Type 0
-ColumnsMet n ms rs k ss ts =
-    (x y : List ℕ) → ColumnsTurned n x ms → ColumnsTurned n y rs
-    → ts ≡ sets_from (gathered x) (λ s. gathered y s % 1024) ss 0 (64 * k)
-
-pub columns-none : (n : ℕ) (ms rs ss : List ℕ) → ColumnsMet n ms rs 0 ss ss
-unfolding sets_from
-columns-none n ms rs ss x y t u = refl
-
-pub columns-next : (n : ℕ) (ms rs : List ℕ) (w : ℕ) (ss ts us : List ℕ) → w < n → ColumnsMet n ms rs w ss ts
-    → ColumnMet ms rs w ts us → ColumnsMet n ms rs (w + 1) ss us
-columns-next n ms rs w ss ts us h p q x y t u =
-    let f : ℕ → ℕ = gathered x in
-    let g : ℕ → ℕ = λ s. gathered y s % 1024 in
-    let e : 64 * w + 64 ≡ 64 * (w + 1) = omega arith in
-    q x y (t w h) (u w h)
-    ∙ ap (λ (vs : List ℕ). sets_from f g vs (64 * w) 64) (p x y t u)
-    ∙ sym
-    (ap (sets_from f g ss 0) (sym e)
-    ∙ sets_from-append f g ss 0 (64 * w) 64
-    ∙ ap (λ (z : ℕ). sets_from f g (sets_from f g ss 0 (64 * w)) z 64) (zero-add (64 * w)))
+-- .. and in any
+pub narrowed-sets : (f g : ℕ → ℕ) (c : ℕ) (ss ts : List ℕ) → Stepped (λ before r s after. after ≡ narrowed before r s) f g (64 * c) ss ts
+    → ts ≡ sets_from f (λ y. g y % 1024) ss 0 (64 * c)
+narrowed-sets f g c ss ts p =
+    let h : ℕ → ℕ = λ y. g y % 1024 in
+    narrowed-met f g (64 * c) ss ts p
+    ∙ met-along visited f h (λ k. f (visited k)) (λ k. h (visited k)) ss (64 * c) (λ n l. (refl, refl))
+    ∙ met-order f h visited (λ y. y) ss (64 * c) (64 * c) (λ n l. (visited n, visit-lt c n l, refl))
+    (λ y l. (turn_of y, turn_of-lt c y l, visit-turn_of y))
+    ∙ sym (sets_from-met f h ss (64 * c))
 
 -- ---- for the callers: a block's inputs among all
 

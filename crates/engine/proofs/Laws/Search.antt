@@ -149,13 +149,13 @@ module _ {p : Plan} (b count : ℕ) {words readings : List ℕ} (e : BlockRead p
         sets = λ j s t.
             let is = candidate_nets j in
             let q = t.planned in
-            sets_more j (omega (arith, p.few_targets, q.targets)) (1024 * b) count
+            sets_more j (omega (arith, p.targets_bound, q.targets)) (1024 * b) count
             (n
             ∙ noted-sets j is (rectifiers j) (λ x. rectifiers-low j j.inputs x (omega arith)) b count masks readings ss
             (subst (λ (i : ℕ). BlockRange i b count) q.inputs r)
             (m.sets j is t b (z.values j is q b (k j is q b (e.free j is (reads_of q)))))
             (e.readings j is (reads_of q) (candidates-good j q.good))
-            (reading_small p.few_reads (reads_of q)));
+            (reading_small p.reads_bound (reads_of q)));
       }
 
   -- where it leaves them
@@ -171,7 +171,7 @@ module _ {p : Plan} (b count : ℕ) {words readings : List ℕ} (e : BlockRead p
             let i : 1024 * b + y ≡ z = omega arith in
             let g : gathered readings y % 1024 ≡ reading j is z =
             ap (λ (r : ℕ). r % 1024) (e.readings j is (reads_of q) (candidates-good j q.good) y (omega arith) ∙ ap (reading j is) i)
-            ∙ mod-eq_of_lt (reading_small p.few_reads (reads_of q) z) in
+            ∙ mod-eq_of_lt (reading_small p.reads_bound (reads_of q) z) in
             let t = rw (g, i) at (k j is q b (e.free j is (reads_of q)) y (omega arith)) in
             (λ c. t.0, t.1));
       }

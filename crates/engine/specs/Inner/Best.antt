@@ -12,7 +12,6 @@
 --   first_empty ss         the first place whose set is empty, if there is one
 --   spread i q             the reading q with a bit 0 put in at place i: of one net more, at place i, whose value is 0
 --   joined_at ss i q       the vectors in the sets of both readings that are q without net i
---   SameTo n xs ys         ys is the same as xs at the first n places
 --   LeftOut ss n i b ps    ps are the sets of n nets, made by leaving out net i of those of ss, up to the first that is empty, and b says whether
 --                          none is
 --   PickedNets is s r      the support r has the nets of is whose places are in s
@@ -22,14 +21,16 @@
 --   candidate_weights j    the weights of all candidates
 --   OpenPick i p           pick p has room for i candidates more
 --   PricedOf j p           the struct p has the priced nets of job j, which ascend, and the sets of all of them
---   PickOf j p             pick p is a sound support of job j; its gates are counted, or 0
+--   PickOf j p             pick p is a sound support of job j; its gates are counted, if they are there
 --   CountedOf j p          .. are counted
 --   OpenOf j i p ss        pick p says which candidates from place i on are in a support; with all those before it is sound
 --   BestFrom j i s b r     of pick b and the sound sets that are s from place i on, r is the one that is chosen
 --   HeldSupport r          the nets of the support r stand in its ten places
 --   Choosable j p          the job whose candidates, and sets of vectors, the struct p has, has a sound support
 --   ChosenOf j s c ss      the support s is the chosen one of job j, c its cost, and ss are its sets
-use Rattle.std.specs.Prelude.{ℕ, zero, suc, ◌+◌, ◌-◌, ◌*◌, ◌/◌, ◌%◌, ◌^◌, ◌≤◌, ◌<◌, ◌≡◌, ◌↔◌, ◌⊎◌, List, [], ◌∷◌, ◌++◌, map, Bool, true, false, cond, ◌&&◌, ◌||◌, ltb, eqb, length, get_or, take, drop, sum, Option, position, ◌==◌}
+use Rattle.std.specs.Prelude.{ℕ, zero, suc, ◌+◌, ◌-◌, ◌*◌, ◌/◌, ◌%◌, ◌^◌, ◌≤◌, ◌<◌, ◌≡◌, ◌↔◌, ◌⊎◌, List, [], ◌∷◌, ◌++◌, map, Bool, true, false, cond, ◌&&◌, ◌||◌, eqb, length, get_or, take, drop, sum, Option, Some, None, position, ◌==◌}
+use Rattle.std.specs.Ordering.{is_lt, is_eq, nat_cmp, ordering_then}
+use Rattle.std.specs.Option.{option_cmp}
 use Rattle.std.specs.Int.Bits.{bit_and}
 use Rattle.records.specs.Job.{Job, Candidate}
 use Rattle.records.specs.Refusal.{max_targets, max_candidates, ascending}
@@ -86,9 +87,6 @@ spread (suc i) q = q % 2 + 2 * spread i (q / 2)
 unfoldable pub joined_at : List ℕ → ℕ → ℕ → ℕ
 joined_at ss i q = bit_and (get_or ss (spread i q) 0) (get_or ss (spread i q + 2 ^ i) 0)
 
-abbrev pub SameTo : ℕ → List ℕ → List ℕ → Type 0
-SameTo n xs ys = (k : ℕ) → k < n → get_or ys k 0 ≡ get_or xs k 0
-
 pub record LeftOut (ss : List ℕ) (n i : ℕ) (sound : Bool) (ps : List ℕ) : Type 0 where
   pub filled : sound ≡ true → (q : ℕ) → q < 2 ^ n → (get_or ps q 0 ≡ joined_at ss i q) × NotEmpty (joined_at ss i q)
   pub empty : sound ≡ false → (q : ℕ) × (q < 2 ^ n) × (joined_at ss i q % 65536 ≡ 0)
@@ -105,11 +103,8 @@ low_first (suc n) a b = cond (eqb (a % 2) (b % 2)) (low_first n (a / 2) (b / 2))
 
 unfoldable pub before : Pick → Pick → Bool
 before p q =
-    ltb p.cost q.cost
-    || (eqb p.cost q.cost
-    && (ltb p.gates q.gates
-    || (eqb p.gates q.gates
-    && (ltb p.len q.len || (eqb p.len q.len && low_first max_candidates p.set q.set)))))
+    let o = ordering_then (ordering_then (nat_cmp p.cost q.cost) (option_cmp nat_cmp p.gates q.gates)) (nat_cmp p.len q.len) in
+    is_lt o || (is_eq o && low_first max_candidates p.set q.set)
 
 unfoldable pub open_at : List ℕ → ℕ → ℕ → List ℕ
 open_at is i s = take i is ++ picked (drop i is) s
@@ -134,11 +129,11 @@ pub record PickOf (j : Job) (p : Pick) : Type 0 where
   pub len : p.len ≡ length (picked (candidate_nets j) p.set)
   pub cost : p.cost ≡ cost j (picked (candidate_nets j) p.set)
   pub sound : sound j (picked (candidate_nets j) p.set) ≡ true
-  pub gates : (p.gates ≡ 0) ⊎ (p.gates ≡ patch_gates j (picked (candidate_nets j) p.set))
+  pub gates : (p.gates ≡ None) ⊎ (p.gates ≡ Some (patch_gates j (picked (candidate_nets j) p.set)))
 
 pub record CountedOf (j : Job) (p : Pick) : Type 0 where
   pub pick : PickOf j p
-  pub gates : p.gates ≡ patch_gates j (picked (candidate_nets j) p.set)
+  pub gates : p.gates ≡ Some (patch_gates j (picked (candidate_nets j) p.set))
 
 pub record OpenOf (j : Job) (i : ℕ) (p : Pick) (ss : List ℕ) : Type 0 where
   pub places : i ≤ length (candidate_nets j)
@@ -147,7 +142,7 @@ pub record OpenOf (j : Job) (i : ℕ) (p : Pick) (ss : List ℕ) : Type 0 where
   pub cost : p.cost ≡ sum (picked (drop i (candidate_weights j)) p.set)
   pub sets : SetsOf j (open_at (candidate_nets j) i p.set) ss
   pub sound : sound j (open_at (candidate_nets j) i p.set) ≡ true
-  pub gates : p.gates ≡ 0
+  pub gates : p.gates ≡ None
 
 -- ---- the choice
 

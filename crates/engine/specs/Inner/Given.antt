@@ -3,6 +3,7 @@
 --
 --   SameVectors ss ts      the sets ss and ts have the same vectors
 --   GivenCover p ..        the unseen readings that an input gives are in the cover
+--   Covered p ss c         .. in the first cover of the struct c, and no values of the gates give one of the second
 --   GivenBy g x k r        one of the k inputs from x on gives reading r
 --   BlockSeen ..           the sets after the count inputs of a block, where no target leads to the nets read
 --   Unseen j is ss         bit 16 of a reading of the nets is is 0 exactly when some input gives the reading
@@ -15,19 +16,24 @@ use Rattle.engine.specs.Eval.{bit}
 use Rattle.engine.specs.Support.{reading}
 use Rattle.engine.specs.Claims.{SomeGives}
 use Rattle.engine.specs.Inner.Best.{GivenBits}
-use Rattle.engine.specs.Inner.Cover.{CoverHeld, InCover}
+use Rattle.engine.specs.Inner.Cover.{InCover}
 use Rattle.engine.specs.Inner.List.{max_vectors}
 use Rattle.engine.specs.Inner.Plan.{ReadsOf}
-use Rattle.engine.specs.declared.cover.Cover.{Cover}
+use Rattle.engine.specs.declared.cube.Cover.{Cover}
+use Rattle.engine.specs.declared.given.Covering.{Covering}
+use Rattle.engine.specs.Inner.Imply.{NoneGives}
 use Rattle.engine.specs.declared.plan.Plan.{Plan}
 
 abbrev pub SameVectors : List ℕ → List ℕ → Type 0
 SameVectors ss ts = (r v : ℕ) → v < max_vectors → bit v (get_or ts r 0) ≡ bit v (get_or ss r 0)
 
 pub record GivenCover (p : Plan) (ss : List ℕ) (c : Cover) : Type 0 where
-  pub held : CoverHeld c
   pub covers : (j : Job) (is : List ℕ) → ReadsOf j is p → all' (candidate_good j) is ≡ true → (x : ℕ)
       → bit max_vectors (get_or ss (reading j is x) 0) ≡ 1 → InCover c (reading j is x)
+
+pub record Covered (p : Plan) (ss : List ℕ) (c : Covering) : Type 0 where
+  pub left : GivenCover p ss c.left
+  pub never : NoneGives p c.never
 
 abbrev pub GivenBy : (ℕ → ℕ) → ℕ → ℕ → ℕ → Type 0
 GivenBy g x k r = (y : ℕ) × (x ≤ y) × (y < x + k) × (g y ≡ r)

@@ -12,14 +12,15 @@
 --   NoneGives p c           no values of the gates give a reading of the cover c
 --   CubeSorted p .. c d     d has the readings of c, those of one cube that values of the gates give, and one cube more at most
 --   Unrefuted p c d         d has the readings of c that values of the gates give
-use Rattle.std.specs.Prelude.{ℕ, ◌+◌, ◌≤◌, ◌<◌, ◌≡◌, List, map, Bool, true, eqb, get_or, take}
+use Rattle.std.specs.Prelude.{ℕ, ◌<◌, ◌≡◌, List, map, Bool, true, eqb, length, get_or, take}
 use Rattle.records.specs.Bytes.{all}
 use Rattle.records.specs.Netlist.{net_at}
 use Rattle.engine.specs.Eval.{bit, number_of}
-use Rattle.engine.specs.Inner.Cover.{InCube, CoverHeld, InCover}
+use Rattle.engine.specs.Inner.Cover.{InCover}
 use Rattle.engine.specs.Inner.Packed.{own, operation, operands_of, folded, code_value}
 use Rattle.engine.specs.Inner.Ranges.{code_ternary}
-use Rattle.engine.specs.declared.cover.Cover.{Cover}
+use Rattle.engine.specs.declared.cube.Cover.{Cover}
+use Rattle.engine.specs.declared.cube.Cube.{Cube}
 use Rattle.engine.specs.declared.plan.Plan.{Plan}
 
 abbrev pub Binary : List ℕ → Type 0
@@ -43,26 +44,21 @@ pub record GateHas (c : ℕ) (vs : List ℕ) : Type 0 where
   pub value : net_at vs (own c) ≡ code_value vs c
   pub known : (ks : List ℕ) → Implied ks vs → code_ternary ks c < 2 → net_at vs (own c) ≡ code_ternary ks c
 
-abbrev pub ValuesOf : List ℕ → ℕ → List ℕ → Type 0
-ValuesOf cs n vs = Binary vs × ((i : ℕ) → i < n → GateHas (get_or cs i 0) vs)
+abbrev pub ValuesOf : List ℕ → List ℕ → Type 0
+ValuesOf cs vs = Binary vs × ((i : ℕ) → i < length cs → GateHas (get_or cs i 0) vs)
 
-abbrev pub CubeHas : List ℕ → ℕ → ℕ → ℕ → List ℕ → Type 0
-CubeHas nets reads value care vs = (k : ℕ) → k < reads → bit k care ≡ 1 → net_at vs (get_or nets k 0) ≡ bit k value
+abbrev pub CubeHas : Plan → Cube → List ℕ → Type 0
+CubeHas p u vs = (k : ℕ) → k < p.reads.len → bit k u.care ≡ 1 → net_at vs (get_or p.reads.nets k 0) ≡ bit k u.value
+
+-- values of the gates that no target leads to, and the reading of the nets read among them
+abbrev pub PlanValues : Plan → List ℕ → Type 0
+PlanValues p vs = ValuesOf (take (get_or p.ends 0 0) p.gates) vs
+
+abbrev pub plan_reading : Plan → List ℕ → ℕ
+plan_reading p vs = number_of (map (net_at vs) (take p.reads.len p.reads.nets))
 
 pub record NoneGives (p : Plan) (c : Cover) : Type 0 where
-  pub held : CoverHeld c
-  pub none : (vs : List ℕ) → ValuesOf p.gates (get_or p.ends 0 0) vs
-      → InCover c (number_of (map (net_at vs) (take p.reads.len p.reads.nets))) → ⊥
-
-pub record CubeSorted (p : Plan) (value care : ℕ) (c d : Cover) : Type 0 where
-  pub held : CoverHeld d
-  pub count : d.count ≤ c.count + 1
-  pub kept : (r : ℕ) → InCover c r → InCover d r
-  pub left : (vs : List ℕ) → ValuesOf p.gates (get_or p.ends 0 0) vs
-      → InCube value care (number_of (map (net_at vs) (take p.reads.len p.reads.nets)))
-      → InCover d (number_of (map (net_at vs) (take p.reads.len p.reads.nets)))
+  pub none : (vs : List ℕ) → PlanValues p vs → InCover c (plan_reading p vs) → ⊥
 
 pub record Unrefuted (p : Plan) (c d : Cover) : Type 0 where
-  pub held : CoverHeld d
-  pub left : (vs : List ℕ) → ValuesOf p.gates (get_or p.ends 0 0) vs
-      → InCover c (number_of (map (net_at vs) (take p.reads.len p.reads.nets))) → InCover d (number_of (map (net_at vs) (take p.reads.len p.reads.nets)))
+  pub left : (vs : List ℕ) → PlanValues p vs → InCover c (plan_reading p vs) → InCover d (plan_reading p vs)

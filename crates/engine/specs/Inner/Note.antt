@@ -4,7 +4,8 @@
 --   narrowed ss r s              the sets ss with the one of reading r cut down to its part in s
 --   sets_from f g ss x k          .. after the k inputs from x on, where g says the reading of each
 --   gathered x y     the number whose bit i is what row i of x says of scenario y
---   ColumnMet ..     the sets after the 64 scenarios of a column
+--   visited n        the scenario to which a block's walk comes after n others
+--   Stepped R f g n ss ts        the sets after n steps, each as R says
 --   filled count     how many scenarios the columns of 64 have that count inputs fill
 --   Covered ..       a listed vector is in the set of a scenario
 --   Joined ..        .. of each of which a row says 1
@@ -18,7 +19,6 @@ use Rattle.engine.specs.Eval.{bit, number_of}
 use Rattle.engine.specs.declared.list.Vectors.{Vectors}
 use Rattle.engine.specs.Inner.List.{listed_of, listed_from}
 use Rattle.engine.specs.Inner.Kernel.{row_value, value_in}
-use Rattle.engine.specs.Inner.Turn.{TurnedAt}
 
 abbrev pub max_readings : ℕ
 max_readings = 1024
@@ -35,11 +35,14 @@ sets_from f g ss x (suc k) = sets_from f g (narrowed ss (g x) (f x)) (suc x) k
 unfoldable pub gathered : List ℕ → ℕ → ℕ
 gathered x y = number_of (tabulate 16 (value_in x y))
 
--- the sets ts after column w, from the sets ss: the columns w of ms and of rs are turned ones of masks x and readings y
-abbrev pub ColumnMet : List ℕ → List ℕ → ℕ → List ℕ → List ℕ → Type 0
-ColumnMet ms rs w ss ts =
-    (x y : List ℕ) → TurnedAt x ms w → TurnedAt y rs w
-    → ts ≡ sets_from (gathered x) (λ s. gathered y s % 1024) ss (64 * w) 64
+-- the scenario to which a block's walk comes after n others: column by column, and in each word by word of the transposed rows
+abbrev pub visited : ℕ → ℕ
+visited n = 64 * (n / 64) + (16 * (n % 4) + n % 64 / 4)
+
+-- the sets ts after a step for each of the first n scenarios, from the sets ss, where f says the set of each, and g its reading
+abbrev pub Stepped : (List ℕ → ℕ → ℕ → List ℕ → Type 0) → (ℕ → ℕ) → (ℕ → ℕ) → ℕ → List ℕ → List ℕ → Type 0
+Stepped R f g zero ss ts = ts ≡ ss
+Stepped R f g (suc n) ss ts = (us : List ℕ) × Stepped R f g n ss us × R us (g (visited n) % 1024) (f (visited n)) ts
 
 abbrev pub filled : ℕ → ℕ
 filled count = 64 * ((count + 63) / 64)

@@ -1,5 +1,5 @@
 -- The gates of a miter in the lists that a walk evaluates: those that outputs or readings need, in two lists, for no target leads to the
--- first ones, and, for each target, those that it leads to (src/plan.rt). No public contract cites this file. Assumes nothing.
+-- first ones, and, for each target, those that it leads to (src/plan.rt, src/planning.rt). No public contract cites this file. Assumes nothing.
 --
 --   code_mark vs c            the mark of the packed gate c where the nets have the marks vs: 1 if an operand has one, else 0
 --   marks_of base from k gs   1 for each net that a path of gates leads to from one of the k leaves from .. on, else 0
@@ -19,7 +19,7 @@
 --                             up to it, one behind the other
 --   ListPut list at ..        the places with one list more, from place at on, as far as there is room
 --   ListsUpTo n ..            the ends and the places of the first n lists, as far as there is room
---   NetsRead nets reads       the first reads of ten nets may be read
+--   NetsRead s                the nets of the support s may be read
 --   PlanLists j hs live ends gates  the first two lists, of the gates hs in place of the miter's
 --   ReadsOf j is p            before the first end, p has the gates of the good job j that lead to the nets is, which it reads, and that no
 --                             target leads to
@@ -36,6 +36,7 @@ use Rattle.engine.specs.Choice.{keep}
 use Rattle.engine.specs.Inner.Packed.{own, packed_from, operands_of, evaluated}
 use Rattle.engine.specs.Inner.Kernel.{column}
 use Rattle.engine.specs.Inner.Miter.{miter_gates, miter_nets, miter_values, SameGates, PairsOf}
+use Rattle.records.specs.declared.sheet.Support.{Support}
 use Rattle.engine.specs.declared.plan.Plan.{Plan}
 
 unfoldable pub code_mark : List ℕ → ℕ → ℕ
@@ -114,10 +115,9 @@ pub record ListsUpTo (n inputs targets : ℕ) (live cs ends gates : List ℕ) : 
 
 -- ---- a plan
 
-pub record NetsRead (nets : List ℕ) (reads : ℕ) : Type 0 where
-  pub long : length nets ≡ 10
-  pub below : Below 1024 nets
-  pub few : reads ≤ 10
+pub record NetsRead (s : Support) : Type 0 where
+  pub below : Below 1024 s.nets
+  pub few : s.len ≤ 10
 
 pub record PlanLists (j : Job) (hs : List Gate) (live : ℕ → Bool) (ends gates : List ℕ) : Type 0 where
   pub order : get_or ends 0 0 ≤ get_or ends 1 0

@@ -1,16 +1,16 @@
 -- Laws of what is put: a list placed in a part of another, a field where it fits, and a job's fields around its gates' bytes.
 -- Assumes nothing.
-use Prim.Native.Nat.{ℕ, zero, suc, ◌+◌, ◌-◌, ◌*◌, ◌≤◌, ◌<◌}
+use Prim.Native.Nat.{ℕ, zero, suc, ◌+◌, ◌*◌, ◌≤◌, ◌<◌}
 use mathlib.Core.Path.{◌≡◌, refl, sym, ◌∙◌, ap}
 use mathlib.Core.List.{List, [], ◌∷◌, ◌++◌, append_assoc}
 use mathlib.Core.Bool.{true, false, cond}
-use native.Mathlib.Nat.{zero-add, mul-suc}
+use native.Mathlib.Nat.{mul-suc}
 use native.Mathlib.Numerals.{add-one}
 use native.Mathlib.Omega.{arith}
 use borrow.Author.Tests.{le-leb, lt-leb, lt-ltb, le-ltb}
 use lib.Dec.{leb}
-use lib.ListN.{length, get_or, take, drop, length-append, length-drop, take-append-drop}
-use lib.Seq.{drop-drop, drop-append-le, length-take-le}
+use lib.ListN.{length, get_or, take, drop, length-append}
+use lib.Seq.{drop-drop, length-take-le}
 use Rattle.records.specs.Bytes.{flat, placed, head_size, field, byte_pair}
 use Rattle.records.specs.Job.{Candidate, candidate_bytes, job_bytes}
 use Rattle.records.specs.Service.{Places, netlist_from, candidates_from, job_from, field_fits}
@@ -20,22 +20,15 @@ use Rattle.records.specs.declared.job.Counts.{Counts}
 use Rattle.records.proofs.Laws.Bytes.{and_both, and-false-left, and-false-right, length-placed, drop-placed, drop-placed-behind, placed_same, placed-swap}
 use Rattle.records.proofs.Laws.Job.{tabulate-get_or, Put, put-none, put_next, candidate-placed, length-byte_pair, length-candidate_bytes, JobBounds, placed-then, field-placed, take-placed-front, length-field, length-outputs, length-candidates, length-gates_bytes, length-candidates_from, length-job_from}
 
--- ---- a part
-
--- a list placed at the start of the k elements from position a on
-pub part_placed : (d : List ℕ) (a k : ℕ) (xs : List ℕ) → a + k ≤ length d → length xs ≤ k
-    → take a d ++ (placed (take k (drop a d)) 0 xs ++ drop k (drop a d)) ≡ placed d a xs
+-- a part of d overwritten by xs
+pub mid-placed : (d : List ℕ) (at n : ℕ) (xs : List ℕ) {ys : List ℕ} → ys ≡ xs → n ≡ length xs
+    → take at d ++ (ys ++ drop n (drop at d)) ≡ placed d at xs
 unfolding placed
-part_placed d a k xs h l =
-    let m : List ℕ = drop a d in
-    let n : length (take k m) ≡ k = length-take-le k m (omega (arith, length-drop a d)) in
-    let e : xs ++ drop (0 + length xs) (take k m) ++ drop k m ≡ xs ++ drop (a + length xs) d =
-    append_assoc xs (drop (0 + length xs) (take k m)) (drop k m)
-    ∙ ap (λ (i : ℕ). xs ++ (drop i (take k m) ++ drop k m)) (zero-add (length xs))
-    ∙ ap (λ (r : List ℕ). xs ++ r) (sym (drop-append-le (length xs) (take k m) (drop k m) (omega arith)))
-    ∙ ap (λ (r : List ℕ). xs ++ drop (length xs) r) (take-append-drop k m)
-    ∙ ap (λ (r : List ℕ). xs ++ r) (drop-drop (length xs) a d) in
-    ap (λ (r : List ℕ). take a d ++ r) e ∙ sym (append_assoc (take a d) xs (drop (a + length xs) d))
+mid-placed d at n xs e f =
+    ap (λ (r : List ℕ). take at d ++ (r ++ drop n (drop at d))) e
+    ∙ ap (λ (k : ℕ). take at d ++ (xs ++ drop k (drop at d))) f
+    ∙ ap (λ (r : List ℕ). take at d ++ (xs ++ r)) (drop-drop (length xs) at d)
+    ∙ sym (append_assoc (take at d) xs (drop (at + length xs) d))
 
 -- ---- whether a field fits
 
@@ -64,17 +57,12 @@ module _ (d : List ℕ) (at : ℕ) (xs : List ℕ) where
   field-left t e = record { end = rw e; lent = rw e }
 
   -- the head put, and the bytes at the start of what stands behind it
-  pub field_put : (t a : ℕ) (d₁ : List ℕ) {p : List ℕ} → at + 3 + length xs ≤ length d → length xs < 65536
-      → length d₁ ≡ length d → a ≡ at + 3 → d₁ ≡ placed d at (t ∷ byte_pair (length xs))
-      → p ≡ placed (take (length d₁ - a) (drop a d₁)) 0 xs
-      → FieldPut t (a + length xs) (take a d₁ ++ (p ++ drop (length d₁ - a) (drop a d₁)))
-  field_put t a d₁ {p} h l n q e f =
-      let k : ℕ = length d₁ - a in
-      let g : take a d₁ ++ (p ++ drop k (drop a d₁)) ≡ placed d₁ a xs =
-      ap (λ (r : List ℕ). take a d₁ ++ (r ++ drop k (drop a d₁))) f
-      ∙ part_placed d₁ a k xs (omega arith) (omega arith) in
+  pub field_put : (t a : ℕ) (d₁ d₂ : List ℕ) → at + 3 + length xs ≤ length d → length xs < 65536
+      → length d₁ ≡ length d → a ≡ at + 3 → d₁ ≡ placed d at (t ∷ byte_pair (length xs)) → d₂ ≡ placed d₁ a xs
+      → FieldPut t (a + length xs) d₂
+  field_put t a d₁ d₂ h l n q e f =
       let b : field_fits d at xs ≡ true = put-field-fits h l in
-      record { end = rw b (omega arith); lent = rw b (field-placed d at t (length xs) xs a refl q h e g) }
+      record { end = rw b (omega arith); lent = rw b (f ∙ field-placed d at t (length xs) xs a refl q h e refl) }
 
   -- for callers: where there is room, the field is put and the position is the one behind it
   pub put-field-put : (t r : ℕ) {d' : List ℕ} → at + 3 + length xs ≤ length d → length xs < 65536 → FieldPut t r d'

@@ -11,7 +11,7 @@ use lib.ListN.{length, take, drop}
 use Rattle.records.specs.Bytes.{placed}
 use Rattle.records.specs.Job.{job_bytes}
 use Rattle.records.specs.Refusal.{first_failing}
-use Rattle.records.specs.Service.{number_of, Places, read_told, held, job_from, write_number, WriteReply, write_told, write_reply}
+use Rattle.records.specs.Service.{number_of, Places, read_told, held, job_from, write_number, WriteReply, write_reply}
 use Rattle.records.specs.Inner.{counts_within, Within, starts_of, checked_of, gates_bytes, holds, write_tests_number, JobDone, GatesPut, RestHeld, RestWritten}
 use Rattle.records.specs.declared.job.Counts.{Counts}
 use Rattle.records.specs.declared.job.Starts.{Starts}

@@ -8,7 +8,9 @@ use native.Mathlib.Omega.{arith}
 use borrow.Author.Tests.{lt-ltb, le-ltb, ltb-true, ltb-false}
 use lib.Dec.{ltb}
 use lib.ListN.{length, get_or, take, drop, length-append, take-append-drop}
+use Rattle.std.proofs.lemmas.Fmt.{decimal_by_steps}
 use Rattle.std.proofs.lemmas.List.{map_more, take-map}
+use Rattle.std.specs.Fmt.{decimal}
 use Rattle.records.specs.Bytes.{flat}
 use Rattle.records.specs.Claims.{Below}
 use Rattle.records.proofs.Laws.Job.{flat_append, flat-snoc}
@@ -56,16 +58,17 @@ digits_more x h =
     ∙ within_more x x h
     ∙ ap (λ (ds : List ℕ). ds ++ ((48 + x % 10) ∷ [])) (within-enough x (x / 10) (x / 10) (omega arith) (omega arith))
 
+-- they are what the library prints
+pub decimal-digits : (x : ℕ) → x < 2 ^ 64 → decimal x ≡ digits x
+decimal-digits =
+    decimal_by_steps
+    (λ n ds. ds ≡ digits n)
+    (λ n l. sym (digits-small n l))
+    (λ n ds m e. ap (λ (xs : List ℕ). xs ++ ((48 + n % 10) ∷ [])) e ∙ sym (digits_more n m))
+
 -- how many digits
 pub length-digits-more : (x : ℕ) → 10 ≤ x → length (digits x) ≡ length (digits (x / 10)) + 1
 length-digits-more x h = ap length (digits_more x h) ∙ length-append (digits (x / 10)) ((48 + x % 10) ∷ [])
-
-pub digits-some : (x : ℕ) → 1 ≤ length (digits x)
-digits-some x =
-    ⊎_elim
-    (λ s. rw (digits-small x (ltb-true x 10 s)) (omega arith))
-    (λ m. omega (arith, length-digits-more x (ltb-false x 10 m)))
-    (true-or-false (ltb x 10))
 
 tenth-lt : (k x : ℕ) → x < 10 ^ suc (suc k) → x / 10 < 10 ^ suc k
 tenth-lt k x h = let e : 10 ^ suc (suc k) ≡ 10 ^ suc k * 10 = pow-suc 10 (suc k) in omega arith
@@ -116,11 +119,14 @@ length-line w xs =
     length-append (w ++ numbers xs) (10 ∷ []) ∙ ap (λ (k : ℕ). k + 1) (length-append w (numbers xs))
 
 -- the numbers of a list are its values
-pub line-same : (w xs : List ℕ) → line w (map (λ (x : ℕ). x) xs) ≡ line w xs
+line-same : (w xs : List ℕ) → line w (map (λ (x : ℕ). x) xs) ≡ line w xs
 line-same w xs = ap (line w) (map-id xs)
 
-pub line-same_room : (n m : ℕ) (w xs : List ℕ) → n + length (line w xs) ≤ m → n + length (line w (map (λ (x : ℕ). x) xs)) ≤ m
-line-same_room n m w xs h = rw (line-same w xs) h
+pub bytes_room : (n m : ℕ) (w xs : List ℕ) → n + length (line w xs) ≤ m → n + length (line w (map (λ (x : ℕ). x) xs)) ≤ m
+bytes_room n m w xs h = rw (line-same w xs) h
+
+pub bytes-line : (a w xs : List ℕ) {b : List ℕ} → b ≡ a ++ line w (map (λ (x : ℕ). x) xs) → b ≡ a ++ line w xs
+bytes-line a w xs e = e ∙ ap (λ (ys : List ℕ). a ++ ys) (line-same w xs)
 
 -- the line of a list's values that are passed up to i
 module _ {A : Type 0} (f : A → ℕ) (w : List ℕ) (xs : List A) (i n : ℕ) (room : n + length (line w (map f xs)) ≤ 8366) where

@@ -16,8 +16,8 @@ use Rattle.records.proofs.Laws.Bytes.{drop-take}
 use Rattle.engine.specs.Rectify.{vector_loop}
 use Rattle.engine.specs.Verdict.{longest_judge, longest_choose, judge_sheet, choose_sheet, judged_bytes, chosen_bytes}
 use Rattle.engine.specs.Reply.{judge_reply, choose_reply}
-use Rattle.engine.specs.declared.judging.JudgeReply.{JudgeReply}
-use Rattle.engine.specs.declared.choosing.ChooseReply.{ChooseReply}
+use Rattle.engine.specs.Reply.{JudgeReply}
+use Rattle.engine.specs.Reply.{ChooseReply}
 use Rattle.engine.proofs.Laws.Verdict.{vectors-le}
 use Rattle.engine.proofs.Replies.{judge-replies, choose-replies, sheet-length, sheet-short, sheet-bytes, judge-accepts, refuse-alike, longest-judged, longest-chosen}
 use Rattle.report.specs.Text.{unfixable_word, value_text, refused_text, input_limit, rectify_text, longest_text, printed_length, printed_bytes}
@@ -79,7 +79,7 @@ module _ (s : List ℕ) {r : JudgeReply} (e : r ≡ judge_reply blank_judge s) w
 
     -- what choose says
     module _ {a : ChooseReply} (f : a ≡ choose_reply blank_choose s) where
-      choose-zero : a.number ≡ 0
+      pub choose-zero : a.number ≡ 0
       choose-zero = (choose-replies blank_choose s f).number ∙ refuse-alike.3 blank_choose s (omega arith) ∙ accepted
 
       pub choose-short : a.len ≤ 2084

@@ -27,7 +27,7 @@ use Rattle.engine.proofs.Laws.Verdict.{ruling-unfixable, ruling-patch, ruling-bl
 use Rattle.engine.proofs.Replies.{patch-read, quad-four_bytes}
 use Rattle.report.specs.Text.{patch_word, support_word, table_word, vectors_word, notes_word, unfixable_word, blind_word, refused_word, line, patch_text, value_text, ruling_text, refused_text, input_limit, rectify_text, longest_text}
 use Rattle.report.specs.Inner.{PatchSheet, patch_sheet_text, choice_text, pair}
-use Rattle.report.proofs.Laws.Line.{length-number-line, length-nets-line, length-bytes-line}
+use Rattle.report.proofs.Laws.Line.{length-behind, length-number-line, length-nets-line, length-bytes-line}
 use Rattle.report.proofs.Laws.Sheet.{below_field, field-body, value-fields}
 
 -- ---- numbers of a sheet
@@ -115,15 +115,44 @@ module _ (c : ℕ) (is es vs ns : List ℕ) where
   unfolding patch_text
   length-patch_text = simp length-append refl
 
-  pub patch-lines : {t₀ t₁ t₂ t₃ t₄ t₅ : List ℕ} → t₀ ≡ [] → t₁ ≡ t₀ ++ cost_line → t₂ ≡ t₁ ++ nets_line → t₃ ≡ t₂ ++ table_line
-      → t₄ ≡ t₃ ++ vectors_line → t₅ ≡ t₄ ++ notes_line → t₅ ≡ patch_text c is es vs ns
-  unfolding patch_text
-  patch-lines z h i j k l =
-      let next = λ (xs : List ℕ) (ys : List ℕ). ys ++ xs in
-      l
-      ∙ ap (next notes_line)
-      (k
-      ∙ ap (next vectors_line) (j ∙ ap (next table_line) (i ∙ ap (next nets_line) (h ∙ ap (next cost_line) z))))
+  -- the five lines behind an empty text: each has room, and together they are the patch's
+  module _ {t₀ : List ℕ} (z : t₀ ≡ []) (room : length (patch_text c is es vs ns) ≤ longest_text) where
+    pub cost-room : length t₀ + length cost_line ≤ longest_text
+    cost-room = omega (arith, length-patch_text, ap length z)
+
+    module _ {t₁ : List ℕ} (e₁ : t₁ ≡ t₀ ++ cost_line) where
+      length₁ : length t₁ ≡ length cost_line
+      length₁ = omega (arith, ap length z, length-behind t₀ cost_line e₁)
+
+      pub nets-room : length t₁ + length nets_line ≤ longest_text
+      nets-room = omega (arith, length-patch_text, length₁)
+
+      module _ {t₂ : List ℕ} (e₂ : t₂ ≡ t₁ ++ nets_line) where
+        length₂ : length t₂ ≡ length cost_line + length nets_line
+        length₂ = omega (arith, length₁, length-behind t₁ nets_line e₂)
+
+        pub table-room : length t₂ + length table_line ≤ longest_text
+        table-room = omega (arith, length-patch_text, length₂)
+
+        module _ {t₃ : List ℕ} (e₃ : t₃ ≡ t₂ ++ table_line) where
+          length₃ : length t₃ ≡ length cost_line + length nets_line + length table_line
+          length₃ = omega (arith, length₂, length-behind t₂ table_line e₃)
+
+          pub vectors-room : length t₃ + length vectors_line ≤ longest_text
+          vectors-room = omega (arith, length-patch_text, length₃)
+
+          module _ {t₄ : List ℕ} (e₄ : t₄ ≡ t₃ ++ vectors_line) where
+            pub notes-room : length t₄ + length notes_line ≤ longest_text
+            notes-room = omega (arith, length-patch_text, length₃, length-behind t₃ vectors_line e₄)
+
+            pub patch-lines : {t₅ : List ℕ} → t₅ ≡ t₄ ++ notes_line → t₅ ≡ patch_text c is es vs ns
+            unfolding patch_text
+            patch-lines e₅ =
+                let next = λ (xs : List ℕ) (ys : List ℕ). ys ++ xs in
+                e₅
+                ∙ ap (next notes_line)
+                (e₄
+                ∙ ap (next vectors_line) (e₃ ∙ ap (next table_line) (e₂ ∙ ap (next nets_line) (e₁ ∙ ap (next cost_line) z))))
 
 -- the lines of the parts of a patch's sheet, beside the vector list
 module _ (s vs : List ℕ) where

@@ -9,7 +9,7 @@ use Rattle.engine.proofs.choosing.choose_job.Goals as goal
 pub reading_sets-met-requires : goal.reading_sets-met-requires
 reading_sets-met-requires c =
     let p = c.requires.0.parts in
-    record { long = p.nets-long; below = c.requires.1; few = parts-few p }
+    record { below = c.requires.1; few = parts-few p }
 
 pub reading_count-requires : goal.reading_count-requires
 reading_count-requires c = parts-few c.requires.0.parts

@@ -7,12 +7,12 @@ use Rattle.engine.proofs.Laws.Rows.{rows_whole}
 use Rattle.engine.proofs.comparing.first_difference.Goals as goal
 
 pub loop-b-init : goal.loop-b-init
-loop-b-init c = scanning-none _ _ c.args.plan.now.few_inputs
+loop-b-init c = scanning-none _ _ c.args.plan.now.inputs_bound
 
 pub returns-then-y-count : goal.returns-then-y-count
 returns-then-y-count c =
     let v = c.table_rows-vectors in
-    let row = c.driven_row-row.ensures (gathered v.result) (rows_whole v.result _ (omega (arith, c.args.plan.now.few_targets))) in
+    let row = c.driven_row-row.ensures (gathered v.result) (rows_whole v.result _ (omega (arith, c.args.plan.now.targets_bound))) in
     scanned-differs c.loop-b.invariant (row-compared c.args.table.now v.result c.read_block-readings.ensures v.ensures row)
     c.first_zero-y.ensures (omega arith)
     c.block_inputs-count.ensures c.if-y-count.true
@@ -20,7 +20,7 @@ returns-then-y-count c =
 pub loop-b-preserved : goal.loop-b-preserved
 loop-b-preserved c =
     let v = c.table_rows-vectors in
-    let row = c.driven_row-row.ensures (gathered v.result) (rows_whole v.result _ (omega (arith, c.args.plan.now.few_targets))) in
+    let row = c.driven_row-row.ensures (gathered v.result) (rows_whole v.result _ (omega (arith, c.args.plan.now.targets_bound))) in
     scanning-next c.loop-b.invariant (row-compared c.args.table.now v.result c.read_block-readings.ensures v.ensures row)
     c.first_zero-y.ensures (omega arith)
     c.block_inputs-count.ensures c.if-y-count.false

@@ -9,4 +9,4 @@ pub returns : goal.returns
 returns c =
     let l = c.loop-w in
     let e : l.w ≡ 16 = omega arith in
-    (omega (arith, l.invariant.1.long), row-valued _ _ _ _ _ _ c.broadcast-v.ensures (rw e at l.invariant.1))
+    row-valued _ _ _ _ _ _ c.broadcast-v.ensures (rw e at l.invariant.1)

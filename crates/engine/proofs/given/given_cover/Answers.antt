@@ -5,5 +5,5 @@ use Rattle.engine.proofs.given.given_cover.Goals as goal
 
 pub returns : goal.returns
 returns c =
-    let e = c.sort_cubes.ensures in
-    (cover-given (omega arith) c.cover_of-cover.ensures c.requires (unrefuted-then c.sort_cubes-first.ensures.0 e.0), e.1)
+    let e = c.unrefuted.ensures in
+    (cover-given (omega arith) c.cover_of-cover.ensures c.requires (unrefuted-then c.unrefuted-left.ensures.0 e.0), e.1)

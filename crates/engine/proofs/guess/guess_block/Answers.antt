@@ -8,7 +8,7 @@ use Rattle.engine.proofs.guess.guess_block.Goals as goal
 pub returns-then-count-first_zero : goal.returns-then-count-first_zero
 returns-then-count-first_zero c =
     let v = c.table_rows-vectors in
-    let e = c.driven_row-one.ensures (vectors_at v.result 0) (rows_four v.result 0 _ (lit≤ tt) c.args.plan.now.few_targets) in
+    let e = c.driven_row-one.ensures (vectors_at v.result 0) (rows_four v.result 0 _ (lit≤ tt) c.args.plan.now.targets_bound) in
     record {
       free_kept = e.free;
       block_guessed = λ t.
@@ -19,8 +19,8 @@ returns-then-count-first_zero c =
 pub returns : goal.returns
 returns c =
     let v = c.table_rows-vectors in
-    let e = c.driven_row-one.ensures (vectors_at v.result 0) (rows_four v.result 0 _ (lit≤ tt) c.args.plan.now.few_targets) in
-    let e₂ = c.driven_row-two.ensures (vectors_at v.result 4) (rows_four v.result 4 _ (lit≤ tt) c.args.plan.now.few_targets) in
+    let e = c.driven_row-one.ensures (vectors_at v.result 0) (rows_four v.result 0 _ (lit≤ tt) c.args.plan.now.targets_bound) in
+    let e₂ = c.driven_row-two.ensures (vectors_at v.result 4) (rows_four v.result 4 _ (lit≤ tt) c.args.plan.now.targets_bound) in
     record {
       free_kept = λ j is q b f. e₂.free j is q b (e.free j is q b f);
       block_guessed = λ t.

@@ -15,14 +15,14 @@ few h = pow_mono {j = 20} h
 
 pub read_block-readings-requires : goal.read_block-readings-requires
 read_block-readings-requires c =
-    omega (arith, few c.args.plan.now.few_inputs)
+    omega (arith, few c.args.plan.now.inputs_bound)
 
 -- ---- where listed vectors or the tables are tried
 
 pub returns-in-Listed : goal.returns-in-Listed
 returns-in-Listed c =
     let p = c.requires in (
-      block-shown c.read_block-readings.ensures (omega (arith, few c.args.plan.now.few_inputs)) (c.shown_by-by.ensures.block_shown.0 c.in-Listed.is),
+      block-shown c.read_block-readings.ensures (omega (arith, few c.args.plan.now.inputs_bound)) (c.shown_by-by.ensures.block_shown.0 c.in-Listed.is),
       p.2,
       λ k. p.1,
     )
@@ -32,7 +32,7 @@ returns-in-Tables c =
     let p = c.requires in
     let p = c.requires in
     let z = c.shown_by-by.ensures.block_shown.1 c.in-Tables.is in (
-      block-guessed c.read_block-readings.ensures (omega (arith, few c.args.plan.now.few_inputs)) (p.1 z.0) z.1,
+      block-guessed c.read_block-readings.ensures (omega (arith, few c.args.plan.now.inputs_bound)) (p.1 z.0) z.1,
       c.more.ensures.1,
       λ k h. p.1 z.0,
     )
@@ -49,7 +49,7 @@ returns c =
       | then-b-gt0+in-Not w ↦ rw w.words-is w.shown_by-by.ensures.free_kept
       | else-b-gt0 w ↦ rw w.words-is (λ j is q b f. f)
     ] in (
-      block_noted r.ensures (omega (arith, few a.plan.now.few_inputs)) kept c.vector_block.ensures c.masks_of-masks.ensures
+      block_noted r.ensures (omega (arith, few a.plan.now.inputs_bound)) kept c.vector_block.ensures c.masks_of-masks.ensures
           c.list_block.ensures,
       c.next_trust-next.ensures,
       λ k h. absurd (not-both (lt-ltb 0 c.next_trust-next.result h) k),

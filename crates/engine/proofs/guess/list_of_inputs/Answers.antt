@@ -8,13 +8,13 @@ use Rattle.engine.proofs.guess.list_of_inputs.Goals as goal
 use Rattle.engine.proofs.guess.list_of_inputs.Goals.{else-next, then-next}
 
 pub first_trust-trust-requires : goal.first_trust-trust-requires
-first_trust-trust-requires c = c.args.plan.now.few_inputs
+first_trust-trust-requires c = c.args.plan.now.inputs_bound
 
 pub loop-b-init : goal.loop-b-init
 loop-b-init c =
     let f = c.start-list in (
       record { few = c.first_trust-trust.ensures; table = λ l. zeros-listed f.result },
-      walk_start (ListsTo c.args.plan.now f.result) c.args.plan.now.few_inputs (lists-start f.result c.start-list.ensures),
+      walk_start (ListsTo c.args.plan.now f.result) c.args.plan.now.inputs_bound (lists-start f.result c.start-list.ensures),
       c.first_tries-tries.ensures,
     )
 

@@ -7,11 +7,9 @@ use Rattle.engine.proofs.imply.learn_from_net.Goals as goal
 
 pub returns-then-forces : goal.returns-then-forces
 returns-then-forces c =
-    let e = c.learn_operands.ensures in (
-      e.0,
-      learns-then (learns_none _)
-          (λ vs k g.
-          c.forces.ensures c.if-forces.true vs g.binary
-          (gate-plain c.args.c _ vs g (k (own c.args.c) (omega arith) (omega arith))))
-          e.1 refl,
-    )
+    learns-then (learns_none _)
+    (λ vs k g.
+    c.forces.ensures c.if-forces.true vs g.binary
+    (gate-plain c.args.c _ vs g (k (own c.args.c) (omega arith) (omega arith))))
+    c.learn_operands.ensures
+    refl

@@ -5,7 +5,7 @@ use Rattle.engine.proofs.judging.judge_job.Goals as goal
 pub vector_list-list-requires : goal.vector_list-list-requires
 vector_list-list-requires c =
     let p = c.requires.0.parts in
-    record { long = p.nets-long; below = c.requires.1; few = parts-few p }
+    record { below = c.requires.1; few = parts-few p }
 
 pub rule_list-requires : goal.rule_list-requires
 rule_list-requires c =

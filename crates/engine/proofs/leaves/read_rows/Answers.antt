@@ -10,4 +10,4 @@ returns c =
     let l = c.loop-k in
     let e : l.k ≡ c.args.plan.now.reads.len = omega arith in
     let p = c.args.plan.now in
-    gathered-nets _ _ _ _ (omega (arith, p.few_reads, p.reads_long)) (omega (arith, p.few_reads)) (rw e at l.invariant)
+    gathered-nets _ _ _ _ (omega (arith, p.reads_bound, p.reads_long)) (omega (arith, p.reads_bound)) (rw e at l.invariant)

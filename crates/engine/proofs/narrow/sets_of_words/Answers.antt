@@ -23,7 +23,7 @@ returns c j q e =
     let v = c.word_masks-masks.ensures.words j q in
     let words = c.word_masks-masks.new.words in
     sets-of-masks j few (c.word_masks-masks.ensures.masks j q) r.result _ (omega (arith, q.targets))
-    (omega (arith, ap length (sym e), length-take c.args.reads c.args.nets, c.requires.1.few))
+    (omega (arith, ap length (sym e), length-take c.args.reads.len c.args.reads.nets, c.requires.1.few))
     (λ y h.
     c.read_words-readings.ensures y h
     ∙ ap (λ (is : List ℕ). number_of (map (net_at (values_at words (y % 64))) is)) e

@@ -25,8 +25,12 @@ loop-i-preserved c =
     let t = rows_from-turn a.masks.now a.y (l.i - 1) (omega arith) in
     (omega arith, omega arith)
 
+pub overflow_cast-result : goal.overflow_cast-result
+overflow_cast-result c =
+    let s = rows_from-lt c.args.masks.now c.args.y c.loop-i.i in omega arith
+
 pub returns : goal.returns
 returns c =
     let a = c.args in
     let e : c.loop-i.i ≡ 0 = omega arith in
-    (c.loop-i.invariant.1 ∙ ap (rows_from a.masks.now a.y) e ∙ rows_from-all a.masks.now a.y, omega (arith, rows_from-lt a.masks.now a.y c.loop-i.i))
+    c.loop-i.invariant.1 ∙ ap (rows_from a.masks.now a.y) e ∙ rows_from-all a.masks.now a.y

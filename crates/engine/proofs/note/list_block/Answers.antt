@@ -20,7 +20,7 @@ returns-then-is_some c =
     let l = c.loop-y in
     let e : min l.y a.count ≡ l.y = omega arith in
     list-next a.masks a.first a.list l.y l.list c.gather_rows-set.result c.step.new.self (rw e at l.invariant)
-    c.gather_rows-set.ensures.0
+    c.gather_rows-set.ensures
     c.step.ensures in
     let a = c.args in
     list-stuck a.masks a.first a.list _ a.count c.step.new.self stepped (sym c.is_some.ensures ∙ c.if-is_some.true) (omega arith)
@@ -32,7 +32,7 @@ loop-y-preserved c =
     let l = c.loop-y in
     let e : min l.y a.count ≡ l.y = omega arith in
     list-next a.masks a.first a.list l.y l.list c.gather_rows-set.result c.step.new.self (rw e at l.invariant)
-    c.gather_rows-set.ensures.0
+    c.gather_rows-set.ensures
     c.step.ensures in
     let a = c.args in
     let p = c.next_uncovered-y-in-loop-y.ensures.past in

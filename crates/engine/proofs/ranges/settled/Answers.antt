@@ -10,8 +10,8 @@ pub returns : goal.returns
 returns c t j is o =
     let a = c.args in
     let p = a.plan.now in
-    let w = leaves-loaded p.inputs p.targets a.low a.prefix (replicate 1024 0) _ _ (omega (arith, p.few_inputs, p.few_targets))
+    let w = leaves-loaded p.inputs p.targets a.low a.prefix (replicate 1024 0) _ _ (omega (arith, p.inputs_bound, p.targets_bound))
     c.load_partial.ensures
     c.load_unknown.ensures in
-    rectifies-range j is p o a.low a.prefix _ w.0 w.1 (omega (arith, p.few_outs)) (omega (arith, p.few_outs))
+    rectifies-range j is p o a.low a.prefix _ w.0 w.1 (omega (arith, p.outs_bound)) (omega (arith, p.outs_bound))
     (rw c.eval_partial.ensures at (c.known_equal.ensures.0 t))

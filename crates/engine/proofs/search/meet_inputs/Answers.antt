@@ -8,7 +8,7 @@ use Rattle.engine.proofs.search.meet_inputs.Goals as goal
 use Rattle.engine.proofs.search.meet_inputs.Goals.{else-tried, then-tried+else-keep_block}
 
 pub read_block-readings-requires : goal.read_block-readings-requires
-read_block-readings-requires c = block-small c.requires.0 c.args.plan.now.few_inputs
+read_block-readings-requires c = block-small c.requires.0 c.args.plan.now.inputs_bound
 
 -- ---- where the table is tried
 pub returns-then-keep_block : goal.returns-then-keep_block

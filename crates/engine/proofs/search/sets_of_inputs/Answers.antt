@@ -16,15 +16,15 @@ use Rattle.engine.proofs.search.sets_of_inputs.Goals as goal
 use Rattle.engine.proofs.search.sets_of_inputs.Goals.{else-kept-pace, then-kept-pace}
 
 pub overflow_shl-size : goal.overflow_shl-size
-overflow_shl-size c = omega (arith, c.args.plan.now.few_inputs)
+overflow_shl-size c = omega (arith, c.args.plan.now.inputs_bound)
 
 pub loop-b-init : goal.loop-b-init
 loop-b-init c =
     let p = c.args.plan.now in (
       c.first_pace-pace.ensures,
       λ _. sole-start c.all_vectors.result,
-      walk_start (SetsAfter _ _ _) p.few_inputs
-          (λ j q. sets-start j (omega (arith, p.few_targets, q.planned.targets)) (c.all_vectors.ensures ∙ ap (λ (m : ℕ). 2 ^ 2 ^ m - 1) q.planned.targets)),
+      walk_start (SetsAfter _ _ _) p.inputs_bound
+          (λ j q. sets-start j (omega (arith, p.targets_bound, q.planned.targets)) (c.all_vectors.ensures ∙ ap (λ (m : ℕ). 2 ^ 2 ^ m - 1) q.planned.targets)),
       c.first_tries-tries.ensures,
     )
 

@@ -12,7 +12,7 @@ use Rattle.engine.proofs.sole.keep_block.Goals as goal
 pub returns : goal.returns
 returns c =
     let row = c.driven_row-row in
-    let a = row.ensures (gathered c.table_rows-vectors.result) (rows_whole c.table_rows-vectors.result c.args.plan.now.targets (omega (arith, c.args.plan.now.few_targets))) in record {
+    let a = row.ensures (gathered c.table_rows-vectors.result) (rows_whole c.table_rows-vectors.result c.args.plan.now.targets (omega (arith, c.args.plan.now.targets_bound))) in record {
       free_kept = a.free;
       block_kept = λ o.
           sole-kept c.args.readings c.args.table.now c.table_rows-vectors.result row.result c.table_rows-vectors.ensures

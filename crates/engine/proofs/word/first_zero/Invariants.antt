@@ -6,4 +6,4 @@ use Rattle.engine.specs.Inner.Kernel.{row_value}
 use Rattle.engine.proofs.word.first_zero.Given as goal
 
 abbrev pub invariant-loop-w : goal.invariant-loop-w
-invariant-loop-w l = (l.w ≤ 16) × ((y : ℕ) → y < 64 * l.w → row_value l.row y ≡ 1)
+invariant-loop-w l = (l.w ≤ 16) × ((y : ℕ) → y < 64 * l.w → row_value l.fn.row y ≡ 1)

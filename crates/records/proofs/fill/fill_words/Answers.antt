@@ -1,6 +1,6 @@
 -- `records::fill::fill_words` meets its contract: after i turns the first i numbers of the column stand at the places'
 -- start, and at is where the number of record i stands. Assumes nothing.
-use Prim.Native.Nat.{◌+◌, ◌*◌, ◌%◌}
+use Prim.Native.Nat.{◌+◌, ◌*◌}
 use mathlib.Core.Path.{◌≡◌, ◌∙◌, ap}
 use native.Mathlib.Omega.{arith}
 use native.Mathlib.Nat.{mul-zero}
@@ -18,15 +18,12 @@ loop-i-init c =
     )
 
 pub loop-i-preserved : goal.loop-i-preserved
-unfolding word
 loop-i-preserved c =
     let l = c.loop-i in
     let a = c.args in
     let s = a.s.now in
-    let byte = c.type_inv.s in
-    let e : c.word_at.result % 65536 ≡ word s (a.size * l.i + a.offset) =
-    rw c.word_at.ensures (omega (arith, byte l.at, byte (l.at + 1)))
-    ∙ ap (word s) l.invariant.1 in (
+    let e : c.u16_at.result ≡ word s (a.size * l.i + a.offset) =
+    c.u16_at.ensures ∙ ap (word s) l.invariant.1 in (
       omega arith,
       omega (arith, next-record a.size l.i),
       filled_next a.places.now (λ k. word s (a.size * k + a.offset)) l.places l.i _ (omega arith) e l.invariant.2,

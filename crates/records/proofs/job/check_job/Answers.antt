@@ -44,16 +44,10 @@ returns-in_default-check_counts c =
     let h = shape-whole _ _ (sym c.shaped.ensures ∙ c.in-Some.is) in
     refused-three _ h.0 (good _ h.1 ∙ fails _ (sym c.check_counts.ensures ∙ c.in_default-check_counts.is))
 
-pub check_netlists-requires : goal.check_netlists-requires
-check_netlists-requires c = laid (goal.at.check_netlists-requires c).In-Passed
-
 pub returns-in_default-check_netlists : goal.returns-in_default-check_netlists
 returns-in_default-check_netlists c =
     let l = laid (goal.at.returns-in_default-check_netlists c).In-Passed in
     refused-four _ l.whole (counts l) (fails _ (sym c.check_netlists.ensures ∙ c.in_default-check_netlists.is))
-
-pub check_all_outputs-requires : goal.check_all_outputs-requires
-check_all_outputs-requires c = laid (goal.at.check_all_outputs-requires c).In-Passed
 
 pub returns-in_default-check_all_outputs : goal.returns-in_default-check_all_outputs
 returns-in_default-check_all_outputs c =
@@ -62,10 +56,11 @@ returns-in_default-check_all_outputs c =
     refused-five _ l.whole (counts l) (gates d.In-Passed-check_netlists)
     (fails _ (sym c.check_all_outputs.ensures ∙ c.in_default-check_all_outputs.is))
 
+pub invariant_of-laid : goal.invariant_of-laid
+invariant_of-laid c = record { laid = laid (goal.at.invariant_of-laid c).In-Passed }
+
 pub check_all_candidates-requires : goal.check_all_candidates-requires
-check_all_candidates-requires c =
-    let d = goal.at.check_all_candidates-requires c in
-    record { laid = laid d.In-Passed; good = gates d.In-Passed-check_netlists }
+check_all_candidates-requires c = gates (goal.at.check_all_candidates-requires c).In-Passed-check_netlists
 
 pub returns-in_default-check_all_candidates : goal.returns-in_default-check_all_candidates
 returns-in_default-check_all_candidates c =

@@ -7,12 +7,12 @@ use mathlib.Core.Bool.{Bool}
 use lib.ListN.{drop}
 use lib.Dec.{ltb}
 use Rattle.records.specs.Bytes.{all}
-use Rattle.records.specs.Inner.{word_column}
+use Rattle.records.specs.Job.{nets_of}
 use Rattle.records.proofs.netlist.check_outputs.Given as goal
 
 -- the nets from i on pass the test
-abbrev pub below : ℕ → List ℕ → ℕ → ℕ → ℕ → Bool
-below nets s at count i = all (λ k. ltb k nets) (drop i (word_column s 2 at count))
+abbrev pub below : ℕ → List ℕ → ℕ → Bool
+below nets s i = all (λ k. ltb k nets) (drop i (nets_of s))
 
 abbrev pub invariant-loop-i : goal.invariant-loop-i
-invariant-loop-i l = below l.nets l.s l.at l.count l.i ≡ below l.nets l.s l.at l.count 0
+invariant-loop-i l = below l.nets l.s l.i ≡ below l.nets l.s 0

@@ -17,16 +17,15 @@ use Rattle.records.proofs.netlist.fanout_marks.Goals as goal
 pub loop-i-init : goal.loop-i-init
 unfolding fanout leaf_marks
 loop-i-init c =
-    let e = c.leaf_marks-marks.ensures in
-    (omega arith, e.0, rw add-zero c.requires.s_value, rw (add-zero, e.1))
+    (omega arith, rw add-zero c.requires.s_value, rw (add-zero, c.leaf_marks-marks.ensures))
 
-pub gate_mark-m-requires : goal.gate_mark-m-requires
+pub gate_mark-requires : goal.gate_mark-requires
 unfolding gate_at gate_from struct_at
-gate_mark-m-requires c =
+gate_mark-requires c =
     let good : let x = c.args in let i = c.loop-i.i in (gate_good (x.inputs + x.targets + i) (gate_at x.s.now i) ≡ true) × (gates_good (x.inputs + x.targets + (i + 1)) (drop (i + 1) (gates_of x.s.now)) ≡ true) =
     let x = c.args in
     let l = c.loop-i in
-    gates_good-both x.s.now l.i c.loop-i-test.true (x.inputs + x.targets) l.invariant.2 in
+    gates_good-both x.s.now l.i c.loop-i-test.true (x.inputs + x.targets) l.invariant.1 in
     let x = c.args in
     let net = x.inputs + x.targets + c.loop-i.i in
     slots-lt net c.gate_at.result 424 (omega arith) (rw c.gate_at.ensures good.0)
@@ -37,14 +36,14 @@ loop-i-preserved c =
     let good : let x = c.args in let i = c.loop-i.i in (gate_good (x.inputs + x.targets + i) (gate_at x.s.now i) ≡ true) × (gates_good (x.inputs + x.targets + (i + 1)) (drop (i + 1) (gates_of x.s.now)) ≡ true) =
     let x = c.args in
     let l = c.loop-i in
-    gates_good-both x.s.now l.i c.loop-i-test.true (x.inputs + x.targets) l.invariant.2 in
+    gates_good-both x.s.now l.i c.loop-i-test.true (x.inputs + x.targets) l.invariant.1 in
     let x = c.args in
     let l = c.loop-i in
     let s = x.s.now in
-    let e : c.gate_mark-m.result ≡ mark_of l.marks (gate_at s l.i) =
-    c.gate_mark-m.ensures ∙ rw c.gate_at.ensures in
+    let e : c.gate_mark.result ≡ mark_of l.marks (gate_at s l.i) =
+    c.gate_mark.ensures ∙ rw c.gate_at.ensures in
     let more = extended-drop s l.i c.loop-i-test.true (x.inputs + x.targets) l.marks (omega arith) good.0 in
-    (omega arith, length-set l.marks _ _ ∙ l.invariant.1, good.1, rw e (sym more ∙ l.invariant.3))
+    (length-set l.marks _ _ ∙ l.invariant.0, good.1, rw e (sym more ∙ l.invariant.2))
 
 pub returns : goal.returns
 unfolding extended
@@ -52,4 +51,4 @@ returns c =
     let s = c.args.s.now in
     let l = c.loop-i in
     let e : length s / 10 ≡ l.i = omega arith in
-    rw e (rw (drop-gates-past s l.i c.loop-i-test.false) at l.invariant.3)
+    rw e (rw (drop-gates-past s l.i c.loop-i-test.false) at l.invariant.2)

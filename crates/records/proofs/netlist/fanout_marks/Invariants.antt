@@ -3,7 +3,7 @@
 use lib.ListN.{length, take, drop}
 use mathlib.Core.Bool.{true}
 use mathlib.Core.Path.{◌≡◌}
-use Prim.Native.Nat.{◌+◌, ◌≤◌}
+use Prim.Native.Nat.{◌+◌}
 use Rattle.records.specs.Netlist.{extended, mark_of, fanout}
 use Rattle.records.specs.Job.{gates_of}
 use Rattle.records.specs.Refusal.{gates_good}
@@ -11,7 +11,6 @@ use Rattle.records.proofs.netlist.fanout_marks.Given as goal
 
 abbrev pub invariant-loop-i : goal.invariant-loop-i
 invariant-loop-i l =
-    (l.i ≤ l.count)
-    × (length l.marks ≡ 424)
+    (length l.marks ≡ 424)
     × (gates_good (l.base + l.i) (drop l.i (gates_of l.s)) ≡ true)
     × (extended mark_of (take (l.base + l.i) l.marks) (drop l.i (gates_of l.s)) ≡ fanout l.inputs l.targets (gates_of l.s))

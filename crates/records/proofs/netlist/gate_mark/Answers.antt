@@ -22,7 +22,7 @@ loop-i-preserved c =
     let n : length c.slots_of-slots.result ≡ 4 = ap length c.slots_of-slots.ensures in
     let t = c.loop-i in
     let more = disj-back x.marks.now x.gate.count c.slots_of-slots.result t.i (omega arith) t.invariant.0 (omega arith) in
-    (omega arith, c.greater-r.ensures ∙ rw t.invariant.1 (sym more))
+    (omega arith, c.max-r.ensures ∙ rw t.invariant.1 (sym more))
 
 pub returns : goal.returns
 unfolding mark_of gate_from gate_of operands struct_slots

@@ -7,10 +7,10 @@ use Rattle.records.proofs.Laws.Netlist.{leaf_marks-none, leaf_marks-more}
 use Rattle.records.proofs.netlist.leaf_marks.Goals as goal
 
 pub loop-i-init : goal.loop-i-init
-loop-i-init c = (omega arith, refl, leaf_marks-none c.args.inputs 424 (omega arith))
+loop-i-init c = (refl, leaf_marks-none c.args.inputs 424 (omega arith))
 
 pub loop-i-preserved : goal.loop-i-preserved
 loop-i-preserved c =
     let l = c.loop-i in
-    let more = leaf_marks-more c.args.inputs l.i l.marks (omega arith) l.invariant.2 in
-    (omega arith, length-set l.marks _ _ ∙ l.invariant.1, more)
+    let more = leaf_marks-more c.args.inputs l.i l.marks (omega arith) l.invariant.1 in
+    (length-set l.marks _ _ ∙ l.invariant.0, more)

@@ -10,17 +10,17 @@ pub loop-i-init : goal.loop-i-init
 unfolding found_in
 loop-i-init c = (omega arith, refl)
 
-pub returns-then-x-net : goal.returns-then-x-net
-returns-then-x-net c =
+pub returns-then-from-net : goal.returns-then-from-net
+returns-then-from-net c =
     let a = c.args in
-    sym (found_here a.nets.now a.count a.net c.loop-i.i c.requires (omega arith) c.if-x-net.true)
+    sym (found_here a.nets.now a.count a.net c.loop-i.i c.requires (omega arith) (sym c.from.ensures ∙ c.if-from-net.true))
     ∙ c.loop-i.invariant.1
 
 pub loop-i-preserved : goal.loop-i-preserved
 loop-i-preserved c =
     let a = c.args in (
       omega arith,
-      sym (found-next a.nets.now a.count a.net c.loop-i.i c.requires (omega arith) c.if-x-net.false)
+      sym (found-next a.nets.now a.count a.net c.loop-i.i c.requires (omega arith) (λ e. c.if-from-net.false (c.from.ensures ∙ e)))
           ∙ c.loop-i.invariant.1,
     )
 

@@ -1,23 +1,15 @@
--- `records::sheet::quad_at` meets its contract: both two-byte numbers are below 65536. Assumes nothing.
-use Prim.Native.Nat.{◌+◌}
-use native.Mathlib.Nat.{add-zero, mod-eq_of_lt}
+-- `records::sheet::quad_at` meets its contract: each byte counts 256 times the one behind it. Assumes nothing.
+use native.Mathlib.Omega.{arith}
+use native.Mathlib.Nat.{add-zero}
+use lib.Seq.{get_or-drop}
+use Rattle.records.specs.Bytes.{word}
 use Rattle.records.specs.Sheet.{quad}
-use Rattle.records.proofs.Laws.Field.{word-drop}
-use Rattle.records.proofs.Laws.Sheet.{word_lt}
 use Rattle.records.proofs.sheet.quad_at.Goals as goal
 
 pub returns : goal.returns
-unfolding quad
+unfolding quad word
 returns c =
     let s = c.args.s.now in
     let p = c.args.at in
-    let byte = c.type_inv.s in
-    rw (
-      word-drop s p 0,
-      word-drop s p 2,
-      add-zero,
-      c.word_at.ensures,
-      c.word_at-2.ensures,
-      mod-eq_of_lt (word_lt s p (byte p).fits (byte (p + 1)).fits),
-      mod-eq_of_lt (word_lt s (p + 2) (byte (p + 2)).fits (byte (p + 2 + 1)).fits),
-    )
+    rw (get_or-drop p s 0 0, get_or-drop p s 1 0, get_or-drop p s 2 0, get_or-drop p s 3 0, add-zero p)
+    (omega (arith, c.from_be_bytes.ensures))

@@ -1,13 +1,13 @@
 -- `records::sheet::support_cost` meets its contract. The loop's invariant: the nets left from place i on, above `least`
 -- and after `sum`, cost what the whole support costs. Assumes nothing.
-use Prim.Native.Nat.{◌+◌, ◌*◌, ◌<◌}
-use mathlib.Core.Path.{◌≡◌, sym, ◌∙◌}
+use Prim.Native.Nat.{ℕ, ◌+◌, ◌*◌, ◌<◌}
+use mathlib.Core.Path.{◌≡◌, sym, ◌∙◌, ap}
 use native.Mathlib.Omega.{arith}
 use lib.ListN.{length, get_or}
 use Rattle.records.specs.Service.{candidates_from}
 use Rattle.records.specs.Bytes.{word}
 use Rattle.records.specs.Inner.{word_column}
-use Rattle.records.proofs.Laws.Sheet.{column-at, length-column, Stands, found_at, support-start, support-end, support-low, support-odd, support-next}
+use Rattle.records.proofs.Laws.Sheet.{column-at, length-column, support_left, Stands, found_at, support-start, support-end, support-low, support-odd, support-next}
 use Rattle.records.proofs.sheet.support_cost.Goals as goal
 use Rattle.records.proofs.sheet.support_cost.Goals.{In-loop-i, In-Some}
 
@@ -55,7 +55,7 @@ loop-i-preserved c =
     let d = goal.at.loop-i-preserved c in
     let n = c.word_at-net.ensures ∙ net d.In-loop-i in
     let more = support-next _ _ _ _ _ _ _ _ n (short d.In-loop-i) _ _ _ c.if-net-least.false (stands d.In-Some) in
-    (omega arith, omega (arith, c.type_inv.weights c.in-Some.place), sym more ∙ c.loop-i.invariant.2)
+    (omega arith, omega (arith, c.type_inv.weights c.in-Some.place, c.from-sum.ensures), ap (λ (w : ℕ). support_left (word_column c.args.s.now 2 3 c.args.long) c.args.count c.args.nets.now c.args.weights.now (c.word_at-net.result + 1) (c.loop-i.sum + w) (c.loop-i.i + 1)) c.from-sum.ensures ∙ sym more ∙ c.loop-i.invariant.2)
 
 pub returns : goal.returns
 returns c =

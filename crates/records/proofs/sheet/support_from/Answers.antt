@@ -1,12 +1,11 @@
 -- `records::sheet::support_from` meets its contract. The loop's invariant: the places hold the first i nets, and zeros
 -- after them. Assumes nothing.
-use Prim.Native.Nat.{ℕ, ◌+◌, ◌*◌, ◌%◌}
+use Prim.Native.Nat.{ℕ}
 use mathlib.Core.Path.{◌≡◌, refl, sym, ◌∙◌, ap}
-use native.Mathlib.Nat.{mod-eq_of_lt}
 use native.Mathlib.Omega.{arith}
 use lib.ListN.{length, get_or}
 use Rattle.records.specs.Inner.{word_column}
-use Rattle.records.proofs.Laws.Sheet.{word_lt, column-at, length-column, ten, ten-next, ten-all}
+use Rattle.records.proofs.Laws.Sheet.{column-at, length-column, ten, ten-next, ten-all}
 use Rattle.records.proofs.sheet.support_from.Goals as goal
 
 pub loop-i-init : goal.loop-i-init
@@ -17,12 +16,9 @@ pub loop-i-preserved : goal.loop-i-preserved
 loop-i-preserved c =
     let a = c.args in
     let s = a.s.now in
-    let byte = c.type_inv.s in
-    let p = 2 * c.loop-i.i + 3 in
     let xs = word_column s 2 3 a.len in
-    let e : c.word_at.result % 65536 ≡ get_or xs c.loop-i.i 0 =
-    rw (c.word_at.ensures, column-at s 2 3 a.len c.loop-i.i (omega arith))
-    (mod-eq_of_lt (word_lt s p (byte p).fits (byte (p + 1)).fits)) in
+    let e : c.u16_at.result ≡ get_or xs c.loop-i.i 0 =
+    c.u16_at.ensures ∙ sym (column-at s 2 3 a.len c.loop-i.i (omega arith)) in
     (omega arith, rw (c.loop-i.invariant.1, e) (ten-next xs c.loop-i.i (omega (arith, length-column s 2 3 a.len)) (omega arith)))
 
 pub returns : goal.returns

@@ -3,10 +3,14 @@ use Rattle.records.specs.Inner.{holds}
 use Rattle.records.proofs.Laws.Counts.{passed, failed-of}
 use Rattle.records.proofs.writing.check_held.Goals as goal
 
-pub returns-then-first-second : goal.returns-then-first-second
+pub returns-then-old-golden : goal.returns-then-old-golden
 unfolding holds
-returns-then-first-second c = let a = c.args in passed (holds a.counts a.old a.old_outputs a.golden a.golden_outputs a.nets a.weights) c.if-first-second.true
+returns-then-old-golden c =
+    let l = c.args.lent in
+    passed (holds c.args.counts l.old.gates l.old.outputs l.golden.gates l.golden.outputs l.nets l.weights) c.if-old-golden.true
 
-pub returns : goal.returns
+pub returns-else-old-golden : goal.returns-else-old-golden
 unfolding holds
-returns c = let a = c.args in failed-of (holds a.counts a.old a.old_outputs a.golden a.golden_outputs a.nets a.weights) c.if-first-second.false
+returns-else-old-golden c =
+    let l = c.args.lent in
+    failed-of (holds c.args.counts l.old.gates l.old.outputs l.golden.gates l.golden.outputs l.nets l.weights) c.if-old-golden.false

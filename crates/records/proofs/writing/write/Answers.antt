@@ -1,7 +1,7 @@
 -- `records::writing::write` meets its contract: what its calls ask and what they leave are laws of `write_reply` and `written_bytes`.
 use Rattle.std.proofs.Common.{refl, ◌∙◌}
 use native.Mathlib.Omega.{arith}
-use Rattle.records.specs.Service.{Places, side_places, places, told_number}
+use Rattle.records.specs.Service.{Places, side_places, places}
 use Rattle.records.proofs.Laws.Option.{err-is}
 use Rattle.records.proofs.Laws.Reply.{replied}
 use Rattle.records.proofs.Laws.Writing.{Passed, tests-refuse, tests-pass, gates-held, rest-held, gates-put}

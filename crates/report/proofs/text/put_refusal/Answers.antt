@@ -5,8 +5,8 @@ use Rattle.report.proofs.Laws.Text.{refused_room}
 use Rattle.report.proofs.text.put_refusal.Goals as goal
 
 pub put_line-requires : goal.put_line-requires
-put_line-requires c = omega (arith, ap length c.requires, refused_room c.args.number (omega arith))
+put_line-requires c = omega (arith, ap length c.requires, refused_room c.from.result (omega arith))
 
 pub returns : goal.returns
 unfolding refused_text
-returns c = rw c.requires at c.put_line.ensures
+returns c = rw (c.requires, c.from.ensures) at c.put_line.ensures

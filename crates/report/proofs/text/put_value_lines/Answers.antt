@@ -1,7 +1,7 @@
 -- Two lines, the second behind the first.
-use Rattle.std.proofs.Common.{◌∙◌, ap, arith, List, [], ◌∷◌, ℕ, ◌++◌, length}
+use Rattle.std.proofs.Common.{[], ◌∷◌, ap, arith, length}
 use Rattle.report.specs.Text.{line, vectors_word}
-use Rattle.report.proofs.Laws.Line.{line-same, line-same_room, length-behind}
+use Rattle.report.proofs.Laws.Line.{bytes_room, bytes-line, length-behind}
 use Rattle.report.proofs.Laws.Text.{length-value_text, value-lines}
 use Rattle.report.proofs.text.put_value_lines.Goals as goal
 
@@ -13,7 +13,7 @@ put_line-requires c =
 pub put_line-requires-2 : goal.put_line-requires-2
 put_line-requires-2 c =
     let a = c.args in
-    line-same_room _ _ vectors_word a.vectors.now
+    bytes_room _ _ vectors_word a.vectors.now
     (omega (
       arith,
       ap length c.requires.empty,
@@ -26,4 +26,4 @@ pub returns : goal.returns
 returns c =
     let a = c.args in
     value-lines a.word.now a.x a.vectors.now c.requires.empty c.put_line.ensures
-    (c.put_line-2.ensures ∙ ap (λ (ys : List ℕ). c.put_line.new.text.items ++ ys) (line-same vectors_word a.vectors.now))
+    (bytes-line _ vectors_word a.vectors.now c.put_line-2.ensures)

@@ -22,17 +22,17 @@ returns-then-set-eq0 c =
     sym (step-none a.self.now a.set a.input (sym c.is_some.ensures ∙ c.if-is_some.false) (sym c.meets.ensures ∙ c.if-meets.false) c.if-set-eq0.true)
 
 pub append-requires : goal.append-requires
-append-requires c = (c.if-self-lt-VECTORS.true, omega (arith, c.lowest_of.ensures, lowest-lt c.args.set))
+append-requires c = (c.if-self-lt-VECTORS.true, omega (arith, c.lowest_of.ensures, lowest-lt c.from.result))
 
 pub returns-then-self-lt-VECTORS : goal.returns-then-self-lt-VECTORS
 returns-then-self-lt-VECTORS c =
     let a = c.args in
-    rw c.lowest_of.ensures at c.append.ensures
-    ∙ sym (step-append a.self.now a.set a.input (sym c.is_some.ensures ∙ c.if-is_some.false) (sym c.meets.ensures ∙ c.if-meets.false) c.requires
+    rw (c.lowest_of.ensures, c.from.ensures) at c.append.ensures
+    ∙ sym (step-append a.self.now a.set a.input (sym c.is_some.ensures ∙ c.if-is_some.false) (sym c.meets.ensures ∙ c.if-meets.false) (omega arith)
     c.if-set-eq0.false c.if-self-lt-VECTORS.true)
 
 pub returns-else-self-lt-VECTORS : goal.returns-else-self-lt-VECTORS
 returns-else-self-lt-VECTORS c =
     let a = c.args in
-    step-full a.self.now a.set a.input (sym c.is_some.ensures ∙ c.if-is_some.false) (sym c.meets.ensures ∙ c.if-meets.false) c.requires
+    step-full a.self.now a.set a.input (sym c.is_some.ensures ∙ c.if-is_some.false) (sym c.meets.ensures ∙ c.if-meets.false) (omega arith)
     c.if-set-eq0.false (omega arith) (omega arith)

@@ -1,6 +1,7 @@
 -- `engine::pick::Priced::better_of` meets its contract: what is cheaper is taken as it is, and else the gates of both are counted. Assumes
 -- nothing.
-use mathlib.Core.Path.{◌≡◌, refl, sym, ◌∙◌}
+use mathlib.Core.Path.{◌≡◌, refl, sym, ◌∙◌, ap}
+use Rattle.std.specs.Prelude.{Some}
 use Rattle.records.specs.Job.{Job}
 use Rattle.engine.specs.Inner.Best.{PricedOf, OpenOf, CountedOf}
 use Rattle.engine.specs.declared.pick.Pick.{Pick}
@@ -16,10 +17,10 @@ returns-then-from-best-2 c j w g h = best-itself j w _ g c.if-from-best-2.true
 
 -- the support that is open, with its gates counted
 fresh : (c : After-precedes) (j : Job) {r : Pick} → let a = c.args in PricedOf j a.self.now → OpenOf j 0 a.from a.sets.now
-    → (r.set ≡ a.from.set) × (r.cost ≡ a.from.cost) × (r.len ≡ a.from.len) → r.gates ≡ c.patch_gates.result → CountedOf j r
+    → (r.set ≡ a.from.set) × (r.cost ≡ a.from.cost) × (r.len ≡ a.from.len) → r.gates ≡ Some c.patch_gates.result → CountedOf j r
 fresh c j w h s e =
     let p = closed-pick j w h in
-    counted-now j p s (e ∙ c.patch_gates.ensures j _ (closed-sets j h) (sym p.len) (sym w.targets))
+    counted-now j p s (e ∙ ap Some (c.patch_gates.ensures j _ (closed-sets j h) (sym p.len) (sym w.targets)))
 
 pub returns-then-precedes : goal.returns-then-precedes
 returns-then-precedes c j w g h =

@@ -7,4 +7,4 @@ use Rattle.engine.proofs.pick.Priced.counted.Goals as goal
 pub patch_gates-requires : goal.patch_gates-requires
 patch_gates-requires c =
     let few = c.args.pick.few in
-    (few, omega (arith, readings-many few), c.args.self.now.few_targets)
+    (few, omega (arith, readings-many few), c.args.self.now.targets_bound)

@@ -2,10 +2,11 @@
 -- there on. Assumes nothing.
 use Prim.Native.Nat.{suc, ◌-◌}
 use mathlib.Core.Path.{◌≡◌}
-use mathlib.Core.Logic.{⊎_elim}
 use native.Mathlib.Omega.{arith}
+use borrow.Author.Tests.{eqb-true, eqb-false, tests}
 use lib.ListN.{length}
-use Rattle.engine.proofs.Laws.Picked.{in-or-out}
+use Rattle.std.proofs.Common.{rules}
+use Rattle.engine.specs.Eval.{bit}
 use Rattle.engine.proofs.Laws.Pick.{sets-all, sets-none, sets-kept, sets-out}
 use Rattle.engine.proofs.Laws.Rule.{readings-many}
 use Rattle.engine.proofs.pick.Priced.sets_of.Goals as goal
@@ -22,14 +23,16 @@ leave_out-requires c =
     let o = readings-many {k = l.len - 1} (omega (arith, l.invariant.1)) in
     (omega (arith, l.invariant.0), l.invariant.1, omega arith, omega arith)
 
-pub loop-i-preserved-then-set-i-eq0 : goal.loop-i-preserved-then-set-i-eq0
-loop-i-preserved-then-set-i-eq0 c =
+pub loop-i-preserved-then-not-has : goal.loop-i-preserved-then-not-has
+unfolding bit
+loop-i-preserved-then-not-has c =
     let l = c.loop-i in
     let p = c.args.self.now in
     let e : suc (l.i - 1) ≡ l.i = omega arith in
-    (omega arith, omega arith, sets-out p.sets.now (length p.nets.now) c.args.set (l.i - 1) l.len l.sets (omega arith) (rw e l.invariant.2) c.if-set-i-eq0.true c.leave_out.ensures)
+    (omega arith, omega arith, sets-out p.sets.now (length p.nets.now) c.args.set (l.i - 1) l.len l.sets (omega arith) (rw e l.invariant.2) (omega (arith, eqb-false (bit (l.i - 1) c.args.set) 1 (search (rules, tests)))) c.leave_out.ensures)
 
 pub loop-i-preserved : goal.loop-i-preserved
+unfolding bit
 loop-i-preserved c =
     let l = c.loop-i in
     let p = c.args.self.now in
@@ -37,7 +40,7 @@ loop-i-preserved c =
       omega arith,
       omega arith,
       sets-kept p.sets.now (length p.nets.now) c.args.set (l.i - 1) l.len l.sets (omega arith) (rw e l.invariant.2)
-          (⊎_elim (λ o. o) (λ o. absurd (c.if-set-i-eq0.false o)) (in-or-out _)),
+          (eqb-true _ 1 (search (rules, tests))),
     )
 
 pub returns : goal.returns

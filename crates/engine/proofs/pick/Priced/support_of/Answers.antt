@@ -4,6 +4,8 @@ use Prim.Native.Nat.{ℕ, ◌+◌, ◌<◌}
 use mathlib.Core.Path.{◌≡◌, refl, sym, ◌∙◌, ap}
 use mathlib.Core.List.{List}
 use native.Mathlib.Omega.{arith}
+use borrow.Author.Tests.{eqb-true, eqb-false, tests}
+use Rattle.std.proofs.Common.{rules}
 use lib.ListN.{length, get_or, set, length-set}
 use lib.Seq.{take-length}
 use Rattle.engine.specs.Eval.{bit}
@@ -13,7 +15,7 @@ use Rattle.engine.proofs.Laws.PlanCode.{replicate-le}
 use Rattle.engine.proofs.Laws.Picked.{picks-in, length-picked-in, picked-take-out}
 use Rattle.engine.proofs.pick.Priced.support_of.Invariants.{Picking}
 use Rattle.engine.proofs.pick.Priced.support_of.Goals as goal
-use Rattle.engine.proofs.pick.Priced.support_of.Goals.{then-set-i-eq1, else-set-i-eq1}
+use Rattle.engine.proofs.pick.Priced.support_of.Goals.{then-has, else-has}
 
 -- a turn that picks the net, and one that does not
 module _ (is : List ℕ) (s i : ℕ) (ps : List ℕ) (len : ℕ) (ps' : List ℕ) (len' : ℕ) (h : i < length is) (few : i < 10)
@@ -53,9 +55,9 @@ loop-i-preserved c =
     let l = c.loop-i in
     let k : l.i < 10 = omega (arith, p.few) in (
       omega arith,
-      elim c.if-set-i-eq1.branch [
-        | then-set-i-eq1 w ↦ turn_in is s l.i l.picks l.len _ _ (omega arith) k l.invariant.1 w.if-set-i-eq1.true w.picks-is w.len-is
-        | else-set-i-eq1 w ↦ turn-out is s l.i l.picks l.len _ _ (omega arith) k l.invariant.1 w.if-set-i-eq1.false w.picks-is w.len-is
+      elim c.if-has.branch [
+        | then-has w ↦ turn_in is s l.i l.picks l.len _ _ (omega arith) k l.invariant.1 (eqb-true _ 1 (search (rules, tests))) w.picks-is w.len-is
+        | else-has w ↦ turn-out is s l.i l.picks l.len _ _ (omega arith) k l.invariant.1 (eqb-false _ 1 (search (rules, tests))) w.picks-is w.len-is
       ],
     )
 
@@ -66,4 +68,4 @@ returns c =
     let e : l.i ≡ length is = omega arith in
     let p = l.invariant.1 in
     let t = take-length is in
-    (record { len = rw (e, t) at p.long; nets = rw (e, t) at p.nets }, λ b. record { long = p.places; below = p.below b; few = omega (arith, p.most) })
+    (record { len = rw (e, t) at p.long; nets = rw (e, t) at p.nets }, λ b. record { below = p.below b; few = omega (arith, p.most) })

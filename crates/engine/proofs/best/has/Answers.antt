@@ -1,0 +1,8 @@
+-- `engine::best::has` meets its contract by computing. Assumes nothing.
+use mathlib.Core.Path.{refl}
+use Rattle.engine.specs.Eval.{bit}
+use Rattle.engine.proofs.best.has.Goals as goal
+
+pub returns : goal.returns
+unfolding bit
+returns c = refl

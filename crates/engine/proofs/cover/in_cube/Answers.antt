@@ -1,7 +1,0 @@
--- `engine::cover::in_cube` meets its contract: where the reading differs from the value, care has no bit. Assumes nothing.
-use borrow.Author.Tests.{eqb-true}
-use Rattle.engine.proofs.Laws.Cover.{in-cube}
-use Rattle.engine.proofs.cover.in_cube.Goals as goal
-
-pub returns : goal.returns
-returns c e = in-cube _ _ _ (eqb-true _ 0 e)

@@ -1,5 +1,0 @@
--- `report::text::put_digits` ends since x falls.
-use Rattle.report.proofs.text.+put_digits.Given as goal
-
-abbrev pub decreases-put_digits : goal.decreases-put_digits
-decreases-put_digits l = l.x
