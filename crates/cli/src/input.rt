@@ -1,5 +1,5 @@
 // Arguments, and a file or standard input read into a lent buffer. What fails is told on standard error in one line: the name, and why.
-ghost use Rattle.std.specs.Prelude.{◌≡◌, IfOk, IfErr};
+ghost use Rattle.std.specs.Prelude.{◌≡◌, ◌≤◌, length, IfSome, IfOk, IfErr};
 ghost use Rattle.io.specs.Counts.{IsPrefixLen};
 
 use super::output::tell;
@@ -86,7 +86,9 @@ pub fn read_argument(rt: &impl Runtime, i: usize, buf: &mut [u8]) -> Result<usiz
 }
 
 // The text of argument i, in the lent buffer; none where there is no such argument, or one that is longer or no UTF-8.
-pub fn argument<'a>(rt: &impl Env, i: usize, buf: &'a mut [u8]) -> Option<&'a str> {
+pub fn argument<'a>(rt: &impl Env, i: usize, buf: &'a mut [u8]) -> Option<&'a str>
+    ensures { IfSome result (λ word. length word.now ≤ length buf.old) }
+{
     let len = rt.arg(i, buf).ok()?;
     str::from_utf8(&buf[..len]).ok()
 }
