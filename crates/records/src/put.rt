@@ -22,8 +22,7 @@ fn put_head(buf: &mut [u8], at: usize, tag: u8, len: usize) -> usize
     ensures { (result ≡ at + 3) × (buf.new ≡ placed buf.old at (tag ∷ byte_pair len)) }
 {
     buf[at] = tag;
-    buf[at + 1] = (len / 256 % 256) as u8;
-    buf[at + 2] = (len % 256) as u8;
+    put_word(buf, at + 1, len as u16);
     at + 3
 }
 
@@ -133,8 +132,8 @@ pub(super) fn put_rest(
         result.len result.bytes) }
 {
     let mut first = headed(bytes, 0, 1, 2);
-    first[3] = (counts.inputs % 256) as u8;
-    first[4] = (counts.targets % 256) as u8;
+    first[3] = counts.inputs as u8;
+    first[4] = counts.targets as u8;
     let sized = JobBytes {
         bytes: first,
         len: 5,

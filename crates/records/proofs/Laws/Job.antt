@@ -4,7 +4,7 @@ use Prim.Native.Nat.{ℕ, zero, suc, ◌+◌, ◌*◌, ◌/◌, ◌%◌, ◌≤�
 use mathlib.Core.Path.{◌≡◌, refl, sym, ◌∙◌, ap}
 use mathlib.Core.List.{List, [], ◌∷◌, ◌++◌, map, append_assoc, append-nil}
 use mathlib.Core.Bool.{true}
-use native.Mathlib.Nat.{zero-add, mul-zero, mul-suc, mul-le-mul_left, mod-eq_of_lt}
+use native.Mathlib.Nat.{zero-add, mul-zero, mul-suc, mul-le-mul_left}
 use native.Mathlib.Numerals.{add-one}
 use native.Mathlib.Omega.{arith}
 use lib.ListN.{length, get_or, take, drop, set, length-append, length-set, length-map, get_or-append}
@@ -104,10 +104,8 @@ sets-placed d at xs h = sets-eq xs d at h
 pub high_byte : (x : ℕ) → x < 65536 → x / 256 % 256 ≡ x / 256
 high_byte x h = omega arith
 
-pub two_bytes : (d : List ℕ) (a x y : ℕ) → x < 256 → y < 256 → a + 2 ≤ length d
-    → set (set d a (x % 256)) (a + 1) (y % 256) ≡ placed d a (x ∷ y ∷ [])
-two_bytes d a x y h l r =
-    rw (mod-eq_of_lt h, mod-eq_of_lt l, add-one) (sets-placed d a (x ∷ y ∷ []) (omega arith))
+pub two_bytes : (d : List ℕ) (a x y : ℕ) → a + 2 ≤ length d → set (set d a x) (a + 1) y ≡ placed d a (x ∷ y ∷ [])
+two_bytes d a x y r = rw add-one (sets-placed d a (x ∷ y ∷ []) (omega arith))
 
 -- xs put at a position, and then ys behind it
 pub placed-then : (d : List ℕ) {d₁ d₂ : List ℕ} (at : ℕ) (xs ys : List ℕ) (p : ℕ)

@@ -26,7 +26,7 @@ returns c =
       ap length c.put_column-fourth.ensures ∙ length-spread _ _ 4 _ _ (omega (arith, within, netted)) ∙ netted,
       λ gs hs g.
           job-done c.args.bytes (job-bounds _ b g) b.within g b.room c.headed-first.ensures
-          (two_bytes c.headed-first.result 3 _ _ (omega arith) (omega arith) (omega (arith, first)))
+          (two_bytes c.headed-first.result 3 _ _ (omega (arith, first)))
           c.put_side-old.ensures.1 c.put_side-golden.ensures.1 c.headed-second.ensures
           c.put_column-third.ensures c.put_column-fourth.ensures,
     )
