@@ -1,7 +1,7 @@
 -- Laws of covers by cubes (specs/Inner/Cover). Assumes nothing.
 use Prim.Native.Nat.{ℕ, ◌+◌, ◌-◌, ◌*◌, ◌/◌, ◌%◌, ◌^◌, min, ◌≤◌, ◌<◌}
 use mathlib.Core.Path.{◌≡◌, sym, ◌∙◌, ap}
-use mathlib.Core.Logic.{◌⊎◌, inl, inr, ⊎_elim}
+use mathlib.Core.Logic.{inl, inr, ⊎_elim}
 use mathlib.Core.List.{List, map}
 use mathlib.Core.Bool.{Bool, false, cond}
 use native.Mathlib.Omega.{arith}
@@ -12,7 +12,7 @@ use lib.ListN.{length, get_or, take, set, replicate}
 use lib.Seq.{get_or-set_same, get_or-set_other, get_or-take, length-take-le}
 use Rattle.std.specs.Prelude.{Option, Some, None, MatchOption}
 use Rattle.engine.specs.Eval.{bit, number_of}
-use Rattle.engine.specs.Inner.Cover.{NextUnseen, InCube, no_cube, InCover, CubeAdded, CoverTo, reading_in}
+use Rattle.engine.specs.Inner.Cover.{NextUnseen, InCube, no_cube, InCover, CubeAdded, reading_in}
 use Rattle.engine.specs.Inner.Kernel.{Filled, row_value, value_in}
 use Rattle.engine.specs.declared.cube.Cover.{Cover}
 use Rattle.engine.specs.declared.cube.Cube.{Cube}
@@ -114,15 +114,6 @@ cubes-at {c} e l h m =
     let k = m.place in
     let t : length (take c.count c.cubes) ≡ c.count = length-take-le c.count c.cubes (omega (arith, c.few)) in
     (k, omega (arith, m.within, ap length e), rw (e, get_or-take c.count c.cubes k no_cube m.within) m.cube)
-
-module _ (ss : List ℕ) {r : ℕ} {e c : Cover} where
-  -- one reading more
-  pub cover-next : CoverTo ss r e c → (bit 16 (get_or ss r 0) ≡ 1 → InCover e r ⊎ InCover c r) → CoverTo ss (r + 1) e c
-  cover-next a m q l o =
-      ⊎_elim (λ (i : q ≡ r). rw i (m (rw i at o))) (λ (b : q < r). a q b o) (eq-or-below q r l)
-
-  pub cover-more : {u : Cube} {d : Cover} → CoverTo ss r e c → CubeAdded c u d → CoverTo ss r e d
-  cover-more a m q l o = ⊎_elim inl (λ i. inr (m.kept q i)) (a q l o)
 
 -- a cube that asks for nothing
 pub cover_all : {c : Cover} → c.count ≡ 1 → c.cubes ≡ replicate 64 no_cube → (q : ℕ) → InCover c q

@@ -182,9 +182,6 @@ vectors-distinct j = (loop-finished j).listing.distinct
 pub vectors-below : (j : Job) (v : ℕ) → Mem v (vector_loop j).vectors → v < 2 ^ j.targets
 vectors-below j = (loop-finished j).listing.below
 
-pub vectors-nonempty : (j : Job) → 1 ≤ length (vector_loop j).vectors
-vectors-nonempty j = (loop-finished j).listing.nonempty
-
 pub length-vectors-le : (j : Job) → length (vector_loop j).vectors ≤ 2 ^ j.targets
 length-vectors-le j = listing-length j (vector_loop j).vectors (loop-finished j).listing
 

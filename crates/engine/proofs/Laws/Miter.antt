@@ -289,11 +289,6 @@ module _ (j : Job) (p : PartsGood j) where
       all-mapped (shifted_net j.inputs (shift_of j)) (miter_nets j) j.golden.outputs
       (λ i m. shifted-golden-lt j i (golden-output-below i m))
 
-  -- .. of which there is room for 1,024
-  pub outputs-below : all (λ i. ltb i 1024) j.old.outputs ≡ true
-  outputs-below =
-      all-below-more (miter_nets j) 1024 (omega (arith, miter-nets j p)) j.old.outputs outputs-nets
-
   -- no target leads to a candidate
   pub candidates-good : all (candidate_good j) (candidate_nets j) ≡ true
   unfolding candidates_good candidate_nets

@@ -5,18 +5,17 @@ use mathlib.Core.Path.{◌≡◌, refl, sym, ◌∙◌, ap, subst}
 use mathlib.Core.Logic.{inl, inr, ⊎_elim}
 use mathlib.Core.List.{List, [], ◌∷◌, map}
 use mathlib.Core.Bool.{Bool, true, false, cond, ◌&&◌}
-use native.Mathlib.Nat.{eq-zero-or-pos}
 use native.Mathlib.Omega.{arith}
 use borrow.Author.Tests.{ltb-true, ltb-false, lt-ltb, le-ltb}
 use lib.Dec.{ltb, lit<}
 use lib.Bits.{bit_xor}
-use lib.ListN.{length, get_or, set, take, drop, replicate, length-map, length-set, length-take, get_or-map, get_or-eq_default}
+use lib.ListN.{length, get_or, set, take, drop, replicate, length-map, get_or-map}
 use lib.Pow.{pow_pos, pow_mono}
-use lib.Seq.{get_or-set_same, get_or-set_other, get_or-take, take-length}
+use lib.Seq.{take-length}
 use Rattle.records.specs.Bytes.{all}
 use Rattle.records.specs.Netlist.{net_at}
 use Rattle.records.specs.Job.{Job}
-use Rattle.records.specs.Claims.{Below, PartsGood}
+use Rattle.records.specs.Claims.{PartsGood}
 use Rattle.records.specs.Refusal.{candidate_good}
 use Rattle.engine.specs.Choice.{same}
 use Rattle.engine.specs.Eval.{bit, number_of}
@@ -101,14 +100,6 @@ module _ (gates words : List ℕ) where
   pub run-end : (i y : ℕ) → length gates ≤ i → evaluated code_value (values_at words y) (drop i gates) ≡ values_at words y
   run-end i y l = rw (take-length gates) at (evaluated-end code_value (values_at words y) gates (length gates) i (omega arith) l)
 
--- a front of nets is below what they are below
-pub below_front : (n k : ℕ) (xs : List ℕ) → 0 < n → Below n xs → Below n (take k xs)
-below_front n k xs p h i =
-    ⊎_elim
-    (λ (e : k - i ≡ 0). rw (get_or-eq_default (take k xs) 0 {n = i} (omega (arith, length-take k xs))) p)
-    (λ (e : 0 < k - i). rw (get_or-take k xs i 0 (omega arith)) (h i))
-    (eq-zero-or-pos (k - i))
-
 -- ---- leaves
 
 module _ (n v : ℕ) where
@@ -121,21 +112,6 @@ module _ (n v : ℕ) where
   pub leaf-of-target : (y i : ℕ) {b : ℕ} → n ≤ i → b ≡ bit (i - n) v → b ≡ leaf_at n v y i
   unfolding leaf_at
   leaf-of-target y i l e = rw (le-ltb i n l) e
-
-  pub loaded-none : (words : List ℕ) → LeavesLoaded n v 0 words words
-  loaded-none words = record { long = refl; leaves = λ y i h l. let z : ⊥ = omega arith in absurd z }
-
-  pub loaded-next : (k x : ℕ) {before words : List ℕ} → LeavesLoaded n v k before words → k < length words
-      → ((y : ℕ) → y < 64 → bit y x ≡ leaf_at n v y k) → LeavesLoaded n v (k + 1) before (set words k x)
-  loaded-next k x {words = words} d h e =
-      record {
-        long = length-set words k x ∙ d.long;
-        leaves = λ y i l m.
-            ⊎_elim
-            (λ (z : k - i ≡ 0). let q : i ≡ k = omega arith in rw (q, get_or-set_same words k x 0 h) (e y l))
-            (λ (z : 0 < k - i). ap (bit y) (get_or-set_other words k i x 0 (λ q. omega arith)) ∙ d.leaves y i l (omega arith))
-            (eq-zero-or-pos (k - i));
-      }
 
 -- ---- the values of all nets
 

@@ -1,32 +1,31 @@
 -- Laws of the search for the chosen support: a pick that is open up to a place stands for all sets that agree with it from there on.
 -- Those that are sound are parts of its support, none of them costs less, and leaving out or keeping the net below the place splits
 -- them in two. Assumes nothing.
-use Prim.Native.Nat.{ℕ, suc, ◌+◌, ◌-◌, ◌*◌, ◌/◌, ◌%◌, ◌^◌, ◌≤◌, ◌<◌}
+use Prim.Native.Nat.{ℕ, suc, ◌+◌, ◌-◌, ◌*◌, ◌/◌, ◌%◌, ◌^◌, ◌<◌}
 use mathlib.Core.Path.{◌≡◌, refl, sym, ◌∙◌, ap}
 use mathlib.Core.Logic.{◌⊎◌, inl, inr, ⊎_elim}
 use mathlib.Core.List.{List, [], ◌∷◌, ◌++◌, map}
-use mathlib.Core.Bool.{Bool, true, false, true≢false, ◌&&◌, ◌||◌}
+use mathlib.Core.Bool.{Bool, true, false, ◌&&◌, ◌||◌}
 use native.Mathlib.Nat.{pow-suc, div-one, div-eq_of_lt}
 use native.Mathlib.Omega.{arith}
 use borrow.Author.Tests.{eqb-true}
 use lib.Dec.{ltb, eqb}
 use lib.Pow.{pow_pos, shr-shr}
-use lib.ListN.{length, get_or, take, drop, length-append, length-map, length-take}
+use lib.ListN.{length, get_or, take, drop, length-append, length-map}
 use lib.Seq.{length-take-le, take-length, drop-length}
 use Rattle.std.specs.Prelude.{Some, None}
-use Rattle.std.specs.Option.{is_some}
 use Rattle.records.specs.Job.{Job, Candidate}
 use Rattle.records.specs.Refusal.{ascending}
 use Rattle.records.proofs.Laws.Bytes.{false_of}
 use Rattle.records.specs.declared.sheet.Support.{Support}
 use Rattle.engine.specs.Support.{sound, candidate_nets, cost, patch_gates, earlier, better, chosen}
 use Rattle.std.specs.List.{sum}
-use Rattle.engine.specs.Inner.Best.{picked, low_first, before, open_at, candidate_weights, SetsOf, GivenBits, LeftOut, OpenPick, PricedOf, PickOf, CountedOf, OpenOf, BestFrom, PickedNets, HeldSupport, Choosable, ChosenOf}
+use Rattle.engine.specs.Inner.Best.{picked, low_first, before, open_at, candidate_weights, SetsOf, GivenBits, LeftOut, OpenPick, PricedOf, PickOf, CountedOf, OpenOf, BestFrom, PickedNets, Choosable, ChosenOf}
 use Rattle.engine.specs.declared.pick.Pick.{Pick}
 use Rattle.engine.specs.declared.pick.Priced.{Priced}
 use Rattle.engine.proofs.Laws.Best.{better-irrefl, better-trans, better-neither, chosen-unique}
 use Rattle.engine.proofs.Laws.Choice.{not-both, true-or-false}
-use Rattle.engine.proofs.Laws.Picked.{length-picked-le, picked_all, picked-subset, subset-picked, sum-from-le, open_none, open-all, open-among, open-suc, open_in, open-out, sum-in, sum-out, above-first, ranked, low-earlier, cost-picked, nets-from, weights-from, in-or-out}
+use Rattle.engine.proofs.Laws.Picked.{picked_all, picked-subset, subset-picked, sum-from-le, open_none, open-all, open-among, open-suc, open_in, open-out, sum-in, sum-out, above-first, ranked, low-earlier, cost-picked, nets-from, weights-from, in-or-out}
 use Rattle.engine.proofs.Laws.Sets.{left-sets, left-given, left-sound, left-unsound}
 use Rattle.engine.proofs.Laws.Support.{sound-mono}
 
@@ -117,10 +116,6 @@ module _ (j : Job) where
   sound-open i s e = sound-mono j (at s) (open_at (candidate_nets j) i (s / 2 ^ i)) (open-among (candidate_nets j) i s) e
 
   -- ---- where gates are counted
-
-  -- a pick with gates has had them counted
-  pub counted-before : {p : Pick} {n : ℕ} → PickOf j p → p.gates ≡ Some n → CountedOf j p
-  counted-before h l = record { pick = h; gates = ⊎_elim (λ z. absurd (true≢false (ap is_some (sym l ∙ z)))) (λ e. e) h.gates }
 
   pub counted-now : {p r : Pick} → PickOf j p → (r.set ≡ p.set) × (r.cost ≡ p.cost) × (r.len ≡ p.len)
       → r.gates ≡ Some (patch_gates j (at p.set)) → CountedOf j r
@@ -423,14 +418,6 @@ module _ (ss : List ℕ) (n s q len : ℕ) (ps : List ℕ) (l : q < n) (f : Sets
       )
 
 -- ---- from all candidates to the chosen support
-
--- the nets that a set picks stand in ten places
-pub picked-held : (is : List ℕ) {s : ℕ} {r : Support} → length is ≤ 10 → PickedNets is s r → HeldSupport r
-picked-held is {s} {r} few p =
-    record {
-      few = omega (arith, p.len, length-picked-le is s);
-      held = omega (arith, p.len, ap length p.nets, length-take r.len r.nets);
-    }
 
 module _ {j : Job} {v : Priced} (h : Choosable j v) where
   abbrev is : List ℕ

@@ -12,12 +12,12 @@ use borrow.Author.Tests.{ltb-true}
 use lib.Dec.{ltb}
 use lib.ListN.{length, get_or, take, length-append, take-append-drop, get_or-append}
 use lib.Seq.{slice, length-take-le, take_all, take-take, get_or_at, get_or-take}
-use Rattle.records.specs.Bytes.{tabulate, all, placed}
+use Rattle.records.specs.Bytes.{all}
 use Rattle.records.specs.Gate.{Gate, operands}
 use Rattle.records.specs.Netlist.{net_at, extended, value_of, values}
 use Rattle.records.specs.Job.{Job}
 use Rattle.records.specs.Refusal.{gate_good, gates_good}
-use Rattle.records.proofs.Laws.Bytes.{and_both, all_cons, length-tabulate, length-placed}
+use Rattle.records.proofs.Laws.Bytes.{and_both, all_cons}
 use Rattle.records.proofs.Laws.Gate.{gate_good-count}
 use Rattle.engine.specs.Inner.Packed.{own, packed, packed_from, formed, evaluated}
 use Rattle.engine.specs.Inner.Miter.{miter_gates, miter_nets, miter_values}
@@ -94,13 +94,6 @@ extended-completed d (g ∷ gs) known nets a e f c =
     (omega (arith, length-append known (v ∷ [])))
     (omega (arith, length-append nets (w ∷ [])))
     (completed-append d known nets v w e f c (gate-completes d known nets c g (good-first d g gs a))))
-
--- ---- places
-
--- loading keeps the length
-pub length-loaded : (d₀ d : List ℕ) (at n : ℕ) (g : ℕ → ℕ) → d ≡ placed d₀ at (tabulate n g) → at + n ≤ length d₀
-    → length d ≡ length d₀
-length-loaded d₀ d at n g e h = ap length e ∙ length-placed d₀ at (tabulate n g) (omega (arith, length-tabulate n g))
 
 -- ---- a plan's gates
 

@@ -2,7 +2,7 @@
 -- step of the vector list on the places that hold it. Assumes nothing.
 use Prim.Native.Nat.{ℕ, ◌+◌, ◌/◌, ◌%◌, ◌^◌, ◌≤◌, ◌<◌}
 use mathlib.Core.Path.{◌≡◌, refl, sym, ◌∙◌, ap}
-use mathlib.Core.List.{List, [], ◌∷◌, ◌++◌, map}
+use mathlib.Core.List.{List, [], ◌∷◌, ◌++◌}
 use mathlib.Core.Bool.{Bool, true, false, ◌||◌, true≢false, false≢true}
 use mathlib.Core.Option.{none, some}
 use Rattle.std.specs.Prelude.{Option, Some, None}
@@ -10,26 +10,16 @@ use Rattle.std.specs.Option.{is_some}
 use native.Mathlib.Numerals.{add-one}
 use native.Mathlib.Omega.{arith}
 use borrow.Author.Tests.{eq-eqb, ne_eqb}
-use lib.ListN.{length, get_or, take, drop, set, length-take, length-map}
-use lib.Pow.{pow_mono}
+use lib.ListN.{length, get_or, take, drop, set, length-take}
 use lib.Seq.{drop-cons, take-suc-set, get_or-take}
 use Rattle.engine.specs.Choice.{any, or_zero}
-use Rattle.engine.specs.Eval.{bit, number_of}
+use Rattle.engine.specs.Eval.{bit}
 use Rattle.engine.specs.Inner.List.{lowest, stuck_at, listed_of, list_step}
 use Rattle.engine.specs.declared.list.Vectors.{Vectors}
-use Rattle.engine.proofs.Laws.Eval.{bit-lt, bits-map, number_of-lt}
 use Rattle.engine.proofs.Laws.VectorSets.{in_set, lowest-zero, lowest-some}
 use Rattle.engine.proofs.Laws.List.{list_step-stuck, list_step-listed, list_step-none, list_step-full, list_step-append}
 
 -- ---- gathered bits
-
-pub number_of-bits-lt : (j k : ℕ) (ws : List ℕ) → length ws ≤ k → number_of (map (bit j) ws) < 2 ^ k
-number_of-bits-lt j k ws h =
-    omega
-    (arith, number_of-lt (bits-map (bit j) (bit-lt j) ws), ap (λ (n : ℕ). 2 ^ n) (length-map ws (bit j)), pow_mono h)
-
-pub gathered-lt : (j count k : ℕ) (ws : List ℕ) → count ≤ k → number_of (map (bit j) (take count ws)) < 2 ^ k
-gathered-lt j count k ws h = number_of-bits-lt j k (take count ws) (omega (arith, length-take count ws))
 
 -- ---- the vectors of a set
 

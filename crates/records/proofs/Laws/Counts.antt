@@ -151,10 +151,6 @@ pub room-facts : (a b c d e f : ℕ) → room a b c d e f ≡ true
 unfolding room
 room-facts a b c d e f h = six-facts 400 a 32 b 400 c 32 d 10 e 10 f h
 
-pub room-true : (a b c d e f : ℕ) → (400 ≤ a) × (32 ≤ b) × (400 ≤ c) × (32 ≤ d) × (10 ≤ e) × (10 ≤ f) → room a b c d e f ≡ true
-unfolding room
-room-true a b c d e f h = six-true 400 a 32 b 400 c 32 d 10 e 10 f h
-
 -- ---- places that hold so many
 
 module _ (n : Counts) (a b c d e f : ℕ) where

@@ -42,9 +42,6 @@ module _ (d : List ℕ) (at : ℕ) (gs : List Gate) where
   unfolding gates_bytes gates_in flat
   bytes-none = placed-nil d at
 
-  pub length-bytes : (n : ℕ) → n ≤ length gs → at + 10 * n ≤ length d → length (with-bytes n) ≡ length d
-  length-bytes n h r = length-placed d at (gates_bytes n gs) (omega (arith, length-gates_bytes n gs h))
-
   gates_bytes-snoc : (i : ℕ) → i < length gs → gates_bytes (i + 1) gs ≡ gates_bytes i gs ++ gate_bytes (gate_from (get_or gs i no_gate))
   unfolding gates_bytes gates_in
   gates_bytes-snoc i h =

@@ -4,7 +4,7 @@ use Prim.Native.Nat.{ℕ, zero, suc, ◌+◌, ◌*◌, ◌/◌, ◌%◌, ◌≤�
 use mathlib.Core.Path.{◌≡◌, refl, sym, ◌∙◌, ap}
 use mathlib.Core.List.{List, [], ◌∷◌, ◌++◌, map, append_assoc, append-nil}
 use mathlib.Core.Bool.{true}
-use native.Mathlib.Nat.{zero-add, mul-zero, mul-suc, mul-le-mul_left}
+use native.Mathlib.Nat.{zero-add, mul-zero, mul-suc}
 use native.Mathlib.Numerals.{add-one}
 use native.Mathlib.Omega.{arith}
 use lib.ListN.{length, get_or, take, drop, set, length-append, length-set, length-map, get_or-append}
@@ -12,9 +12,8 @@ use lib.Seq.{length-take-le, take-suc, take-append_seam, drop-append_seam, sets,
 use Rattle.records.specs.Bytes.{up_from, tabulate, flat, byte_pair, placed, field}
 use Rattle.records.specs.Gate.{Gate, gate_of}
 use Rattle.records.specs.Job.{Job, Candidate, gate_bytes, candidate_bytes, job_bytes}
-use Rattle.records.specs.Refusal.{longest_job}
 use Rattle.records.specs.Service.{SidePlaces, Places, gate_from, side_counts_of, counts_of, gates_in, netlist_from, candidates_from, job_from, side_held, held}
-use Rattle.records.specs.Inner.{Within, gates_bytes, holds}
+use Rattle.records.specs.Inner.{gates_bytes, holds}
 use Rattle.records.specs.declared.gate.Gate.{Gate as GateStruct}
 use Rattle.records.specs.declared.job.SideCounts.{SideCounts}
 use Rattle.records.specs.declared.job.Counts.{Counts}
@@ -69,9 +68,6 @@ tabulate-get_or xs (suc n) h =
 
 pub next-record : (size i : ℕ) → size * (i + 1) ≡ size * i + size
 next-record size i = rw (add-one, mul-suc)
-
-pub record-within : (size i n : ℕ) → i < n → size * i + size ≤ size * n
-record-within size i n h = rw mul-suc at (mul-le-mul_left size h)
 
 -- ---- a list placed at the front
 
@@ -313,6 +309,3 @@ module _ {c : Counts} {p : Places} (b : JobBounds c p) where
   length-job_from =
       length-job_bytes (job_from c p) (ten-in c.old.gates p.old.gates) (ten-in c.golden.gates p.golden.gates)
       ∙ ap job_size counts_of-job_from
-
-  pub job_from-short : Within c → length (job_bytes (job_from c p)) ≤ longest_job
-  job_from-short w = omega (arith, length-job_from)

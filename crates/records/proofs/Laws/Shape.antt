@@ -84,11 +84,6 @@ unfolding candidates_of
 length-candidates_of s = length-tabulate (length s / 4) _
 
 module _ (s : List ℕ) (w : JobWhole s) where
-  -- the first field's bytes stand at 3 and 4
-  pub sizes-room : 5 ≤ length s
-  unfolding start_of
-  sizes-room = omega (arith, w.sizes, start_of-le job_tags s w.fields 0 (omega arith))
-
   sizes-at : (i : ℕ) → i < 2 → get_or (nth 0 s) i 0 ≡ get_or s (3 + i) 0
   unfolding start_of
   sizes-at i h =
