@@ -34,6 +34,7 @@ fn fill<S: Read>(
     ensures ok { IfOk result (λ len. IsPrefixLen len buf.new) }
     ensures err { IfErr result (λ unread. IsPrefixLen unread.len buf.new) }
 {
+    // A while, since std's read_to_end and read_exact do not say which bytes stand in the buffer after an error.
     let mut len = 0usize;
     while len < buf.len() {
         match source.read(&mut buf[len..]) {
