@@ -78,6 +78,7 @@ pub fn read_argument(rt: &impl Runtime, i: usize, buf: &mut [u8]) -> Result<usiz
     ensures err { IfErr result (λ unread. IsPrefixLen unread.len buf.new) }
 {
     let mut name = [0u8; 4096];
+    // Errors by the system's numbers, since its words for them are what is printed.
     let why = match rt.arg(i, &mut name) {
         Ok(len) => return read_named(rt, &name[..len], buf),
         Err(FillError::NotPresent) => io::Error::from_raw_os_error(22),
