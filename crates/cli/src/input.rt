@@ -34,6 +34,7 @@ fn fill<S: Read>(
     ensures ok { IfOk result (λ len. IsPrefixLen len buf.new) }
     ensures err { IfErr result (λ unread. IsPrefixLen unread.len buf.new) }
 {
+    // A while, since std's read_to_end and read_exact do not say which bytes stand in the buffer after an error.
     let mut len = 0usize;
     while len < buf.len() {
         match source.read(&mut buf[len..]) {
@@ -77,6 +78,7 @@ pub fn read_argument(rt: &impl Runtime, i: usize, buf: &mut [u8]) -> Result<usiz
     ensures err { IfErr result (λ unread. IsPrefixLen unread.len buf.new) }
 {
     let mut name = [0u8; 4096];
+    // Errors by the system's numbers, since its words for them are what is printed.
     let why = match rt.arg(i, &mut name) {
         Ok(len) => return read_named(rt, &name[..len], buf),
         Err(FillError::NotPresent) => io::Error::from_raw_os_error(22),

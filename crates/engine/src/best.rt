@@ -15,6 +15,7 @@ use super::tree::trees_size;
 use records::{CANDIDATES, Support};
 
 // A support, its cost and its sets.
+// A struct that holds the support whole, since document 01 names this form.
 #[derive(Drop)]
 pub struct Chosen {
     pub support: Support,
@@ -37,6 +38,7 @@ fn leave_out(sets: &[u32], len: usize, place: usize, fewer: &mut [u32]) -> bool
 {
     let count = reading_count(len - 1);
     let other = reading_count(place);
+    // By index: two places are read that are computed from the number, in the innermost loop of the search.
     for q in 0..count {
         let r = q + ((q >> place) << place);
         let both = sets[r] & sets[r + other];
@@ -68,6 +70,7 @@ fn has(set: usize, i: usize) -> bool
 fn low_first(a: usize, b: usize) -> bool
     ensures { result ≡ low_first 10 a b }
 {
+    // Bit by bit, as the definition reads ten bits of any number; trailing_zeros would ask that there are no more.
     for i in 0..CANDIDATES {
         if has(a, i) != has(b, i) {
             return has(a, i);
@@ -119,6 +122,7 @@ impl Priced<'_> {
     {
         let mut sets = *self.sets;
         let mut len = self.nets.len();
+        // By number, since i is a bit of the set and a place to leave out.
         for i in (0..self.nets.len()).rev() {
             if !has(set, i) {
                 let with = sets;

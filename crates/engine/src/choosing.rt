@@ -37,6 +37,7 @@ pub struct BlindReading {
 }
 
 // A patch or a blind reading.
+// An enum of its own and structs for its values, as document 01 names them; a Result would call one of the two an error.
 #[derive(Clone, Copy)]
 pub enum Choice {
     Patch(PatchCost),

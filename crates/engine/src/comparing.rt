@@ -24,6 +24,7 @@ pub struct DifferingInput {
 }
 
 // Equal, or the smallest input at which the driven old outputs differ from the golden ones.
+// An enum of its own: the definition comparison_of names its cases, and None would not say that the outputs are equal.
 #[derive(Clone, Copy)]
 pub enum Comparison {
     Equal,

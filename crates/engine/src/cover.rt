@@ -36,6 +36,7 @@ pub(super) fn unseen_count(sets: &[u32; READINGS]) -> usize {
 // Whether the readings of a cube are unseen. They are looked at one after the other, by counting in the bits that the cube leaves open.
 fn all_unseen(sets: &[u32; READINGS], value: usize, care: usize) -> bool {
     let mut free = 0usize;
+    // A for with a bound that the count never passes, since each loop must be shown to end.
     for _ in 0..READINGS {
         if !is_unseen(sets[(value ^ free) % READINGS]) {
             return false;
@@ -54,6 +55,7 @@ fn widened(sets: &[u32; READINGS], reading: usize, reads: usize) -> Cube
     ensures { InCube result reading }
 {
     let mut care = READINGS - 1;
+    // By number, since i is a bit of the readings.
     for i in 0..reads {
         if all_unseen(sets, reading ^ (1 << i), care) {
             care ^= 1 << i;
@@ -72,6 +74,7 @@ pub(super) fn cover_of(sets: &[u32; READINGS], reads: usize, never: &Cover) -> C
     ensures { CoverTo sets.now (2 ^ reads) never.now result }
 {
     let mut cover = Cover::empty();
+    // By number, since r is the reading itself.
     for r in 0..reading_count(reads) {
         if !is_unseen(sets[r]) || never.has(r) || cover.has(r) {
             continue;
@@ -90,6 +93,7 @@ fn keep_value(i: usize, x: usize, r: &mut [u64; ROW], words: &[u64; WORDS])
     ensures { (y : ℕ) → y < 1024 → row_value r.new y ≡ cond (eqb (value_in words.now y i) (bit 0 x)) (row_value r.old y) 0 }
 {
     let v = broadcast(x);
+    // By index: the innermost loop, over two arrays at one index.
     for w in 0..ROW {
         r[w] = r[w] & (words[ROW * i + w] ^ v ^ !0);
     }
@@ -103,6 +107,7 @@ fn cube_row(plan: &Plan, cube: Cube, words: &[u64; WORDS]) -> [u64; ROW]
     let value = cube.value as usize;
     let care = cube.care as usize;
     let mut r = [!0u64; ROW];
+    // By number, since k is also a bit of the cube.
     for k in 0..plan.reads.len {
         if (care >> k) % 2 == 1 {
             keep_value(plan.reads.nets[k] as usize, value >> k, &mut r, words);

@@ -11,6 +11,7 @@ pub struct Cube {
 }
 
 // The readings that are in one of the first count cubes.
+// An array and a count, since nothing here uses the heap.
 #[derive(Clone, Copy)]
 pub struct Cover {
     pub count: usize,

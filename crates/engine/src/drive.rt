@@ -47,6 +47,7 @@ fn set_targets(plan: &Plan, rows: &[u64; ROWS], first: usize, words: &mut [u64; 
     requires { first ≤ 12 }
     ensures { NetsSet plan.now.inputs plan.now.targets (λ y k. value_in rows.now y (first + k)) words.old words.new }
 {
+    // By number, since i gives the net and the row.
     for i in 0..plan.targets {
         set_row(plan.inputs + i, row_of(first + i, rows), words);
     }

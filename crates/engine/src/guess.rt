@@ -218,6 +218,7 @@ pub(super) fn list_of_inputs(plan: &Plan) -> Vectors
     let mut list = Vectors::start();
     let mut trust = first_trust(plan.inputs, 14);
     let mut tries = first_tries(plan);
+    // A while, since a step is one block or the 32 that are skipped.
     let mut b = 0usize;
     while BLOCK * b < size {
         let skip = settled_from(plan, b, tries);

@@ -46,6 +46,7 @@ fn learn_operands(c: u64, v: u8, known: &mut [u8; NETS]) -> Result<(), Contradic
 }
 
 // Whether gate c, before its inversion, is v only where each operand is: it has one operand, it is and and v is 1, or it is or and v is 0.
+// The kind is read as the number that the packed gate has.
 fn forces(c: u64, v: u8) -> bool
     ensures { result ≡ true → Forces c v }
 {
@@ -118,6 +119,7 @@ fn learn_cube(plan: &Plan, cube: Cube, known: &mut [u8; NETS]) -> Result<(), Con
 {
     let value = cube.value as usize;
     let care = cube.care as usize;
+    // By number, since k is also a bit of the cube.
     for k in 0..plan.reads.len {
         if (care >> k) % 2 == 1 {
             learn(plan.reads.nets[k] as usize, ((value >> k) % 2) as u8, known)?;

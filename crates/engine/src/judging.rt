@@ -29,6 +29,7 @@ pub struct UnfixableInput {
 }
 
 // Every input is fixable, or the smallest that is not.
+// An enum of its own, as document 01 names it; None would not say that all are fixable.
 #[derive(Clone, Copy)]
 pub enum Judgement {
     Fixable,

@@ -10,6 +10,7 @@ use super::packed::{COUNT_AT, COUNTS, NET, NET_AT, SLOTS_AT};
 use super::word::broadcast;
 
 // An operation on two words: 2 is and, 3 is or, any other is parity. A fourth arm would cost a jump table.
+// The operation is a number, as it stands in the packed gate.
 pub(super) fn apply(op: u64, a: u64, b: u64) -> u64
     ensures { result ≡ applied op a b }
 {
@@ -26,6 +27,7 @@ fn join(op: u64, at: usize, r: &mut [u64; ROW], words: &[u64; WORDS])
     ensures { Filled (λ w. applied op (get_or r.old w 0) (get_or words.now (at + w) 0)) 0 16
         r.old r.new }
 {
+    // By index: the innermost loop, over two arrays at one index.
     for w in 0..ROW {
         r[w] = apply(op, r[w], words[at + w]);
     }
@@ -36,6 +38,7 @@ pub(super) fn store(at: usize, x: u64, r: [u64; ROW], words: &mut [u64; WORDS])
     requires { at + 16 ≤ 16384 }
     ensures { Filled (λ w. bit_xor (get_or r w 0) x) at 16 words.old words.new }
 {
+    // By index, as in join.
     for w in 0..ROW {
         words[at + w] = r[w] ^ x;
     }
@@ -58,6 +61,7 @@ fn gate_words(c: u64, words: &[u64; WORDS]) -> [u64; ROW]
 }
 
 // Gates from..to of a list, in turn.
+// Two ends and no slice, which would ask that from is at most to; where no target has a list of its own, that is not known.
 pub(super) fn run(gates: &[u64], from: usize, to: usize, words: &mut [u64; WORDS])
     requires { to ≤ length gates.now }
     ensures { Ran (slice from to gates.now) words.old words.new }

@@ -50,6 +50,7 @@ pub(super) fn load_inputs(inputs: usize, b: usize, words: &mut [u64; WORDS])
     requires { (inputs ≤ 20) × (b < 65536) }
     ensures { NetsSet 0 inputs (λ y k. bit k (1024 * b + y)) words.old words.new }
 {
+    // By number, since i is the input itself.
     for i in 0..inputs {
         set_row(i, input_row(i, b), words);
     }
@@ -60,6 +61,7 @@ pub(super) fn set_vector(at: usize, targets: usize, vector: usize, words: &mut [
     requires { (at + targets ≤ 1024) × (targets ≤ 16) }
     ensures { NetsSet at targets (λ y k. bit k vector) words.old words.new }
 {
+    // By number, since i is a bit of the vector.
     for i in 0..targets {
         set_net(at + i, vector >> i, words);
     }
@@ -78,6 +80,7 @@ pub(super) fn read_rows(plan: &Plan, words: &[u64; WORDS]) -> [u64; ROWS]
     ensures { (y : ℕ) → y < 1024 → gathered result y ≡ reading_in words.now (take plan.now.reads.len plan.now.reads.nets) y }
 {
     let mut rows = [0u64; ROWS];
+    // By number, since k says the row too. The plan keeps the bounds of its nets, so that callers owe none.
     for k in 0..plan.reads.len {
         let r = row_of(plan.reads.nets[k] as usize, words);
         set_row(k, r, &mut rows);
@@ -91,6 +94,7 @@ fn keep_equal(a: usize, b: usize, r: &mut [u64; ROW], words: &[u64; WORDS])
     ensures { (y : ℕ) → y < 1024 → row_value r.new y
         ≡ cond (eqb (value_in words.now y a) (value_in words.now y b)) (row_value r.old y) 0 }
 {
+    // By index: the innermost loop, over three rows at one index.
     for w in 0..ROW {
         r[w] &= words[ROW * a + w] ^ words[ROW * b + w] ^ !0;
     }
@@ -101,6 +105,7 @@ pub(super) fn equal_row(plan: &Plan, words: &[u64; WORDS]) -> [u64; ROW]
     ensures { RowEqual plan.now words.now result }
 {
     let mut r = [!0u64; ROW];
+    // By index, over the plan itself: it keeps the bounds of its nets, so that callers owe none.
     for k in 0..plan.outs {
         keep_equal(
             plan.outputs[k] as usize,

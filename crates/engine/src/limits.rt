@@ -1,4 +1,5 @@
 // The sizes of the engine's arrays and of what they hold, and of the buffers that its services ask for (specs/Verdict.antt, specs/Fit.antt).
+// Bounds of numbers (a net below 1,024, a target below 4) stay clauses: a type for each would wrap every place where it is an index.
 use records::{GATES, INPUTS, TARGETS};
 
 // Nets of ten bits each.

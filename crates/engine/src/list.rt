@@ -5,6 +5,7 @@ use super::limits::VECTORS;
 use super::word::lowest_of;
 
 // The first len places of list hold the vector list. Where it is stuck, no vector rectifies that input.
+// An array and a length, since nothing here uses the heap.
 #[derive(Clone, Copy)]
 pub struct Vectors {
     pub list: [u8; VECTORS],
@@ -41,6 +42,7 @@ impl Vectors {
     fn meets(&self, set: u16) -> bool
         ensures { result ≡ any (λ v. eqb (bit v set) 1) (listed_of self.now).vectors }
     {
+        // A loop: written with any, two goals stay open.
         for v in self.listed() {
             if (set >> *v) % 2 == 1 {
                 return true;

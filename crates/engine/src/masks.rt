@@ -43,6 +43,7 @@ fn shortest_list(plan: &Plan) -> usize
 {
     let ends = &plan.ends;
     let mut best = 0usize;
+    // By number, since t gives both ends of a list; min_by_key would subtract, and ask that they ascend.
     for t in 1..plan.targets {
         if ends[t + 2] + ends[best + 1] < ends[best + 2] + ends[t + 1] {
             best = t;
@@ -70,6 +71,7 @@ pub(super) fn masks_of(plan: &Plan, words: &mut [u64; WORDS]) -> [u64; ROWS]
     let u = shortest_list(plan);
     let mut masks = [0u64; ROWS];
     set_row(0, equal_row(plan, words), &mut masks);
+    // By number, since the step says the vector.
     for step in 1..vectors {
         let v = vector_at(u, step);
         let t = turned_at(u, step);

@@ -15,6 +15,7 @@ use super::renumber::{move_nets, moved_code, number_inputs};
 use records::{JobParts, OUTPUTS};
 
 // Packed gates, and for each net one that stands for it.
+// Arrays, since nothing here uses the heap.
 #[derive(Drop)]
 pub struct MergedGates {
     pub gates: [u64; MITER_GATES],
@@ -49,6 +50,7 @@ fn find(gates: &[u64; MITER_GATES], next: &[u16; MITER_GATES], from: usize, c: u
     requires { (from ≤ 800) × Backward next.now }
     ensures { (result ≤ from) × (0 < result → gate_in (get_or gates.now (result - 1) 0) ≡ gate_in c) }
 {
+    // A while, since it walks a chain of places, and 0 ends it as in next, where an Option would take twice the room.
     let mut k = from;
     while 0 < k {
         if alike(gates[k - 1], c) {
@@ -62,6 +64,7 @@ fn find(gates: &[u64; MITER_GATES], next: &[u16; MITER_GATES], from: usize, c: u
 // The gates with each operand replaced by the net that stands for it: that of an earlier gate alike, or itself. Gates are found by chains: heads
 // has for each place one more than the index of the last gate that has it, next for each gate one more than that of the one before it with
 // the same place, and 0 where there is none. It costs some steps a gate, since chains are short.
+// Chains in two arrays and no map, since nothing here uses the heap.
 fn merge_gates(base: usize, count: usize, gates: &[u64; MITER_GATES]) -> MergedGates
     requires { (base + count ≤ 1024) × (count ≤ 800) }
     ensures { GatesMerged base count gates.now result }
@@ -70,6 +73,7 @@ fn merge_gates(base: usize, count: usize, gates: &[u64; MITER_GATES]) -> MergedG
     let mut stands = number_inputs(base + count);
     let mut heads = [0u16; NETS];
     let mut next = [0u16; MITER_GATES];
+    // By number, since i gives the gate's net and its place in the chains.
     for i in 0..count {
         let c = moved_code(gates[i], base + i, &stands);
         gates[i] = c;

@@ -11,6 +11,7 @@ use records::{Gate, JobParts, OUTPUTS, slots_of};
 
 // Inputs, targets, old gates, golden gates. The golden nets are those of the golden outputs in the miter. The two lists of nets stand
 // apart, since each is read by itself but for one comparison of both.
+// Arrays with counts, since nothing here uses the heap.
 #[derive(Drop)]
 pub struct Miter {
     pub inputs: usize,

@@ -44,6 +44,7 @@ fn load_leaves(inputs: usize, count: usize, vector: usize, words: &mut [u64; NET
     requires { count ≤ 64 }
     ensures { LeavesLoaded inputs vector count words.old words.new }
 {
+    // By number, since i is the leaf itself.
     for i in 0..count {
         words[i] = leaf_word(inputs, vector, i);
     }
@@ -108,6 +109,7 @@ fn word_masks(miter: &Miter, words: &mut [u64; NETS]) -> [u64; ROWS]
     let goldens = &miter.goldens[..miter.outs];
     let vectors = 1usize << miter.targets;
     let mut masks = [0u64; ROWS];
+    // By number, since the step says the vector.
     for step in 0..vectors {
         let v = vector_at(0, step);
         eval_vector(miter, v, words);

@@ -65,6 +65,7 @@ fn step_block<S: Step>(
 {
     transpose(&mut masks, columns);
     transpose(&mut readings, columns);
+    // By index: innermost loops, over two arrays at one index, in the order of the inputs.
     for w in 0..columns {
         for i in 0..ROW {
             let at = ROW * i + w;
@@ -113,6 +114,7 @@ fn gather_rows(masks: &[u64; ROWS], y: usize) -> u16
     let w = y / WORD;
     let b = y % WORD;
     let mut r = 0usize;
+    // By index: a column of the rows, 16 words from one place to the next.
     for i in (0..VECTORS).rev() {
         r = 2 * r + ((masks[ROW * i + w] >> b) % 2) as usize;
     }
@@ -150,6 +152,7 @@ pub(super) fn list_block(
     requires { (count ≤ 1024) × (first < 2 ^ 32) }
     ensures { ListNoted masks first count list result }
 {
+    // A while, since the steps are uneven.
     let mut y = next_uncovered(&masks, &list, 0);
     while y < count {
         let set = gather_rows(&masks, y);

@@ -1,5 +1,6 @@
 // A gate in one number, from the lowest bit on: its kind (4 bits), how many operands it has (3), the net that it drives (10), and
 // what stands in its four operand slots (10 each).
+// One number and no struct, as the innermost loops read one word a gate and cut its parts from it (DECISIONS, entry 41).
 ghost use Rattle.std.specs.Prelude.{◌≡◌, ◌/◌, ◌%◌, ◌<◌};
 ghost use Rattle.records.specs.Claims.{Below};
 ghost use Rattle.engine.specs.Inner.Packed.{fields, kind_of, count_of, gate_with, packed, operands_of};

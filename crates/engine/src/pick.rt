@@ -4,6 +4,7 @@ ghost use Rattle.std.specs.Prelude.{◌≡◌, ◌≤◌, length};
 use super::limits::READINGS;
 
 // The nets that a support is chosen from, with their weights, the sets of the readings of all of them, and how many targets there are.
+// Nets and weights stand apart, since a job's parts have them so.
 #[derive(Drop)]
 pub struct Priced<'a> {
     pub nets: &'a [u16],

@@ -9,6 +9,7 @@ use records::{OUTPUTS, Support};
 // Before ends[0] stand the live gates that no target leads to, from there to ends[1] the others; those that target t leads to are
 // gates[ends[t + 1]..ends[t + 2]]. It is made once a job, and lent. (That the places of the nets read are ten, their type says, but only to
 // who has the support itself in hand.)
+// Arrays with counts and ends, since nothing here uses the heap; outputs and goldens stand apart, as in a miter.
 #[derive(Drop)]
 pub struct Plan {
     pub inputs: usize,

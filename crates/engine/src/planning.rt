@@ -16,6 +16,7 @@ use super::plan::Plan;
 use records::Support;
 
 // The mark of a gate: the greatest of its operands' marks.
+// Marks are numbers, as in the definition fanout. (The record library's walk goes over gates in bytes.)
 fn gate_mark(c: u64, marks: &[u8; NETS]) -> u8
     ensures { result ≡ code_mark marks.now c }
 {
@@ -128,6 +129,7 @@ fn lists_of(
     let mut ends = [0usize; LISTS];
     ends[0] = pick(gates, live, &fan, false, 0, out);
     ends[1] = pick(gates, live, &fan, true, ends[0], out);
+    // By number, since t gives the target's net and the place of its end.
     for t in 0..turns {
         let marks = mark_from(gates, inputs + t, 1);
         ends[t + 2] = pick(gates, live, &marks, true, ends[t + 1], out);

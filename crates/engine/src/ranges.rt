@@ -33,6 +33,7 @@ fn known_operands(c: u64, known: &[u8; NETS]) -> [u8; SLOTS]
 }
 
 // What is known of a packed gate's net. Most gates have two operands: their kind's table says it at one look.
+// What is known is a number, since the three by three tables are looked up by it.
 pub(super) fn ternary_gate(c: u64, known: &[u8; NETS]) -> u8
     ensures { result ≡ code_ternary known.now c }
 {
@@ -73,6 +74,7 @@ fn load_partial(inputs: usize, low: usize, prefix: usize, known: &mut [u8; NETS]
     requires { inputs < 64 }
     ensures { known.new ≡ placed known.old 0 (tabulate inputs (partial_input low prefix)) }
 {
+    // By number, since i is the input itself.
     for i in 0..inputs {
         known[i] = partial_input(i, low, prefix);
     }
@@ -93,6 +95,7 @@ fn known_equal(plan: &Plan, known: &[u8; NETS]) -> bool
     ensures { (result ≡ true) ↔ ((i : ℕ) → i < plan.now.outs → Known
         (get_or known.now (get_or plan.now.outputs i 0) 0) (get_or known.now (get_or plan.now.goldens i 0) 0)) }
 {
+    // By index, over the plan itself: it keeps the bounds of its nets, so that callers owe none.
     for i in 0..plan.outs {
         let x = known[plan.outputs[i] as usize];
         if 2 <= x {

@@ -12,6 +12,7 @@ use super::packed::{count_of, kind_of, pack, slots_in};
 use records::{GATES, SLOTS};
 
 // A job's old netlist as fit reads it: packed gates, the first of the miter's, and a mark for each net that a target leads to.
+// Arrays with counts, since nothing here uses the heap.
 #[derive(Drop)]
 pub struct OldSide {
     pub inputs: usize,
@@ -27,6 +28,7 @@ pub struct OldSide {
 }
 
 // A patched netlist as it grows: how many gates it has, each old net's new number, and the packed gates.
+// An array and a count, as in OldSide.
 #[derive(Drop)]
 pub struct NewSide {
     pub count: usize,
@@ -45,6 +47,7 @@ impl NewSide {
         ensures { MarkedPlaced old.now mark self.old self.new }
     {
         let base = old.inputs + old.targets;
+        // By number, since i gives the gate's net.
         for i in 0..old.count {
             let net = base + i;
             if old.marks[net] == mark {
@@ -63,6 +66,7 @@ pub(super) fn number_inputs(inputs: usize) -> [u16; NETS]
     ensures { InputsNumbered inputs result }
 {
     let mut numbers = [0u16; NETS];
+    // By number, since i is what is stored.
     for i in 0..inputs {
         numbers[i] = i as u16;
     }

@@ -141,6 +141,7 @@ pub(super) fn sets_of_inputs(plan: &Plan) -> Met
     let mut table = [NOT_SOLE; READINGS];
     let mut tries = first_tries(plan);
     let mut skipped = 0usize;
+    // A while, since a step is one block or the 32 that are skipped.
     let mut b = 0usize;
     while BLOCK * b < size {
         let skip = settled_from(plan, b, tries);

@@ -53,6 +53,7 @@ pub(super) fn put_vectors(reply: &mut [u8], at: usize, list: &[u8]) -> usize
 }
 
 // The sheet of a patch: the nets of its support, its table, its cost and the notes.
+// The reply's room stays a clause: what the services promise is of the whole lent buffer, not of its first bytes.
 pub(super) fn put_patch(
     reply: &mut [u8],
     nets: &[u16],

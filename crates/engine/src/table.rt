@@ -45,6 +45,7 @@ pub(super) fn fill_table(sets: &[u32], len: usize) -> [u8; READINGS]
 }
 
 // The note of a reading with this set, whose bit above the vectors' is 1 where no input gives it.
+// A note is a number, as it stands in the sheet.
 fn note_of(set: u32) -> u8
     ensures { result ≡ note_from set }
 {

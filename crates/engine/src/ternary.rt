@@ -6,6 +6,7 @@ ghost use Rattle.engine.specs.Ternary.{unknown, ternary_value, ternary_table, en
 use records::SLOTS;
 
 // The kinds not and and, and an operand that is not yet known.
+// They are numbers, since the tables are looked up by them, and the public functions promise answers for every number.
 const NOT: u8 = 3;
 
 const AND: u8 = 4;

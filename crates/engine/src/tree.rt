@@ -37,6 +37,7 @@ pub enum TreeStart {
 }
 
 // One gate at place at, which drives net base + at, with up to two operands; the place behind it.
+// The kind is a number, as the packed gate has it.
 fn add_gate(
     kind: u8,
     count: u8,
@@ -264,6 +265,7 @@ fn word_size(w: u64, k: usize) -> usize
 
 // How many gates the tree over k nets and the column of target t at the first 2 ^ k entries has. It calls itself on each half of the column;
 // one of up to 64 entries becomes a number, for which each is read once, and above that each is read at most five times a net.
+// k goes along with the table, since the number of gates is defined by it (specs/Tree.antt).
 fn tree_size(table: &[u8], k: usize, t: usize) -> usize
     requires { TablePart table.now k t }
     ensures { result ≡ tree_size k (column_part table.now 0 k t) }
@@ -357,6 +359,7 @@ pub(super) fn put_trees(
         numbers.new gates.new }
 {
     let mut next = count;
+    // By number, since t is the target itself.
     for t in 0..targets {
         next = put_tree(table, t, nets, base, next, gates);
         numbers[base + t] = (base + next - 1) as u16;

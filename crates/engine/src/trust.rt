@@ -7,6 +7,7 @@ use super::limits::{BLOCK, RANGE, TRUST};
 const SIXTEEN_BLOCKS: usize = 16 * BLOCK;
 
 // No job has as many.
+// (Never is such a wait and no Option, so that one test, whether the wait is over, does for all.)
 const ENDLESS_BLOCKS: usize = 1025;
 
 // At first it may fail on one block of sixteen, and on none where there are fewer inputs than least, since what it learns costs more there.

@@ -61,6 +61,7 @@ fn put_column(w: usize, c: [u64; ROW], x: &mut [u64; ROWS])
     requires { w < 16 }
     ensures { Placed w 16 c x.old x.new }
 {
+    // By index: an innermost loop, over two arrays at one index.
     for i in 0..ROW {
         x[ROW * i + w] = c[i];
     }
@@ -71,6 +72,7 @@ pub(super) fn transpose(x: &mut [u64; ROWS], columns: usize)
     requires { columns ≤ 16 }
     ensures { ColumnsTurned columns x.old x.new }
 {
+    // By number, since w is the column itself.
     for w in 0..columns {
         let c = turn(column(x, w));
         put_column(w, c, x);

@@ -33,7 +33,7 @@ pub extern "C" fn engine_judge(job: &[u8], reply: &mut [u8], number: &mut u32) -
     }
 }
 
-// engine::choose, alike.
+// engine::choose, alike; by itself, since C calls it by its name.
 #[unsafe(no_mangle)]
 pub extern "C" fn engine_choose(job: &[u8], reply: &mut [u8], number: &mut u32) -> usize
     ensures length { result ≡ (choose_reply reply.old job.now).len }

@@ -1,4 +1,5 @@
 // The sheets of a job: judge's and choose's. Each goes to standard output, of which a refusal has none. Costs what the service costs.
+// (One function for both would take the service and the size of its sheet, and be no shorter.)
 use super::failure::Failure;
 use engine::{LONGEST_CHOOSE, LONGEST_JUDGE};
 

@@ -13,6 +13,7 @@ pub(super) fn check_candidates(s: &[u8], nets: usize, marks: &[u8; NETS]) -> Che
 {
     let count = s.len() / CANDIDATE_SIZE;
     let mut least = 0usize;
+    // By index: numbers are read at positions, and three tests may end the walk.
     for i in 0..count {
         let net = word_at(s, CANDIDATE_SIZE * i);
         if net < least {

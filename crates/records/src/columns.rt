@@ -37,6 +37,7 @@ fn split(
         kinds.old counts.old slots.old
         kinds.new counts.new slots.new }
 {
+    // By index: one i says the place in four lists, of which one has four places a gate.
     for i in 0..count {
         let gate = gates[i];
         kinds[i] = gate.kind;
@@ -55,6 +56,7 @@ fn joined(kinds: &[u8], counts: &[u8], slots: &[u16], count: usize) -> [Gate; GA
     ensures { result ≡ placed no_gates 0 (structs_from count kinds.now counts.now slots.now) }
 {
     let mut gates = NO_GATES;
+    // By index, as in split.
     for k in 0..count {
         let at = SLOTS * k;
         gates[k] = Gate {
@@ -80,6 +82,7 @@ fn check_columns(count: usize, kinds: usize, counts: usize, slots: usize) -> Che
 }
 
 // The service read, with a netlist's gates in columns. It takes read's time and one pass over the gates.
+// The places are lent one by one, since C hands them so (crate records_c).
 pub fn read_columns(
     job: &[u8],
     old_kinds: &mut [u8],
@@ -146,6 +149,7 @@ pub fn read_columns(
 }
 
 // The service write, with a netlist's gates in columns. It takes one pass over the gates and write's time.
+// The places are lent one by one, as in read_columns.
 pub fn write_columns(
     counts: Counts,
     old_kinds: &[u8],

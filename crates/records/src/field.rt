@@ -11,6 +11,7 @@ pub struct Span {
 }
 
 // A check's answer.
+// An enum, since document 01 names this form: a check's answer is taken apart by let .. else.
 #[derive(Clone, Copy)]
 pub enum Check {
     Passed,
@@ -25,6 +26,7 @@ pub struct FieldReader<'a> {
 }
 
 // A byte as a number.
+// Kept for its name, since it is public; usize::from says the same.
 pub fn wide(x: u8) -> usize
     ensures { result ≡ x }
 {
@@ -95,6 +97,7 @@ pub(super) fn walked(s: &[u8], first: u8, count: usize) -> Option<[Span; 6]>
 {
     let mut spans = [Span { start: 0, len: 0 }; 6];
     let mut reader = FieldReader { bytes: s, at: 0 };
+    // By number, since i gives the tag.
     for i in 0..count {
         let Some(span) = reader.field(first + i as u8) else {
             return None;

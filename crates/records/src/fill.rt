@@ -10,6 +10,7 @@ pub(super) fn fill_words(s: &[u8], size: usize, offset: usize, count: usize, pla
     requires { (size ≤ 4) × (offset + size * count + 2 ≤ length s.now + size) × (count ≤ length places.old) }
     ensures { places.new ≡ placed places.old 0 (word_column s.now size offset count) }
 {
+    // A position is counted along, since size * i is a product of two variables, which linear arithmetic does not know.
     let mut at = offset;
     for i in 0..count {
         places[i] = u16_at(s, at);

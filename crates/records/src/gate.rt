@@ -7,6 +7,7 @@ ghost use Rattle.records.specs.Service.{struct_slots, gate_from};
 use super::limits::SLOTS;
 
 // A gate as it stands in a lent place: its kind, how many operands it has, and its operand slots, used or not.
+// The kind is a number: write must refuse those above 9, and value and ternary_value promise answers there too.
 #[derive(Clone, Copy)]
 pub struct Gate {
     pub kind: u8,
@@ -18,6 +19,7 @@ pub struct Gate {
 }
 
 // The operand slots of a gate.
+// A function, not a From, since its name is public.
 pub fn slots_of(gate: Gate) -> [u16; SLOTS]
     ensures { result ≡ struct_slots gate }
 {
@@ -52,6 +54,7 @@ pub(super) fn gate_good(gate: Gate, net: usize) -> bool
     }
     let slots = slots_of(gate);
     let count = gate.count as usize;
+    // By number, since whether a slot is used is told by its number.
     for i in 0..SLOTS {
         if !slot_good(i < count, slots[i] as usize, net) {
             return false;

@@ -43,6 +43,7 @@ pub(super) fn fill_gates(s: &[u8], at: usize, count: usize, gates: &mut [Gate])
     requires { (at + 10 * count ≤ length s.now) × (count ≤ length gates.old) }
     ensures { gates.new ≡ placed gates.old 0 (structs_at s.now at count) }
 {
+    // By index: one i says the gate's place and the position of its bytes.
     for i in 0..count {
         gates[i] = gate_at(s, at + GATE_SIZE * i);
     }
@@ -53,6 +54,7 @@ pub(super) fn put_gates(gates: &[Gate], count: usize, at: usize, buf: &mut [u8])
     requires { (at + 10 * count ≤ length buf.old) × (count ≤ length gates.now) }
     ensures { buf.new ≡ placed buf.old at (gates_bytes count gates.now) }
 {
+    // By index, as in fill_gates.
     for i in 0..count {
         put_gate(buf, at + GATE_SIZE * i, gates[i]);
     }

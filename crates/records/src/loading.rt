@@ -10,6 +10,7 @@ use super::reading::read;
 use super::refusal::Refusal;
 
 // A job's parts by value: as many as the counts say stand at the starts of the places.
+// Arrays with counts, as nothing here uses the heap; and no invariant, as it is public and whoever builds one owes nothing.
 #[derive(Clone, Copy)]
 pub struct JobParts {
     pub counts: Counts,

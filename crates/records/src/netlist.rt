@@ -17,6 +17,7 @@ pub(super) fn check_gates(s: &[u8], base: usize) -> Check
     requires { base < 65536 }
     ensures { result ≡ check_of (gates_good base (gates_of s.now)) }
 {
+    // By number, since i gives the gate's net.
     for i in 0..s.len() / GATE_SIZE {
         if !gate_good(gate_at(s, GATE_SIZE * i), base + i) {
             return Check::Failed;
@@ -29,6 +30,7 @@ pub(super) fn check_gates(s: &[u8], base: usize) -> Check
 pub(super) fn check_outputs(s: &[u8], nets: usize) -> Check
     ensures { result ≡ check_of (all (λ i. ltb i nets) (nets_of s.now)) }
 {
+    // By index, since numbers are read at positions.
     for i in 0..s.len() / 2 {
         let net = word_at(s, 2 * i);
         if nets <= net {
@@ -39,6 +41,7 @@ pub(super) fn check_outputs(s: &[u8], nets: usize) -> Check
 }
 
 // The mark of a gate: 1 where a used operand is marked.
+// A mark is a number, as in the definition fanout, which takes the greatest of the operands' marks.
 fn gate_mark(marks: &[u8; NETS], gate: Gate) -> u8
     requires { (gate.count ≤ 4) × ((i : ℕ) → i < gate.count → get_or (struct_slots gate) i 0 < 424) }
     ensures { result ≡ mark_of marks.now (gate_from gate) }
@@ -71,6 +74,7 @@ pub(super) fn fanout_marks(s: &[u8], inputs: usize, targets: usize) -> [u8; NETS
 {
     let mut marks = leaf_marks(inputs, targets);
     let base = inputs + targets;
+    // By number, since i gives the gate's net.
     for i in 0..s.len() / GATE_SIZE {
         marks[base + i] = gate_mark(&marks, gate_at(s, GATE_SIZE * i));
     }

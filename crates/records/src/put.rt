@@ -10,6 +10,7 @@ use super::job::{Counts, SideCounts};
 use super::limits::{CANDIDATE_SIZE, GATE_SIZE, LONGEST_JOB};
 
 // A job's bytes so far: the first len of them.
+// An array and a length, since nothing here uses the heap.
 #[derive(Drop)]
 pub struct JobBytes {
     pub bytes: [u8; LONGEST_JOB],
@@ -28,6 +29,7 @@ fn put_head(buf: &mut [u8], at: usize, tag: u8, len: usize) -> usize
 
 // One field put into a buffer, from position at on: tag, length and bytes. Where there is no room for it, or it is longer
 // than a field can say, the buffer is left as it was. The position behind the field, or at.
+// It cannot fail, as its clauses promise to all callers, so what it does without room is no Err.
 pub fn put_field(buf: &mut [u8], at: usize, tag: u8, bytes: &[u8]) -> usize
     ensures end { result ≡ cond (field_fits buf.old at bytes.now)
         (at + head_size + length bytes.now)
@@ -85,6 +87,7 @@ fn put_column(
     ensures { result ≡ spread bytes at size count (λ i. get_or xs.now i 0) }
 {
     let mut bytes = bytes;
+    // A position is counted along, since size * i is a product of two variables, which linear arithmetic does not know.
     let mut p = at;
     for i in 0..count {
         put_word(&mut bytes, p, xs[i]);
@@ -114,6 +117,7 @@ fn put_side(job: JobBytes, tag: u8, outputs: &[u16], counts: SideCounts) -> JobB
 }
 
 // A job's bytes around its gates', which stand in their places already: heads, counts, outputs and candidates.
+// The four lists go one by one, as write is lent them.
 pub(super) fn put_rest(
     bytes: [u8; LONGEST_JOB],
     counts: Counts,

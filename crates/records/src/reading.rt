@@ -38,6 +38,7 @@ fn check_read(job: &[u8], lent: Room) -> Result<Counts, Refusal>
 }
 
 // The outputs and candidates of a job with these counts into their places.
+// The four lists go one by one, as read is lent them.
 fn fill_rest(
     job: &[u8],
     counts: Counts,
@@ -63,6 +64,7 @@ fn fill_rest(
 // The service read: the counts of the job whose parts then stand at the starts of the places. Refused are too few places (1), then what is
 // no whole job (2), counts (3), gates (4), outputs (5) and candidates (6). It takes one pass over the bytes for each check and one to fill:
 // time linear in the job's bytes.
+// Its lent places are parameters of their own, as its clauses name each of them, and C lends them one by one.
 pub fn read(
     job: &[u8],
     old: &mut [Gate],

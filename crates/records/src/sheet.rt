@@ -10,6 +10,7 @@ use super::limits::{CANDIDATES, TARGETS};
 use super::refusal::Refusal;
 
 // Candidate nets: the first len of ten places.
+// An array and a length, since document 01 names this form.
 #[derive(Clone, Copy)]
 pub struct Support {
     pub nets: [u16; CANDIDATES],
@@ -73,6 +74,7 @@ fn spanned(spans: [Span; 6]) -> Option<SheetSpans>
 }
 
 // Where the field behind the first count ones starts, by their lengths; the end where they are not all there.
+// No Option, since a sheet whose fields are not all there is refused by its shape up to the end.
 fn fields_end(s: &[u8], count: usize) -> usize
     ensures { (result ≤ length s.now) × (start_of count s.now ≤ length s.now + 3 → result + 3 ≡ start_of count s.now) }
 {
@@ -121,6 +123,7 @@ fn support_cost(s: &[u8], long: usize, count: usize, nets: &[u16], weights: &[u1
 {
     let mut least = 0usize;
     let mut sum = 0u32;
+    // By index: numbers are read at positions, and two tests may end the walk.
     for i in 0..long {
         let net = word_at(s, 2 * i + 3);
         if net < least {
@@ -179,6 +182,7 @@ fn support_from(s: &[u8], len: usize) -> Support
     ensures { result ≡ ten_places (word_column s.now 2 3 len) }
 {
     let mut nets = [0u16; CANDIDATES];
+    // By index: one i says the place and the position.
     for i in 0..len {
         nets[i] = u16_at(s, 2 * i + 3);
     }

@@ -45,6 +45,7 @@ fn check_write(counts: Counts, size: usize, lent: Room) -> Result<(), Refusal>
 }
 
 // The rest of the job around the gates' bytes in scratch, checked and copied to the buffer; how many bytes it has.
+// The four lists go one by one, as write is lent them.
 fn write_rest(
     counts: Counts,
     old_outputs: &[u16],
@@ -76,6 +77,7 @@ fn write_rest(
 // The service write: the job whose parts stand at the starts of the places, as many as counts says; how many bytes it has. Refused are a
 // buffer below 8,188 bytes (1), a count outside its range or above its places (3), gates (4), outputs (5) and candidates (6). The bytes are
 // put into a buffer of the function's own, checked there as read checks them, and copied. Time linear in the job's bytes.
+// Its lists are parameters of their own, as in read.
 pub fn write(
     counts: Counts,
     old: &[Gate],

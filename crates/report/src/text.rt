@@ -82,6 +82,7 @@ fn put_refusal(text: &mut Text, refusal: Refusal)
 }
 
 // The two-byte number at a position.
+// (The record library keeps its own readers of numbers to itself.)
 fn word_at(s: &[u8], at: usize) -> usize
     requires { at + 1 < length s.now }
     ensures { result ≡ word' s.now at }
@@ -209,6 +210,7 @@ fn put_verdict(text: &mut Text, job: &[u8])
 // What the program `rectify` prints for a job's bytes: judge's verdict where it is unfixable, else choose's with judge's vector list. Where
 // text has fewer than 8,366 bytes nothing is printed and the length is 0; else the length of the text, which stands at the start. Costs
 // what judge and choose cost.
+// A length and no Result, as its clauses promise it to all callers.
 pub fn rectify_text(job: &[u8], text: &mut [u8]) -> usize
     ensures value { result ≡ printed_length text.old job.now }
     ensures text_after { text.new ≡ printed_bytes text.old job.now }

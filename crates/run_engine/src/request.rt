@@ -35,6 +35,7 @@ pub enum Request<'a> {
 
 impl<'a> Request<'a> {
     // What the call asks for; none where it is too short, or there is no such service.
+    // An Option and no TryFrom, since no reason is told where there is none.
     pub(super) fn parse(mut call: Call<'a>) -> Option<Request<'a>> {
         match call.service {
             1 => Some(Request::Judge {

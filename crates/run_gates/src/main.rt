@@ -20,6 +20,7 @@ enum Kind {
 
 impl Kind {
     // The primitive of this name.
+    // An Option and no TryFrom, since no reason is told where there is none.
     fn named(name: &[u8]) -> Option<Kind> {
         match name {
             b"buf" => Some(Kind::Buf),
@@ -36,6 +37,7 @@ impl Kind {
 }
 
 // A gate with its operands as the libraries take them: 2, not yet known, for x, and 0 where there is none.
+// Operands are numbers, as value and ternary_value ask for them.
 #[derive(Clone, Copy)]
 struct Gate {
     kind: Kind,
@@ -46,6 +48,7 @@ struct Gate {
 
 impl Gate {
     // The gate of a row: a name, one to four operands, the equals sign and the value, with a space before each but the name.
+    // An Option, as of a name.
     fn parse(row: &[u8]) -> Option<Gate> {
         let end = row.iter().position(|b| *b == b' ')?;
         let kind = Kind::named(&row[..end])?;

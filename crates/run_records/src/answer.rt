@@ -17,6 +17,7 @@ pub(super) fn answer(rt: &impl Print, request: Request) -> io::Result<()> {
 
 // How many places are lent as the k-th of ten, of which read asks for so many: one more where short is 11, one less
 // where it is k.
+// (short is a byte of the call; the form of the calls names what each value says.)
 fn room(asked: usize, k: u8, short: u8) -> usize {
     match short {
         11 => asked.saturating_add(1),

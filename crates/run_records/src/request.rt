@@ -5,6 +5,7 @@ use samples::Call;
 #[derive(Clone, Copy)]
 pub enum Request<'a> {
     // Read, with as many places lent as short says.
+    // (short is a byte, as the call has it.)
     Read { short: u8, job: &'a [u8] },
     // Write, with what the call says: the buffer's room, the counts and the lists.
     Write(Call<'a>),
@@ -18,6 +19,7 @@ pub enum Request<'a> {
 
 impl<'a> Request<'a> {
     // What the call asks for; none where it is too short, or there is no such service.
+    // An Option and no TryFrom, since no reason is told where there is none.
     pub(super) fn parse(mut call: Call<'a>) -> Option<Request<'a>> {
         match call.service {
             1 => {

@@ -58,6 +58,7 @@ pub fn new_list<T: Place, const N: usize>(which: usize) -> [T; N]
     ensures { (k : ℕ) → k < N → get_or result k (T.lowest 0) ≡ T.lowest (Sample·patterned which k) }
 {
     let mut list = [T::low(0); N];
+    // By number, since the pattern is told by the place.
     for i in 0..N {
         list[i] = T::low(patterned(which, i));
     }
