@@ -10,7 +10,6 @@
 --   ValuesOf cs n vs        .. as those of the first n gates of cs
 --   CubeHas ..              the nets of a cube have its values
 --   NoneGives p c           no values of the gates give a reading of the cover c
---   CubeSorted p .. c d     d has the readings of c, those of one cube that values of the gates give, and one cube more at most
 --   Unrefuted p c d         d has the readings of c that values of the gates give
 use Rattle.std.specs.Prelude.{ℕ, ◌<◌, ◌≡◌, List, map, Bool, true, eqb, length, get_or, take}
 use Rattle.records.specs.Bytes.{all}
