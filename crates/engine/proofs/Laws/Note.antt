@@ -1,6 +1,6 @@
 -- Laws of the noting of a block (src/note.rt): a set gathered row by row, rows joined word by word, the list stepped where no
 -- listed vector covers the scenario. Assumes nothing.
-use Prim.Native.Nat.{ℕ, zero, suc, ◌+◌, ◌-◌, ◌*◌, ◌/◌, ◌%◌, ◌^◌, max, ◌≤◌, ◌<◌}
+use Prim.Native.Nat.{ℕ, zero, suc, ◌+◌, ◌-◌, ◌*◌, ◌/◌, ◌%◌, ◌^◌, min, max, ◌≤◌, ◌<◌}
 use mathlib.Core.Path.{◌≡◌, refl, sym, ◌∙◌, ap, subst}
 use mathlib.Core.Logic.{◌⊎◌, inl, inr, ⊎_elim}
 use mathlib.Core.List.Memᴰ.{append_left}
@@ -130,9 +130,11 @@ module _ (masks : List ℕ) (first : ℕ) (v : Vectors) where
   unfolding listed_from
   list-none = record { listed = λ f g. refl }
 
-  pub list-next : (i : ℕ) (u : Vectors) (s : ℕ) (u' : Vectors) → ListNoted masks first i v u → s ≡ gathered masks i
+  pub list-next : (i n : ℕ) (u : Vectors) (s : ℕ) (u' : Vectors) → i < n → ListNoted masks first (min i n) v u → s ≡ gathered masks i
       → listed_of u' ≡ list_step (listed_of u) s (first + i) → ListNoted masks first (i + 1) v u'
-  list-next i u s u' p m t =
+  list-next i n u s u' h q m t =
+      let below : min i n ≡ i = omega arith in
+      let p = rw below at q in
       record {
         listed = λ f a.
             let e : s ≡ f (first + i) = m ∙ a i (omega arith) in

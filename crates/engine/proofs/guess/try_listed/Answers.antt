@@ -1,7 +1,6 @@
 -- `engine::guess::try_listed` meets its contract. The invariant: the row says 1 only of inputs that a listed vector rectifies. Assumes
 -- nothing.
 use native.Mathlib.Omega.{arith}
-use lib.ListN.{get_or}
 use Rattle.engine.specs.Inner.List.{listed_of}
 use Rattle.engine.proofs.Laws.Guess.{any_at, shown-none, shown-next, vector-free}
 use Rattle.engine.proofs.guess.try_listed.Goals as goal
@@ -18,13 +17,8 @@ returns-then-count-first_zero c =
     let vs = (listed_of a.list).vectors in
     let same = c.listed-v-items.ensures in
     let shown =
-    shown-next a.plan.now a.words.now vs l.row c.equal_row.result c.join_rows-next.result (get_or vs l.v-index 0)
-    (any_at vs l.v-index (rw same at c.loop-v-test.true))
-    l.invariant.1
-    l.invariant.0
-    (rw same at w)
-    c.equal_row.ensures
-    c.join_rows-next.ensures in
+    shown-next _ _ vs l.row _ _ _ (any_at vs l.v-index (rw same at c.loop-v-test.true)) l.invariant.1 l.invariant.0 (rw same at w)
+    c.equal_row.ensures c.join_rows-next.ensures in
     let f = c.first_zero.ensures in
     record {
       free_kept = vector-free l.invariant.0 w;
@@ -39,11 +33,6 @@ loop-v-preserved c =
     let vs = (listed_of a.list).vectors in
     let same = c.listed-v-items.ensures in
     let shown =
-    shown-next a.plan.now a.words.now vs l.row c.equal_row.result c.join_rows-next.result (get_or vs l.v-index 0)
-    (any_at vs l.v-index (rw same at c.loop-v-test.true))
-    l.invariant.1
-    l.invariant.0
-    (rw same at w)
-    c.equal_row.ensures
-    c.join_rows-next.ensures in
+    shown-next _ _ vs l.row _ _ _ (any_at vs l.v-index (rw same at c.loop-v-test.true)) l.invariant.1 l.invariant.0 (rw same at w)
+    c.equal_row.ensures c.join_rows-next.ensures in
     (vector-free l.invariant.0 w, shown)

@@ -1,9 +1,7 @@
 -- `engine::note::list_block` meets its contract. The invariant: the list is the one after the inputs before y, of which those from
 -- count on are none of the block's. Assumes nothing.
-use Prim.Native.Nat.{◌+◌, min}
-use mathlib.Core.Path.{◌≡◌, sym, ◌∙◌}
+use mathlib.Core.Path.{sym, ◌∙◌}
 use native.Mathlib.Omega.{arith}
-use Rattle.engine.specs.Inner.Note.{ListNoted}
 use Rattle.engine.proofs.Laws.Note.{list-none, list-next, list-covered, list-stuck}
 use Rattle.engine.proofs.note.list_block.Goals as goal
 
@@ -15,26 +13,21 @@ loop-y-init c =
 
 pub returns-then-is_some : goal.returns-then-is_some
 returns-then-is_some c =
-    let stepped : (let a = c.args in ListNoted a.masks a.first (c.loop-y.y + 1) a.list c.step.new.self) =
     let a = c.args in
     let l = c.loop-y in
-    let e : min l.y a.count ≡ l.y = omega arith in
-    list-next a.masks a.first a.list l.y l.list c.gather_rows-set.result c.step.new.self (rw e at l.invariant)
+    let stepped =
+    list-next a.masks a.first a.list l.y a.count l.list c.gather_rows-set.result c.step.new.self (omega arith) l.invariant
     c.gather_rows-set.ensures
     c.step.ensures in
-    let a = c.args in
     list-stuck a.masks a.first a.list _ a.count c.step.new.self stepped (sym c.is_some.ensures ∙ c.if-is_some.true) (omega arith)
 
 pub loop-y-preserved : goal.loop-y-preserved
 loop-y-preserved c =
-    let stepped : (let a = c.args in ListNoted a.masks a.first (c.loop-y.y + 1) a.list c.step.new.self) =
     let a = c.args in
     let l = c.loop-y in
-    let e : min l.y a.count ≡ l.y = omega arith in
-    list-next a.masks a.first a.list l.y l.list c.gather_rows-set.result c.step.new.self (rw e at l.invariant)
+    let stepped =
+    list-next a.masks a.first a.list l.y a.count l.list c.gather_rows-set.result c.step.new.self (omega arith) l.invariant
     c.gather_rows-set.ensures
     c.step.ensures in
-    let a = c.args in
-    let p = c.next_uncovered-y-in-loop-y.ensures.past in
     list-covered a.masks a.first a.list _ _ _ c.step.new.self stepped c.next_uncovered-y-in-loop-y.ensures (omega arith)
     (omega arith)
