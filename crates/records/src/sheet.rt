@@ -96,9 +96,7 @@ fn fields_end(s: &[u8], count: usize) -> usize
 fn sheet_shaped(sheet: &[u8]) -> Option<SheetSpans>
     ensures { result ≡ sheet_shape_of sheet.now }
 {
-    let Some(spans) = walked(sheet, 16, 3) else {
-        return None;
-    };
+    let spans = walked(sheet, 16, 3)?;
     spanned(spans)
 }
 
@@ -129,9 +127,7 @@ fn support_cost(s: &[u8], long: usize, count: usize, nets: &[u16], weights: &[u1
         if net < least {
             return None;
         }
-        let Some(place) = find(nets, count, net) else {
-            return None;
-        };
+        let place = find(nets, count, net)?;
         sum += u32::from(weights[place]);
         least = net + 1;
     }
