@@ -6,6 +6,9 @@ use mathlib.Core.Bool.{Bool, true, ◌&&◌}
 use native.Mathlib.Omega.{arith}
 use borrow.Author.Tests.{ltb-true}
 use lib.Dec.{ltb}
+use borrow.Rule.Slice.PartMut.{put_mid}
+use native.Mathlib.Nat.{add-zero}
+use Rattle.std.proofs.lemmas.Slice.{take-put_mid}
 use lib.ListN.{length, get_or, take, drop, set, replicate, length-take, drop_of_length-le, length-replicate, replicate-append-replicate}
 use lib.Seq.{length-take-le, get_or-take, take_at, take-suc-set}
 use Rattle.records.specs.Bytes.{all}
@@ -81,6 +84,16 @@ leaf_marks-none n size h =
     ∙ ap (take (n + 0)) (sym (replicate-append-replicate n (size - n) 0))
     ∙ take_at (replicate n 0) (replicate (size - n) 0) (n + 0) (omega (arith, length-replicate {A = ℕ} n 0))
     ∙ sym (append-nil (replicate n 0))
+
+pub leaf_marks-filled : (n m k size : ℕ) (ys : List ℕ) → n ≤ size → ys ≡ replicate m 1
+    → take (n + m) (put_mid n k (replicate size 0) ys) ≡ leaf_marks n m
+unfolding leaf_marks
+leaf_marks-filled n m k size ys h e =
+    let l : length ys ≡ m = ap length e ∙ length-replicate {A = ℕ} m 1 in
+    let z : length (replicate {A = ℕ} size 0) ≡ size = length-replicate {A = ℕ} size 0 in
+    let b = leaf_marks-none n size h in
+    take-put_mid {X = ℕ} n k (replicate size 0) ys (n + m) (omega arith) (omega arith)
+    ∙ rw e (ap (λ (xs : List ℕ). xs ++ replicate m 1) (ap (λ (i : ℕ). take i (replicate size 0)) (sym (add-zero n)) ∙ b ∙ append-nil (replicate n 0)))
 
 pub leaf_marks-more : (n i : ℕ) (marks : List ℕ) → n + i < length marks → take (n + i) marks ≡ leaf_marks n i
     → take (n + (i + 1)) (set marks (n + i) 1) ≡ leaf_marks n (i + 1)

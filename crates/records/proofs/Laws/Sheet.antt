@@ -7,8 +7,9 @@ use mathlib.Core.Bool.{Bool, true, false, cond, ◌&&◌, ◌||◌}
 use native.Mathlib.Numerals.{add-one}
 use native.Mathlib.Nat.{add_assoc, add-zero, zero-add}
 use native.Mathlib.Omega.{arith}
-use borrow.Author.Tests.{le-leb, lt-leb, leb-true, leb-false, eqb-true, eq-eqb, ne_eqb}
-use lib.Dec.{leb, eqb}
+use borrow.Author.Tests.{le-leb, lt-leb, leb-true, leb-false, ltb-true, eqb-true, eq-eqb, ne_eqb}
+use lib.Dec.{leb, ltb, eqb}
+use Rattle.std.proofs.Common.{IsTrue, EachIndex, ◌↔◌}
 use lib.ListN.{length, get_or, take, drop, set, replicate, length-drop, drop_of_length-le}
 use lib.Pow.{pow_mono}
 use lib.Seq.{drop-cons, get_or-take, get_or-drop, length-take-le, take-suc, take-length, set_at, append_snoc}
@@ -19,8 +20,9 @@ use Rattle.records.specs.Sheet.{weight_of, cost_of, is_candidate}
 use Rattle.records.specs.Service.{candidates_from}
 use Rattle.records.specs.Inner.{word_column, found_from, found_in, support_of, ten_places}
 use Rattle.std.specs.Prelude.{Option, Some, None}
+use Rattle.std.specs.List.{position_from}
 use Rattle.records.proofs.Laws.Option.{some-none}
-use Rattle.records.proofs.Laws.Bytes.{and_left, and_right, and-false-right, length-tabulate, get_d_tabulate}
+use Rattle.records.proofs.Laws.Bytes.{all_cons, all-below, and_left, and_right, and-false-right, length-tabulate, get_d_tabulate}
 use Rattle.records.proofs.Laws.Job.{tabulate-get_or}
 use Rattle.records.proofs.Laws.Refusal.{ascending_from, ascending-from}
 
@@ -105,7 +107,28 @@ module _ (p : ℕ → Bool) (s : List ℕ) (from end i : ℕ) (l : end ≤ lengt
   unfolding all part
   all_end h k = rw (drop_of_length-le part {i = i - from} (omega (arith, length_part h)))
 
+bool-of-iff : (a b : Bool) → (a ≡ true) ↔ (b ≡ true) → a ≡ b
+bool-of-iff true b h = sym (h.0 refl)
+bool-of-iff false true h = h.1 refl
+bool-of-iff false false h = refl
+
+below-at : (limit : ℕ) (xs : List ℕ) → all (λ v. ltb v limit) xs ≡ true → (i : ℕ) → i < length xs → get_or xs i 0 < limit
+below-at limit [] e i l = let f : ⊥ = omega arith in absurd f
+below-at limit (x ∷ xs) e zero l = ltb-true x limit (all_cons (λ v. ltb v limit) x xs e).0
+below-at limit (x ∷ xs) e (suc i) l = below-at limit xs (all_cons (λ v. ltb v limit) x xs e).1 i (omega arith)
+
+-- a test that tells for each element whether it is below limit
+pub below-each : (limit : ℕ) (xs : List ℕ) {b : Bool} → IsTrue b ↔ EachIndex xs (λ k. get_or xs k 0 < limit) → b ≡ all (λ v. ltb v limit) xs
+below-each limit xs {b} h = bool-of-iff b (all (λ v. ltb v limit) xs) (λ e. all-below limit xs (h.0 e), λ e. h.1 (below-at limit xs e))
+
 -- ---- where a net stands among the candidates
+
+pub position-found : (net k : ℕ) (xs : List ℕ) → position_from (λ n. eqb n net) k xs ≡ found_from k xs net
+unfolding found_from
+position-found net k [] = refl
+position-found net k (x ∷ xs) =
+    let n : k + 1 ≡ suc k = omega arith in
+    ap (λ (o : Option ℕ). cond (eqb x net) (Some k) o) (ap (λ (i : ℕ). position_from (λ n. eqb n net) i xs) n ∙ position-found net (suc k) xs)
 
 module _ (nets : List ℕ) (count net i : ℕ) (l : count ≤ length nets) where
   rest-next : i < count → drop i (take count nets) ≡ get_or nets i 0 ∷ drop (i + 1) (take count nets)
