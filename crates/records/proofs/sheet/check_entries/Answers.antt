@@ -1,6 +1,5 @@
 -- `records::sheet::check_entries` meets its contract. Assumes nothing.
-use mathlib.Core.Path.{◌≡◌, sym, ◌∙◌}
-use lib.Dec.{ltb}
+use mathlib.Core.Path.{sym, ◌∙◌}
 use Prim.Native.Nat.{◌-◌, ◌<◌}
 use lib.ListN.{take, drop}
 use Rattle.std.proofs.Common.{rules, IsTrue, EachIndex, ◌↔◌, get_or}
