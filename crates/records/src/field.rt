@@ -99,9 +99,7 @@ pub(super) fn walked(s: &[u8], first: u8, count: usize) -> Option<[Span; 6]>
     let mut reader = FieldReader { bytes: s, at: 0 };
     // By number, since i gives the tag.
     for i in 0..count {
-        let Some(span) = reader.field(first + i as u8) else {
-            return None;
-        };
+        let span = reader.field(first + i as u8)?;
         spans[i] = span;
         reader = reader.moved(span.start + span.len);
     }

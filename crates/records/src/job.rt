@@ -89,9 +89,7 @@ fn counted(spans: [Span; 6], inputs: usize, targets: usize) -> Option<Counts>
 fn shaped(job: &[u8]) -> Option<Counts>
     ensures { result ≡ shape_of job.now }
 {
-    let Some(spans) = walked(job, 1, 6) else {
-        return None;
-    };
+    let spans = walked(job, 1, 6)?;
     counted(spans, wide(job[3]), wide(job[4]))
 }
 

@@ -60,9 +60,7 @@ fn leaf_marks(inputs: usize, targets: usize) -> [u8; NETS]
     ensures { take (inputs + targets) result ≡ leaf_marks inputs targets }
 {
     let mut marks = [0u8; NETS];
-    for i in 0..targets {
-        marks[inputs + i] = 1;
-    }
+    marks[inputs..inputs + targets].fill(1);
     marks
 }
 

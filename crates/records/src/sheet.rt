@@ -79,7 +79,7 @@ fn fields_end(s: &[u8], count: usize) -> usize
     ensures { (result ≤ length s.now) × (start_of count s.now ≤ length s.now + 3 → result + 3 ≡ start_of count s.now) }
 {
     let mut at = 0usize;
-    for i in 0..count {
+    for _ in 0..count {
         if s.len() - at < 3 {
             return s.len();
         }
@@ -96,9 +96,7 @@ fn fields_end(s: &[u8], count: usize) -> usize
 fn sheet_shaped(sheet: &[u8]) -> Option<SheetSpans>
     ensures { result ≡ sheet_shape_of sheet.now }
 {
-    let Some(spans) = walked(sheet, 16, 3) else {
-        return None;
-    };
+    let spans = walked(sheet, 16, 3)?;
     spanned(spans)
 }
 
@@ -107,12 +105,7 @@ fn find(nets: &[u16], count: usize, net: usize) -> Option<usize>
     requires { count ≤ length nets.now }
     ensures { result ≡ found_in (take count nets.now) net }
 {
-    for i in 0..count {
-        if usize::from(nets[i]) == net {
-            return Some(i);
-        }
-    }
-    None
+    nets[..count].iter().position(|n| usize::from(*n) == net)
 }
 
 // The cost of the support, of which a sheet has long nets, from position 3 on; none where it does not ascend or has a net that is no
@@ -129,9 +122,7 @@ fn support_cost(s: &[u8], long: usize, count: usize, nets: &[u16], weights: &[u1
         if net < least {
             return None;
         }
-        let Some(place) = find(nets, count, net) else {
-            return None;
-        };
+        let place = find(nets, count, net)?;
         sum += u32::from(weights[place]);
         least = net + 1;
     }
@@ -143,12 +134,11 @@ fn check_entries(s: &[u8], from: usize, end: usize, limit: usize) -> Check
     requires { (from ≤ end) × (end ≤ length s.now) }
     ensures { result ≡ check_of (all (λ v. ltb v limit) (take (end - from) (drop from s.now))) }
 {
-    for i in from..end {
-        if limit <= wide(s[i]) {
-            return Check::Failed;
-        }
+    if s[from..end].iter().all(|v| wide(*v) < limit) {
+        Check::Passed
+    } else {
+        Check::Failed
     }
-    Check::Passed
 }
 
 // Whether nothing stands from a position on, or the field of the notes alone: a byte for each of count readings, none above 2.

@@ -1,11 +1,14 @@
 -- Laws of specs/Netlist and of good gates in a row: the turns of the loops over a job's gates. Assumes nothing.
 use Prim.Native.Nat.{ℕ, suc, ◌+◌, ◌-◌, ◌/◌, max, ◌≤◌, ◌<◌}
 use mathlib.Core.Path.{◌≡◌, refl, sym, ◌∙◌, ap}
-use mathlib.Core.List.{List, [], ◌∷◌, ◌++◌, map, append_assoc, append-nil}
+use mathlib.Core.List.{List, [], ◌∷◌, ◌++◌, map, append-nil}
 use mathlib.Core.Bool.{Bool, true, ◌&&◌}
 use native.Mathlib.Omega.{arith}
 use borrow.Author.Tests.{ltb-true}
 use lib.Dec.{ltb}
+use borrow.Rule.Slice.PartMut.{put_mid}
+use native.Mathlib.Nat.{add-zero}
+use Rattle.std.proofs.lemmas.Slice.{take-put_mid}
 use lib.ListN.{length, get_or, take, drop, set, replicate, length-take, drop_of_length-le, length-replicate, replicate-append-replicate}
 use lib.Seq.{length-take-le, get_or-take, take_at, take-suc-set}
 use Rattle.records.specs.Bytes.{all}
@@ -72,8 +75,8 @@ disj-none known count xs =
     let h : length (take count xs) ≤ count = omega (arith, length-take count xs) in
     rw (drop_of_length-le (take count xs) {i = count} h)
 
--- leaves: before the first target all is 0, and each further target is 1
-pub leaf_marks-none : (n size : ℕ) → n ≤ size → take (n + 0) (replicate size 0) ≡ leaf_marks n 0
+-- leaves: without targets all is 0, and targets filled in are 1
+leaf_marks-none : (n size : ℕ) → n ≤ size → take (n + 0) (replicate size 0) ≡ leaf_marks n 0
 unfolding leaf_marks
 leaf_marks-none n size h =
     let m : size ≡ n + (size - n) = omega arith in
@@ -82,16 +85,15 @@ leaf_marks-none n size h =
     ∙ take_at (replicate n 0) (replicate (size - n) 0) (n + 0) (omega (arith, length-replicate {A = ℕ} n 0))
     ∙ sym (append-nil (replicate n 0))
 
-pub leaf_marks-more : (n i : ℕ) (marks : List ℕ) → n + i < length marks → take (n + i) marks ≡ leaf_marks n i
-    → take (n + (i + 1)) (set marks (n + i) 1) ≡ leaf_marks n (i + 1)
+pub leaf_marks-filled : (n m k size : ℕ) (ys : List ℕ) → n ≤ size → ys ≡ replicate m 1
+    → take (n + m) (put_mid n k (replicate size 0) ys) ≡ leaf_marks n m
 unfolding leaf_marks
-leaf_marks-more n i marks h e =
-    let m : n + (i + 1) ≡ suc (n + i) = omega arith in
-    ap (λ (k : ℕ). take k (set marks (n + i) 1)) m
-    ∙ take-suc-set marks (n + i) 1 h
-    ∙ ap (λ (l : List ℕ). l ++ (1 ∷ [])) e
-    ∙ append_assoc (replicate n 0) (replicate i 1) (1 ∷ [])
-    ∙ ap (λ (l : List ℕ). replicate n 0 ++ l) (replicate-append-replicate i 1 1)
+leaf_marks-filled n m k size ys h e =
+    let l : length ys ≡ m = ap length e ∙ length-replicate {A = ℕ} m 1 in
+    let z : length (replicate {A = ℕ} size 0) ≡ size = length-replicate {A = ℕ} size 0 in
+    let b = leaf_marks-none n size h in
+    take-put_mid {X = ℕ} n k (replicate size 0) ys (n + m) (omega arith) (omega arith)
+    ∙ rw e (ap (λ (xs : List ℕ). xs ++ replicate m 1) (ap (λ (i : ℕ). take i (replicate size 0)) (sym (add-zero n)) ∙ b ∙ append-nil (replicate n 0)))
 
 -- the marks below n decide a gate whose operands are below n
 net_at-take : (n : ℕ) (known xs : List ℕ) → all (λ i. ltb i n) xs ≡ true

@@ -7,11 +7,12 @@ use mathlib.Core.Bool.{Bool, true, false, cond, ◌&&◌, ◌||◌}
 use native.Mathlib.Numerals.{add-one}
 use native.Mathlib.Nat.{add_assoc, add-zero, zero-add}
 use native.Mathlib.Omega.{arith}
-use borrow.Author.Tests.{le-leb, lt-leb, leb-true, leb-false, eqb-true, eq-eqb, ne_eqb}
-use lib.Dec.{leb, eqb}
-use lib.ListN.{length, get_or, take, drop, set, replicate, length-drop, drop_of_length-le}
+use borrow.Author.Tests.{le-leb, lt-leb, leb-true, leb-false, ltb-true, eqb-true}
+use lib.Dec.{leb, ltb, eqb}
+use Rattle.std.proofs.Common.{IsTrue, EachIndex, ◌↔◌}
+use lib.ListN.{length, get_or, take, drop, set, replicate, drop_of_length-le}
 use lib.Pow.{pow_mono}
-use lib.Seq.{drop-cons, get_or-take, get_or-drop, length-take-le, take-suc, take-length, set_at, append_snoc}
+use lib.Seq.{drop-cons, length-take-le, take-suc, take-length, set_at, append_snoc}
 use Rattle.records.specs.Bytes.{up_from, tabulate, all, word}
 use Rattle.records.specs.Job.{Candidate, nets_of}
 use Rattle.records.specs.Refusal.{ascending, max_candidates}
@@ -19,8 +20,9 @@ use Rattle.records.specs.Sheet.{weight_of, cost_of, is_candidate}
 use Rattle.records.specs.Service.{candidates_from}
 use Rattle.records.specs.Inner.{word_column, found_from, found_in, support_of, ten_places}
 use Rattle.std.specs.Prelude.{Option, Some, None}
+use Rattle.std.specs.List.{position_from}
 use Rattle.records.proofs.Laws.Option.{some-none}
-use Rattle.records.proofs.Laws.Bytes.{and_left, and_right, and-false-right, length-tabulate, get_d_tabulate}
+use Rattle.records.proofs.Laws.Bytes.{all_cons, all-below, and_left, and_right, and-false-right, length-tabulate, get_d_tabulate}
 use Rattle.records.proofs.Laws.Job.{tabulate-get_or}
 use Rattle.records.proofs.Laws.Refusal.{ascending_from, ascending-from}
 
@@ -79,52 +81,28 @@ ten-all xs = rw take-length
 -- ---- tests over the rest of a list
 
 -- what is left of a part of a list from position i on
-module _ (p : ℕ → Bool) (s : List ℕ) (from end i : ℕ) (l : end ≤ length s) where
-  part : List ℕ
-  part = take (end - from) (drop from s)
+bool-of-iff : (a b : Bool) → (a ≡ true) ↔ (b ≡ true) → a ≡ b
+bool-of-iff true b h = sym (h.0 refl)
+bool-of-iff false true h = h.1 refl
+bool-of-iff false false h = refl
 
-  length_part : from ≤ end → length part ≡ end - from
-  unfolding part
-  length_part h = length-take-le (end - from) (drop from s) (omega (arith, length-drop from s))
+below-at : (limit : ℕ) (xs : List ℕ) → all (λ v. ltb v limit) xs ≡ true → (i : ℕ) → i < length xs → get_or xs i 0 < limit
+below-at limit [] e i l = let f : ⊥ = omega arith in absurd f
+below-at limit (x ∷ xs) e zero l = ltb-true x limit (all_cons (λ v. ltb v limit) x xs e).0
+below-at limit (x ∷ xs) e (suc i) l = below-at limit xs (all_cons (λ v. ltb v limit) x xs e).1 i (omega arith)
 
-  pub all-next : from ≤ i → i < end
-      → all p (drop (i - from) (take (end - from) (drop from s)))
-      ≡ (p (get_or s i 0) && all p (drop (i + 1 - from) (take (end - from) (drop from s))))
-  unfolding all part
-  all-next h k =
-      let j : ℕ = i - from in
-      let n : j + 1 ≡ i + 1 - from = omega arith in
-      let m : from + j ≡ i = omega arith in
-      let e : get_or part j 0 ≡ get_or s i 0 =
-      get_or-take (end - from) (drop from s) j 0 (omega arith) ∙ get_or-drop from s j 0 ∙ ap (λ (a : ℕ). get_or s a 0) m in
-      ap (all p) (drop-next part j (omega (arith, length_part (omega arith))))
-      ∙ ap (λ (x : ℕ). p x && all p (drop (j + 1) part)) e
-      ∙ ap (λ (a : ℕ). p (get_or s i 0) && all p (drop a part)) n
-
-  pub all_end : from ≤ end → end ≤ i → all p (drop (i - from) (take (end - from) (drop from s))) ≡ true
-  unfolding all part
-  all_end h k = rw (drop_of_length-le part {i = i - from} (omega (arith, length_part h)))
+-- a test that tells for each element whether it is below limit
+pub below-each : (limit : ℕ) (xs : List ℕ) {b : Bool} → IsTrue b ↔ EachIndex xs (λ k. get_or xs k 0 < limit) → b ≡ all (λ v. ltb v limit) xs
+below-each limit xs {b} h = bool-of-iff b (all (λ v. ltb v limit) xs) (λ e. all-below limit xs (h.0 e), λ e. h.1 (below-at limit xs e))
 
 -- ---- where a net stands among the candidates
 
-module _ (nets : List ℕ) (count net i : ℕ) (l : count ≤ length nets) where
-  rest-next : i < count → drop i (take count nets) ≡ get_or nets i 0 ∷ drop (i + 1) (take count nets)
-  rest-next h =
-      drop-next (take count nets) i (omega (arith, length-take-le count nets l))
-      ∙ ap (λ (x : ℕ). x ∷ drop (i + 1) (take count nets)) (get_or-take count nets i 0 h)
-
-  pub found_here : i < count → get_or nets i 0 ≡ net → found_from i (drop i (take count nets)) net ≡ Some i
-  unfolding found_from
-  found_here h e = rw (rest-next h, eq-eqb (get_or nets i 0) net e)
-
-  pub found-next : i < count → (get_or nets i 0 ≡ net → ⊥)
-      → found_from i (drop i (take count nets)) net ≡ found_from (i + 1) (drop (i + 1) (take count nets)) net
-  unfolding found_from
-  found-next h e = rw (rest-next h, ne_eqb (get_or nets i 0) net e, add-one)
-
-  pub found-end : count ≤ i → found_from i (drop i (take count nets)) net ≡ None
-  unfolding found_from
-  found-end h = rw (drop_of_length-le (take count nets) {i = i} (omega (arith, length-take-le count nets l)))
+pub position-found : (net k : ℕ) (xs : List ℕ) → position_from (λ n. eqb n net) k xs ≡ found_from k xs net
+unfolding found_from
+position-found net k [] = refl
+position-found net k (x ∷ xs) =
+    let n : k + 1 ≡ suc k = omega arith in
+    ap (λ (o : Option ℕ). cond (eqb x net) (Some k) o) (ap (λ (i : ℕ). position_from (λ n. eqb n net) i xs) n ∙ position-found net (suc k) xs)
 
 -- net is a candidate of cs, of weight v, and k is below n
 pub record Stands (cs : List Candidate) (net v k n : ℕ) : Type 0 where

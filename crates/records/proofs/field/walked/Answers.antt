@@ -12,15 +12,15 @@ use Rattle.records.proofs.field.walked.Goals as goal
 pub loop-i-init : goal.loop-i-init
 loop-i-init c = record { bytes = refl; walking = walk-start _ _ _ _ refl }
 
-pub returns-in_default : goal.returns-in_default
-returns-in_default c =
+pub returns-in_err-span : goal.returns-in_err-span
+returns-in_err-span c =
     let i = c.loop-i.invariant in
-    walk-missing _ _ _ _ _ _ i.walking c.loop-i-test.true (sym (c.field.ensures ∙ rw i.bytes refl) ∙ c.in_default.is)
+    rw c.from_residual.ensures (walk-missing _ _ _ _ _ _ i.walking c.loop-i-test.true (sym (c.in_err-span.ensures ∙ rw i.bytes refl)))
 
 pub overflow_add-span : goal.overflow_add-span
 overflow_add-span c =
     let i = c.loop-i.invariant in
-    omega (arith, i.walking.inside, end-within c.args.s.now c.loop-i.reader.at (c.args.first + c.loop-i.i) c.in-Some.span (sym (c.field.ensures ∙ rw i.bytes refl) ∙ c.in-Some.is))
+    omega (arith, i.walking.inside, end-within c.args.s.now c.loop-i.reader.at (c.args.first + c.loop-i.i) c.in_ok-span.span (sym (c.in_ok-span.ensures ∙ rw i.bytes refl)))
 
 pub loop-i-preserved : goal.loop-i-preserved
 loop-i-preserved c =
@@ -30,7 +30,7 @@ loop-i-preserved c =
       bytes = ap (λ (b : Bor (List ℕ)). b.now) m.0 ∙ i.bytes;
       walking =
           rw m.1
-          (walk-more _ _ _ _ _ _ i.walking c.loop-i-test.true _ (sym (c.field.ensures ∙ rw i.bytes refl) ∙ c.in-Some.is) (omega arith));
+          (walk-more _ _ _ _ _ _ i.walking c.loop-i-test.true _ (sym (c.in_ok-span.ensures ∙ rw i.bytes refl)) (omega arith));
     }
 
 pub returns-then-reader-s : goal.returns-then-reader-s

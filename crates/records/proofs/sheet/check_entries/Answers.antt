@@ -1,32 +1,22 @@
--- `records::sheet::check_entries` meets its contract. The loop's invariant: testing the bytes left from position i on
--- gives what testing all gives. Assumes nothing.
-use Prim.Native.Nat.{◌≤◌, ◌<◌}
-use native.Mathlib.Omega.{arith}
-use borrow.Author.Tests.{lt-ltb, le-ltb}
-use lib.ListN.{get_or}
+-- `records::sheet::check_entries` meets its contract. Assumes nothing.
+use mathlib.Core.Path.{sym, ◌∙◌}
+use Prim.Native.Nat.{◌-◌, ◌<◌}
+use lib.ListN.{take, drop}
+use Rattle.std.proofs.Common.{rules, IsTrue, EachIndex, ◌↔◌, get_or}
 use Rattle.records.specs.Inner.{check_of}
-use Rattle.records.proofs.Laws.Sheet.{all-next, all_end}
-use Rattle.records.proofs.sheet.check_entries.Invariants.{below}
+use Rattle.records.proofs.Laws.Sheet.{below-each}
 use Rattle.records.proofs.sheet.check_entries.Goals as goal
 
-pub returns-then-limit-wide : goal.returns-then-limit-wide
+pub returns-then-all : goal.returns-then-all
 unfolding check_of
-returns-then-limit-wide c =
+returns-then-all c =
     let a = c.args in
-    let l : a.limit ≤ get_or a.s.now c.loop-i.i 0 = omega (arith, c.wide.ensures) in
-    rw (← c.loop-i.invariant.2, all-next (below a.limit) a.s.now a.from a.end c.loop-i.i (omega arith) (omega arith) (omega arith), le-ltb _ _ l)
+    let e : IsTrue c.all.result ↔ EachIndex (take (a.end - a.from) (drop a.from a.s.now)) (λ k. get_or (take (a.end - a.from) (drop a.from a.s.now)) k 0 < a.limit) = search rules in
+    rw (sym (below-each a.limit (take (a.end - a.from) (drop a.from a.s.now)) e) ∙ c.if-all.true)
 
-pub loop-i-preserved : goal.loop-i-preserved
-loop-i-preserved c =
-    let a = c.args in
-    let l : get_or a.s.now c.loop-i.i 0 < a.limit = omega (arith, c.wide.ensures) in (
-      omega arith,
-      omega arith,
-      rw (← c.loop-i.invariant.2, all-next (below a.limit) a.s.now a.from a.end c.loop-i.i (omega arith) (omega arith) (omega arith), lt-ltb _ _ l),
-    )
-
-pub returns : goal.returns
+pub returns-else-all : goal.returns-else-all
 unfolding check_of
-returns c =
+returns-else-all c =
     let a = c.args in
-    rw (← c.loop-i.invariant.2, all_end (below a.limit) a.s.now a.from a.end c.loop-i.i (omega arith) (omega arith) (omega arith))
+    let e : IsTrue c.all.result ↔ EachIndex (take (a.end - a.from) (drop a.from a.s.now)) (λ k. get_or (take (a.end - a.from) (drop a.from a.s.now)) k 0 < a.limit) = search rules in
+    rw (sym (below-each a.limit (take (a.end - a.from) (drop a.from a.s.now)) e) ∙ c.if-all.false)

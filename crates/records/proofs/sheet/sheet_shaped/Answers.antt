@@ -3,8 +3,8 @@ use mathlib.Core.Path.{◌∙◌}
 use Rattle.records.proofs.Laws.SheetShape.{broken-of-walk, walk-spans}
 use Rattle.records.proofs.sheet.sheet_shaped.Goals as goal
 
-pub returns-in_default : goal.returns-in_default
-returns-in_default c = broken-of-walk _ c.in_default.ensures
+pub returns-in_err-spans : goal.returns-in_err-spans
+returns-in_err-spans c = c.from_residual.ensures ∙ broken-of-walk _ c.in_err-spans.ensures
 
 pub returns : goal.returns
-returns c = c.spanned.ensures ∙ walk-spans _ _ c.in-Some.ensures (λ i. (c.type_inv.sheet i).fits)
+returns c = c.spanned.ensures ∙ walk-spans _ _ c.in_ok-spans.ensures (λ i. (c.type_inv.sheet i).fits)
