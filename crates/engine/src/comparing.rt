@@ -60,8 +60,8 @@ fn table_of(sheet: &[u8], start: usize, count: usize) -> [u16; READINGS]
     ensures { TableCopied sheet.now start count result }
 {
     let mut table = [0u16; READINGS];
-    for k in 0..count {
-        table[k] = sheet[start + k] as u16;
+    for (k, &byte) in sheet[start..start + count].iter().enumerate() {
+        table[k] = u16::from(byte);
     }
     table
 }

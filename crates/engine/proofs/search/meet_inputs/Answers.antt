@@ -24,11 +24,11 @@ returns-then-keep_block c =
 
 pub returns : goal.returns
 returns c =
-  let n : c.div_ceil.result ≡ (c.args.count + 63) / 64 = omega (arith, c.div_ceil.ensures) in record {
-  block_met = block-met c.args.b c.args.count c.read_block-readings.ensures c.requires.0
-      (elim c.if-tried.branch [ then-tried+else-keep_block w ↦ rw w.words-is w.keep_block.ensures.free_kept | else-tried w ↦ rw w.words-is (λ j is q b f. f) ])
-      c.vector_block.ensures
-      c.masks_of-masks.ensures
-      (rw n at c.meet_block.ensures);
-  tried_value = λ h. absurd (not-both h refl);
-}
+    let n : c.div_ceil.result ≡ (c.args.count + 63) / 64 = omega (arith, c.div_ceil.ensures) in record {
+      block_met = block-met c.args.b c.args.count c.read_block-readings.ensures c.requires.0
+          (elim c.if-tried.branch [ then-tried+else-keep_block w ↦ rw w.words-is w.keep_block.ensures.free_kept | else-tried w ↦ rw w.words-is (λ j is q b f. f) ])
+          c.vector_block.ensures
+          c.masks_of-masks.ensures
+          (rw n at c.meet_block.ensures);
+      tried_value = λ h. absurd (not-both h refl);
+    }
