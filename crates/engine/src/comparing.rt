@@ -39,8 +39,7 @@ fn first_difference(plan: &Plan, table: &[u16; READINGS]) -> Comparison
 {
     let size = 1usize << plan.inputs;
     let mut words = [0u64; WORDS];
-    let mut b = 0usize;
-    while BLOCK * b < size {
+    for b in 0..size.div_ceil(BLOCK) {
         let readings = read_block(plan, b, &mut words);
         let vectors = table_rows(readings, table);
         let row = driven_row(plan, &vectors, 0, &mut words);
@@ -51,7 +50,6 @@ fn first_difference(plan: &Plan, table: &[u16; READINGS]) -> Comparison
                 input: (BLOCK * b + y) as u32,
             });
         }
-        b += 1;
     }
     Comparison::Equal
 }
@@ -62,8 +60,8 @@ fn table_of(sheet: &[u8], start: usize, count: usize) -> [u16; READINGS]
     ensures { TableCopied sheet.now start count result }
 {
     let mut table = [0u16; READINGS];
-    for k in 0..count {
-        table[k] = sheet[start + k] as u16;
+    for (k, &byte) in sheet[start..start + count].iter().enumerate() {
+        table[k] = u16::from(byte);
     }
     table
 }

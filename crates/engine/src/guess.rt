@@ -15,7 +15,7 @@ ghost use Rattle.engine.specs.Inner.Guess.{ListTo, listed_pair, OfListed, BlockG
 
 use super::drive::{driven_row, table_rows};
 use super::leaves::{block_inputs, equal_row};
-use super::limits::{BLOCK, READINGS, ROW, ROWS, VECTORS, WORDS};
+use super::limits::{BLOCK, READINGS, ROW, ROWS, VECTORS, WORD, WORDS};
 use super::list::Vectors;
 use super::masks::masks_of;
 use super::note::{list_block, sort_block};
@@ -197,7 +197,7 @@ fn list_inputs(
     let masks = masks_of(plan, words);
     let next = next_trust(trust, b);
     if 0 < next {
-        sort_block(masks, readings, (count + 63) / 64, sets);
+        sort_block(masks, readings, count.div_ceil(WORD), sets);
     }
     Listing {
         list: list_block(masks, BLOCK * b, count, list),

@@ -9,13 +9,10 @@ ghost use Rattle.engine.specs.Inner.Imply.{Implied, Learns, AllHave, Forces, Gat
 ghost use Rattle.engine.specs.Inner.Packed.{operands_of};
 
 use super::cube::{Cover, Cube};
-use super::limits::NETS;
+use super::limits::{NETS, UNKNOWN};
 use super::packed::{COUNT_AT, COUNTS, NET, NET_AT, SLOTS_AT, operands_of};
 use super::plan::Plan;
 use super::ranges::ternary_gate;
-
-// Not known yet. (What is known stays a number, since ternary_gate looks up the three by three tables by it.)
-const UNKNOWN: u8 = 2;
 
 // A net was to have both values, so no values of the nets agree with what is known.
 #[derive(Drop)]

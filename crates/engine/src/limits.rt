@@ -42,6 +42,9 @@ pub const UNSEEN: u32 = 65536;
 pub const CUBES: usize = 64;
 
 pub const TESTED: usize = 16;
+// What is not yet known of a net, beside 0 and 1: a number, since the three by three tables are looked up by it (src/ternary.rt).
+pub const UNKNOWN: u8 = 2;
+
 // How many nets deep both cases are tried to refute a cube (src/imply.rt), and how often a cover is made anew.
 pub const SPLITS: usize = 4;
 

@@ -10,7 +10,7 @@ ghost use Rattle.engine.specs.Inner.Packed.{count_of, operands_of, evaluated};
 ghost use Rattle.engine.specs.Inner.Plan.{PlannedOf};
 ghost use Rattle.engine.specs.Inner.Ranges.{code_ternary, partial_input, InRange, Known};
 
-use super::limits::NETS;
+use super::limits::{NETS, UNKNOWN};
 use super::packed::{COUNT_AT, COUNTS, NET, NET_AT, SLOTS_AT};
 use super::plan::Plan;
 use super::ternary::{ternary_entry, ternary_table, ternary_value};
@@ -64,7 +64,7 @@ fn partial_input(i: usize, low: usize, prefix: usize) -> u8
     ensures { result ≡ partial_input low prefix i }
 {
     if i < low {
-        return 2;
+        return UNKNOWN;
     }
     ((prefix >> (i - low)) % 2) as u8
 }
@@ -86,7 +86,7 @@ fn load_unknown(at: usize, count: usize, known: &mut [u8; NETS])
     ensures { known.new ≡ placed known.old at (tabulate count (λ i. unknown)) }
 {
     for i in 0..count {
-        known[at + i] = 2;
+        known[at + i] = UNKNOWN;
     }
 }
 
@@ -98,7 +98,7 @@ fn known_equal(plan: &Plan, known: &[u8; NETS]) -> bool
     // By index, over the plan itself: it keeps the bounds of its nets, so that callers owe none.
     for i in 0..plan.outs {
         let x = known[plan.outputs[i] as usize];
-        if 2 <= x {
+        if UNKNOWN <= x {
             return false;
         }
         if x != known[plan.goldens[i] as usize] {

@@ -9,7 +9,7 @@ ghost use Rattle.engine.specs.Inner.Plan.{TurnsOf};
 use super::kernel::run;
 use super::leaves::{block_inputs, load_inputs, read_rows, set_vector};
 use super::limits::{
-    BLOCK, LAST_RANGE, RANGE, RANGE_INPUTS, READINGS, ROWS, TRIES, TRUST, UNSEEN, WORDS,
+    BLOCK, LAST_RANGE, RANGE, RANGE_INPUTS, READINGS, ROWS, TRIES, TRUST, UNSEEN, WORD, WORDS,
 };
 use super::masks::masks_of;
 use super::note::meet_block;
@@ -111,7 +111,7 @@ fn meet_inputs(
     }
     vector_block(plan, 0, words);
     let masks = masks_of(plan, words);
-    meet_block(masks, readings, (count + 63) / 64, sets);
+    meet_block(masks, readings, count.div_ceil(WORD), sets);
     false
 }
 

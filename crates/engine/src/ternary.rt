@@ -3,15 +3,14 @@
 ghost use Rattle.std.specs.Prelude.{min, ◌≡◌, map, take};
 ghost use Rattle.engine.specs.Ternary.{unknown, ternary_value, ternary_table, entry};
 
+use super::limits::UNKNOWN;
 use records::SLOTS;
 
-// The kinds not and and, and an operand that is not yet known.
+// The kinds not and and.
 // They are numbers, since the tables are looked up by them, and the public functions promise answers for every number.
 const NOT: u8 = 3;
 
 const AND: u8 = 4;
-
-const UNKNOWN: usize = 2;
 
 // The tables, by kind; the first operand picks the row. A kind of one operand looks at the first alone, a constant at none.
 const TABLES: [[[u8; 3]; 3]; 10] = [
@@ -42,7 +41,7 @@ pub fn ternary_table(kind: u8) -> [[u8; 3]; 3]
 pub fn ternary_entry(table: [[u8; 3]; 3], a: usize, b: usize) -> u8
     ensures { result ≡ entry table a b }
 {
-    table[a.min(UNKNOWN)][b.min(UNKNOWN)]
+    table[a.min(UNKNOWN as usize)][b.min(UNKNOWN as usize)]
 }
 
 // What is known of a gate of this kind on what is known of its first count operands, of all four where count is above 4: the plain

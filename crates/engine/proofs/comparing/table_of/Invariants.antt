@@ -6,4 +6,4 @@ use Rattle.engine.proofs.comparing.table_of.Given as goal
 
 abbrev pub invariant-loop-k : goal.invariant-loop-k
 invariant-loop-k l =
-    (l.k ≤ l.count) × Filled (λ i. get_or l.sheet (l.start + i) 0) 0 l.k (replicate 1024 0) l.table
+    Filled (λ i. get_or l.sheet (l.start + i) 0) 0 l.k (replicate 1024 0) l.table

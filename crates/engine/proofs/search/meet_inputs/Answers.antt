@@ -1,6 +1,8 @@
 -- `engine::search::meet_inputs` meets its contract: the block's readings; where the table does, the sets stay, and else they are those after
 -- its masks. Assumes nothing.
-use mathlib.Core.Path.{refl}
+use Prim.Native.Nat.{◌+◌, ◌/◌}
+use mathlib.Core.Path.{◌≡◌, refl}
+use native.Mathlib.Omega.{arith}
 use Rattle.engine.proofs.Laws.Choice.{not-both}
 use Rattle.engine.proofs.Laws.Search.{block-met, block-kept}
 use Rattle.engine.proofs.Laws.Searching.{block-small}
@@ -21,11 +23,12 @@ returns-then-keep_block c =
     }
 
 pub returns : goal.returns
-returns c = record {
-  block_met = block-met c.args.b c.args.count c.read_block-readings.ensures c.requires.0
-      (elim c.if-tried.branch [ then-tried+else-keep_block w ↦ rw w.words-is w.keep_block.ensures.free_kept | else-tried w ↦ rw w.words-is (λ j is q b f. f) ])
-      c.vector_block.ensures
-      c.masks_of-masks.ensures
-      c.meet_block.ensures;
-  tried_value = λ h. absurd (not-both h refl);
-}
+returns c =
+    let n : c.div_ceil.result ≡ (c.args.count + 63) / 64 = omega (arith, c.div_ceil.ensures) in record {
+      block_met = block-met c.args.b c.args.count c.read_block-readings.ensures c.requires.0
+          (elim c.if-tried.branch [ then-tried+else-keep_block w ↦ rw w.words-is w.keep_block.ensures.free_kept | else-tried w ↦ rw w.words-is (λ j is q b f. f) ])
+          c.vector_block.ensures
+          c.masks_of-masks.ensures
+          (rw n at c.meet_block.ensures);
+      tried_value = λ h. absurd (not-both h refl);
+    }
