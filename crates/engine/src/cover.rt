@@ -8,17 +8,10 @@ ghost use Rattle.engine.specs.Inner.Kernel.{row_value, value_in};
 ghost use Rattle.engine.specs.Inner.Cover.{NextUnseen, InCube, CoverTo, reading_in, GivesNone};
 
 use super::cube::{Cover, Cube};
-use super::limits::{READINGS, ROW, UNSEEN, WORDS};
+use super::limits::{READINGS, ROW, WORDS};
 use super::plan::Plan;
-use super::table::reading_count;
+use super::table::{is_unseen, reading_count};
 use super::word::{broadcast, zero_row};
-
-// Whether the set of a reading says that no input looked at gives it.
-fn is_unseen(set: u32) -> bool
-    ensures { result ≡ eqb (bit 16 set) 1 }
-{
-    set / UNSEEN % 2 == 1
-}
 
 // The first unseen reading from at on, below count.
 pub(super) fn next_unseen(sets: &[u32; READINGS], at: usize, count: usize) -> Option<usize>

@@ -129,12 +129,7 @@ fn learn_cube(plan: &Plan, cube: Cube, known: &mut [u8; NETS]) -> Result<(), Con
 fn open_operand(c: u64, known: &[u8; NETS]) -> Option<usize>
     ensures { IfSome result (λ i. i < 1024) }
 {
-    for net in operands_of(c) {
-        if UNKNOWN <= known[net] {
-            return Some(net);
-        }
-    }
-    None
+    operands_of(c).find(|net| UNKNOWN <= known[*net])
 }
 
 // An open operand of the last gate that is not justified.

@@ -23,7 +23,7 @@ use super::list::Vectors;
 use super::masks::vector_at;
 use super::miter::Miter;
 use super::note::{list_block, meet_block};
-use super::packed::{COUNT_AT, COUNTS, NET, NET_AT, SLOTS_AT};
+use super::packed::{NET, NET_AT, operands_of};
 use super::search::{Met, all_vectors};
 use super::word::{broadcast, input_word};
 use records::Support;
@@ -56,11 +56,9 @@ fn gate_word(c: u64, words: &[u64; NETS]) -> u64
 {
     let mut r = 0u64;
     let mut op = 3u64;
-    let mut rest = c / SLOTS_AT;
-    for _ in 0..c / COUNT_AT % COUNTS {
-        r = apply(op, r, words[(rest % NET) as usize]);
+    for net in operands_of(c) {
+        r = apply(op, r, words[net]);
         op = c / 2 % 8;
-        rest /= NET;
     }
     r ^ broadcast(c as usize)
 }

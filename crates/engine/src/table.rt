@@ -1,5 +1,6 @@
 // The table of a support and its notes, from the sets of vectors of its readings.
-ghost use Rattle.std.specs.Prelude.{◌≡◌, ℕ, ◌^◌, ◌≤◌, ◌<◌, length, get_or};
+ghost use Rattle.std.specs.Prelude.{◌≡◌, ℕ, ◌^◌, ◌≤◌, ◌<◌, eqb, length, get_or};
+ghost use Rattle.engine.specs.Eval.{bit};
 ghost use Rattle.engine.specs.Choice.{or_zero};
 ghost use Rattle.engine.specs.Inner.List.{lowest};
 ghost use Rattle.engine.specs.Inner.Table.{TableFilled, note_from, NotesFilled};
@@ -44,12 +45,19 @@ pub(super) fn fill_table(sets: &[u32], len: usize) -> [u8; READINGS]
     fill(sets, len, lowest_vector)
 }
 
+// Whether the set of a reading says that no input looked at gives it.
+pub(super) fn is_unseen(set: u32) -> bool
+    ensures { result ≡ eqb (bit 16 set) 1 }
+{
+    set / UNSEEN % 2 == 1
+}
+
 // The note of a reading with this set, whose bit above the vectors' is 1 where no input gives it.
 // A note is a number, as it stands in the sheet.
 fn note_of(set: u32) -> u8
     ensures { result ≡ note_from set }
 {
-    if set / UNSEEN % 2 != 0 {
+    if is_unseen(set) {
         return 0;
     }
     if (set % UNSEEN) as usize == 1 << lowest_of(set as usize) {

@@ -9,7 +9,7 @@ ghost use Rattle.report.specs.Text.{number, line, unfixable_word, blind_word, pa
 ghost use Rattle.report.specs.Inner.{PatchSheet, BlindSheet, UnfixableSheet, ChoiceSheet, patch_sheet_text, choice_text, pair};
 
 use arrayvec::ArrayVec;
-use engine::{LONGEST_CHOOSE, LONGEST_JUDGE, choose, judge};
+use engine::{Judgement, LONGEST_CHOOSE, LONGEST_JUDGE, choose, judge};
 use records::Refusal;
 
 // The buffer that rectify_text asks for (specs/Text.antt).
@@ -198,7 +198,7 @@ fn put_verdict(text: &mut Text, job: &[u8])
         Err(refusal) => return put_refusal(text, refusal),
     };
     let m = judged.len;
-    if first[0] == 20 {
+    if let Judgement::Unfixable(_) = judged.verdict {
         return put_unfixable(text, &first[..m]);
     }
     let mut second = [0u8; LONGEST_CHOOSE];

@@ -1,6 +1,6 @@
 -- Laws of words that have a net's values at all of 64 inputs: one gate more, the leaves, the values of all nets, rows and readings.
 -- Assumes nothing.
-use Prim.Native.Nat.{ℕ, zero, suc, ◌+◌, ◌-◌, ◌*◌, ◌/◌, ◌%◌, ◌^◌, ◌≤◌, ◌<◌}
+use Prim.Native.Nat.{ℕ, zero, suc, ◌+◌, ◌-◌, ◌*◌, ◌%◌, ◌^◌, ◌≤◌, ◌<◌}
 use mathlib.Core.Path.{◌≡◌, refl, sym, ◌∙◌, ap, subst}
 use mathlib.Core.Logic.{inl, inr, ⊎_elim}
 use mathlib.Core.List.{List, [], ◌∷◌, map}
@@ -22,7 +22,7 @@ use Rattle.engine.specs.Eval.{bit, number_of}
 use Rattle.engine.specs.Rectify.{rectifies}
 use Rattle.engine.specs.Support.{reading, candidate_nets}
 use Rattle.engine.specs.Inner.Imply.{Binary}
-use Rattle.engine.specs.Inner.Packed.{fields, own, operands_of, operation, inverts, folded, packed_from, code_value, evaluated}
+use Rattle.engine.specs.Inner.Packed.{own, operands_of, operation, inverts, folded, packed_from, code_value, evaluated}
 use Rattle.engine.specs.Inner.Kernel.{applied, row_value, NetSet}
 use Rattle.engine.specs.Inner.Masks.{rectifiers, ordered}
 use Rattle.engine.specs.Inner.Miter.{MergedOf}
@@ -36,7 +36,7 @@ use Rattle.engine.specs.declared.miter.Miter.{Miter}
 use Rattle.engine.proofs.Laws.BlockRows.{agree-values, agree-reading, MasksTo, masks-none, masks-next, masks-gathered}
 use Rattle.engine.proofs.Laws.Choice.{true-or-false, not-both, all-of-members}
 use Rattle.engine.proofs.Laws.Eval.{bit-lt}
-use Rattle.engine.proofs.Laws.Kernel.{bit-sum, bit-applied, row-replicate, left, left-all, left-next, left-none}
+use Rattle.engine.proofs.Laws.Kernel.{bit-sum, bit-applied, row-replicate, left, left-all}
 use Rattle.engine.proofs.Laws.Plan.{leaves_of, base, leaf-value, leaf-input, leaf-target, values_agree, free-agrees}
 use Rattle.engine.proofs.Laws.PlanCode.{evaluated-next, evaluated-end}
 use Rattle.engine.proofs.Laws.Run.{keep_all}
@@ -62,24 +62,22 @@ module _ (words : List ℕ) (c y : ℕ) where
   at = net_at (values_at words y)
 
   -- the word so far, with the operands left, gives the whole
-  abbrev pub WordLeft : ℕ → ℕ → ℕ → ℕ → Type 0
-  WordLeft op r n rest = left op (operation c) (bit y r) (map at (fields n rest)) ≡ folded (operation c) (map at (operands_of c))
+  abbrev pub WordLeft : ℕ → ℕ → List ℕ → Type 0
+  WordLeft op r is = left op (operation c) (bit y r) (map at is) ≡ folded (operation c) (map at (operands_of c))
 
-  pub word-start : WordLeft 3 0 (c / 16 % 8) (c / 131072)
+  pub word-start : WordLeft 3 0 (operands_of c)
   word-start = rw (bit-zero y) (left-all (operation c) (map at (operands_of c)))
 
-  pub word_next : (op r n rest : ℕ) {w : ℕ} → w ≡ applied op r (get_or words (rest % 1024) 0) → 0 < n → WordLeft op r n rest
-      → WordLeft (operation c) w (n - 1) (rest / 1024)
-  word_next op r n rest e h l =
-      rw (e, bit-applied op y r (get_or words (rest % 1024) 0), ← net-bit words y (rest % 1024))
-      (left-next at op (operation c) (bit y r) n rest h)
-      ∙ l
+  pub word_next : (op r x : ℕ) {w : ℕ} {is js : List ℕ} → is ≡ x ∷ js → w ≡ applied op r (get_or words x 0) → WordLeft op r is
+      → WordLeft (operation c) w js
+  unfolding left
+  word_next op r x s e l =
+      rw (e, bit-applied op y r (get_or words x 0), ← net-bit words y x) (rw s at l)
 
-  pub word-all : (op r n rest x : ℕ) → n ≡ 0 → bit y x ≡ inverts c → WordLeft op r n rest
+  pub word-all : (op r x : ℕ) {is : List ℕ} → is ≡ [] → bit y x ≡ inverts c → WordLeft op r is
       → bit y (bit_xor r x) ≡ code_value (values_at words y) c
-  unfolding code_value
-  word-all op r n rest x h e l =
-      bit-sum y r x ∙ rw (e, sym (left-none at op (operation c) (bit y r) n rest h) ∙ l)
+  unfolding code_value left
+  word-all op r x s e l = bit-sum y r x ∙ rw (e, rw s at l)
 
 -- ---- one gate more
 

@@ -2,11 +2,12 @@
 use Prim.Native.Nat.{ℕ, ◌+◌, ◌-◌, ◌≤◌, ◌<◌}
 use mathlib.Core.Path.{◌≡◌, refl, sym, ◌∙◌, ap}
 use mathlib.Core.List.{List, ◌++◌}
-use mathlib.Core.Option.{none}
+use mathlib.Core.Option.{Option, none, some}
+use mathlib.Core.Logic.{⊎_elim}
+use Rattle.engine.proofs.Laws.Choice.{none_or_some}
 use native.Mathlib.Omega.{arith}
 use borrow.Author.Tests.{lt-ltb, le-ltb}
 use lib.ListN.{length, get_or, take, drop, replicate}
-use lib.Seq.{get_or-take}
 use Rattle.records.specs.Bytes.{placed, nth}
 use Rattle.records.specs.Job.{job_of}
 use Rattle.records.specs.Refusal.{job_refusal}
@@ -15,14 +16,16 @@ use Rattle.records.specs.Claims.{PartsGood}
 use Rattle.records.proofs.Laws.Bytes.{drop-take}
 use Rattle.engine.specs.Rectify.{vector_loop}
 use Rattle.engine.specs.Verdict.{longest_judge, longest_choose, judge_sheet, choose_sheet, judged_bytes, chosen_bytes}
-use Rattle.engine.specs.Reply.{judge_reply, choose_reply}
+use Rattle.engine.specs.Reply.{judge_reply, choose_reply, judgement_of, judgement_fields}
+use Rattle.engine.specs.declared.judging.Judgement.{Judgement}
+use Rattle.engine.specs.declared.judging.UnfixableInput.{UnfixableInput}
 use Rattle.engine.specs.Reply.{JudgeReply}
 use Rattle.engine.specs.Reply.{ChooseReply}
-use Rattle.engine.proofs.Laws.Verdict.{vectors-le}
-use Rattle.engine.proofs.Replies.{judge-replies, choose-replies, sheet-length, sheet-short, sheet-bytes, judge-accepts, refuse-alike, longest-judged, longest-chosen}
+use Rattle.engine.proofs.Laws.Verdict.{vectors-le, judged-fixable, judged-unfixable}
+use Rattle.engine.proofs.Replies.{judge-reply, judge-replies, choose-replies, sheet-length, sheet-short, sheet-bytes, judge-accepts, refuse-alike, longest-judged, longest-chosen}
 use Rattle.report.specs.Text.{unfixable_word, value_text, refused_text, input_limit, rectify_text, longest_text, printed_length, printed_bytes}
 use Rattle.report.specs.Inner.{UnfixableSheet, ChoiceSheet, choice_text}
-use Rattle.report.proofs.Laws.Sheet.{unfixable-sheet, choice-sheet, judge-some, tag-unfixable, tag-fixable, vectors-behind}
+use Rattle.report.proofs.Laws.Sheet.{unfixable-sheet, choice-sheet, judge-some, vectors-behind}
 use Rattle.report.proofs.Laws.Text.{judge-text, choose-text, rectify-accepted, rectify-refused}
 
 -- a text at the start of the lent buffer d: the length and the buffer are those of the definition, and the length is within the buffer
@@ -96,27 +99,45 @@ module _ (s : List ℕ) {r : JudgeReply} (e : r ≡ judge_reply blank_judge s) w
       judged : take r.len b ≡ judge_sheet (job_of s)
       judged = sheet-bytes longest-judged (judge-replies blank_judge s e) z w
 
-      judge-tag : get_or (judge_sheet (job_of s)) 0 0 ≡ get_or b 0 0
-      judge-tag =
-          let l = judge-short in
-          ap (λ (xs : List ℕ). get_or xs 0 0) (sym judged) ∙ get_or-take r.len b 0 0 (omega arith)
+      -- judge's verdict is v
+      module _ {v : Judgement} (q : r.verdict ≡ some v) where
+        judge-verdict : some v ≡ judgement_of (job_of s)
+        judge-verdict =
+            sym q
+            ∙ ap (λ (a : JudgeReply). a.verdict) (e ∙ judge-reply blank_judge s (sym (judge-replies blank_judge s e).number ∙ z))
 
-      -- judge's first tag is 20
-      module _ (t : get_or b 0 0 ≡ 20) where
-        pub judge-unfixable : UnfixableSheet (take r.len b)
-        judge-unfixable =
-            rw judged (unfixable-sheet (job_of s) good (tag-unfixable (job_of s) (judge-tag ∙ t)).1)
+        -- it is an unfixable input
+        module _ {u : UnfixableInput} (p : v ≡ Judgement.Unfixable u) where
+          unfixable : (x : ℕ) × ((vector_loop (job_of s)).stuck ≡ some x)
+          unfolding judgement_fields
+          unfixable =
+              ⊎_elim
+              (λ (k : (vector_loop (job_of s)).stuck ≡ none).
+              let t : 20 ≡ 19 =
+              ap (λ (o : Option Judgement). get_or (judgement_fields o) 0 0)
+              (ap some (sym p) ∙ judge-verdict ∙ (judged-fixable (job_of s) k).0)
+              in
+              absurd (omega (arith, t)))
+              (λ x. x)
+              (none_or_some (vector_loop (job_of s)).stuck)
 
-        pub unfixable-text : length s ≤ input_limit
-            → let sheet = take r.len b in value_text unfixable_word (quad (nth 0 sheet)) (nth 1 sheet) ≡ rectify_text s
-        unfixable-text l =
-            rw judged
-            (judge-text (job_of s) (tag-unfixable (job_of s) (judge-tag ∙ t)).1 ∙ sym (rectify-accepted s l accepted))
+          pub judge-unfixable : UnfixableSheet (take r.len b)
+          judge-unfixable = rw judged (unfixable-sheet (job_of s) good unfixable.1)
+
+          pub unfixable-text : length s ≤ input_limit
+              → let sheet = take r.len b in value_text unfixable_word (quad (nth 0 sheet)) (nth 1 sheet) ≡ rectify_text s
+          unfixable-text l = rw judged (judge-text (job_of s) unfixable.1 ∙ sym (rectify-accepted s l accepted))
 
       -- .. or it is not
-      module _ (n : get_or b 0 0 ≡ 20 → ⊥) where
+      module _ {v : Judgement} (q : r.verdict ≡ some v) (n : (u : UnfixableInput) → v ≡ Judgement.Unfixable u → ⊥) where
         fixable : (vector_loop (job_of s)).stuck ≡ none
-        fixable = tag-fixable (job_of s) (λ t. n (sym judge-tag ∙ t))
+        fixable =
+            ⊎_elim (λ k. k)
+            (λ x.
+            absurd
+            (n (record { input = x.0 })
+            (ap (λ (o : Option Judgement). elim o [ some w ↦ w | none ↦ v ]) (judge-verdict q ∙ (judged-unfixable (job_of s) x.1).0))))
+            (none_or_some (vector_loop (job_of s)).stuck)
 
         vectors-part : take (r.len - 3) (drop 3 b) ≡ (vector_loop (job_of s)).vectors
         vectors-part = behind-three b r.len judge-short.0 judged ∙ vectors-behind (job_of s) fixable

@@ -34,15 +34,15 @@ slice_bounds-put_unfixable-end c =
 
 pub put_unfixable-requires : goal.put_unfixable-requires
 put_unfixable-requires c = (
-  judge-unfixable c.args.job.now c.in-Ok.ensures.reply refl c.in-Ok.ensures.lent c.if-first-eq20.true,
+  judge-unfixable c.args.job.now c.in-Ok.ensures.reply refl c.in-Ok.ensures.lent refl c.in-Unfixable.is,
   c.requires,
 )
 
-pub returns-then-first-eq20 : goal.returns-then-first-eq20
-returns-then-first-eq20 c =
+pub returns-in-Unfixable : goal.returns-in-Unfixable
+returns-in-Unfixable c =
     let e = c.in-Ok.ensures in
     c.put_unfixable.ensures
-    ∙ unfixable-text c.args.job.now e.reply refl e.lent c.if-first-eq20.true c.if-job-gt65535.false
+    ∙ unfixable-text c.args.job.now e.reply refl e.lent refl c.in-Unfixable.is c.if-job-gt65535.false
 
 pub slice_bounds-second-end : goal.slice_bounds-second-end
 slice_bounds-second-end c =
@@ -81,7 +81,7 @@ put_choice-requires c =
     let s = c.args.job.now in
     let e = c.in-Ok.ensures in (
       choose-whole s e.reply refl (rw c.unwrap-chosen.ensures at c.choose.ensures.reply) c.choose.ensures.lent,
-      vectors-short s e.reply refl e.lent c.if-first-eq20.false,
+      vectors-short s e.reply refl e.lent refl c.in_default.not-Unfixable,
       c.requires,
     )
 
@@ -90,4 +90,4 @@ returns c =
     let e = c.in-Ok.ensures in
     let f = c.choose.ensures in
     c.put_choice.ensures
-    ∙ chosen-text c.args.job.now e.reply refl e.lent c.if-first-eq20.false (rw c.unwrap-chosen.ensures at f.reply) f.lent c.if-job-gt65535.false
+    ∙ chosen-text c.args.job.now e.reply refl e.lent refl c.in_default.not-Unfixable (rw c.unwrap-chosen.ensures at f.reply) f.lent c.if-job-gt65535.false
