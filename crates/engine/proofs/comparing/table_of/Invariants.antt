@@ -1,5 +1,5 @@
 -- `engine::comparing::table_of` meets its contract. The invariant: the first k entries are copied. Assumes nothing.
-use Prim.Native.Nat.{◌+◌, ◌≤◌}
+use Prim.Native.Nat.{◌+◌}
 use lib.ListN.{get_or, replicate}
 use Rattle.engine.specs.Inner.Kernel.{Filled}
 use Rattle.engine.proofs.comparing.table_of.Given as goal
