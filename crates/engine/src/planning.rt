@@ -33,6 +33,7 @@ fn leaf_marks(from: usize, k: usize) -> [u8; NETS]
     ensures { result ≡ leaves_from from k }
 {
     let mut marks = [0u8; NETS];
+    // fill was tried: the proof of returns stays open, over the language's own terms.
     for i in 0..k {
         marks[from + i] = 1;
     }

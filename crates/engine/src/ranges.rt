@@ -85,6 +85,7 @@ fn load_unknown(at: usize, count: usize, known: &mut [u8; NETS])
     requires { at + count ≤ 1024 }
     ensures { known.new ≡ placed known.old at (tabulate count (λ i. unknown)) }
 {
+    // fill was tried: the proof of returns stays open, over the language's own terms.
     for i in 0..count {
         known[at + i] = UNKNOWN;
     }

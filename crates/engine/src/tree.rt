@@ -334,6 +334,7 @@ pub(super) fn trees_size(table: &[u8], k: usize, targets: usize) -> usize
     requires { (k ≤ 10) × (2 ^ k ≤ length table.now) × (targets ≤ 4) }
     ensures { result ≡ trees_size targets 0 k table.now }
 {
+    // map and sum were tried: the proof of what sum requires stays open, as tree_size asks for a small t.
     let mut sum = 0usize;
     for t in 0..targets {
         sum += tree_size(table, k, t);
