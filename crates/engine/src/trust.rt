@@ -46,12 +46,11 @@ pub(super) fn next_trust(trust: usize, b: usize) -> usize
 pub struct Pace {
     pub wait: usize,
     pub rest: usize,
+    ghost short: { rest ≤ 80 },
 }
 
 // After the first block, or never where there are fewer inputs than least, since what it learns costs more there.
-pub(super) fn first_pace(inputs: usize, least: usize) -> Pace
-    ensures { result.rest ≤ 80 }
-{
+pub(super) fn first_pace(inputs: usize, least: usize) -> Pace {
     if inputs < least {
         return Pace {
             wait: ENDLESS_BLOCKS,
@@ -74,10 +73,7 @@ fn longer(rest: usize) -> usize
 }
 
 // The pace after a block, which the test saved, did not save, or was not tried on.
-pub(super) fn next_pace(pace: Pace, saved: bool) -> Pace
-    requires { pace.rest ≤ 80 }
-    ensures { result.rest ≤ 80 }
-{
+pub(super) fn next_pace(pace: Pace, saved: bool) -> Pace {
     if saved {
         return Pace { wait: 0, rest: 0 };
     }

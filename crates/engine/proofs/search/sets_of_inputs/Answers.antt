@@ -21,7 +21,6 @@ overflow_shl-size c = omega (arith, c.args.plan.now.inputs_bound)
 pub loop-b-init : goal.loop-b-init
 loop-b-init c =
     let p = c.args.plan.now in (
-      c.first_pace-pace.ensures,
       λ _. sole-start c.all_vectors.result,
       walk_start (SetsAfter _ _ _) p.inputs_bound
           (λ j q. sets-start j (omega (arith, p.targets_bound, q.planned.targets)) (c.all_vectors.ensures ∙ ap (λ (m : ℕ). 2 ^ 2 ^ m - 1) q.planned.targets)),
@@ -29,24 +28,20 @@ loop-b-init c =
     )
 
 pub settled_from-skip-requires : goal.settled_from-skip-requires
-settled_from-skip-requires c = omega (arith, c.loop-b.invariant.2.inputs)
+settled_from-skip-requires c = omega (arith, c.loop-b.invariant.1.inputs)
 
 pub next_tries-tries-requires : goal.next_tries-tries-requires
-next_tries-tries-requires c = c.loop-b.invariant.3
+next_tries-tries-requires c = c.loop-b.invariant.2
 
 pub meet_inputs-kept-requires : goal.meet_inputs-kept-requires
 meet_inputs-kept-requires c =
     let i = c.loop-b.invariant in
-    (walk-range i.2 (omega arith) c.block_inputs-count.ensures, λ e. i.1 (eqb-true c.loop-b.pace.wait 0 e))
-
-pub next_pace-pace-requires : goal.next_pace-pace-requires
-next_pace-pace-requires c = c.loop-b.invariant.0
+    (walk-range i.1 (omega arith) c.block_inputs-count.ensures, λ e. i.0 (eqb-true c.loop-b.pace.wait 0 e))
 
 pub loop-b-preserved-then-skip-eq0 : goal.loop-b-preserved-then-skip-eq0
 loop-b-preserved-then-skip-eq0 c =
     let i = c.loop-b.invariant in
     let e = c.meet_inputs-kept.ensures in (
-      c.next_pace-pace.ensures,
       -- the table is made again; or the sets stay; or it is not tried next
       λ o.
           elim c.if-kept-pace.branch [
@@ -56,17 +51,17 @@ loop-b-preserved-then-skip-eq0 c =
                 (⊎_elim
                 (λ k.
                 let s = e.tried_value (not-false c.meet_inputs-kept.result k) in
-                rw s.1 (i.1 (eqb-true c.loop-b.pace.wait 0 s.0)))
+                rw s.1 (i.0 (eqb-true c.loop-b.pace.wait 0 s.0)))
                 (λ z. absurd (eqb-false c.next_pace-pace.result.wait 0 z o))
                 (and_cases _ _ w.if-kept-pace.false))
           ],
-      walk_block i.2 (omega arith) c.block_inputs-count.ensures (SetsAfter _ _ _)
-          (λ j q. e.block_met.sets j c.loop-b.skipped q (walk_here i.2 (omega arith) j q)),
+      walk_block i.1 (omega arith) c.block_inputs-count.ensures (SetsAfter _ _ _)
+          (λ j q. e.block_met.sets j c.loop-b.skipped q (walk_here i.1 (omega arith) j q)),
       c.next_tries-tries.ensures,
     )
 
 pub overflow_shl-skipped : goal.overflow_shl-skipped
-overflow_shl-skipped c = omega (arith, c.loop-b.invariant.2.few)
+overflow_shl-skipped c = omega (arith, c.loop-b.invariant.1.few)
 
 pub overflow_add-b-else-skip-eq0 : goal.overflow_add-b-else-skip-eq0
 overflow_add-b-else-skip-eq0 c = omega (arith, c.settled_from-skip.ensures.few)
@@ -76,15 +71,14 @@ loop-b-preserved c =
     let f = c.settled_from-skip in
     let i = c.loop-b.invariant in
     let n = c.loop-b.b / 32 in
-    let e : 1 * 2 ^ n % 18446744073709551616 ≡ 2 ^ n = omega (arith, pow_mono {i = n} {j = 63} (omega (arith, i.2.few))) in (
+    let e : 1 * 2 ^ n % 18446744073709551616 ≡ 2 ^ n = omega (arith, pow_mono {i = n} {j = 63} (omega (arith, i.1.few))) in (
       i.0,
-      i.1,
-      walk-skip i.2 (omega arith) (SetsAfter _ _ _) f.result f.ensures.within
-          (λ j q. rw e (sets-skip f.ensures (omega arith) q.planned (walk_here i.2 (omega arith) j q))),
+      walk-skip i.1 (omega arith) (SetsAfter _ _ _) f.result f.ensures.within
+          (λ j q. rw e (sets-skip f.ensures (omega arith) q.planned (walk_here i.1 (omega arith) j q))),
       c.next_tries-tries.ensures,
     )
 
 pub returns : goal.returns
 returns c =
     let l = c.loop-b in
-    λ j q. subst (λ (n : ℕ). SetsTo j (2 ^ n) l.skipped l.sets) q.planned.inputs (walk_end l.invariant.2 (omega arith) j q)
+    λ j q. subst (λ (n : ℕ). SetsTo j (2 ^ n) l.skipped l.sets) q.planned.inputs (walk_end l.invariant.1 (omega arith) j q)

@@ -17,8 +17,7 @@ SetsAfter p skipped sets x = (j : Job) → TurnsOf j (candidate_nets j) p → Se
 
 abbrev pub invariant-loop-b : goal.invariant-loop-b
 invariant-loop-b l =
-    (l.pace.rest ≤ 80)
-    × (l.pace.wait ≡ 0 → SoleTable l.sets l.table)
+    (l.pace.wait ≡ 0 → SoleTable l.sets l.table)
     × WalkTo (SetsAfter l.plan l.skipped l.sets) l.plan.inputs l.size l.b
     × (l.tries ≤ 64)
 
