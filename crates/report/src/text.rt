@@ -5,7 +5,7 @@ ghost use Rattle.records.specs.Bytes.{nth, word as word'};
 ghost use Rattle.records.specs.Job.{nets_of};
 ghost use Rattle.records.specs.Service.{number_of};
 ghost use Rattle.records.specs.Sheet.{quad};
-ghost use Rattle.report.specs.Text.{number, line, unfixable_word, blind_word, patch_text, value_text, refused_text, rectify_text, longest_text, printed_length, printed_bytes};
+ghost use Rattle.report.specs.Text.{digits, number, line, unfixable_word, blind_word, patch_text, value_text, refused_text, rectify_text, longest_text, printed_length, printed_bytes};
 ghost use Rattle.report.specs.Inner.{PatchSheet, BlindSheet, UnfixableSheet, ChoiceSheet, patch_sheet_text, choice_text, pair};
 
 use arrayvec::ArrayVec;
@@ -50,15 +50,29 @@ impl Shown for [u8; 2] {
     }
 }
 
-// A space and the digits of x.
+// The digits of x. It stays out of the loops that call put_number, which seldom need it.
+#[inline(never)]
+fn put_digits(text: &mut Text, x: usize)
+    requires { array_vec_len text.old + length (digits x) ≤ longest_text }
+    ensures { text.new.items ≡ text.old.items ++ digits x }
+{
+    let mut buffer = itoa::Buffer::new();
+    let digits = buffer.format(x).as_bytes();
+    text.try_extend_from_slice(digits).unwrap();
+}
+
+// A space and the digits of x. Most numbers of a table and of notes have one digit, which is put without the library's buffer.
+#[inline(always)]
 fn put_number(text: &mut Text, x: usize)
     requires { array_vec_len text.old + length (number x) ≤ longest_text }
     ensures { text.new.items ≡ text.old.items ++ number x }
 {
-    let mut buffer = itoa::Buffer::new();
-    let digits = buffer.format(x).as_bytes();
     text.push(b' ');
-    text.try_extend_from_slice(digits).unwrap();
+    if x < 10 {
+        text.push(b'0' + x as u8);
+    } else {
+        put_digits(text, x);
+    }
 }
 
 // A line: a word and numbers.

@@ -1,7 +1,7 @@
 -- Laws of numbers and lines: digits, pieces placed one after the other, and how long they are. Assumes nothing.
 use Prim.Native.Nat.{ℕ, zero, suc, ◌+◌, ◌*◌, ◌/◌, ◌%◌, ◌^◌, ◌≤◌, ◌<◌}
 use mathlib.Core.Path.{◌≡◌, refl, sym, ◌∙◌, ap}
-use mathlib.Core.List.{List, [], ◌∷◌, ◌++◌, map, append_assoc, map-id}
+use mathlib.Core.List.{List, [], ◌∷◌, ◌++◌, map, append_assoc, append-nil, map-id}
 use mathlib.Core.Logic.{⊎_elim}
 use native.Mathlib.Nat.{mul-suc, pow-suc}
 use native.Mathlib.Omega.{arith}
@@ -70,6 +70,13 @@ decimal-digits =
 pub length-digits-more : (x : ℕ) → 10 ≤ x → length (digits x) ≡ length (digits (x / 10)) + 1
 length-digits-more x h = ap length (digits_more x h) ∙ length-append (digits (x / 10)) ((48 + x % 10) ∷ [])
 
+pub digits-some : (x : ℕ) → 1 ≤ length (digits x)
+digits-some x =
+    ⊎_elim
+    (λ s. rw (digits-small x (ltb-true x 10 s)) (omega arith))
+    (λ m. omega (arith, length-digits-more x (ltb-false x 10 m)))
+    (true-or-false (ltb x 10))
+
 tenth-lt : (k x : ℕ) → x < 10 ^ suc (suc k) → x / 10 < 10 ^ suc k
 tenth-lt k x h = let e : 10 ^ suc (suc k) ≡ 10 ^ suc k * 10 = pow-suc 10 (suc k) in omega arith
 
@@ -112,6 +119,10 @@ module _ {A : Type 0} (f : A → ℕ) (xs : List A) where
       (omega (arith, ap length e, length-append (flat number (take i (map f xs))) (flat number (drop i (map f xs)))))
 
 -- ---- lines
+
+pub numbers-one : (x : ℕ) → numbers (x ∷ []) ≡ number x
+unfolding numbers flat
+numbers-one x = append-nil (number x)
 
 pub length-line : (w xs : List ℕ) → length (line w xs) ≡ length w + length (numbers xs) + 1
 unfolding line

@@ -266,15 +266,29 @@ module _ (j : Job) (g : PartsGood j) where
       (λ t. rw (chosen-blind j t).1 (is_blind blind-sheet))
       (true-or-false (sound j (candidate_nets j)))
 
--- ---- judge's sheet has a field's front, and the vector list stands behind it
+-- ---- the first tag of judge's sheet, and the vector list behind it
 
 module _ (j : Job) where
-  pub judge-some : 3 ≤ length (judge_sheet j)
+  unfixable-front : {x : ℕ} → (vector_loop j).stuck ≡ some x → (3 ≤ length (judge_sheet j)) × (get_or (judge_sheet j) 0 0 ≡ 20)
   unfolding field byte_pair
+  unfixable-front e = rw (judged-unfixable j e).1 (omega arith, refl)
+
+  fixable-front : (vector_loop j).stuck ≡ none → (3 ≤ length (judge_sheet j)) × (get_or (judge_sheet j) 0 0 ≡ 19)
+  unfolding field byte_pair
+  fixable-front e = rw (judged-fixable j e).1 (omega arith, refl)
+
+  pub judge-some : 3 ≤ length (judge_sheet j)
   judge-some =
-      ⊎_elim (λ (e : (vector_loop j).stuck ≡ none). rw (judged-fixable j e).1 (omega arith))
-      (λ r. rw (judged-unfixable j r.1).1 (omega arith))
+      ⊎_elim (λ (e : (vector_loop j).stuck ≡ none). (fixable-front e).0) (λ r. (unfixable-front r.1).0)
       (none_or_some (vector_loop j).stuck)
+
+  pub tag-unfixable : get_or (judge_sheet j) 0 0 ≡ 20 → (x : ℕ) × ((vector_loop j).stuck ≡ some x)
+  tag-unfixable t =
+      ⊎_elim (λ (e : (vector_loop j).stuck ≡ none). absurd (omega (arith, (fixable-front e).1))) (λ r. r)
+      (none_or_some (vector_loop j).stuck)
+
+  pub tag-fixable : (get_or (judge_sheet j) 0 0 ≡ 20 → ⊥) → (vector_loop j).stuck ≡ none
+  tag-fixable n = ⊎_elim (λ e. e) (λ r. absurd (n (unfixable-front r.1).1)) (none_or_some (vector_loop j).stuck)
 
   pub vectors-behind : (vector_loop j).stuck ≡ none → drop 3 (judge_sheet j) ≡ (vector_loop j).vectors
   unfolding field byte_pair
