@@ -8,6 +8,7 @@
 --   no_gate, no_gates     the gate struct of zeros, and a netlist's places of it
 --   check_of b            a check's answer for a test
 --   number_of e           the number of a refusal
+--   refusal_text e        what it prints as: `refused ` and its number, a digit
 --   told_number r         .. of an answer: 0 where it is accepted
 --   SidePlaces, Places    the lent places of a netlist, of a job
 --   side_places, places   the same from the lists of their places
@@ -27,7 +28,7 @@
 --   SheetReply, sheet_told r                 what an answer of read_sheet says: number, support, where the table starts, cost
 --   sheet_number, sheet_reply                what read_sheet replies
 --   field_fits d at xs    a field of the bytes xs fits into the buffer d from position at on, and its length into two bytes
-use Rattle.std.specs.Prelude.{◌≡◌, ℕ, ◌+◌, ◌-◌, List, [], ◌∷◌, ◌++◌, map, Bool, cond, ◌&&◌, length, get_or, take, replicate, leb, ltb, eqb, Result, Ok, Err}
+use Rattle.std.specs.Prelude.{◌≡◌, ℕ, ◌+◌, ◌-◌, List, [], ◌∷◌, ◌++◌, map, Bool, cond, ◌&&◌, length, get_or, take, replicate, leb, ltb, eqb, Result, Ok, Err, codes}
 use Rattle.records.specs.Bytes.{tabulate, placed, head_size, nth}
 use Rattle.records.specs.Gate.{Gate, gate_of}
 use Rattle.records.specs.Netlist.{Netlist}
@@ -104,6 +105,9 @@ number_of Refusal.Size = 9
 
 abbrev pub Numbers : Refusal → ℕ → Type 0
 Numbers e n = n ≡ number_of e
+
+unfoldable pub refusal_text : Refusal → List ℕ
+refusal_text e = codes "refused " ++ ((48 + number_of e) ∷ [])
 
 abbrev pub told_number : {A : Type 0} → Result A Refusal → ℕ
 told_number (Ok _) = 0

@@ -1,7 +1,7 @@
 -- Laws of specs/Netlist and of good gates in a row: the turns of the loops over a job's gates. Assumes nothing.
 use Prim.Native.Nat.{ℕ, suc, ◌+◌, ◌-◌, ◌/◌, max, ◌≤◌, ◌<◌}
 use mathlib.Core.Path.{◌≡◌, refl, sym, ◌∙◌, ap}
-use mathlib.Core.List.{List, [], ◌∷◌, ◌++◌, map, append-nil}
+use mathlib.Core.List.{List, [], ◌∷◌, ◌++◌, map, append-nil, append_assoc}
 use mathlib.Core.Bool.{Bool, true, ◌&&◌}
 use native.Mathlib.Omega.{arith}
 use borrow.Author.Tests.{ltb-true}
@@ -84,6 +84,17 @@ leaf_marks-none n size h =
     ∙ ap (take (n + 0)) (sym (replicate-append-replicate n (size - n) 0))
     ∙ take_at (replicate n 0) (replicate (size - n) 0) (n + 0) (omega (arith, length-replicate {A = ℕ} n 0))
     ∙ sym (append-nil (replicate n 0))
+
+pub leaf_marks-more : (n i : ℕ) (marks : List ℕ) → n + i < length marks → take (n + i) marks ≡ leaf_marks n i
+    → take (n + (i + 1)) (set marks (n + i) 1) ≡ leaf_marks n (i + 1)
+unfolding leaf_marks
+leaf_marks-more n i marks h e =
+    let m : n + (i + 1) ≡ suc (n + i) = omega arith in
+    ap (λ (k : ℕ). take k (set marks (n + i) 1)) m
+    ∙ take-suc-set marks (n + i) 1 h
+    ∙ ap (λ (l : List ℕ). l ++ (1 ∷ [])) e
+    ∙ append_assoc (replicate n 0) (replicate i 1) (1 ∷ [])
+    ∙ ap (λ (l : List ℕ). replicate n 0 ++ l) (replicate-append-replicate i 1 1)
 
 pub leaf_marks-filled : (n m k size : ℕ) (ys : List ℕ) → n ≤ size → ys ≡ replicate m 1
     → take (n + m) (put_mid n k (replicate size 0) ys) ≡ leaf_marks n m

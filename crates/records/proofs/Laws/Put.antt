@@ -4,13 +4,13 @@ use Prim.Native.Nat.{ℕ, zero, suc, ◌+◌, ◌*◌, ◌≤◌, ◌<◌}
 use mathlib.Core.Path.{◌≡◌, refl, sym, ◌∙◌, ap}
 use mathlib.Core.List.{List, [], ◌∷◌, ◌++◌, append_assoc}
 use mathlib.Core.Bool.{true, false, cond}
-use native.Mathlib.Nat.{mul-suc}
+use native.Mathlib.Nat.{zero-add, mul-suc}
 use native.Mathlib.Numerals.{add-one}
 use native.Mathlib.Omega.{arith}
 use borrow.Author.Tests.{le-leb, lt-leb, lt-ltb, le-ltb}
 use lib.Dec.{leb}
-use lib.ListN.{length, get_or, take, drop, length-append}
-use lib.Seq.{drop-drop, length-take-le}
+use lib.ListN.{length, get_or, take, drop, length-append, length-drop, take-append-drop}
+use lib.Seq.{drop-append-le, drop-drop, length-take-le}
 use Rattle.records.specs.Bytes.{flat, placed, head_size, field, byte_pair}
 use Rattle.records.specs.Job.{Candidate, candidate_bytes, job_bytes}
 use Rattle.records.specs.Service.{Places, netlist_from, candidates_from, job_from, field_fits}
@@ -29,6 +29,21 @@ mid-placed d at n xs e f =
     ∙ ap (λ (k : ℕ). take at d ++ (xs ++ drop k (drop at d))) f
     ∙ ap (λ (r : List ℕ). take at d ++ (xs ++ r)) (drop-drop (length xs) at d)
     ∙ sym (append_assoc (take at d) xs (drop (at + length xs) d))
+
+-- a list placed at the start of the k elements from position a on
+pub part_placed : (d : List ℕ) (a k : ℕ) (xs : List ℕ) → a + k ≤ length d → length xs ≤ k
+    → take a d ++ (placed (take k (drop a d)) 0 xs ++ drop k (drop a d)) ≡ placed d a xs
+unfolding placed
+part_placed d a k xs h l =
+    let m : List ℕ = drop a d in
+    let n : length (take k m) ≡ k = length-take-le k m (omega (arith, length-drop a d)) in
+    let e : xs ++ drop (0 + length xs) (take k m) ++ drop k m ≡ xs ++ drop (a + length xs) d =
+    append_assoc xs (drop (0 + length xs) (take k m)) (drop k m)
+    ∙ ap (λ (i : ℕ). xs ++ (drop i (take k m) ++ drop k m)) (zero-add (length xs))
+    ∙ ap (λ (r : List ℕ). xs ++ r) (sym (drop-append-le (length xs) (take k m) (drop k m) (omega arith)))
+    ∙ ap (λ (r : List ℕ). xs ++ drop (length xs) r) (take-append-drop k m)
+    ∙ ap (λ (r : List ℕ). xs ++ r) (drop-drop (length xs) a d) in
+    ap (λ (r : List ℕ). take a d ++ r) e ∙ sym (append_assoc (take a d) xs (drop (a + length xs) d))
 
 -- ---- whether a field fits
 

@@ -34,6 +34,18 @@ refusal-number Refusal.Sheet z = omega (arith, z)
 refusal-number Refusal.Patch z = omega (arith, z)
 refusal-number Refusal.Size z = omega (arith, z)
 
+pub refusal-digit : (e : Refusal) → number_of e < 10
+unfolding number_of
+refusal-digit Refusal.Room = lit< tt
+refusal-digit Refusal.Fields = lit< tt
+refusal-digit Refusal.Counts = lit< tt
+refusal-digit Refusal.Gates = lit< tt
+refusal-digit Refusal.Outputs = lit< tt
+refusal-digit Refusal.Candidates = lit< tt
+refusal-digit Refusal.Sheet = lit< tt
+refusal-digit Refusal.Patch = lit< tt
+refusal-digit Refusal.Size = lit< tt
+
 module _ (r : ReadReply) where
   pub ok-number : (c : Counts) → read_told (Ok c) ≡ r → r.number ≡ 0
   ok-number c e = sym (ap (λ (x : ReadReply). x.number) e)
