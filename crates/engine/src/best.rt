@@ -135,7 +135,7 @@ impl Priced<'_> {
 
     // The pick, with its gates counted.
     fn counted(&self, pick: Pick) -> Pick
-        ensures set_value { result.set ≡ pick.set }
+        ensures set_value { (result.set ≡ pick.set) × (result.len ≡ pick.len) }
         ensures counted_of { (j : Job) → PricedOf j self.now → PickOf j pick → CountedOf j result }
     {
         if pick.gates.is_some() {

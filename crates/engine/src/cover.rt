@@ -45,7 +45,8 @@ fn all_unseen(sets: &[u32; READINGS], value: usize, care: usize) -> bool {
 // A cube of unseen readings around one: net after net is left open where the readings that differ there are unseen too.
 fn widened(sets: &[u32; READINGS], reading: usize, reads: usize) -> Cube
     requires { (reads ≤ 10) × (reading < 1024) }
-    ensures { InCube result reading }
+    ensures care_below { result.care < 1024 }
+    ensures in_cube { InCube result reading }
 {
     let mut care = READINGS - 1;
     // By number, since i is a bit of the readings.

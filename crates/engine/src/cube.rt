@@ -8,6 +8,8 @@ use super::limits::CUBES;
 pub struct Cube {
     pub value: u16,
     pub care: u16,
+    ghost value_below: { value < 1024 },
+    ghost care_below: { care < 1024 },
 }
 
 // The readings that are in one of the first count cubes.

@@ -65,7 +65,7 @@ fn step_block<S: Step>(
 {
     transpose(&mut masks, columns);
     transpose(&mut readings, columns);
-    // By index: innermost loops, over two arrays at one index, in the order of the inputs.
+    // By index: innermost loops, over two arrays at one index: word after word, and of each word the scenarios 0, 16, 32, 48, 1, 17, ..
     for w in 0..columns {
         for i in 0..ROW {
             let at = ROW * i + w;

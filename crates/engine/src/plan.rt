@@ -7,8 +7,8 @@ use records::{OUTPUTS, Support};
 
 // What the search needs: counts, the nets of the outputs in both circuits, the nets that are read, and the lists of gates with their ends.
 // Before ends[0] stand the live gates that no target leads to, from there to ends[1] the others; those that target t leads to are
-// gates[ends[t + 1]..ends[t + 2]]. It is made once a job, and lent. (That the places of the nets read are ten, their type says, but only to
-// who has the support itself in hand.)
+// gates[ends[t + 1]..ends[t + 2]]. One is made for a walk over a job's inputs, and lent; choose makes a second for the inputs that its first walk
+// skipped, if readings stay unseen. (That the places of the nets read are ten, their type says, but only to who has the support itself in hand.)
 // Arrays with counts and ends, since nothing here uses the heap; outputs and goldens stand apart, as in a miter.
 #[derive(Drop)]
 pub struct Plan {

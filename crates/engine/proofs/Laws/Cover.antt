@@ -1,6 +1,6 @@
 -- Laws of covers by cubes (specs/Inner/Cover). Assumes nothing.
 use Prim.Native.Nat.{ℕ, ◌+◌, ◌-◌, ◌*◌, ◌/◌, ◌%◌, ◌^◌, min, ◌≤◌, ◌<◌}
-use mathlib.Core.Path.{◌≡◌, sym, ◌∙◌, ap}
+use mathlib.Core.Path.{◌≡◌, refl, sym, ◌∙◌, ap, subst}
 use mathlib.Core.Logic.{inl, inr, ⊎_elim}
 use mathlib.Core.List.{List, map}
 use mathlib.Core.Bool.{Bool, false, cond}
@@ -11,6 +11,7 @@ use lib.Dec.{eqb}
 use lib.ListN.{length, get_or, take, set, replicate}
 use lib.Seq.{get_or-set_same, get_or-set_other, get_or-take, length-take-le}
 use Rattle.std.specs.Prelude.{Option, Some, None, MatchOption}
+use Rattle.std.proofs.lemmas.List.{get_or_read}
 use Rattle.engine.specs.Eval.{bit, number_of}
 use Rattle.engine.specs.Inner.Cover.{NextUnseen, InCube, no_cube, InCover, CubeAdded, reading_in}
 use Rattle.engine.specs.Inner.Kernel.{Filled, row_value, value_in}
@@ -45,8 +46,16 @@ in-cube u q e k h =
     omega (arith, bit-sum k q u.value, bit-lt k q, bit-lt k u.value)
 
 -- a cube that asks for nothing has every reading
+pub in-open : (u : Cube) → u.care ≡ 0 → (q : ℕ) → InCube u q
+in-open u e q k h = let f : ⊥ = omega (arith, bit-zero k, ap (bit k) e) in absurd f
+
 pub in_all : (q : ℕ) → InCube no_cube q
-in_all q k h = let f : ⊥ = omega (arith, bit-zero k) in absurd f
+in_all q = in-open no_cube refl q
+
+-- the item of a list of cubes that a walk has come to
+pub cube-item : (us : List Cube) (i : ℕ) {u : Cube} → i < length us → u ≡ get_or us i u → (q : ℕ) → InCube (get_or us i no_cube) q
+    → InCube u q
+cube-item us i {u} h e q m = subst (λ (x : Cube). InCube x q) (sym (get_or_read us i u h e no_cube)) m
 
 -- ---- where a block's readings are in a cube
 
@@ -107,6 +116,10 @@ cube-added {c} {d} u long l e s =
           (eq-or-below p n (omega (arith, m.within)));
     }
 
+-- the value and care at each place of a cover, also behind its cubes, are below 1,024
+pub places-below : (c : Cover) (i : ℕ) → let u = get_or c.cubes i no_cube in (u.value < 1024) × (u.care < 1024)
+places-below c i = let u = get_or c.cubes i no_cube in (u.value_below, u.care_below)
+
 -- a reading of a cover is in one of its cubes
 pub cubes-at : {c : Cover} {us : List Cube} {n q : ℕ} → us ≡ take c.count c.cubes → length c.cubes ≡ 64 → length us ≤ n → InCover c q
     → (k : ℕ) × (k < n) × InCube (get_or us k no_cube) q
@@ -116,5 +129,5 @@ cubes-at {c} e l h m =
     (k, omega (arith, m.within, ap length e), rw (e, get_or-take c.count c.cubes k no_cube m.within) m.cube)
 
 -- a cube that asks for nothing
-pub cover_all : {c : Cover} → c.count ≡ 1 → c.cubes ≡ replicate 64 no_cube → (q : ℕ) → InCover c q
-cover_all e s q = record { place = 0; within = omega arith; cube = rw s (in_all q) }
+pub cover_all : {c : Cover} (u : Cube) → u.care ≡ 0 → c.count ≡ 1 → c.cubes ≡ replicate 64 u → (q : ℕ) → InCover c q
+cover_all u o e s q = record { place = 0; within = omega arith; cube = rw s (in-open u o q) }

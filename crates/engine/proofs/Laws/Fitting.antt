@@ -1,5 +1,5 @@
 -- Laws of a netlist's bytes (specs/Fitting, netlist_bytes): its fields put one after the other. Assumes nothing.
-use Prim.Native.Nat.{ℕ, ◌+◌, ◌*◌, ◌/◌, ◌≤◌}
+use Prim.Native.Nat.{ℕ, zero, suc, ◌+◌, ◌*◌, ◌/◌, ◌≤◌}
 use mathlib.Core.Path.{◌≡◌, refl, ◌∙◌, ap}
 use mathlib.Core.List.{List, [], ◌∷◌, ◌++◌, map, append-nil}
 use native.Mathlib.Omega.{arith}
@@ -19,6 +19,11 @@ use Rattle.engine.proofs.Laws.Sheet.{put_then}
 pub length-gate_in : (c : ℕ) → length (gate_bytes (gate_in c)) ≡ 10
 unfolding gate_bytes gate_in fields byte_pair flat
 length-gate_in c = refl
+
+length_fields : (n x : ℕ) → length (flat byte_pair (fields n x)) ≡ 2 * n
+unfolding fields flat byte_pair
+length_fields zero x = refl
+length_fields (suc n) x = omega (arith, length_fields n (x / 1024))
 
 pub length-gate-bytes : (cs : List ℕ) → length (flat gate_bytes (map gate_in cs)) ≡ 10 * length cs
 length-gate-bytes cs = length-flat-map gate_bytes gate_in 10 length-gate_in cs

@@ -9,8 +9,8 @@ use native.Mathlib.Nat.{eq-zero-or-pos}
 use native.Mathlib.Omega.{arith}
 use lib.Bits.{bit_and, bit_xor}
 use lib.Dec.{eqb}
-use lib.ListN.{length, get_or, take, replicate}
-use lib.Seq.{get_or-take, length-take-le}
+use lib.ListN.{length, get_or, take, set, replicate}
+use lib.Seq.{get_or-take, get_or-set_same, get_or-set_other, length-take-le}
 use Rattle.records.specs.Bytes.{up_from, tabulate}
 use Rattle.engine.specs.Choice.{same}
 use Rattle.engine.specs.Eval.{bit, number_of}
@@ -25,6 +25,18 @@ use Rattle.std.specs.Int.{trailing_ones}
 use Rattle.std.proofs.Common.{w64}
 
 -- ---- rows
+
+-- one word more of a row whose values are to be g
+pub row_next : (g : ℕ → ℕ) (r : List ℕ) (w v : ℕ) → w < length r → ((y : ℕ) → y < 64 * w → row_value r y ≡ g y)
+    → ((y : ℕ) → y / 64 ≡ w → bit (y % 64) v ≡ g y) → (y : ℕ) → y < 64 * (w + 1) → row_value (set r w v) y ≡ g y
+unfolding row_value
+row_next g r w v h e f y k =
+    ⊎_elim
+    (λ (l : 64 * w - y ≡ 0). let q : y / 64 ≡ w = omega arith in
+    ap (λ (p : ℕ). bit (y % 64) (get_or (set r w v) p 0)) q ∙ ap (bit (y % 64)) (get_or-set_same r w v 0 h) ∙ f y q)
+    (λ (l : 0 < 64 * w - y). let q : y / 64 < w = omega arith in
+    ap (bit (y % 64)) (get_or-set_other r w (y / 64) v 0 (λ x. omega arith)) ∙ e y (omega arith))
+    (eq-zero-or-pos (64 * w - y))
 
 -- an input's place in its block of 1,024, and in one of 64
 pub input-place : (b y : ℕ) → 64 * (16 * b + y / 64) + y % 64 ≡ 1024 * b + y
@@ -152,6 +164,24 @@ equal_next f os ps k v v' h l e d =
     let y = map f (take k ps) in
     let t = eqb (f (get_or os k 0)) (f (get_or ps k 0)) in
     d ∙ ap (λ (u : ℕ). cond t u 0) e ∙ both_equal (same x y) t ∙ ap (λ (c : Bool). cond c 1 0) (sym (same_next f os ps k h l))
+
+-- ---- a row of zeros
+
+-- one word more that is 0
+pub zeros-more : (row : List ℕ) (w : ℕ) → ((y : ℕ) → y < 64 * w → row_value row y ≡ 0) → get_or row w 0 ≡ 0
+    → (y : ℕ) → y < 64 * (w + 1) → row_value row y ≡ 0
+unfolding row_value
+zeros-more row w e z y h =
+    ⊎_elim
+    (λ (l : 64 * w - y ≡ 0). let q : y / 64 ≡ w = omega arith in rw (q, z) (bit-zero (y % 64)))
+    (λ (l : 0 < 64 * w - y). e y (omega arith))
+    (eq-zero-or-pos (64 * w - y))
+
+-- a 0 in a word inverted is a 1
+pub bit-set : (i x v : ℕ) → i < 64 → bit i (bit_xor x (2 ^ 64 - 1)) ≡ v → v < 2 → bit i x ≡ 1 - v
+bit-set i x v h e l =
+    let s : (bit i x + 1) % 2 ≡ v = ap (λ (k : ℕ). (bit i x + k) % 2) (sym (bit-ones i h)) ∙ sym (bit-sum i x (2 ^ 64 - 1)) ∙ e in
+    omega (arith, bit-lt i x)
 
 -- ---- the first scenario of which a row says 0
 

@@ -144,6 +144,11 @@ module _ (f g : ℕ → ℕ) where
   sets_from-walked ss x zero = refl
   sets_from-walked ss x (suc k) = sets_from-walked (narrowed ss (g x) (f x)) (suc x) k
 
+  pub sets_from-append : (ss : List ℕ) (x k i : ℕ) → sets_from f g ss x (k + i) ≡ sets_from f g (sets_from f g ss x k) (x + k) i
+  sets_from-append ss x k i =
+      rw (sets_from-walked ss x (k + i), sets_from-walked ss x k, sets_from-walked (walked narrowing ss x k) (x + k) i)
+      (walked-append narrowing ss x k i)
+
   pub sets_from-snoc : (ss : List ℕ) (x k : ℕ)
       → sets_from f g ss x (k + 1) ≡ narrowed (sets_from f g ss x k) (g (x + k)) (f (x + k))
   sets_from-snoc ss x k = rw (sets_from-walked ss x (k + 1), sets_from-walked ss x k) (walked-snoc narrowing ss x k)

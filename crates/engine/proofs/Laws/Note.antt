@@ -117,6 +117,9 @@ joined-next masks list words next i l h j p y k e =
 
 -- ---- the next scenario that no listed vector covers
 
+pub covered_none : (masks : List ℕ) (v : Vectors) (y : ℕ) → CoveredTo masks v y y
+covered_none masks v y = record { past = omega arith; covered = λ k a b. let f : ⊥ = omega arith in absurd f }
+
 pub covered_next : (masks row : List ℕ) (v : Vectors) (y z : ℕ) → Joined masks (listed_of v).vectors row → FirstZero row z
     → CoveredTo masks v y (max z y)
 covered_next masks row v y z p f =

@@ -1,7 +1,7 @@
 -- Laws of the search for the chosen support: a pick that is open up to a place stands for all sets that agree with it from there on.
 -- Those that are sound are parts of its support, none of them costs less, and leaving out or keeping the net below the place splits
 -- them in two. Assumes nothing.
-use Prim.Native.Nat.{ℕ, suc, ◌+◌, ◌-◌, ◌*◌, ◌/◌, ◌%◌, ◌^◌, ◌<◌}
+use Prim.Native.Nat.{ℕ, suc, ◌+◌, ◌-◌, ◌*◌, ◌/◌, ◌%◌, ◌^◌, ◌≤◌, ◌<◌}
 use mathlib.Core.Path.{◌≡◌, refl, sym, ◌∙◌, ap}
 use mathlib.Core.Logic.{◌⊎◌, inl, inr, ⊎_elim}
 use mathlib.Core.List.{List, [], ◌∷◌, ◌++◌, map}
@@ -10,7 +10,7 @@ use native.Mathlib.Nat.{pow-suc, div-one, div-eq_of_lt}
 use native.Mathlib.Omega.{arith}
 use borrow.Author.Tests.{eqb-true}
 use lib.Dec.{ltb, eqb}
-use lib.Pow.{pow_pos, shr-shr}
+use lib.Pow.{pow_pos, pow_mono, shr-shr}
 use lib.ListN.{length, get_or, take, drop, length-append, length-map}
 use lib.Seq.{length-take-le, take-length, drop-length}
 use Rattle.std.specs.Prelude.{Some, None}
@@ -52,6 +52,12 @@ pub record With (w : ℕ) (p r : Pick) : Type 0 where
   pub gates : r.gates ≡ None
 
 module _ {i : ℕ} {p : Pick} (h : OpenPick i p) where
+  pub open-small : p.set < 1024
+  open-small =
+      let l : 10 - i ≤ 10 = omega arith in
+      let m : 2 ^ (10 - i) ≤ 2 ^ 10 = pow_mono l in
+      omega (arith, h.set)
+
   module _ {q : ℕ} (e : i ≡ suc q) where
     room : 2 ^ (10 - q) ≡ 2 ^ (10 - i) * 2
     room =

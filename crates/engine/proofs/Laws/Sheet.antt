@@ -1,11 +1,13 @@
 -- Laws of the sheets' bytes: put one after the other, how many they are, and that a patch's are those of its definition. Assumes nothing.
-use Prim.Native.Nat.{ℕ, ◌+◌, ◌*◌, ◌/◌, ◌%◌, ◌≤◌, ◌<◌}
+use Prim.Native.Nat.{ℕ, ◌+◌, ◌*◌, ◌/◌, ◌%◌, ◌^◌, ◌≤◌, ◌<◌}
 use mathlib.Core.Path.{◌≡◌, refl, sym, ◌∙◌, ap}
 use mathlib.Core.List.{List, [], ◌∷◌, ◌++◌, append-nil}
 use mathlib.Core.Bool.{true}
+use native.Mathlib.Nat.{one-mul, mod-eq_of_lt}
 use native.Mathlib.Omega.{arith}
 use lib.ListN.{length, get_or, take, length-append}
-use lib.Seq.{take_at, take-length, take-append_seam, drop-append_seam}
+use lib.Pow.{pow-lt, pow_mono}
+use lib.Seq.{take_at, take-length, length-take-le, take-append_seam, drop-append_seam}
 use borrow.Rule.Slice.PartMut.{put_mid}
 use Rattle.std.specs.Int.{w16, w32, to_be_bytes}
 use Rattle.std.proofs.lemmas.List.{take_more}
@@ -20,6 +22,20 @@ use Rattle.records.proofs.Laws.Put.{FieldPut, put-field-put}
 use Rattle.engine.specs.Support.{table_of, notes_of, cost}
 use Rattle.engine.specs.Verdict.{four_bytes, patch_sheet, longest_choose}
 use Rattle.engine.specs.Inner.Sheet.{BytesPut, patch_bytes}
+
+-- ---- numbers as bytes
+
+-- the code's power of two
+pub shl-pow : (n : ℕ) → n ≤ 10 → 1 * 2 ^ n % 2 ^ 64 ≡ 2 ^ n
+shl-pow n h =
+    let l : 2 ^ n < 2 ^ 64 = pow-lt {j = 64} (omega arith) in
+    ap (λ (k : ℕ). k % 2 ^ 64) (one-mul (2 ^ n)) ∙ mod-eq_of_lt l
+
+pub pow-table : (n : ℕ) → n ≤ 10 → 2 ^ n ≤ 1024
+pow-table n h = pow_mono h
+
+pub length-nets : (ns : List ℕ) (n : ℕ) → n ≤ length ns → length (flat byte_pair (take n ns)) ≡ 2 * n
+length-nets ns n h = length-outputs (take n ns) ∙ ap (λ (k : ℕ). 2 * k) (length-take-le n ns h)
 
 -- ---- pieces of one size, put one after the other
 

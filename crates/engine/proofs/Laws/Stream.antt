@@ -1,6 +1,6 @@
 -- Laws of the code that walks over the inputs: a set of vectors and a reading gathered from a block's words, bit by bit, and a
 -- step of the vector list on the places that hold it. Assumes nothing.
-use Prim.Native.Nat.{ℕ, ◌+◌, ◌/◌, ◌%◌, ◌^◌, ◌≤◌, ◌<◌}
+use Prim.Native.Nat.{ℕ, suc, ◌+◌, ◌-◌, ◌/◌, ◌%◌, ◌^◌, ◌≤◌, ◌<◌}
 use mathlib.Core.Path.{◌≡◌, refl, sym, ◌∙◌, ap}
 use mathlib.Core.List.{List, [], ◌∷◌, ◌++◌}
 use mathlib.Core.Bool.{Bool, true, false, ◌||◌, true≢false, false≢true}
@@ -12,10 +12,12 @@ use native.Mathlib.Omega.{arith}
 use borrow.Author.Tests.{eq-eqb, ne_eqb}
 use lib.ListN.{length, get_or, take, drop, set, length-take}
 use lib.Seq.{drop-cons, take-suc-set, get_or-take}
-use Rattle.engine.specs.Choice.{any, or_zero}
+use Rattle.records.specs.Bytes.{up_from}
+use Rattle.engine.specs.Choice.{any, first, or_zero}
 use Rattle.engine.specs.Eval.{bit}
 use Rattle.engine.specs.Inner.List.{lowest, stuck_at, listed_of, list_step}
 use Rattle.engine.specs.declared.list.Vectors.{Vectors}
+use Rattle.engine.proofs.Laws.Choice.{first-here, first-there}
 use Rattle.engine.proofs.Laws.VectorSets.{in_set, lowest-zero, lowest-some}
 use Rattle.engine.proofs.Laws.List.{list_step-stuck, list_step-listed, list_step-none, list_step-full, list_step-append}
 
@@ -31,6 +33,20 @@ in_set-true s v e = eq-eqb (s / 2 ^ v % 2) 1 e
 pub in_set-false : (s v : ℕ) → (s / 2 ^ v % 2 ≡ 1 → ⊥) → in_set s v ≡ false
 unfolding bit
 in_set-false s v n = ne_eqb (s / 2 ^ v % 2) 1 n
+
+-- a turn of a search: the first with p from v on
+pub first-from-here : (p : ℕ → Bool) (v n : ℕ) → v < n → p v ≡ true → first p (up_from v (n - v)) ≡ some v
+unfolding up_from
+first-from-here p v n h e =
+    let k : n - v ≡ suc (n - suc v) = omega arith in
+    rw k (first-here p v (up_from (suc v) (n - suc v)) e)
+
+pub first-from-there : (p : ℕ → Bool) (v n : ℕ) → v < n → p v ≡ false
+    → first p (up_from v (n - v)) ≡ first p (up_from (v + 1) (n - (v + 1)))
+unfolding up_from
+first-from-there p v n h e =
+    let k : n - v ≡ suc (n - suc v) = omega arith in
+    rw (k, add-one v) (first-there p v (up_from (suc v) (n - suc v)) e)
 
 -- a turn of a test over a list
 pub any-from : (p : ℕ → Bool) (xs : List ℕ) (i : ℕ) → i < length xs

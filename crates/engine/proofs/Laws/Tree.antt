@@ -105,6 +105,13 @@ module _ (tb : List ℕ) (at n t : ℕ) (h : at + n ≤ length tb) where
       ∙ get_or-map (bit t) (take n (drop at tb)) i 0
       ∙ ap (bit t) (get_or-take n (drop at tb) i 0 l ∙ get_or-drop at tb i 0)
 
+-- a turn of a loop that tests until a test fails: w is what the whole decides, f what is left, g what is left afterwards
+pub test-stops : (b g : Bool) {w f : Bool} → f ≡ w → f ≡ (b && g) → b ≡ false → false ≡ w
+test-stops b g i t e = sym (sym i ∙ t ∙ ap (λ (a : Bool). a && g) e)
+
+pub test-goes : (b g : Bool) {w f : Bool} → f ≡ w → f ≡ (b && g) → b ≡ true → g ≡ w
+test-goes b g i t e = sym (sym i ∙ t ∙ ap (λ (a : Bool). a && g) e)
+
 module _ (tb : List ℕ) (at n t : ℕ) (h : at + n ≤ length tb) where
   -- the column's test at place i
   pub all-turn : (x i : ℕ) → i < n
@@ -123,6 +130,29 @@ module _ (tb : List ℕ) (at n t : ℕ) (h : at + n ≤ length tb) where
 
 -- two columns compared
 module _ (tb : List ℕ) (at bt n t : ℕ) (h : at + n ≤ length tb) (k : bt + n ≤ length tb) where
+  pub same_turn : (i : ℕ) → i < n
+      → same (drop i (column (take n (drop at tb)) t)) (drop i (column (take n (drop bt tb)) t))
+      ≡ (eqb (bit t (get_or tb (at + i) 0)) (bit t (get_or tb (bt + i) 0))
+      && same (drop (i + 1) (column (take n (drop at tb)) t)) (drop (i + 1) (column (take n (drop bt tb)) t)))
+  unfolding same
+  same_turn i l =
+      let c : List ℕ = column (take n (drop at tb)) t in
+      let d : List ℕ = column (take n (drop bt tb)) t in
+      let e = drop-cons c i 0 (omega (arith, length-column tb at n t h)) in
+      let f = drop-cons d i 0 (omega (arith, length-column tb bt n t k)) in
+      rw (add-one i, sym (get_or-column tb at n t h i l), sym (get_or-column tb bt n t k i l))
+      (ap (λ (l : List ℕ). same l (drop i d)) e ∙ ap (same (get_or c i 0 ∷ drop (suc i) c)) f)
+
+  pub same_end : (i : ℕ) → n ≤ i
+      → same (drop i (column (take n (drop at tb)) t)) (drop i (column (take n (drop bt tb)) t)) ≡ true
+  unfolding same
+  same_end i l =
+      let c : List ℕ = column (take n (drop at tb)) t in
+      let d : List ℕ = column (take n (drop bt tb)) t in
+      let e = drop_of_length-le c {i = i} (omega (arith, length-column tb at n t h)) in
+      let f = drop_of_length-le d {i = i} (omega (arith, length-column tb bt n t k)) in
+      ap (λ (l : List ℕ). same l (drop i d)) e ∙ ap (same []) f
+
   -- they are the same exactly when the bits agree at every place
   pub same-iff-bits : (same (column (take n (drop at tb)) t) (column (take n (drop bt tb)) t) ≡ true)
       ↔ ((i : ℕ) → i < n → bit t (get_or tb (at + i) 0) ≡ bit t (get_or tb (bt + i) 0))

@@ -8,6 +8,7 @@
 --   CoverTo ss n e c         the unseen ones of the first n readings are in the cover e or in c
 --   reading_in words is y    the reading of the nets is in scenario y of a block
 --   GivesNone ..             .. is in no scenario in the cover
+use lib.Dec.{lit<}
 use Rattle.std.specs.Prelude.{ℕ, ◌+◌, ◌≤◌, ◌<◌, ◌≡◌, ◌⊎◌, List, map, get_or, Option, unwrap_or}
 use Rattle.engine.specs.Eval.{bit, number_of}
 use Rattle.engine.specs.Inner.Kernel.{value_in}
@@ -24,9 +25,9 @@ pub record NextUnseen (ss : List ℕ) (at n : ℕ) (o : Option ℕ) : Type 0 whe
 abbrev pub InCube : Cube → ℕ → Type 0
 InCube u q = (k : ℕ) → bit k u.care ≡ 1 → bit k q ≡ bit k u.value
 
--- behind the cubes of a cover
+-- behind the cubes of a cover; it says that its value and care are below 1,024, as each cube does
 abbrev pub no_cube : Cube
-no_cube = record { value = 0; care = 0 }
+no_cube = record { value = 0; care = 0; value_below = lit< tt; care_below = lit< tt }
 
 pub record InCover (c : Cover) (q : ℕ) : Type 0 where
   pub place : ℕ

@@ -4,4 +4,4 @@ use Rattle.engine.proofs.Laws.Cover.{in-cube}
 use Rattle.engine.proofs.cube.Cube.has.Goals as goal
 
 pub returns : goal.returns
-returns c e = in-cube _ _ (eqb-true _ 0 e)
+returns c e = in-cube c.args.self _ (eqb-true _ 0 e)

@@ -25,11 +25,11 @@ fresh c j w h s e =
 pub returns-then-precedes : goal.returns-then-precedes
 returns-then-precedes c j w g h =
     let u = c.counted-was.ensures in
-    best-before j w (fresh (goal.at.returns-then-precedes c).After-precedes j w h (refl, refl, refl) refl) (u.counted_of j w g) u.set_value
+    best-before j w (fresh (goal.at.returns-then-precedes c).After-precedes j w h (refl, refl, refl) refl) (u.counted_of j w g) u.set_value.0
     (sym c.precedes.ensures ∙ c.if-precedes.true)
 
 pub returns-else-precedes : goal.returns-else-precedes
 returns-else-precedes c j w g h =
     let u = c.counted-was.ensures in
-    best-not-before j w (fresh (goal.at.returns-else-precedes c).After-precedes j w h (refl, refl, refl) refl) (u.counted_of j w g) u.set_value
+    best-not-before j w (fresh (goal.at.returns-else-precedes c).After-precedes j w h (refl, refl, refl) refl) (u.counted_of j w g) u.set_value.0
     (sym c.precedes.ensures ∙ c.if-precedes.false)
