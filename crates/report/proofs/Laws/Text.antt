@@ -12,11 +12,14 @@ use lib.Dec.{ltb}
 use lib.ListN.{length, get_or, take, drop, length-append, get_or-eq_default}
 use lib.Seq.{drop-drop, get_or-take, get_or-drop}
 use Rattle.std.specs.Simd.{first_chunks}
-use Rattle.records.specs.Bytes.{up_from, tabulate, byte_pair, word, field, nth}
+use Rattle.records.specs.Bytes.{flat, up_from, tabulate, byte_pair, word, field, nth}
 use Rattle.records.specs.Job.{Job, job_of, nets_of}
 use Rattle.records.specs.Sheet.{Patch, quad, sheet_tags, notes_tag, patch_of}
 use Rattle.records.specs.Refusal.{job_refusal}
+use Rattle.records.specs.Service.{number_of, refusal_text}
+use Rattle.records.specs.declared.refusal.Refusal.{Refusal}
 use Rattle.records.specs.Claims.{Below}
+use Rattle.records.proofs.Laws.Reply.{refusal-digit}
 use Rattle.records.proofs.Laws.Shape.{length-nets_of}
 use Rattle.records.proofs.Laws.Sheet.{word_lt, net-at}
 use Rattle.engine.specs.Rectify.{vector_loop}
@@ -25,9 +28,9 @@ use Rattle.engine.specs.Verdict.{blind_reading, ruling, four_bytes, judge_sheet,
 use Rattle.engine.proofs.Laws.Choice.{true-or-false}
 use Rattle.engine.proofs.Laws.Verdict.{ruling-unfixable, ruling-patch, ruling-blind, judged-unfixable, chosen-patch, chosen-blind}
 use Rattle.engine.proofs.Replies.{patch-read, quad-four_bytes}
-use Rattle.report.specs.Text.{patch_word, support_word, table_word, vectors_word, notes_word, unfixable_word, blind_word, refused_word, line, patch_text, value_text, ruling_text, refused_text, input_limit, rectify_text, longest_text}
+use Rattle.report.specs.Text.{patch_word, support_word, table_word, vectors_word, notes_word, unfixable_word, blind_word, refused_word, number, numbers, line, patch_text, value_text, ruling_text, refused_text, input_limit, rectify_text, longest_text}
 use Rattle.report.specs.Inner.{PatchSheet, patch_sheet_text, choice_text, pair}
-use Rattle.report.proofs.Laws.Line.{length-behind, length-number-line, length-nets-line, length-bytes-line}
+use Rattle.report.proofs.Laws.Line.{digits-small, length-behind, length-number-line, length-nets-line, length-bytes-line}
 use Rattle.report.proofs.Laws.Sheet.{below_field, field-body, value-fields}
 
 -- ---- numbers of a sheet
@@ -72,6 +75,11 @@ pairs-nets s = pairs-from s (length s / 2) 0
 
 pub refused_room : (n : ℕ) → n < 256 → length (line refused_word (n ∷ [])) ≤ longest_text
 refused_room n l = omega (arith, length-number-line refused_word n (omega arith))
+
+-- the line of a refusal is what it prints as, and a line feed
+pub refused-printed : (e : Refusal) → refused_text (number_of e) ≡ refusal_text e ++ (10 ∷ [])
+unfolding refused_text refusal_text line numbers number flat
+refused-printed e = rw (digits-small (number_of e) (refusal-digit e)) refl
 
 module _ (w : List ℕ) (x : ℕ) (vs : List ℕ) where
   pub length-value_text : length (value_text w x vs) ≡ length (line w (x ∷ [])) + length (line vectors_word vs)
