@@ -1,22 +1,23 @@
 -- Laws of covers by cubes (specs/Inner/Cover). Assumes nothing.
 use Prim.Native.Nat.{ℕ, ◌+◌, ◌-◌, ◌*◌, ◌/◌, ◌%◌, ◌^◌, min, ◌≤◌, ◌<◌}
 use mathlib.Core.Path.{◌≡◌, refl, sym, ◌∙◌, ap, subst}
-use mathlib.Core.Logic.{inl, inr, ⊎_elim}
+use mathlib.Core.Logic.{◌⊎◌, inl, inr, ⊎_elim}
 use mathlib.Core.List.{List, map}
-use mathlib.Core.Bool.{Bool, false, cond}
+use mathlib.Core.Bool.{Bool, true, false, cond}
 use native.Mathlib.Omega.{arith}
-use borrow.Author.Tests.{eq-eqb, eqb-false}
+use borrow.Author.Tests.{eq-eqb, eqb-false, ltb-true, ltb-false}
 use lib.Bits.{bit_and, bit_xor}
-use lib.Dec.{eqb}
+use lib.Dec.{eqb, ltb}
 use lib.ListN.{length, get_or, take, set, replicate}
 use lib.Seq.{get_or-set_same, get_or-set_other, get_or-take, length-take-le}
-use Rattle.std.specs.Prelude.{Option, Some, None, MatchOption}
+use Rattle.std.specs.Prelude.{Option, Some, None, MatchOption, unwrap_or}
 use Rattle.std.proofs.lemmas.List.{get_or_read}
 use Rattle.engine.specs.Eval.{bit, number_of}
-use Rattle.engine.specs.Inner.Cover.{NextUnseen, InCube, no_cube, InCover, CubeAdded, reading_in}
+use Rattle.engine.specs.Inner.Cover.{NextUnseen, InCube, no_cube, InCover, CubeAdded, CoverTo, reading_in}
 use Rattle.engine.specs.Inner.Kernel.{Filled, row_value, value_in}
 use Rattle.engine.specs.declared.cube.Cover.{Cover}
 use Rattle.engine.specs.declared.cube.Cube.{Cube}
+use Rattle.engine.proofs.Laws.Choice.{true-or-false}
 use Rattle.engine.proofs.Laws.Eval.{bit-lt, bits-map}
 use Rattle.engine.proofs.Laws.Fill.{fill-at}
 use Rattle.engine.proofs.Laws.Kernel.{bit-sum}
@@ -119,6 +120,24 @@ cube-added {c} {d} u long l e s =
 -- the value and care at each place of a cover, also behind its cubes, are below 1,024
 pub places-below : (c : Cover) (i : ℕ) → let u = get_or c.cubes i no_cube in (u.value < 1024) × (u.care < 1024)
 places-below c i = let u = get_or c.cubes i no_cube in (u.value_below, u.care_below)
+
+-- of the readings before the first unseen one none is to be covered
+pub cover-none : (ss : List ℕ) {n : ℕ} {o : Option ℕ} {e c : Cover} → NextUnseen ss 0 n o → CoverTo ss (unwrap_or o n) e c
+cover-none ss u q l o = let f : ⊥ = omega (arith, u.seen q (omega arith) l) in absurd f
+
+module _ (ss : List ℕ) {r : ℕ} {e c : Cover} where
+  -- .. and the next, and those from there on to the next unseen one
+  pub cover-next : {n : ℕ} {o : Option ℕ} → CoverTo ss r e c → InCover e r ⊎ InCover c r → NextUnseen ss (r + 1) n o
+      → CoverTo ss (unwrap_or o n) e c
+  cover-next a m u q l t₀ =
+      ⊎_elim
+      (λ (t : ltb q (r + 1) ≡ true).
+      ⊎_elim (λ (i : q ≡ r). rw i m) (λ (b : q < r). a q b t₀) (eq-or-below q r (ltb-true q (r + 1) t)))
+      (λ (t : ltb q (r + 1) ≡ false). let f : ⊥ = omega (arith, u.seen q (ltb-false q (r + 1) t) l) in absurd f)
+      (true-or-false (ltb q (r + 1)))
+
+  pub cover-more : {u : Cube} {d : Cover} → CoverTo ss r e c → CubeAdded c u d → CoverTo ss r e d
+  cover-more a m q l o = ⊎_elim inl (λ i. inr (m.kept q i)) (a q l o)
 
 -- a reading of a cover is in one of its cubes
 pub cubes-at : {c : Cover} {us : List Cube} {n q : ℕ} → us ≡ take c.count c.cubes → length c.cubes ≡ 64 → length us ≤ n → InCover c q

@@ -1,6 +1,6 @@
 -- Laws of a loop that fills places of a list one after the other. Assumes nothing.
 use Prim.Native.Nat.{ℕ, ◌+◌, ◌-◌, ◌≤◌, ◌<◌}
-use mathlib.Core.Path.{◌≡◌, ◌∙◌, ap}
+use mathlib.Core.Path.{◌≡◌, refl, ◌∙◌, ap}
 use mathlib.Core.List.{List}
 use mathlib.Core.Logic.{inl, inr, ⊎_elim}
 use native.Mathlib.Omega.{arith}
@@ -8,6 +8,9 @@ use native.Mathlib.Nat.{eq-zero-or-pos, zero-add}
 use lib.ListN.{length, get_or, set, length-set}
 use lib.Seq.{get_or-set_same, get_or-set_other}
 use Rattle.engine.specs.Inner.Kernel.{Filled}
+
+pub fill_none : (f : ℕ → ℕ) (at : ℕ) (d : List ℕ) → Filled f at 0 d d
+fill_none f at d = record { long = refl; put = λ k h. let z : ⊥ = omega arith in absurd z; kept = λ p h. refl }
 
 -- a store of the next value, at place q
 pub fill-next : (f : ℕ → ℕ) (at n : ℕ) (before after : List ℕ) → Filled f at n before after → (q v : ℕ) → q ≡ at + n

@@ -98,6 +98,26 @@ inputs-none =
       nets = λ i h. rw (get_or-replicate {A = ℕ} 1024 i 0 0 h) (omega arith);
     }
 
+pub inputs-next : {i : ℕ} {ns : List ℕ} → InputsNumbered i ns → i < 1024 → InputsNumbered (i + 1) (set ns i i)
+inputs-next {i} {ns} w h =
+    let same : get_or (set ns i i) i 0 ≡ i = get_or-set_same ns i i 0 (omega (arith, w.long)) in
+    let other : (k : ℕ) → (k ≡ i → ⊥) → get_or (set ns i i) k 0 ≡ get_or ns k 0 = λ k d. get_or-set_other ns i k i 0 d in
+    record {
+      long = length-set ns i i ∙ w.long;
+      inputs =
+          λ k l.
+          ⊎_elim
+          (λ (t : eqb k i ≡ true). let e = eqb-true k i t in rw e same)
+          (λ (t : eqb k i ≡ false). let d = eqb-false k i t in other k d ∙ w.inputs k (omega arith))
+          (true-or-false (eqb k i));
+      nets =
+          λ k l.
+          ⊎_elim
+          (λ (t : eqb k i ≡ true). let e = eqb-true k i t in rw (e, same) h)
+          (λ (t : eqb k i ≡ false). rw (other k (eqb-false k i t)) (w.nets k l))
+          (true-or-false (eqb k i));
+    }
+
 numbered-none : (ms : List ℕ) (base b first : ℕ) (d : List ℕ) → Numbered ms base b 0 first d d
 numbered-none ms base b first d =
     record {

@@ -20,7 +20,7 @@ use Rattle.records.specs.Refusal.{candidate_good}
 use Rattle.engine.specs.Eval.{bit, number_of}
 use Rattle.engine.specs.Support.{reading}
 use Rattle.engine.specs.Inner.Best.{GivenBits}
-use Rattle.engine.specs.Inner.Cover.{NextUnseen, reading_in, GivesNone}
+use Rattle.engine.specs.Inner.Cover.{NextUnseen, InCover, reading_in, GivesNone}
 use Rattle.engine.specs.Inner.Given.{GivenCover, GivenBy, BlockSeen, Unseen, SameVectors, AllSeen}
 use Rattle.engine.specs.Inner.Kernel.{value_in}
 use Rattle.engine.specs.Inner.Note.{narrowed, sets_from, gathered, filled}
@@ -184,6 +184,9 @@ block-passed {p} {c} {words} {sets} b count range l o none =
     }
 
 module _ {p : Plan} {ss : List ℕ} {c : Cover} where
+  pub all-given : ((q : ℕ) → InCover c q) → GivenCover p ss c
+  all-given a = record { covers = λ j is q good x u. a (reading j is x) }
+
   -- a cover stays one after a block, since no more readings are unseen
   pub given-kept : {b count : ℕ} {ts : List ℕ} → GivenCover p ss c → p.reads.len ≤ 10 → length ss ≡ 1024 → BlockSeen p b count ss ts
       → GivenCover p ts c
@@ -386,3 +389,8 @@ module _ {j : Job} {is ss : List ℕ} {k : ℕ} (g : GivenBits j is ss k) where
         absurd (g.unmet r h (omega (arith, bit-lt 16 (get_or ss r 0))) y.0 y.1 (rw e (bit-zero (y.0 / 32768))) y.2))
         (eq-zero-or-pos (bit 16 (get_or ss r 0))),
   )
+
+  -- .. and so they are where all readings are seen
+  pub all_seen : {n count : ℕ} {o : Option ℕ} → length is ≤ n → count ≡ 2 ^ n → NextUnseen ss 0 count o → unwrap_or o count ≡ count
+      → Unseen j is ss
+  all_seen few c t d r h = (g.given r h, λ a. t.seen r (omega arith) (omega (arith, pow_mono few)))

@@ -134,6 +134,9 @@ module _ (u : ℕ) (l : u < 4) where
 abbrev flips : ℕ → ℕ
 flips s = get_or (0 ∷ 0 ∷ 1 ∷ 0 ∷ 2 ∷ 0 ∷ 1 ∷ 0 ∷ 3 ∷ 0 ∷ 1 ∷ 0 ∷ 2 ∷ 0 ∷ 1 ∷ 0 ∷ []) s 0
 
+pub flips-lt : (s : ℕ) → s < 16 → flips s < 4
+flips-lt s h = ltb→lt (flips s) 4 (at (λ s. ltb (flips s) 4) 16 tt s h)
+
 module _ (u s : ℕ) where
   pub turns-first : flips s ≡ 0 → u ≡ turns u s
   unfolding turns

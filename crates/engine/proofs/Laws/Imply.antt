@@ -49,6 +49,11 @@ use Rattle.engine.proofs.Laws.Support.{reading-lt}
 
 -- ---- one net more
 
+-- what is known already is the value, so that another is not met
+pub known_same : (known vs : List ℕ) (i v : ℕ) → i < 1024 → Implied known vs → get_or known i 0 < 2 → net_at vs i ≡ v
+    → eqb (get_or known i 0) v ≡ true
+known_same known vs i v l m h e = eq-eqb (get_or known i 0) v (sym (m i l h) ∙ e)
+
 pub known_more : (known vs : List ℕ) (i v : ℕ) → i < length known → Implied known vs → net_at vs i ≡ v → Implied (set known i v) vs
 known_more known vs i v l m e k n h =
     ⊎_elim

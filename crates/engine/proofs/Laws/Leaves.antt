@@ -53,6 +53,10 @@ pub net-alike : (i : ℕ) (f g : ℕ → ℕ) (before after : List ℕ) → NetS
     → NetSet i g before after
 net-alike i f g before after s e = record { long = s.long; put = λ y h. s.put y h ∙ e y h; kept = s.kept }
 
+pub nets-none : (at : ℕ) (f : ℕ → ℕ → ℕ) (d : List ℕ) → NetsSet at 0 f d d
+nets-none at f d =
+    record { long = refl; put = λ y k h l. let z : ⊥ = omega arith in absurd z; kept = λ y k h o. refl }
+
 -- one net more
 pub nets-next : (at n q : ℕ) (f : ℕ → ℕ → ℕ) (before mid after : List ℕ) → NetsSet at n f before mid → q ≡ at + n
     → NetSet q (λ y. f y n) mid after → NetsSet at (n + 1) f before after

@@ -284,6 +284,9 @@ merging-none {d} {ns = ns} l q b =
     }
 
 module _ {d n i : ℕ} {cs₀ cs ns hs xs : List ℕ} (w : Merging d n cs₀ i cs ns hs xs) (r : d + n ≤ 1024) where
+  pub merging-all : GatesMerged d n cs₀ (record { gates = cs; stands = ns })
+  merging-all = record { long = w.long; nets = λ k h. w.nets k; merged = w.merged }
+
   pub merging-place : (at : ℕ) {v : ℕ} → v ≡ i + 1 → Merging d n cs₀ (i + 1) cs ns (set hs at v) (set xs i (get_or hs at 0))
   merging-place at {v} e =
       record {

@@ -5,13 +5,14 @@ use mathlib.Core.Path.{◌≡◌, refl, sym, ◌∙◌, ap, subst}
 use mathlib.Core.Logic.{inl, inr, ⊎_elim}
 use mathlib.Core.List.{List, [], ◌∷◌, map}
 use mathlib.Core.Bool.{Bool, true, false, cond, ◌&&◌}
+use native.Mathlib.Nat.{eq-zero-or-pos}
 use native.Mathlib.Omega.{arith}
 use borrow.Author.Tests.{ltb-true, ltb-false, lt-ltb, le-ltb}
 use lib.Dec.{ltb, lit<}
 use lib.Bits.{bit_xor}
-use lib.ListN.{length, get_or, set, take, drop, replicate, length-map, get_or-map}
+use lib.ListN.{length, get_or, set, take, drop, replicate, length-set, length-map, get_or-map}
 use lib.Pow.{pow_pos, pow_mono}
-use lib.Seq.{take-length}
+use lib.Seq.{take-length, get_or-set_same, get_or-set_other}
 use Rattle.records.specs.Bytes.{all}
 use Rattle.records.specs.Netlist.{net_at}
 use Rattle.records.specs.Job.{Job}
@@ -110,6 +111,21 @@ module _ (n v : ℕ) where
   pub leaf-of-target : (y i : ℕ) {b : ℕ} → n ≤ i → b ≡ bit (i - n) v → b ≡ leaf_at n v y i
   unfolding leaf_at
   leaf-of-target y i l e = rw (le-ltb i n l) e
+
+  pub loaded-none : (words : List ℕ) → LeavesLoaded n v 0 words words
+  loaded-none words = record { long = refl; leaves = λ y i h l. let z : ⊥ = omega arith in absurd z }
+
+  pub loaded-next : (k x : ℕ) {before words : List ℕ} → LeavesLoaded n v k before words → k < length words
+      → ((y : ℕ) → y < 64 → bit y x ≡ leaf_at n v y k) → LeavesLoaded n v (k + 1) before (set words k x)
+  loaded-next k x {words = words} d h e =
+      record {
+        long = length-set words k x ∙ d.long;
+        leaves = λ y i l m.
+            ⊎_elim
+            (λ (z : k - i ≡ 0). let q : i ≡ k = omega arith in rw (q, get_or-set_same words k x 0 h) (e y l))
+            (λ (z : 0 < k - i). ap (bit y) (get_or-set_other words k i x 0 (λ q. omega arith)) ∙ d.leaves y i l (omega arith))
+            (eq-zero-or-pos (k - i));
+      }
 
 -- ---- the values of all nets
 

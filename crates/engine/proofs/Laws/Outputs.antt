@@ -1,13 +1,13 @@
 -- Laws of outputs in words: where two rows of outputs differ. Assumes nothing.
 use Prim.Native.Nat.{ℕ, ◌+◌, ◌<◌}
-use mathlib.Core.Path.{◌≡◌, refl, ◌∙◌, ap}
+use mathlib.Core.Path.{◌≡◌, refl, sym, ◌∙◌, ap}
 use mathlib.Core.List.{List, [], ◌∷◌, ◌++◌, map}
 use mathlib.Core.Bool.{Bool, true, false, ◌&&◌}
 use native.Mathlib.Numerals.{add-one}
 use native.Mathlib.Omega.{arith}
 use lib.Dec.{eqb}
-use lib.ListN.{length, get_or, take, length-map}
-use lib.Seq.{take-suc, length-take-le}
+use lib.ListN.{length, get_or, take, set, length-map}
+use lib.Seq.{take-suc, take-suc-set, length-take-le}
 use Rattle.engine.specs.Choice.{same}
 
 -- ---- one more output
@@ -49,3 +49,14 @@ same_next f os ps i h l =
     let m : length x ≡ length y =
     omega (arith, length-map (take i os) f, length-map (take i ps) f, length-take-le i os (omega arith), length-take-le i ps (omega arith)) in
     rw (map_more f os i h, map_more f ps i l) (same-snoc x y (f (get_or os i 0)) (f (get_or ps i 0)) m)
+
+-- a turn of the loop that copies the picked nets' words
+pub select-turn : (nets picks words : List ℕ) (i : ℕ) → i < length picks → i < length words
+    → take i words ≡ map (λ o. get_or nets o 0) (take i picks)
+    → take (i + 1) (set words i (get_or nets (get_or picks i 0) 0)) ≡ map (λ o. get_or nets o 0) (take (i + 1) picks)
+select-turn nets picks words i h l e =
+    let w = get_or nets (get_or picks i 0) 0 in
+    ap (λ (k : ℕ). take k (set words i w)) (add-one i)
+    ∙ take-suc-set words i w l
+    ∙ ap (λ (xs : List ℕ). xs ++ (w ∷ [])) e
+    ∙ sym (map_more (λ o. get_or nets o 0) picks i h)

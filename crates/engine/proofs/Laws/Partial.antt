@@ -33,6 +33,9 @@ abbrev pub ReadTo : (ℕ → ℕ) → ℕ → ℕ → List ℕ → ℕ → ℕ �
 ReadTo f n z r rest i = take (min n i) r ++ map f (take (4 - i) (fields (n - i) rest)) ≡ map f (take 4 (fields n z))
 
 module _ (f : ℕ → ℕ) (n z : ℕ) (r : List ℕ) where
+  pub read_none : ReadTo f n z r z 0
+  read_none = let e : min n 0 ≡ 0 = omega arith in let m : n - 0 ≡ n = omega arith in rw (e, m)
+
   module _ (rest i : ℕ) (w : ReadTo f n z r rest i) where
     pub read-used : i < n → i < 4 → length r ≡ 4 → ReadTo f n z (set r i (f (rest % 1024))) (rest / 1024) (i + 1)
     unfolding fields

@@ -11,7 +11,7 @@ use native.Mathlib.Omega.{arith}
 use borrow.Author.Tests.{eqb-true}
 use lib.Dec.{ltb, eqb}
 use lib.Pow.{pow_pos, pow_mono, shr-shr}
-use lib.ListN.{length, get_or, take, drop, length-append, length-map}
+use lib.ListN.{length, get_or, take, drop, length-append, length-map, length-take}
 use lib.Seq.{length-take-le, take-length, drop-length}
 use Rattle.std.specs.Prelude.{Some, None}
 use Rattle.records.specs.Job.{Job, Candidate}
@@ -20,12 +20,12 @@ use Rattle.records.proofs.Laws.Bytes.{false_of}
 use Rattle.records.specs.declared.sheet.Support.{Support}
 use Rattle.engine.specs.Support.{sound, candidate_nets, cost, patch_gates, earlier, better, chosen}
 use Rattle.std.specs.List.{sum}
-use Rattle.engine.specs.Inner.Best.{picked, low_first, before, open_at, candidate_weights, SetsOf, GivenBits, LeftOut, OpenPick, PricedOf, PickOf, CountedOf, OpenOf, BestFrom, PickedNets, Choosable, ChosenOf}
+use Rattle.engine.specs.Inner.Best.{picked, low_first, before, open_at, candidate_weights, SetsOf, GivenBits, LeftOut, OpenPick, PricedOf, PickOf, CountedOf, OpenOf, BestFrom, PickedNets, HeldSupport, Choosable, ChosenOf}
 use Rattle.engine.specs.declared.pick.Pick.{Pick}
 use Rattle.engine.specs.declared.pick.Priced.{Priced}
 use Rattle.engine.proofs.Laws.Best.{better-irrefl, better-trans, better-neither, chosen-unique}
 use Rattle.engine.proofs.Laws.Choice.{not-both, true-or-false}
-use Rattle.engine.proofs.Laws.Picked.{picked_all, picked-subset, subset-picked, sum-from-le, open_none, open-all, open-among, open-suc, open_in, open-out, sum-in, sum-out, above-first, ranked, low-earlier, cost-picked, nets-from, weights-from, in-or-out}
+use Rattle.engine.proofs.Laws.Picked.{picked_all, picked-subset, subset-picked, sum-from-le, open_none, open-all, open-among, open-suc, open_in, open-out, sum-in, sum-out, above-first, ranked, low-earlier, cost-picked, nets-from, weights-from, in-or-out, length-picked-le}
 use Rattle.engine.proofs.Laws.Sets.{left-sets, left-given, left-sound, left-unsound}
 use Rattle.engine.proofs.Laws.Support.{sound-mono}
 
@@ -122,6 +122,10 @@ module _ (j : Job) where
   sound-open i s e = sound-mono j (at s) (open_at (candidate_nets j) i (s / 2 ^ i)) (open-among (candidate_nets j) i s) e
 
   -- ---- where gates are counted
+
+  -- a pick with gates has had them counted
+  pub counted-before : {p : Pick} → PickOf j p → (p.gates ≡ None → ⊥) → CountedOf j p
+  counted-before h l = record { pick = h; gates = ⊎_elim (λ z. absurd (l z)) (λ e. e) h.gates }
 
   pub counted-now : {p r : Pick} → PickOf j p → (r.set ≡ p.set) × (r.cost ≡ p.cost) × (r.len ≡ p.len)
       → r.gates ≡ Some (patch_gates j (at p.set)) → CountedOf j r
@@ -424,6 +428,14 @@ module _ (ss : List ℕ) (n s q len : ℕ) (ps : List ℕ) (l : q < n) (f : Sets
       )
 
 -- ---- from all candidates to the chosen support
+
+-- the nets that a set picks stand in ten places
+pub picked-held : (n : ℕ) (is : List ℕ) {s : ℕ} {r : Support} → n ≤ 10 → PickedNets (take n is) s r → HeldSupport r
+picked-held n is {s} {r} few p =
+    record {
+      few = omega (arith, p.len, length-picked-le (take n is) s, length-take n is);
+      held = omega (arith, p.len, ap length p.nets, length-take r.len r.nets);
+    }
 
 module _ {j : Job} {v : Priced} (h : Choosable j v) where
   abbrev is : List ℕ

@@ -96,6 +96,13 @@ in-or-out s = go (s % 2) (omega arith)
     go (suc zero) h = inl refl
     go (suc (suc b)) h = let f : ⊥ = omega arith in absurd f
 
+pub length-picked-le : {A : Type 0} (xs : List A) (s : ℕ) → length (picked xs s) ≤ length xs
+unfolding picked
+length-picked-le [] s = omega arith
+length-picked-le (x ∷ xs) s =
+    let r = length-picked-le xs (s / 2) in
+    ⊎_elim (λ e. rw (picked-in x xs s e) (omega arith)) (λ e. rw (picked-out x xs s e) (omega arith)) (in-or-out s)
+
 -- a set of places that has all of them
 pub picked_all : {A : Type 0} (xs : List A) → picked xs (2 ^ length xs - 1) ≡ xs
 unfolding picked
@@ -317,6 +324,9 @@ low_first-equal (suc n) a = low_first-same n a a refl ∙ low_first-equal n (a /
 module _ (a b : ℕ) where
   abbrev pub low_from : ℕ → Bool
   low_from i = low_first (10 - i) (a / 2 ^ i) (b / 2 ^ i)
+
+  pub low_from-all : low_from 0 ≡ low_first 10 a b
+  low_from-all = rw (div-one a, div-one b)
 
   pub low_from-end : (i : ℕ) → 10 ≤ i → low_from i ≡ false
   unfolding low_first

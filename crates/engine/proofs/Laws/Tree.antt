@@ -18,6 +18,7 @@ use Rattle.std.proofs.Common.{IsTrue, EachIndex}
 use Rattle.records.specs.Bytes.{all, placed}
 use Rattle.records.specs.Gate.{Gate}
 use Rattle.records.specs.Job.{Job}
+use Rattle.records.specs.Claims.{Below}
 use Rattle.records.proofs.Laws.Bytes.{and_left, and_right, and_both}
 use Rattle.engine.specs.Choice.{same}
 use Rattle.engine.specs.Eval.{bit}
@@ -84,6 +85,14 @@ room_next h p l = room-less (room-kept h p) l
 pub gates-put-same : {base count r : ℕ} {cs cs' : List ℕ} {gs hs : List Gate} → GatesPut base count cs gs r cs' → gs ≡ hs
     → GatesPut base count cs hs r cs'
 gates-put-same {base} {count} {r} {cs} {cs'} p e = subst (λ (l : List Gate). GatesPut base count cs l r cs') e p
+
+-- the slots of a gate of two operands at most
+pub pair-below : (a b : ℕ) → a < 1024 → b < 1024 → Below 1024 (a ∷ b ∷ 0 ∷ 0 ∷ [])
+pair-below a b p q zero = p
+pair-below a b p q (suc zero) = q
+pair-below a b p q (suc (suc zero)) = omega arith
+pair-below a b p q (suc (suc (suc zero))) = omega arith
+pair-below a b p q (suc (suc (suc (suc i)))) = omega arith
 
 -- no gates put
 pub gates-put-none : (base count : ℕ) (cs : List ℕ) → GatesPut base count cs [] count cs
@@ -856,4 +865,19 @@ module _ {m k base : ℕ} {is tb : List ℕ} {count : ℕ} {ns₀ cs₀ ns cs : 
             ∙ ap (λ (z : List ℕ). z ++ drop (base + t) ns) (sym (append-nil (take (base + t) ns)) ∙ (rw e at g.nets))
             ∙ ap (λ (z : List ℕ). take base ns₀ ++ ys ++ z) g.behind
             ∙ ap (λ (z : ℕ). take base ns₀ ++ ys ++ drop z ns₀) q;
+      }
+
+module _ (m k base : ℕ) (is tb : List ℕ) (count : ℕ) (ns₀ cs₀ : List ℕ) where
+  pub growing-none : Growing m k base is tb count ns₀ cs₀ ns₀ cs₀ count 0
+  growing-none =
+      let e : m - 0 ≡ m = omega arith in
+      let f : base + 0 ≡ base = omega arith in
+      record {
+        most = omega arith;
+        gates = rw e;
+        nets = rw (e, f);
+        end = rw e;
+        behind = refl;
+        long = refl;
+        numbers = refl;
       }

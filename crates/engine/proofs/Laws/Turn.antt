@@ -1,20 +1,22 @@
 -- Laws of the transposition (specs/Inner/Turn): the word that the code makes is a swapped row, four swaps turn 16 words, and the
 -- columns of a block are turned one after the other. Assumes nothing.
 use Prim.Native.Nat.{ℕ, zero, suc, ◌+◌, ◌-◌, ◌*◌, ◌/◌, ◌%◌, ◌^◌, min, max, ◌≤◌, ◌<◌}
-use mathlib.Core.Path.{◌≡◌, refl, ◌∙◌}
+use mathlib.Core.Path.{◌≡◌, refl, sym, ◌∙◌, ap}
 use mathlib.Core.Logic.{◌⊎◌, inl, inr, ⊎_elim}
 use mathlib.Core.List.{List, []}
 use mathlib.Core.Bool.{Bool, true, ◌&&◌}
-use native.Mathlib.Nat.{mul-le-mul_right, mod-eq_of_lt}
+use native.Mathlib.Nat.{eq-or-lt_of_le, mul-le-mul_right, mod-eq_of_lt}
 use native.Mathlib.Omega.{arith}
+use borrow.Author.Count.{below_more}
 use borrow.Author.Tests.{eqb-true, ltb-true, leb-true}
 use lib.Bits.{bit_and, bit_or}
 use lib.Dec.{eqb, ltb, leb}
-use lib.ListN.{length, get_or}
+use lib.ListN.{length, get_or, set, length-set}
+use lib.Seq.{get_or-set_same, get_or-set_other}
 use Rattle.records.specs.Bytes.{up_from, all}
 use Rattle.records.proofs.Laws.Bytes.{and_left, and_right}
 use Rattle.engine.specs.Eval.{bit}
-use Rattle.engine.specs.Inner.Turn.{put, Moved, HalfMask, SwappedRow, Swapped, Turned, TurnedAt}
+use Rattle.engine.specs.Inner.Turn.{put, Moved, HalfMask, SwappedRow, Swapped, Turned, Column, Placed, TurnedAt}
 use Rattle.engine.proofs.Laws.Choice.{all-iff-below}
 use Rattle.engine.proofs.Laws.Eval.{bit-lt}
 use Rattle.engine.proofs.Laws.Word.{bit-and, bit-or, bit_not}
@@ -27,6 +29,14 @@ two : (t : ℕ) → t < 2 → (t ≡ 0) ⊎ (t ≡ 1)
 two zero h = inl refl
 two (suc zero) h = inr refl
 two (suc (suc t)) h = let f : ⊥ = omega arith in absurd f
+
+-- what holds of the places below i and of v holds of one more once v is stored
+pub stored_more : (P : ℕ → ℕ → Type 0) (y : List ℕ) (i v : ℕ) → i < length y → ((k : ℕ) → k < i → P k (get_or y k 0))
+    → P i v → (k : ℕ) → k < i + 1 → P k (get_or (set y i v) k 0)
+stored_more P y i v h f p =
+    below_more (λ (k : ℕ). P k (get_or (set y i v) k 0)) i
+    (λ k l. rw (get_or-set_other y i k v 0 (λ e. let z : ⊥ = omega arith in z)) (f k l))
+    (rw (get_or-set_same y i v 0 h) p)
 
 module _ (e : ℕ) (x : List ℕ) (i low : ℕ) where
   abbrev right : ℕ
@@ -169,6 +179,27 @@ pub half-mask : (e low : ℕ) → all (λ j. eqb (bit j low) (1 - bit e j)) (up_
 half-mask e low t j h =
     eqb-true (bit j low) (1 - bit e j) ((all-iff-below (λ j. eqb (bit j low) (1 - bit e j)) 64).0 t j h)
 
+-- ---- a column put back, word by word
+
+pub placed-none : (w : ℕ) (c x : List ℕ) → length x ≡ 256 → Placed w 0 c x x
+placed-none w c x l = record { long = l; here = λ i h. let f : ⊥ = omega arith in absurd f; others = λ n d. refl }
+
+pub placed-next : (w i : ℕ) (c x y : List ℕ) → w < 16 → i < 16 → Placed w i c x y
+    → Placed w (i + 1) c x (set y (16 * i + w) (get_or c i 0))
+placed-next w i c x y h l p =
+    let v = get_or c i 0 in
+    let long = p.long in
+    record {
+      long = length-set y (16 * i + w) v ∙ long;
+      here =
+          λ k u.
+          ⊎_elim
+          (λ (e : k ≡ i). rw e (sym (get_or-set_same y (16 * i + w) v 0 (omega arith))))
+          (λ (b : k < i). p.here k b ∙ sym (get_or-set_other y (16 * i + w) (16 * k + w) v 0 (λ e. let f : ⊥ = omega arith in f)))
+          (eq-or-lt_of_le (omega arith));
+      others = λ n d. get_or-set_other y (16 * i + w) n v 0 (λ e. d (omega arith)) ∙ p.others n d;
+    }
+
 -- ---- the columns, one after the other
 
 -- the columns below w are turned, and the others as they were
@@ -176,3 +207,26 @@ pub record TurnedTo (w : ℕ) (x y : List ℕ) : Type 0 where
   pub long : length y ≡ 256
   pub done : (v : ℕ) → v < w → TurnedAt x y v
   pub rest : (n : ℕ) → w ≤ n % 16 → get_or y n 0 ≡ get_or x n 0
+
+pub turned_none : (x : List ℕ) → length x ≡ 256 → TurnedTo 0 x x
+turned_none x l = record { long = l; done = λ v h. let f : ⊥ = omega arith in absurd f; rest = λ n h. refl }
+
+pub turned-next : (w : ℕ) (x y z c d : List ℕ) → w < 16 → TurnedTo w x y → Column y w c → Turned c d → Placed w 16 d y z
+    → TurnedTo (w + 1) x z
+turned-next w x y z c d h t p q r =
+    record {
+      long = r.long;
+      done =
+          λ v l.
+          ⊎_elim
+          (λ (e : v ≡ w).
+          rw e
+          (λ k i j hk hi hj.
+          ap (bit (16 * k + i)) (sym (r.here j hj)) ∙ q k i j hk hi hj
+          ∙ ap (bit (16 * k + j)) (p i hi ∙ t.rest (16 * i + w) (omega arith))))
+          (λ (b : v < w).
+          λ k i j hk hi hj.
+          ap (bit (16 * k + i)) (r.others (16 * j + v) (λ e. let f : ⊥ = omega arith in f)) ∙ t.done v b k i j hk hi hj)
+          (eq-or-lt_of_le (omega arith));
+      rest = λ n l. r.others n (λ e. let f : ⊥ = omega arith in f) ∙ t.rest n (omega arith);
+    }

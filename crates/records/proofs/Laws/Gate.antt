@@ -11,7 +11,7 @@ use native.Mathlib.Omega.{arith}
 use borrow.Author.Tests.{lt-ltb, le-ltb, le-leb, ltb-true, ltb-false, leb-true, eqb-true, eqb-false}
 use lib.ListN.{length, get_or, take, drop, replicate, length-replicate, get_or-replicate, length-take, length-map, get_or-append, get_or-eq_default, get_or-map, drop_of_length-le}
 use lib.Seq.{get_or-drop, get_or-take, take-nil, drop-nil, drop-cons}
-use lib.Dec.{leb, ltb, eqb, lit≤}
+use lib.Dec.{leb, ltb, eqb, lit≤, eqb-zero-suc, eqb-suc-zero}
 use Rattle.records.specs.Bytes.{up_from, tabulate, all}
 use Rattle.records.specs.Gate.{Gate, gate_of, least_count, most_count, permits, operands, unused, conj, disj, parity, inverted, gate_value}
 use Rattle.records.specs.Netlist.{net_at, value_of}
@@ -140,6 +140,10 @@ module _ (k n : ℕ) where
   permits-high h = let t : ltb k 10 ≡ false = le-ltb k 10 h in rw t
 
 -- ---- the test of a gate
+
+pub zero-eqb : (n : ℕ) → eqb 0 n ≡ eqb n 0
+zero-eqb zero = refl
+zero-eqb (suc n) = eqb-zero-suc n ∙ sym (eqb-suc-zero n)
 
 -- the slots xs of a gate that drives net and uses the first n of them
 abbrev pub slots_good : ℕ → ℕ → List ℕ → Bool

@@ -6,14 +6,14 @@ use mathlib.Core.List.{List, [], ◌∷◌, ◌++◌, map}
 use mathlib.Core.Bool.{true}
 use native.Mathlib.Nat.{add-zero, zero-add, mul-zero, mul-suc}
 use native.Mathlib.Omega.{arith}
-use borrow.Author.Tests.{leb-true, le-leb, ne_eqb}
+use borrow.Author.Tests.{leb-true, le-leb, eq-eqb, ne_eqb}
 use lib.Dec.{leb}
 use lib.ListN.{length, get_or, take, drop, length-map, get_or-append}
 use lib.Seq.{length-take-le, get_or-drop, drop_at}
 use Rattle.records.specs.Bytes.{flat, placed}
 use Rattle.records.specs.Gate.{Gate, gate_of}
 use Rattle.records.specs.Netlist.{Netlist}
-use Rattle.records.specs.Job.{Candidate, Job}
+use Rattle.records.specs.Job.{Candidate, Job, job_of}
 use Rattle.records.specs.Service.{slot_of, struct_of, side_counts_of, counts_of, read_number, read_reply, write_number, write_reply, written_bytes}
 use Rattle.records.specs.Columns.{SideColumns, Columns, columns_roomy, side_columns_filled, columns_filled, columns_number, columns_reply, columns_after, gates_from, columns_netlist, columns_job, side_columns_held, columns_held, columns_write_number, columns_write_reply, columns_written}
 use Rattle.records.specs.Inner.{struct_slots}
@@ -43,6 +43,15 @@ columns-refuses p s h = let e = ne_eqb (columns_number p s) 0 h in (rw e, rw e)
 pub columns-write-refuses : ColumnsWriteRefuses
 unfolding columns_write_reply columns_written
 columns-write-refuses c p d h = let e = ne_eqb (columns_write_number c p d) 0 h in (rw e, rw e)
+
+module _ (p : Columns) (s : List ℕ) (e : columns_number p s ≡ 0) where
+  pub columns-counts : (columns_reply p s).counts ≡ counts_of (job_of s)
+  unfolding columns_reply
+  columns-counts = rw (eq-eqb (columns_number p s) 0 e)
+
+  pub columns-after : columns_after p s ≡ columns_filled p (job_of s)
+  unfolding columns_after
+  columns-after = rw (eq-eqb (columns_number p s) 0 e)
 
 -- ---- slots: one list, four a gate
 

@@ -367,6 +367,10 @@ job_refusal-job_bytes j w = let e = read-write j w in rw (e.0, e.1)
 
 -- ---- gate structs
 
+pub struct_of-gate_from : (g : GateStruct) → struct_of (gate_from g) ≡ g
+unfolding struct_of gate_from gate_of slot_of
+struct_of-gate_from g = refl
+
 pub gate_from-struct_of : (g : Gate) → Four g → gate_from (struct_of g) ≡ g
 unfolding struct_of gate_from slot_of
 gate_from-struct_of g t = sym (four-slots g t)
