@@ -1,5 +1,5 @@
 // Arguments, and a file or standard input read into a lent buffer. What fails is told on standard error in one line: the name, and why.
-ghost use Rattle.std.specs.Prelude.{◌≡◌, ◌≤◌, length, IfSome, IfOk, IfErr};
+ghost use Rattle.std.specs.Prelude.{◌≡◌, ◌≤◌, length, IfSome, IfOk, IfErr, IsTrue};
 ghost use Rattle.io.specs.Counts.{IsPrefixLen};
 
 use super::output::tell;
@@ -93,4 +93,15 @@ pub fn argument<'a>(rt: &impl Env, i: usize, buf: &'a mut [u8]) -> Option<&'a st
 {
     let len = rt.arg(i, buf).ok()?;
     str::from_utf8(&buf[..len]).ok()
+}
+
+// Whether argument i is this word: bytes are compared, which need be no UTF-8. A word of more than 4,096 bytes is no argument.
+pub fn is_argument(rt: &impl Env, i: usize, word: &[u8]) -> bool
+    ensures { IsTrue result → length word.now ≤ 4096 }
+{
+    let mut text = [0u8; 4096];
+    match rt.arg(i, &mut text) {
+        Ok(len) => &text[..len] == word,
+        Err(_) => false,
+    }
 }

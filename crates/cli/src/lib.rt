@@ -5,5 +5,5 @@
 mod input;
 mod output;
 
-pub use input::{Unread, argument, read_argument, read_named, read_standard};
+pub use input::{Unread, argument, is_argument, read_argument, read_named, read_standard};
 pub use output::{check_written, write_reply};

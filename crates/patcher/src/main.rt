@@ -41,15 +41,9 @@ fn has_argument(rt: &impl Env, i: usize) -> bool {
     !matches!(rt.arg(i, &mut text), Err(FillError::NotPresent))
 }
 
-// Whether argument i names standard input.
-fn is_standard(rt: &impl Env, i: usize) -> bool {
-    let mut text = [0u8; 4096];
-    cli::argument(rt, i, &mut text) == Some("-")
-}
-
 // The command that the arguments give: the program's name, the command's word, and its files, of which only one can be standard input.
 fn given_command(rt: &impl Env) -> Option<Command> {
-    if is_standard(rt, 2) && is_standard(rt, 3) {
+    if cli::is_argument(rt, 2, b"-") && cli::is_argument(rt, 3, b"-") {
         return None;
     }
     let mut text = [0u8; 4096];

@@ -45,7 +45,7 @@ fn print_candidates(rt: &impl Print, nets: &[u16], weights: &[u16]) -> io::Resul
     Ok(())
 }
 
-// The job's lines, and 0; or the number of the refusal.
+// The job's lines to standard output; or why not: the job is refused, or they cannot be written.
 pub(super) fn print_job(rt: &impl Print, job: &[u8]) -> Result<(), Failure> {
     let parts = records::load(job)?;
     let counts = parts.counts;

@@ -16,7 +16,7 @@ fn main(rt: HostRuntime) -> io::Result<()> {
     let mut bytes = [0u8; 65536];
     // A for with a bound above the calls of every stored input, since each loop must be shown to end.
     for _ in 0..100000000u64 {
-        let Some(request) = read_call(&rt, &mut bytes).and_then(Request::parse) else {
+        let Some(request) = read_call(&rt, &mut bytes).ok().and_then(Request::parse) else {
             break;
         };
         answer(&rt, request)?;

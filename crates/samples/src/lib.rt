@@ -4,6 +4,8 @@
 
 mod call;
 mod list;
+mod number;
 
-pub use call::{Call, read_call};
+pub use call::{Call, CutShort, read_call};
 pub use list::{Place, hash, new_buffer, new_list, patterned};
+pub use number::word_at;
